@@ -1,16 +1,14 @@
 -- Lists that grow at their end: chains of what a gate told, and pairs of two lists.
-use Rattle.std.proofs.Common.{◌≡◌, ℕ, List, [], ◌∷◌, ◌++◌, ◌≤◌, length, reverse, suc, ap, refl, subst, arith, Result}
-use Rattle.std.proofs.lemmas.List.{length-reverse}
-use Rattle.rd_cell.specs.declared.refusal.Refusal.{Refusal}
-use Rattle.rd_marks.specs.declared.commands.Command.{Command}
-use Rattle.rd_marks.specs.declared.replies.Reply.{Reply}
-use Rattle.rd_desk.specs.declared.gates.DeskRefusal.{DeskRefusal}
-use Rattle.rd_desk.specs.Viewers.{IsChain}
-use Rattle.std.specs.List.{AllZip}
+use Rattle.std.proofs.Common.{◌≡◌, ℕ, List, [], ◌∷◌, ◌++◌, ◌≤◌, length, reverse, suc, ap, refl, subst, arith, ◌∙◌, ◌+◌, ◌<◌, get_or, take, sym, add-one}
+use Rattle.rd_desk.proofs.Prelude.{AllZip, Answer, Command, IsChain, length-reverse, take-suc}
 
-module _ {P : Type 0} (told : P → Command → Result (Result Reply Refusal) DeskRefusal → P → Type 0) where
+-- the elements up to and with this one
+pub taken_with : {A : Type 0} (xs : List A) (i : ℕ) (x : A) → i < length xs → x ≡ get_or xs i x → take i xs ++ x ∷ [] ≡ take (i + 1) xs
+taken_with xs i x within is = ap (λ y. take i xs ++ y ∷ []) is ∙ sym (take-suc xs i x within) ∙ ap (λ n. take n xs) (sym (add-one i))
+
+module _ {P : Type 0} (told : P → Command → Answer → P → Type 0) where
   -- one more command was asked
-  pub one_more_told : (p q r : P) (cs : List Command) (answers : List (Result (Result Reply Refusal) DeskRefusal)) (c : Command) (answer : Result (Result Reply Refusal) DeskRefusal)
+  pub one_more_told : (p q r : P) (cs : List Command) (answers : List Answer) (c : Command) (answer : Answer)
       → IsChain told p cs answers q → told q c answer r → IsChain told p (cs ++ c ∷ []) (answers ++ answer ∷ []) r
   one_more_told p q r [] [] c answer h k = (r, subst (λ (x : P). told x c answer r) h k, refl)
   one_more_told p q r [] (y ∷ ys) c answer h k = absurd h

@@ -1,13 +1,6 @@
 -- One more call of a history.
-use mathlib.Core.Logic.{∥∥₁_map}
+use Rattle.rd_desk.proofs.Prelude.{BookState, Call, Command, IsLeftBy, IsLegal, IsObeyed, Leaves, Refusal, Reply, viewer_entry, ∥∥₁_map}
 use Rattle.std.proofs.Common.{◌≡◌, ℕ, List, [], ◌∷◌, ◌++◌, refl, sym, subst, Result}
-use Rattle.rd_cell.specs.declared.refusal.Refusal.{Refusal}
-use Rattle.rd_marks.specs.Books.{BookState}
-use Rattle.rd_marks.specs.Commands.{IsObeyed}
-use Rattle.rd_marks.specs.declared.commands.Command.{Command}
-use Rattle.rd_marks.specs.declared.replies.Reply.{Reply}
-use Rattle.rd_desk.specs.declared.histories.Call.{Call}
-use Rattle.rd_desk.specs.Histories.{viewer_entry, Leaves, IsLegal, IsLeftBy}
 
 pub one_more : (R viewer : ℕ) (b m t : BookState) (es : List (ℕ × Call)) (c : Command) (answer : Result Reply Refusal)
     → Leaves R b es m → IsObeyed R m c (record { answer = answer; state = t }) → Leaves R b (es ++ viewer_entry viewer c answer ∷ []) t

@@ -1,37 +1,11 @@
 -- What holds while the viewers' threads are started, and while they are waited for.
 use Rattle.std.proofs.Common.{◌≡◌, List, [], ◌∷◌, ◌++◌, reverse, refl, sym, ap, ◌∙◌, subst, Option, Some, Result, Ok, Err, IfOk, Vec, append_assoc}
-use Rattle.std.specs.Result.{result_ok}
-use Rattle.std.proofs.lemmas.List.{append-nil, reverse-append}
-use Rattle.std.specs.declared.alloc.Global.{Global}
-use Rattle.std.specs.declared.thread.PromisedHandle.{PromisedHandle}
-use Rattle.rd_cell.specs.declared.refusal.Refusal.{Refusal}
-use Rattle.std.specs.List.{AllByRecursion, AllZip}
-use Rattle.rd_marks.specs.declared.commands.Command.{Command}
-use Rattle.rd_marks.specs.declared.replies.Reply.{Reply}
-use Rattle.rd_desk.specs.declared.gates.DeskRefusal.{DeskRefusal}
-use Rattle.rd_desk.specs.declared.threads.Asked.{Asked}
-use Rattle.rd_desk.specs.declared.viewers.Ran.{Ran}
-use Rattle.rd_desk.specs.declared.viewers.Ran.TheVariants.{Answered}
-use Rattle.rd_desk.specs.Rooms.{IsRoomFor}
-use Rattle.rd_desk.specs.Threads.{IsStarted}
-use Rattle.rd_desk.specs.Viewers.{IsChain, IsRan}
+use Rattle.rd_desk.proofs.Prelude.{AllByRecursion, AllZip, Answer, Answered, Asked, Command, Global, IsChain, IsRan, IsRoomFor, IsStarted, PromisedHandle, Ran, append-nil, result_ok, reverse-append}
+use Rattle.rd_lock.proofs.PassLists.{every_front, every_back}
 use Rattle.rd_desk.proofs.ChainLemmas.{one_more_pair, last_pair, none_alone, alone}
 
-module _ {A : Type 0} where
-  pub every_front : (P : A → Type 0) (xs ys : List A) → AllByRecursion P (xs ++ ys) → AllByRecursion P xs
-  every_front P [] ys h = tt
-  every_front P (x ∷ xs) ys h = (h.0, every_front P xs ys h.1)
-
-  pub every_back : (P : A → Type 0) (xs ys : List A) → AllByRecursion P (xs ++ ys) → AllByRecursion P ys
-  every_back P [] ys h = h
-  every_back P (x ∷ xs) ys h = every_back P xs ys h.1
-
-  pub every_more : (P : A → Type 0) (xs : List A) (x : A) → AllByRecursion P xs → P x → AllByRecursion P (xs ++ x ∷ [])
-  every_more P [] x h k = (k, tt)
-  every_more P (y ∷ xs) x h k = (h.0, every_more P xs x h.1 k)
-
-  pub last_first : (xs : List A) (x : A) → reverse (xs ++ x ∷ []) ≡ x ∷ reverse xs
-  last_first xs x = reverse-append xs (x ∷ [])
+last_first : {A : Type 0} (xs : List A) (x : A) → reverse (xs ++ x ∷ []) ≡ x ∷ reverse xs
+last_first xs x = reverse-append xs (x ∷ [])
 
 module _ {G P T E : Type 0} where
   -- the handle of a thread that was asked to start promises what it was asked
@@ -84,7 +58,7 @@ module _ {G P T A : Type 0} (takes : P → Type 0) (gate : G) where
     begun = subst (AllZip (IsStarted gate) (viewer ∷ i.gone)) (sym (ap reverse more ∙ last_first started handle)) (begun, i.begun);
   }
 
-module _ {G P T : Type 0} (takes : G → P → Type 0) (told : G → P → Command → Result (Result Reply Refusal) DeskRefusal → P → Type 0) where
+module _ {G P T : Type 0} (takes : G → P → Type 0) (told : G → P → Command → Answer → P → Type 0) where
   -- whichever viewers were started, what became of the first of them is known, and the others are
   -- still waited for
   pub record IsJoining (all started : List (Option (PromisedHandle T (Asked G P)))) (rans : List (Ran P)) : Type 0 where
@@ -118,7 +92,7 @@ module _ {G P T : Type 0} (takes : G → P → Type 0) (told : G → P → Comma
   }
 
   -- what a thread that kept its promise comes to
-  pub done_ran : (handle : PromisedHandle T (Asked G P)) (pass : P) (answers : Vec (Result (Result Reply Refusal) DeskRefusal) Global)
+  pub done_ran : (handle : PromisedHandle T (Asked G P)) (pass : P) (answers : Vec Answer Global)
       → takes handle.promise.gate.value pass × IsChain (told handle.promise.gate.value) handle.promise.pass.value handle.promise.commands.value.items answers.items pass
       → (gate : G) (viewer : P × Vec Command Global) → IsStarted gate viewer (Some handle) → IsRan (takes gate) (told gate) viewer (Answered pass answers)
   done_ran handle pass answers kept gate viewer s = (

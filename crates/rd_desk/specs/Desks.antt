@@ -1,12 +1,12 @@
 -- What contracts state of a desk and of its passes. A pass is one of the lock, and what it has seen
 -- and asked are the lock's `seen` and `own`.
-use Rattle.std.specs.Prelude.{◌≡◌, ℕ, List, [], map}
-use mathlib.Core.List.{IsPrefix}
+use Rattle.std.specs.Prelude.{◌≡◌, ℕ, List, map}
 use Rattle.rd_lock.specs.declared.views.Recorded.{Ghosts}
 use Rattle.rd_lock.specs.declared.passes.Pass.{Pass}
-use Rattle.rd_lock.specs.Histories.{named, NamesUpTo, numbers}
+use Rattle.rd_lock.specs.Histories.{Continues, NamesUpTo, numbers}
 use Rattle.std.specs.List.{AllByRecursion}
-use Rattle.rd_lock.specs.Locks.{number, seen, own, next_seen, served_seen, seats, opened_origin, IsOut, IsPassOf}
+use Rattle.rd_lock.specs.Locks.{number, seen, seats, opened_origin, IsOut, IsPassOf}
+use Rattle.rd_lock.specs.Opening.{IsNewPass}
 use Rattle.rd_marks.specs.Books.{BookState}
 use Rattle.rd_marks.specs.BookViews.{book_state}
 use Rattle.rd_marks.specs.declared.books.Book.{Book}
@@ -31,12 +31,8 @@ module _ {R : ℕ} where
     IsViewerOf desk pass = IsPassOf desk.lock pass × IsOut pass
 
     -- a pass of a desk that was just opened, with both words of its lock at 0
-    pub record IsNewViewer (desk : Desk R) (pass : Pass (BookWithHistory R) Call (Book R) K) : Type 0 where
-      pub is_viewer : IsViewerOf desk pass
-      pub has_seen : seen pass ≡ []
-      pub has_own : own pass ≡ []
-      pub next : next_seen pass ≡ 0
-      pub served : served_seen pass ≡ 0
+    abbrev pub IsNewViewer : Desk R → Pass (BookWithHistory R) Call (Book R) K → Type 0
+    IsNewViewer desk pass = IsNewPass desk.lock 0 pass
 
     -- the desk was opened: it has this book and this many viewers, and its passes are new and have
     -- the numbers from 1 on
@@ -46,14 +42,10 @@ module _ {R : ℕ} where
       pub are_new : AllByRecursion (IsNewViewer desk) passes
       pub numbered : map number passes ≡ numbers 1 count
 
-    -- the history agrees with the pass: it begins with what the pass had seen, and its entries that
-    -- name the pass are those that the pass asked
-    abbrev pub AgreesWith : History → Pass (BookWithHistory R) Call (Book R) K → Type 0
-    AgreesWith history pass = IsPrefix (seen pass) (entries history) × (own pass ≡ named (number pass) 0 (entries history))
-
     -- the history is legal from the book that was opened and leaves this book; each entry names a
-    -- viewer of the desk; and the history agrees with each pass that was handed in
+    -- viewer of the desk; and the history goes on from what each pass that was handed in had seen by
+    -- calls of others alone
     pub record IsClosedOver (desk : Desk R) (passes : List (Pass (BookWithHistory R) Call (Book R) K)) (book : Book R) (history : History) : Type 0 where
       pub leaves : IsLeftBy R (opened_state desk) (entries history) (book_state book)
       pub names : NamesUpTo (viewers desk) (entries history)
-      pub tells : AllByRecursion (AgreesWith history) passes
+      pub continues : AllByRecursion (λ (pass : Pass (BookWithHistory R) Call (Book R) K). Continues (number pass) (seen pass) (entries history)) passes

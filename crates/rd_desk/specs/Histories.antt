@@ -11,6 +11,10 @@ use Rattle.rd_desk.specs.declared.histories.Call.{Call}
 use Rattle.rd_desk.specs.declared.histories.History.{History}
 pub use Rattle.rd_desk.specs.declared.histories.TheConstants.{MOST_CALLS}
 
+-- what a viewer is answered: the book's answer, or the desk's refusal
+abbrev pub Answer : Type 0
+Answer = Result (Result Reply Refusal) DeskRefusal
+
 -- the entries of a history, each with the number of its viewer
 abbrev pub entries : History → List (ℕ × Call)
 entries history = history.entries.items

@@ -3,17 +3,16 @@
 //! A call takes the lock, lets the book obey the command and record the call, and puts the book
 //! back. The call happens as it is put back, at the one add to the word `served`.
 
-ghost use Rattle.std.specs.Prelude.{◌≡◌, ◌^◌, Err, IfOk, IfErr};
+ghost use Rattle.std.specs.Prelude.{◌≡◌, ◌^◌, Err, IfErr};
 ghost use Rattle.rd_lock.specs.Locks.{next_seen, IsPassOf, IsTaken};
 ghost use Rattle.rd_desk.specs.Desks.{opened_state, viewers, IsViewerOf};
-ghost use Rattle.rd_desk.specs.Asking.{HasAsked, KnowsAfterRefusal, IsNotBusy};
+ghost use Rattle.rd_desk.specs.Asking.{KnowsOutcome, IsNotBusy};
 
 use super::desks::{Desk, DeskPass};
-use super::gates::DeskRefusal;
+use super::gates::{Answer, DeskRefusal};
 use super::recording::BookWithHistory;
-use rd_cell::Refusal;
 use rd_lock::TryTakeError;
-use rd_marks::{Command, Reply};
+use rd_marks::Command;
 use std::sync::Wait;
 
 impl<const R: usize> Desk<R> {
@@ -26,16 +25,10 @@ impl<const R: usize> Desk<R> {
     /// `TicketsEnded` if this pass saw that all tickets of the lock are drawn. Under the lock, in
     /// this order: `HistoryFull` if the history has `MOST_CALLS` calls; `NotRecorded` if the room
     /// for one more was refused. The book is then unchanged.
-    pub fn ask<W: Wait>(
-        &self,
-        rt: &W,
-        pass: &mut DeskPass<R>,
-        command: Command,
-    ) -> Result<Result<Reply, Refusal>, DeskRefusal>
+    pub fn ask<W: Wait>(&self, rt: &W, pass: &mut DeskPass<R>, command: Command) -> Answer
         requires own { IsViewerOf self.now pass.old }
         ensures own { IsViewerOf self.now pass.new }
-        ensures ok { IfOk result (λ answer. HasAsked R (opened_state self.now) pass.old pass.new command answer) }
-        ensures err { IfErr result (λ refusal. KnowsAfterRefusal R (opened_state self.now) pass.old pass.new refusal) }
+        ensures outcome { KnowsOutcome R (opened_state self.now) pass.old pass.new command result }
         ensures ended { next_seen pass.old ≡ 2 ^ 63 → result ≡ Err TicketsEnded }
         ensures waits { IfErr result IsNotBusy }
     {
@@ -50,15 +43,10 @@ impl<const R: usize> Desk<R> {
     /// # Errors
     ///
     /// `Busy` if the lock isn't free; otherwise those of `ask`.
-    pub fn try_ask(
-        &self,
-        pass: &mut DeskPass<R>,
-        command: Command,
-    ) -> Result<Result<Reply, Refusal>, DeskRefusal>
+    pub fn try_ask(&self, pass: &mut DeskPass<R>, command: Command) -> Answer
         requires own { IsViewerOf self.now pass.old }
         ensures own { IsViewerOf self.now pass.new }
-        ensures ok { IfOk result (λ answer. HasAsked R (opened_state self.now) pass.old pass.new command answer) }
-        ensures err { IfErr result (λ refusal. KnowsAfterRefusal R (opened_state self.now) pass.old pass.new refusal) }
+        ensures outcome { KnowsOutcome R (opened_state self.now) pass.old pass.new command result }
         ensures ended { next_seen pass.old ≡ 2 ^ 63 → result ≡ Err TicketsEnded }
         ensures succeeds { viewers self.now ≡ 1 → IfErr result IsNotBusy }
     {
@@ -76,12 +64,11 @@ impl<const R: usize> Desk<R> {
         pass: &mut DeskPass<R>,
         mut kept: BookWithHistory<R>,
         command: Command,
-    ) -> Result<Result<Reply, Refusal>, DeskRefusal>
+    ) -> Answer
         requires own { IsPassOf self.now.lock pass.old }
         requires taken { IsTaken self.now.lock pass.old pass.old kept }
         ensures own { IsViewerOf self.now pass.new }
-        ensures ok { IfOk result (λ answer. HasAsked R (opened_state self.now) pass.old pass.new command answer) }
-        ensures err { IfErr result (λ refusal. KnowsAfterRefusal R (opened_state self.now) pass.old pass.new refusal) }
+        ensures outcome { KnowsOutcome R (opened_state self.now) pass.old pass.new command result }
         ensures waits { IfErr result IsNotBusy }
     {
         let answer = kept.record(pass.number(), command);

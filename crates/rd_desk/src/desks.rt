@@ -2,10 +2,10 @@
 //! are in `asking`.
 
 ghost use Rattle.std.specs.Prelude.{◌≡◌, ◌<◌, ◌≤◌, ◌^◌, map, IfOk, IfErr, IsOk};
-ghost use Rattle.rd_lock.specs.Histories.{AreAll};
+ghost use Rattle.rd_lock.specs.Histories.{AreAll, AreComparable};
 ghost use Rattle.std.specs.List.{AllByRecursion};
-ghost use Rattle.rd_lock.specs.Locks.{number as number_of, served_seen, IsSamePass};
-ghost use Rattle.rd_lock.specs.Opening.{AreInLine, HasSeenUpTo};
+ghost use Rattle.rd_lock.specs.Locks.{number as number_of, seen, served_seen, IsSamePass};
+ghost use Rattle.rd_lock.specs.Opening.{HasSeenUpTo};
 ghost use Rattle.rd_desk.specs.Desks.{IsViewerOf, IsOpened, IsClosedOver, viewers as viewers_of};
 
 use super::histories::History;
@@ -63,9 +63,9 @@ impl<const R: usize> Desk<R> {
         requires own { IsViewerOf self.now one × IsViewerOf self.now other }
         ensures own { IsViewerOf self.now result.1 × IsViewerOf self.now result.2 }
         ensures unchanged { IsSamePass one.entry result.1 × IsSamePass other.entry result.2 }
-        ensures order { AreInLine one.entry other.entry }
+        ensures order { AreComparable (seen one.entry) (seen other.entry) }
         ensures newest { (served_seen one.entry ≤ result.0) × (served_seen other.entry ≤ result.0) }
-        ensures told { (served_seen result.1 ≡ result.0) × (served_seen result.2 ≡ result.0) }
+        ensures served { (served_seen result.1 ≡ result.0) × (served_seen result.2 ≡ result.0) }
     {
         self.lock.meet(one, other)
     }
@@ -74,8 +74,8 @@ impl<const R: usize> Desk<R> {
     ///
     /// # Errors
     ///
-    /// `Busy` if a pass that wasn't handed in waits, or was lost inside a call, with the two words
-    /// of the lock, which then differ. Neither is below what a pass that was handed in has seen.
+    /// `Busy` if a pass that wasn't handed in was dropped inside a call, with the two words of the
+    /// lock, which then differ. Neither is below what a pass that was handed in has seen.
     /// This never happens if all passes are handed in. Book and history are then lost.
     pub fn close(self, passes: Vec<DeskPass<R>>) -> Result<(Book<R>, History), Busy>
         requires own { AllByRecursion (IsViewerOf self) passes.items }

@@ -1,10 +1,7 @@
 //! What viewers ask: a desk, or another type in its place.
 
-ghost use Rattle.std.specs.Prelude.{Result};
-ghost use Rattle.rd_cell.specs.declared.refusal.Refusal.{Refusal};
 ghost use Rattle.rd_marks.specs.declared.commands.Command.{Command};
-ghost use Rattle.rd_marks.specs.declared.replies.Reply.{Reply};
-ghost use Rattle.rd_desk.specs.declared.gates.DeskRefusal.{DeskRefusal};
+ghost use Rattle.rd_desk.specs.Histories.{Answer as Told};
 
 use super::desks::{Desk, DeskPass};
 use rd_cell::Refusal;
@@ -35,15 +32,10 @@ pub trait Gate {
 
     ghost takes: { Self → Self.Pass → Type 0 };
 
-    ghost told: { Self → Self.Pass → Command → Result (Result Reply Refusal) DeskRefusal → Self.Pass → Type 0 };
+    ghost told: { Self → Self.Pass → Command → Told → Self.Pass → Type 0 };
 
     /// Asks one command and returns the answer. It may wait.
-    fn ask<R: Wait>(
-        &self,
-        rt: &R,
-        pass: &mut Self::Pass,
-        command: Command,
-    ) -> Result<Result<Reply, Refusal>, DeskRefusal>
+    fn ask<R: Wait>(&self, rt: &R, pass: &mut Self::Pass, command: Command) -> Answer
         requires own { takes self.now pass.old }
         ensures own { takes self.now pass.new }
         ensures told { told self.now pass.old command result pass.new };
@@ -60,12 +52,7 @@ impl<const N: usize> Gate for Desk<N> {
     ghost told = { λ desk pass command answer after. KnowsAfterCall N (opened_state desk) pass after command answer };
 
     /// Asks one command as `Desk::ask` does, and returns the answer.
-    fn ask<R: Wait>(
-        &self,
-        rt: &R,
-        pass: &mut DeskPass<N>,
-        command: Command,
-    ) -> Result<Result<Reply, Refusal>, DeskRefusal> {
+    fn ask<R: Wait>(&self, rt: &R, pass: &mut DeskPass<N>, command: Command) -> Answer {
         Desk::ask(self, rt, pass, command)
     }
 }

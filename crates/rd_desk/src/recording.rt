@@ -10,11 +10,10 @@ ghost use Rattle.rd_marks.specs.BookViews.{book_state};
 ghost use Rattle.rd_desk.specs.declared.gates.DeskRefusal.TheVariants.{NotRecorded};
 ghost use Rattle.rd_desk.specs.Histories.{MOST_CALLS, entries, IsLeftBy, IsUnrecorded, viewer_entry as recorded};
 
-use super::gates::DeskRefusal;
+use super::gates::{Answer, DeskRefusal};
 use super::histories::{Call, History};
-use rd_cell::Refusal;
 use rd_lock::Recorded;
-use rd_marks::{Book, Command, Reply};
+use rd_marks::{Book, Command};
 use std::alloc::Global;
 use std::snapshot::Snapshot;
 
@@ -67,11 +66,7 @@ impl<const R: usize> BookWithHistory<R> {
     ///
     /// In this order: `HistoryFull` if there are `MOST_CALLS` calls; `NotRecorded` if the room for
     /// one more was refused. Book and history are then unchanged.
-    pub(crate) fn record(
-        &mut self,
-        viewer: u64,
-        command: Command,
-    ) -> Result<Result<Reply, Refusal>, DeskRefusal>
+    pub(crate) fn record(&mut self, viewer: u64, command: Command) -> Answer
         ensures ok { IfOk result (λ answer. entries self.new.history ≡ entries self.old.history ++ recorded viewer command answer ∷ []) }
         ensures few { OnOk result (length (entries self.old.history) < MOST_CALLS) }
         ensures err { IfErr result (λ refusal. IsUnrecorded (entries self.old.history) refusal) }
@@ -85,6 +80,7 @@ impl<const R: usize> BookWithHistory<R> {
         if self.history.make_room().is_err() {
             return Err(DeskRefusal::NotRecorded);
         }
+        // A value that is handed over and used again is copied by name: the borrow checker asks so.
         let asked = command;
         let answer = self.book.obey(command);
         let given = answer;

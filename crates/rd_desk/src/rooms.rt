@@ -4,17 +4,16 @@ ghost use Rattle.std.specs.Prelude.{◌≡◌, ◌≤◌, [], length, vec_capaci
 ghost use Rattle.std.specs.List.{AllZip};
 ghost use Rattle.rd_desk.specs.Rooms.{IsRoomFor};
 
-use super::gates::{DeskRefusal, Gate};
+use super::gates::{Answer, Gate};
 use super::threads::Started;
 use super::viewers::Ran;
-use rd_cell::Refusal;
-use rd_marks::{Command, Reply};
+use rd_marks::Command;
 use std::alloc::{AllocError, Global};
 
 /// The lists that a run of viewers fills, with their room.
 pub(crate) struct Room<G: Gate> {
     /// For the answers of each viewer.
-    pub(crate) answers: Vec<Vec<Result<Result<Reply, Refusal>, DeskRefusal>>>,
+    pub(crate) answers: Vec<Vec<Answer>>,
     /// For the handles of the threads.
     pub(crate) started: Vec<Started<G>>,
     /// For what became of each viewer.

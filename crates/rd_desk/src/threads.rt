@@ -9,21 +9,17 @@ ghost use Rattle.rd_desk.specs.Viewers.{IsChain, IsRan};
 ghost use Rattle.rd_desk.specs.Rooms.{IsRoomFor};
 ghost use Rattle.rd_desk.specs.Threads.{IsStarted};
 
-use super::gates::{DeskRefusal, Gate};
+use super::gates::{Answer, Gate};
 use super::rooms::Room;
 use super::viewers::Ran;
-use rd_cell::Refusal;
-use rd_marks::{Command, Reply};
+use rd_marks::Command;
 use std::snapshot::Snapshot;
 use std::sync::Wait;
 use std::thread;
 use std::thread::{Promise, PromisedHandle, Scope, Threads};
 
 /// What a viewer's thread gives back: its pass, and the answers.
-type Done<G> = (
-    <G as Gate>::Pass,
-    Vec<Result<Result<Reply, Refusal>, DeskRefusal>>,
-);
+type Done<G> = (<G as Gate>::Pass, Vec<Answer>);
 
 /// A viewer's thread, or none if it was refused.
 pub(crate) type Started<G> = Option<PromisedHandle<Done<G>, Asked<G>>>;
@@ -46,7 +42,7 @@ fn ask_all<R: Wait, G: Gate>(
     gate: &G,
     mut pass: G::Pass,
     commands: Vec<Command>,
-    mut answers: Vec<Result<Result<Reply, Refusal>, DeskRefusal>>,
+    mut answers: Vec<Answer>,
 ) -> Done<G>
     requires own { G.takes gate.now pass }
     requires empty { answers.items ≡ [] }
@@ -68,7 +64,7 @@ fn start_all<'s, E: 's, R: Threads + Wait + Sync, G: Gate + Sync>(
     rt: &'s R,
     gate: &'s G,
     mut work: Vec<(G::Pass, Vec<Command>)>,
-    mut answers: Vec<Vec<Result<Result<Reply, Refusal>, DeskRefusal>>>,
+    mut answers: Vec<Vec<Answer>>,
     mut started: Vec<Started<G>>,
 ) -> Vec<Started<G>>
     requires own { AllByRecursion (λ viewer. G.takes gate.now viewer.0) work.items }

@@ -8,12 +8,11 @@ ghost use Rattle.std.specs.Prelude.{◌≡◌, IfOk, IfErr};
 ghost use Rattle.std.specs.List.{AllByRecursion, AllZip};
 ghost use Rattle.rd_desk.specs.Viewers.{IsRan};
 
-use super::gates::{DeskRefusal, Gate};
+use super::gates::{Answer, Gate};
 use super::rooms::make_rooms;
 use super::threads::run_all;
-use rd_cell::Refusal;
 use rd_lock::NoMemory;
-use rd_marks::{Command, Reply};
+use rd_marks::Command;
 use std::alloc::Global;
 use std::sync::Wait;
 use std::thread::Threads;
@@ -26,7 +25,7 @@ pub enum Ran<P> {
         /// The viewer's pass.
         pass: P,
         /// The answers, one for each command, in order.
-        answers: Vec<Result<Result<Reply, Refusal>, DeskRefusal>>,
+        answers: Vec<Answer>,
     },
     /// 20: its thread was refused. It asked nothing, and its pass is dropped.
     NoMemory,

@@ -1,25 +1,9 @@
 -- Draws, by a pass that is willing to wait and by one that isn't.
 use Rattle.std.proofs.Common.{◌≡◌, ◌≢◌, ℕ, ◌+◌, ◌^◌, ◌<◌, eqb, List, [], ◌∷◌, set, sym, refl, ap, ◌∙◌, subst, inl, inr, arith, Option, Some, eq-eqb, ne_eqb}
-use mathlib.Core.Logic.{dite}
-use mathlib.Core.Option.{some, some-ne-none, some-injective}
-use mathlib.Core.List.{IsPrefix}
-use native.Mathlib.Decide.{ℕ_discrete}
-use lib.ListN.{get_elem?}
-use prog.Atomic.{either}
-use Rattle.atomic_table.specs.Table.{Act, keeps, takes, Valid, homes_after, carried_after, Allows}
-use Rattle.atomic_table.proofs.Lists.{set_here, set_else}
-use Rattle.rd_lock.specs.declared.views.PassView.{PassView}
-use Rattle.rd_lock.specs.declared.views.View.{View}
-use Rattle.rd_lock.specs.declared.views.Stage.{Stage}
-use Rattle.rd_lock.specs.declared.views.Stage.TheVariants.{Out, Waits, Holds}
-use Rattle.rd_lock.specs.Histories.{named, placed}
-use Rattle.std.specs.List.{AllByRecursion}
-use Rattle.rd_lock.specs.Rule.{Place, home, away, Facts, ticket, view_of, IsAloneAt, HasTicket, single_slot}
-use Rattle.rd_lock.specs.Steps.{knows_next, after_next, drew, IsFound, tried}
-use Rattle.rd_lock.proofs.Lock.{Lock, Suits, StageSuits, Kept, Rule, Placed}
+use Rattle.rd_lock.proofs.Prelude.{Act, AllByRecursion, Allows, Continues, Draws, Facts, HasTicket, Holds, IsAloneAt, IsFound, IsKept, IsPlaced, Lock, LockRule, MemberFits, Out, PassView, Place, Stage, StageFits, Tries, Valid, View, Waits, after_next, away, carried_after, dite, either, get_elem?, home, homes_after, keeps, knows_next, set_else, set_here, single_slot, some, some-injective, some-ne-none, takes, ticket, view_of, ℕ_discrete}
 use Rattle.rd_lock.proofs.Lists.{inside}
 use Rattle.rd_lock.proofs.Facts.{put, put_here, put_else}
-use Rattle.rd_lock.proofs.Keeps.{alone_with, moved, allowed}
+use Rattle.rd_lock.proofs.Keeps.{alone_with, moved, allowed, Owed, unmoved, takes_home}
 use Rattle.rd_lock.proofs.Looks.{maps_fit, others_fit, one_seat, newest_next, next_kept}
 
 module _ {T E O : Type 0} (lock : Lock T E O) where
@@ -31,28 +15,28 @@ module _ {T E O : Type 0} (lock : Lock T E O) where
 
   -- the value stays where it was when a seat that doesn't hold changes
   pub place_else : (f g : Facts T E) (views : List (View E O)) (id : ℕ) (v w : View E O) (place : Place T) → get_elem? views id ≡ some v → (v.stage ≢ Holds f.served f.log) → g.log ≡ f.log → g.served ≡ f.served
-      → Placed lock f views place → Placed lock g (set views id w) place
+      → IsPlaced lock f views place → IsPlaced lock g (set views id w) place
   place_else f g views id v w place at free log served h = grind (arith, set_else)
 
   -- the facts after the ticket n is drawn
   abbrev drawn : Facts T E → ℕ → Place T → Facts T E
   drawn f id place = record { next = f.next + 1; served = f.served; log = f.log; owner = f.owner; taker = put f.taker f.next id; place = place }
 
-  drawn_suits : (f : Facts T E) (id j : ℕ) (place : Place T) (p q : PassView E O) → Suits lock f id p → j ≢ id → Suits lock f j q → Suits lock (drawn f id place) j q
+  drawn_suits : (f : Facts T E) (id j : ℕ) (place : Place T) (p q : PassView E O) → MemberFits lock f id p → j ≢ id → MemberFits lock f j q → MemberFits lock (drawn f id place) j q
   drawn_suits f id j place p q mine ne h = grind arith
 
-  drawer_suits : (f : Facts T E) (id : ℕ) (place : Place T) (p : PassView E O) → Suits lock f id p → Suits lock (drawn f id place) id (knows_next (f.next + 1) p)
+  drawer_suits : (f : Facts T E) (id : ℕ) (place : Place T) (p : PassView E O) → MemberFits lock f id p → MemberFits lock (drawn f id place) id (knows_next (f.next + 1) p)
   drawer_suits f id place p h = grind arith
 
   -- another seat's stage, where it doesn't hold or the value stays
-  drawn_stays : (f : Facts T E) (id j : ℕ) (place : Place T) → (f.place ≡ away j → place ≡ away j) → (s : Stage E) → StageSuits lock f j s → StageSuits lock (drawn f id place) j s
+  drawn_stays : (f : Facts T E) (id j : ℕ) (place : Place T) → (f.place ≡ away j → place ≡ away j) → (s : Stage E) → StageFits lock f j s → StageFits lock (drawn f id place) j s
   drawn_stays f id j place stays s h = grind arith
 
   -- the facts after a draw are kept, whether the drawer waits or holds then
-  drawn_kept : (f : Facts T E) (views : List (View E O)) (id : ℕ) (p : PassView E O) (s : Stage E) (place : Place T) → Kept lock f views → get_elem? views id ≡ some (view_of (p ∷ []) Out) → f.next < 2 ^ 63
-      → ticket s ≡ some f.next → StageSuits lock (drawn f id place) id s → IsAloneAt s (p ∷ []) → ((j : ℕ) → j ≢ id → f.place ≡ away j → place ≡ away j)
-      → Placed lock (drawn f id place) (set views id (view_of (knows_next (f.next + 1) p ∷ []) s)) place
-      → Kept lock (drawn f id place) (set views id (view_of (knows_next (f.next + 1) p ∷ []) s))
+  drawn_kept : (f : Facts T E) (views : List (View E O)) (id : ℕ) (p : PassView E O) (s : Stage E) (place : Place T) → IsKept lock f views → get_elem? views id ≡ some (view_of (p ∷ []) Out) → f.next < 2 ^ 63
+      → ticket s ≡ some f.next → StageFits lock (drawn f id place) id s → IsAloneAt s (p ∷ []) → ((j : ℕ) → j ≢ id → f.place ≡ away j → place ≡ away j)
+      → IsPlaced lock (drawn f id place) (set views id (view_of (knows_next (f.next + 1) p ∷ []) s)) place
+      → IsKept lock (drawn f id place) (set views id (view_of (knows_next (f.next + 1) p ∷ []) s))
   drawn_kept f views id p s place kept at room has stage alone stays placed = let v : View E O = view_of (p ∷ []) Out in let w : View E O = view_of (knows_next (f.next + 1) p ∷ []) s in
       let fits = kept.each_view id v at in let g = drawn f id place in let order = kept.order in
       moved lock f g views id v w kept at (omega arith) (omega arith) kept.names
@@ -71,86 +55,66 @@ module _ {T E O : Type 0} (lock : Lock T E O) where
   missed_words : (f : Facts T E) (n : ℕ) → f.next ≢ n → set (f.served ∷ f.next ∷ []) 1 (either (eqb f.next n) (n + 1) f.next) ≡ f.served ∷ f.next ∷ []
   missed_words f n ne = ap (λ b. f.served ∷ either b (n + 1) f.next ∷ []) (ne_eqb f.next n ne)
 
-  pub draws : (slots id : ℕ) (p : PassView E O) (n : ℕ) → n < 2 ^ 63
-      → Allows (Rule lock) slots id (view_of (p ∷ []) Out, []) 1 (λ x. either (eqb x n) (n + 1) x) (drew n (view_of (p ∷ []) Out, []))
-  draws slots id p n room = let v : View E O = view_of (p ∷ []) Out in let then = drew {T = T} n (v, []) in
-      allowed lock slots id (v, []) 1 (λ x. either (eqb x n) (n + 1) x) then (λ f views kept at.
+  -- the function of a draw of ticket n
+  abbrev draw : ℕ → ℕ → ℕ
+  draw n x = either (eqb x n) (n + 1) x
+
+  pub draws : (slots id : ℕ) (p : PassView E O) (n : ℕ) → n < 2 ^ 63 → Allows (LockRule lock) slots id (view_of (p ∷ []) Out, []) 1 (λ x. either (eqb x n) (n + 1) x) (Draws n (view_of (p ∷ []) Out, []))
+  draws slots id p n room = let v : View E O = view_of (p ∷ []) Out in let then = Draws {T = T} n (v, []) in
+      allowed lock slots id (v, []) 1 (draw n) then (λ f views kept at.
       let fits = kept.each_view id v at in dite (ℕ_discrete f.next n)
       (λ hit. let stage : Stage E = Waits f.next in let order = kept.order in (
         after_next (f.next + 1) stage v,
         keeps,
         drawn f id f.place,
-        subst (λ (k : ℕ). set (f.served ∷ f.next ∷ []) 1 (either (eqb f.next k) (k + 1) f.next) ≡ f.served ∷ (f.next + 1) ∷ []) hit (drawn_words f),
+        subst (λ (k : ℕ). set (f.served ∷ f.next ∷ []) 1 (draw k f.next) ≡ f.served ∷ (f.next + 1) ∷ []) hit (drawn_words f),
         tt,
         refl,
         drawn_kept f views id p stage f.place kept at (omega arith) refl (order, omega arith, put_here f.taker f.next id f.next refl) (p, refl) (λ j ne e. e)
             (place_else f (drawn f id f.place) views id v (after_next (f.next + 1) stage v) f.place at (λ e. cc) refl refl kept.is_placed),
-        (newest_next lock f views id v kept fits, (λ _. refl), (λ miss. absurd (miss hit))),
+        record { newest = newest_next lock f views id v kept fits; won = λ _. refl; lost = λ miss. absurd (miss hit) },
       ))
-      (λ miss. (
-        after_next f.next Out v,
-        keeps,
-        f,
-        missed_words f n miss,
-        tt,
-        refl,
-        next_kept lock f views id v kept at,
-        (newest_next lock f views id v kept fits, (λ hit. absurd (miss hit)), (λ _. refl)),
-      )))
+      (λ miss. unmoved lock id (v, []) 1 (draw n) then f views (after_next f.next Out v) (missed_words f n miss) (next_kept lock f views id v kept at)
+      (record { newest = newest_next lock f views id v kept fits; won = λ hit. absurd (miss hit); lost = λ _. refl })))
 
   -- a place that is at home isn't away
   pub elsewhere : {x : T} (j : ℕ) → home x ≡ away j → ⊥
   elsewhere j e = cc
 
   -- the one pass there is draws what is served
-  alone_hits : (f : Facts T E) (views : List (View E O)) (id : ℕ) (p : PassView E O) (n : ℕ) → Kept lock f views → get_elem? views id ≡ some (view_of (p ∷ []) Out) → p.served ≡ n → seats ≡ 1 → f.next ≡ n
-  alone_hits f views id p n kept at served one = let v : View E O = view_of (p ∷ []) Out in let fits = kept.each_view id v at in let mine = fits.members.0 in let words = (mine.only one).1 in let order = kept.order in
+  alone_hits : (f : Facts T E) (views : List (View E O)) (id : ℕ) (p : PassView E O) (n : ℕ) → IsKept lock f views → get_elem? views id ≡ some (view_of (p ∷ []) Out) → p.served ≡ n → seats ≡ 1 → f.next ≡ n
+  alone_hits f views id p n kept at served one = let v : View E O = view_of (p ∷ []) Out in let fits = kept.each_view id v at in let mine = fits.members.0 in let words = (mine.one_seat one).1 in let order = kept.order in
       dite (ℕ_discrete f.served f.next) (λ e. omega arith)
       (λ ne. let has = kept.each_ticket f.served (omega arith) (omega arith) in let k : ℕ = f.taker f.served in let theirs = kept.each_view k has.0 has.1 in
-      let who = alone_with f.served has.0.stage has.0.members has.2 theirs.alone in let suits = subst (AllByRecursion (Suits lock f k)) who.1 theirs.members in
+      let who = alone_with f.served has.0.stage has.0.members has.2 theirs.alone in let suits = subst (AllByRecursion (MemberFits lock f k)) who.1 theirs.members in
       absurd (no_ticket views id (p ∷ []) k f.served at has (one_seat lock f id k p who.0 one mine suits.0)))
 
-  pub found : (f : Facts T E) (id : ℕ) (x : T) (p : PassView E O) → (history x ≡ f.log) × (origin x ≡ root) → Suits lock f id p → IsFound history origin x p
-  found f id x p at_home h = (at_home.1 ∙ sym h.informed.1, subst (λ log. IsPrefix p.seen log) (sym at_home.0) h.has_seen, h.has_put ∙ ap (named p.pass 0) (sym at_home.0))
+  pub found : (f : Facts T E) (id : ℕ) (x : T) (p : PassView E O) → (history x ≡ f.log) × (origin x ≡ root) → MemberFits lock f id p → IsFound history origin x p
+  found f id x p at_home h = (at_home.1 ∙ sym h.knows_opening.1, subst (Continues p.pass p.seen) (sym at_home.0) h.continues)
 
   -- with no ticket drawn and not done with the value is at home
-  pub idle_home : (f : Facts T E) (views : List (View E O)) (place : Place T) → Kept lock f views → f.place ≡ place → f.served ≡ f.next → (x : T) × (place ≡ home x) × (history x ≡ f.log) × (origin x ≡ root)
-  idle_home f views (home x) kept is same = let h = subst (Placed lock f views) is kept.is_placed in (x, refl, h.0, h.1)
-  idle_home f views (away k) kept is same = let h = subst (Placed lock f views) is kept.is_placed in
-      let stage = subst (StageSuits lock f k) h.2 ((kept.each_view k h.0 h.1).stage) in let low = stage.1 in absurd (omega arith)
+  pub idle_home : (f : Facts T E) (views : List (View E O)) (place : Place T) → IsKept lock f views → f.place ≡ place → f.served ≡ f.next → (x : T) × (place ≡ home x) × (history x ≡ f.log) × (origin x ≡ root)
+  idle_home f views (home x) kept is same = let h = subst (IsPlaced lock f views) is kept.is_placed in (x, refl, h.0, h.1)
+  idle_home f views (away k) kept is same = let h = subst (IsPlaced lock f views) is kept.is_placed in
+      let stage = subst (StageFits lock f k) h.2 ((kept.each_view k h.0 h.1).stage) in let low = stage.1 in absurd (omega arith)
 
-  won : (slots id : ℕ) (p : PassView E O) (f : Facts T E) (views : List (View E O)) → Kept lock f views → get_elem? views id ≡ some (view_of (p ∷ []) Out) → f.next < 2 ^ 63 → f.served ≡ f.next
-      → (w : View E O) × (a : Act (Option T)) × (g : Facts T E) × (set (f.served ∷ f.next ∷ []) 1 (either (eqb f.next f.next) (f.next + 1) f.next) ≡ g.served ∷ g.next ∷ []) × Valid (single_slot f.place) [] a
-      × (homes_after (single_slot f.place) [] a ≡ single_slot g.place) × Kept lock g (set views id w) × tried history origin f.next (view_of (p ∷ []) Out, []) f.next (w, carried_after [] a)
-  won slots id p f views kept at room same = let v : View E O = view_of (p ∷ []) Out in let fits = kept.each_view id v at in let there = idle_home f views f.place kept refl same in let x : T = there.0 in
+  won : (id : ℕ) (p : PassView E O) (f : Facts T E) (views : List (View E O)) → IsKept lock f views → get_elem? views id ≡ some (view_of (p ∷ []) Out) → f.next < 2 ^ 63 → f.served ≡ f.next
+      → Owed lock id (view_of (p ∷ []) Out, []) 1 (draw f.next) (Tries history origin f.next (view_of (p ∷ []) Out, [])) f views
+  won id p f views kept at room same = let v : View E O = view_of (p ∷ []) Out in let fits = kept.each_view id v at in let there = idle_home f views f.place kept refl same in let x : T = there.0 in
       let at_home : (history x ≡ f.log) × (origin x ≡ root) = (there.2, there.3) in let stage : Stage E = Holds f.next (history x) in let w : View E O = after_next (f.next + 1) stage v in
-      let g : Facts T E = drawn f id (away id) in (
-        w,
-        takes 0 (Some x),
-        g,
-        drawn_words f,
-        subst (λ (l : Place T). get_elem? (single_slot l) 0 ≡ some (some (Some x))) (sym there.1) refl,
-        subst (λ (l : Place T). homes_after (single_slot l) [] (takes 0 (Some x)) ≡ single_slot (away id)) (sym there.1) refl,
-        drawn_kept f views id p stage (away id) kept at room refl (sym same, omega arith, put_here f.taker f.next id f.next refl, refl, there.2) (p, refl)
-            (λ j ne e. absurd (elsewhere j (sym there.1 ∙ e))) (w, set_here views id w (inside views id v at), (λ i. Holds (sym same i) (there.2 i))),
-        (newest_next lock f views id v kept fits, (λ _. (x, refl, (found f id x p at_home fits.members.0, tt))), (λ miss. absurd (miss refl))),
-      )
+      takes_home lock id v 1 (draw f.next) (Tries history origin f.next (v, [])) f (drawn f id (away id)) views w x there.1 refl (drawn_words f)
+      (drawn_kept f views id p stage (away id) kept at room refl (sym same, omega arith, put_here f.taker f.next id f.next refl, refl, there.2) (p, refl)
+      (λ j ne e. absurd (elsewhere j (sym there.1 ∙ e))) (w, set_here views id w (inside views id v at), (λ i. Holds (sym same i) (there.2 i))))
+      (record { newest = newest_next lock f views id v kept fits; won = λ _. (x, (found f id x p at_home fits.members.0, tt), refl); lost = λ miss. absurd (miss refl) })
 
   pub tries : (slots id : ℕ) (p : PassView E O) (n : ℕ) → n < 2 ^ 63 → p.served ≡ n
-      → Allows (Rule lock) slots id (view_of (p ∷ []) Out, []) 1 (λ x. either (eqb x n) (n + 1) x) (tried history origin n (view_of (p ∷ []) Out, []))
-  tries slots id p n room served = let v : View E O = view_of (p ∷ []) Out in let then = tried history origin n (v, []) in
-      allowed lock slots id (v, []) 1 (λ x. either (eqb x n) (n + 1) x) then (λ f views kept at.
+      → Allows (LockRule lock) slots id (view_of (p ∷ []) Out, []) 1 (λ x. either (eqb x n) (n + 1) x) (Tries history origin n (view_of (p ∷ []) Out, []))
+  tries slots id p n room served = let v : View E O = view_of (p ∷ []) Out in let then = Tries history origin n (v, []) in
+      allowed lock slots id (v, []) 1 (draw n) then (λ f views kept at.
       let fits = kept.each_view id v at in let words = fits.members.0.words.1 in let order = kept.order in dite (ℕ_discrete f.next n)
-      (λ hit. subst (λ (k : ℕ). (w : View E O) × (a : Act (Option T)) × (g : Facts T E) × (set (f.served ∷ f.next ∷ []) 1 (either (eqb f.next k) (k + 1) f.next) ≡ g.served ∷ g.next ∷ []) × Valid (single_slot f.place) [] a
-      × (homes_after (single_slot f.place) [] a ≡ single_slot g.place) × Kept lock g (set views id w) × tried history origin k (v, []) f.next (w, carried_after [] a)) hit
-      (won slots id p f views kept at (omega arith) (omega arith)))
-      (λ miss. (
-        after_next f.next Out v,
-        keeps,
-        f,
-        missed_words f n miss,
-        tt,
-        refl,
-        next_kept lock f views id v kept at,
-        (newest_next lock f views id v kept fits, (λ hit. absurd (miss hit)), (λ _. (refl, ((λ one. miss (alone_hits f views id p n kept at served (sym fits.members.0.informed.0 ∙ one))), tt)))),
-      )))
+      (λ hit. subst (λ (k : ℕ). Owed lock id (v, []) 1 (draw k) (Tries history origin k (v, [])) f views) hit (won id p f views kept at (omega arith) (omega arith)))
+      (λ miss. unmoved lock id (v, []) 1 (draw n) then f views (after_next f.next Out v) (missed_words f n miss) (next_kept lock f views id v kept at) (record {
+        newest = newest_next lock f views id v kept fits;
+        won = λ hit. absurd (miss hit);
+        lost = λ _. (((λ one. miss (alone_hits f views id p n kept at served (sym fits.members.0.knows_opening.0 ∙ one))), tt), refl);
+      })))

@@ -1,6 +1,6 @@
+pub mod Prelude
 pub mod Lists
 pub mod Facts
-pub mod Lock
 pub mod Keeps
 pub mod Looks
 pub mod Draws
@@ -8,8 +8,6 @@ pub mod Waits
 pub mod Releases
 pub mod Seats
 pub mod Calls
-pub mod TryCalls
-pub mod TakeCalls
 pub mod Ends
 pub mod PassLists
 pub mod Meetings

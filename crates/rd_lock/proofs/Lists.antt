@@ -1,14 +1,17 @@
 -- Histories, and facts of each element of a list.
-use Rattle.std.proofs.lemmas.Grind.{common_steps}
-use Rattle.std.proofs.Common.{◌≡◌, ◌≢◌, ℕ, zero, suc, ◌+◌, ◌<◌, ◌≤◌, ◌⊎◌, cond, eqb, List, [], ◌∷◌, ◌++◌, map, length, sym, refl, ap, ◌∙◌, inl, inr, ⊎_elim, arith, append_assoc, add-zero, eq-eqb, ne_eqb}
-use Rattle.std.proofs.lemmas.List.{append-nil}
-use mathlib.Core.Option.{some, some-ne-none, some-injective}
-use mathlib.Core.List.{IsPrefix}
-use lib.ListN.{get_elem?}
-use Rattle.rd_lock.specs.Histories.{Pairwise, named, signed, NamesUpTo, placed}
-use Rattle.std.specs.List.{AllByRecursion}
+use Rattle.rd_lock.proofs.Prelude.{AllByRecursion, AreComparable, Continues, IsPrefix, NamesUpTo, Pairwise, append-nil, common_steps, get_elem?, named, only, signed, some, some-injective, some-ne-none}
+use Rattle.std.proofs.Common.{◌≡◌, ◌≢◌, ℕ, zero, suc, ◌+◌, ◌<◌, ◌≤◌, ◌⊎◌, cond, eqb, List, [], ◌∷◌, ◌++◌, map, length, sym, refl, ap, ◌∙◌, inl, inr, ⊎_elim, arith, append_assoc, add-zero, ne_eqb}
 
 module _ {A : Type 0} where
+  pub one_of : (xs : List A) (one : length xs ≡ 1) → xs ≡ only xs one ∷ []
+  one_of [] one = absurd (omega arith)
+  one_of (x ∷ []) one = refl
+  one_of (x ∷ y ∷ ys) one = absurd (omega arith)
+
+  pub only_is : (xs : List A) (one : length xs ≡ 1) (x : A) → xs ≡ x ∷ [] → only xs one ≡ x
+  only_is [] one x is = absurd (omega arith)
+  only_is (y ∷ ys) one x is = cc
+
   pub inside : (l : List A) (i : ℕ) (a : A) → get_elem? l i ≡ some a → i < length l
   inside [] i a e = absurd (some-ne-none a (sym e))
   inside (x ∷ xs) zero a e = omega arith
@@ -55,33 +58,51 @@ module _ {A : Type 0} where
   pairwise_all P R f [] h = tt
   pairwise_all P R f (x ∷ xs) h = (every_from P (R x) (λ y. f x y h.0) xs h.1, pairwise_all P R f xs h.1)
 
-  pub prefix_same : (xs : List A) → IsPrefix xs xs
-  prefix_same xs = ([], append-nil xs)
-
-  pub prefix_trans : (xs ys zs : List A) → IsPrefix xs ys → IsPrefix ys zs → IsPrefix xs zs
-  prefix_trans xs ys zs p q = (p.0 ++ q.0, sym (append_assoc xs p.0 q.0) ∙ (ap (λ l. l ++ q.0) p.1 ∙ q.1))
-
   -- of two beginnings of one list one begins the other
-  pub prefix_line : (xs ys zs : List A) → IsPrefix xs zs → IsPrefix ys zs → IsPrefix xs ys ⊎ IsPrefix ys xs
-  prefix_line [] ys zs p q = inl (ys, refl)
-  prefix_line (x ∷ xs) [] zs p q = inr (x ∷ xs, refl)
-  prefix_line (x ∷ xs) (y ∷ ys) [] p q = let e = p.1 in cc
-  prefix_line (x ∷ xs) (y ∷ ys) (z ∷ zs) p q = let a = p.1 in let b = q.1 in let hx : x ≡ z = cc in let hy : y ≡ z = cc in let tx : xs ++ p.0 ≡ zs = cc in let ty : ys ++ q.0 ≡ zs = cc in
+  pub comparable : (xs ys zs : List A) → IsPrefix xs zs → IsPrefix ys zs → AreComparable xs ys
+  comparable [] ys zs p q = inl (ys, refl)
+  comparable (x ∷ xs) [] zs p q = inr (x ∷ xs, refl)
+  comparable (x ∷ xs) (y ∷ ys) [] p q = let e = p.1 in cc
+  comparable (x ∷ xs) (y ∷ ys) (z ∷ zs) p q = let a = p.1 in let b = q.1 in let hx : x ≡ z = cc in let hy : y ≡ z = cc in let tx : xs ++ p.0 ≡ zs = cc in let ty : ys ++ q.0 ≡ zs = cc in
       let same : x ≡ y = cc in
-      ⊎_elim (λ (r : IsPrefix xs ys). inl (r.0, λ i. same i ∷ r.1 i)) (λ (r : IsPrefix ys xs). inr (r.0, λ i. sym same i ∷ r.1 i)) (prefix_line xs ys zs (p.0, tx) (q.0, ty))
+      ⊎_elim (λ (r : IsPrefix xs ys). inl (r.0, λ i. same i ∷ r.1 i)) (λ (r : IsPrefix ys xs). inr (r.0, λ i. sym same i ∷ r.1 i)) (comparable xs ys zs (p.0, tx) (q.0, ty))
 
 module _ {E : Type 0} where
-  -- the entries of others are none of the pass's
-  pub named_others : (pass k : ℕ) (xs : List (ℕ × E)) (other : ℕ) (es : List E) → other ≢ pass → named pass k (xs ++ signed other es) ≡ named pass k xs
-  named_others pass k [] other [] ne = refl
-  named_others pass k [] other (e ∷ es) ne = rw (ne_eqb other pass ne) (named_others pass (suc k) [] other es ne)
-  named_others pass k (x ∷ xs) other es ne = ap (λ l. cond (eqb x.0 pass) ((k, x.1) ∷ l) l) (named_others pass (suc k) xs other es ne)
+  pub continues_same : (pass : ℕ) (xs : List (ℕ × E)) → Continues pass xs xs
+  continues_same pass xs = ([], sym (append-nil xs), tt)
 
-  -- the pass's own new entries are all its own
-  pub named_own : (pass k : ℕ) (xs : List (ℕ × E)) (es : List E) → named pass k (xs ++ signed pass es) ≡ named pass k xs ++ placed (k + length xs) es
-  named_own pass k [] [] = refl
-  named_own pass k [] (e ∷ es) = rw (eq-eqb pass pass refl) (ap (λ l. (k, e) ∷ l) (named_own pass (suc k) [] es ∙ ap (λ n. placed n es) (add-zero (suc k))) ∙ ap (λ n. (n, e) ∷ placed (suc n) es) (sym (add-zero k)))
-  named_own pass k (x ∷ xs) es = grind (arith, named_own pass (suc k) xs es)
+  -- the entries of another pass are none of this one's
+  signed_else : (pass other : ℕ) (es : List E) → other ≢ pass → AllByRecursion (λ (e : ℕ × E). e.0 ≢ pass) (signed other es)
+  signed_else pass other [] ne = tt
+  signed_else pass other (e ∷ es) ne = (ne, signed_else pass other es ne)
+
+  -- what goes on from a history still does after another pass has put
+  pub continues_on : (pass other : ℕ) (old log new : List (ℕ × E)) (es : List E) → other ≢ pass → Continues pass old log → new ≡ log ++ signed other es → Continues pass old new
+  continues_on pass other old log new es ne c is = (
+    c.0 ++ signed other es,
+    is ∙ (ap (λ l. l ++ signed other es) c.1 ∙ append_assoc old c.0 (signed other es)),
+    every_append (λ (e : ℕ × E). e.0 ≢ pass) c.0 (signed other es) c.2 (signed_else pass other es ne),
+  )
+
+  -- what two passes have seen begins one history
+  pub in_order : (pass other : ℕ) (xs ys log : List (ℕ × E)) → Continues pass xs log → Continues other ys log → AreComparable xs ys
+  in_order pass other xs ys log a b = comparable xs ys log (a.0, sym a.1) (b.0, sym b.1)
+
+  named_else : (pass k : ℕ) (xs : List (ℕ × E)) → AllByRecursion (λ (e : ℕ × E). e.0 ≢ pass) xs → named pass k xs ≡ []
+  named_else pass k [] h = refl
+  named_else pass k (x ∷ xs) h = rw (ne_eqb x.0 pass h.0) (named_else pass (suc k) xs h.1)
+
+  named_append : (pass k : ℕ) (xs ys : List (ℕ × E)) → named pass k (xs ++ ys) ≡ named pass k xs ++ named pass (k + length xs) ys
+  named_append pass k [] ys = ap (λ n. named pass n ys) (sym (add-zero k))
+  named_append pass k (x ∷ xs) ys = grind (arith, named_append pass (suc k) xs ys)
+
+  -- a pass's own entries after a history that goes on by others alone, and then by these
+  pub own_grows : (pass : ℕ) (old found es : List (ℕ × E)) → Continues pass old found → named pass 1 (found ++ es) ≡ named pass 1 old ++ named pass (1 + length found) es
+  own_grows pass old found es c = named_append pass 1 found es ∙ ap (λ l. l ++ named pass (1 + length found) es)
+      (ap (named pass 1) c.1 ∙ (named_append pass 1 old c.0 ∙ (ap (λ l. named pass 1 old ++ l) (named_else pass (1 + length old) c.0 c.2) ∙ append-nil (named pass 1 old))))
+
+  pub own_same : (pass : ℕ) (old new : List (ℕ × E)) → Continues pass old new → named pass 1 new ≡ named pass 1 old
+  own_same pass old new c = ap (named pass 1) (sym (append-nil new)) ∙ (own_grows pass old new [] c ∙ append-nil (named pass 1 old))
 
   pub names_signed : (n pass : ℕ) (es : List E) → 0 < pass → pass ≤ n → NamesUpTo n (signed pass es)
   names_signed n pass [] low high = tt

@@ -1,17 +1,8 @@
 -- Loads of the words, and draws.
 use Rattle.std.proofs.Common.{◌≡◌, ◌≢◌, ℕ, ◌^◌, ◌≤◌, List, map, set, sym, refl, ap, ◌∙◌, arith, Option}
-use mathlib.Core.Option.{some}
-use lib.ListN.{get_elem?}
-use Rattle.atomic_table.specs.Table.{Me, keeps, Allows}
-use Rattle.rd_lock.specs.declared.views.PassView.{PassView}
-use Rattle.rd_lock.specs.declared.views.View.{View}
-use Rattle.rd_lock.specs.declared.views.Stage.{Stage}
-use Rattle.rd_lock.specs.declared.views.Stage.TheVariants.{Out, Waits, Holds}
-use Rattle.rd_lock.specs.Rule.{Facts, view_of, IsAloneAt}
-use Rattle.rd_lock.specs.Steps.{knows_next, knows_served, AreInLine, after_next, after_served, IsNewestNext, IsNewestServed, saw_next, saw_served}
-use Rattle.rd_lock.proofs.Lock.{Lock, Fits, Suits, StageSuits, Kept, Rule}
-use Rattle.rd_lock.proofs.Lists.{every_from, every_map, pairwise_from, pairwise_map, pairwise_all, prefix_line}
-use Rattle.rd_lock.proofs.Keeps.{same_passes, knows_more, allowed}
+use Rattle.rd_lock.proofs.Prelude.{Allows, AreComparable, Facts, Holds, IsAloneAt, IsKept, IsNewestNext, IsNewestServed, LoadsNext, LoadsServed, Lock, LockRule, Me, MemberFits, Out, PassView, Stage, StageFits, View, ViewFits, Waits, after_next, after_served, get_elem?, keeps, knows_next, knows_served, some, view_of}
+use Rattle.rd_lock.proofs.Lists.{every_from, every_map, pairwise_from, pairwise_map, pairwise_all, in_order}
+use Rattle.rd_lock.proofs.Keeps.{same_passes, knows_more, allowed, unmoved}
 
 module _ {E O : Type 0} where
   alone_map : (k : PassView E O → PassView E O) (s : Stage E) (ps : List (PassView E O)) → IsAloneAt s ps → IsAloneAt s (map k ps)
@@ -23,65 +14,56 @@ module _ {T E O : Type 0} (lock : Lock T E O) where
   open lock use {seats}
 
   -- a view each of whose members knows more
-  pub maps_fit : (f g : Facts T E) (id : ℕ) (k : PassView E O → PassView E O) (v : View E O) (s : Stage E) → ((p : PassView E O) → (k p).pass ≡ p.pass) → ((p : PassView E O) → Suits lock f id p → Suits lock g id (k p))
-      → StageSuits lock g id s → IsAloneAt s v.members → Fits lock f id v → Fits lock g id (view_of (map k v.members) s)
+  pub maps_fit : (f g : Facts T E) (id : ℕ) (k : PassView E O → PassView E O) (v : View E O) (s : Stage E) → ((p : PassView E O) → (k p).pass ≡ p.pass) → ((p : PassView E O) → MemberFits lock f id p → MemberFits lock g id (k p))
+      → StageFits lock g id s → IsAloneAt s v.members → ViewFits lock f id v → ViewFits lock g id (view_of (map k v.members) s)
   maps_fit f g id k v s same suits stage alone fits = record {
-    members = every_map k (Suits lock g id) v.members (every_from (Suits lock f id) (λ p. Suits lock g id (k p)) suits v.members fits.members);
+    members = every_map k (MemberFits lock g id) v.members (every_from (MemberFits lock f id) (λ p. MemberFits lock g id (k p)) suits v.members fits.members);
     apart = pairwise_map k (λ p q. q.pass ≢ p.pass) v.members (pairwise_from (λ p q. q.pass ≢ p.pass) (λ p q. (k q).pass ≢ (k p).pass) (λ p q ne e. ne (sym (same q) ∙ (e ∙ same p))) v.members fits.apart);
     stage = stage;
     alone = alone_map k s v.members alone;
   }
 
   -- another seat's view, whose members and stage still fit
-  pub others_fit : (f g : Facts T E) (j : ℕ) (u : View E O) → ((p : PassView E O) → Suits lock f j p → Suits lock g j p) → ((s : Stage E) → StageSuits lock f j s → StageSuits lock g j s)
-      → Fits lock f j u → Fits lock g j u
+  pub others_fit : (f g : Facts T E) (j : ℕ) (u : View E O) → ((p : PassView E O) → MemberFits lock f j p → MemberFits lock g j p) → ((s : Stage E) → StageFits lock f j s → StageFits lock g j s)
+      → ViewFits lock f j u → ViewFits lock g j u
   others_fit f g j u suits stays h = grind (arith, every_from)
 
   -- where there is one seat, there is one pass
-  pub one_seat : (f : Facts T E) (i j : ℕ) (p q : PassView E O) → seats ≡ 1 → Suits lock f i p → Suits lock f j q → j ≡ i
+  pub one_seat : (f : Facts T E) (i j : ℕ) (p q : PassView E O) → seats ≡ 1 → MemberFits lock f i p → MemberFits lock f j q → j ≡ i
   one_seat f i j p q one a b = let x = a.numbered in let y = b.numbered in let same : q.pass ≡ p.pass = omega arith in sym b.owned ∙ (ap f.owner same ∙ a.owned)
 
-  next_suits : (f : Facts T E) (id : ℕ) (p : PassView E O) → Suits lock f id p → Suits lock f id (knows_next f.next p)
+  next_suits : (f : Facts T E) (id : ℕ) (p : PassView E O) → MemberFits lock f id p → MemberFits lock f id (knows_next f.next p)
   next_suits f id p h = grind arith
 
-  pub served_suits : (f : Facts T E) (id : ℕ) (p : PassView E O) → f.served ≤ f.next → Suits lock f id p → Suits lock f id (knows_served f.served p)
+  pub served_suits : (f : Facts T E) (id : ℕ) (p : PassView E O) → f.served ≤ f.next → MemberFits lock f id p → MemberFits lock f id (knows_served f.served p)
   served_suits f id p order h = grind arith
 
-  pub newest_next : (f : Facts T E) (views : List (View E O)) (id : ℕ) (v : View E O) → Kept lock f views → Fits lock f id v → IsNewestNext f.next v
-  newest_next f views id v kept fits = (kept.limit, every_from (Suits lock f id) (λ p. p.next ≤ f.next) (λ p h. h.words.0) v.members fits.members)
+  pub newest_next : (f : Facts T E) (views : List (View E O)) (id : ℕ) (v : View E O) → IsKept lock f views → ViewFits lock f id v → IsNewestNext f.next v
+  newest_next f views id v kept fits = (kept.limit, every_from (MemberFits lock f id) (λ p. p.next ≤ f.next) (λ p h. h.words.0) v.members fits.members)
 
-  pub newest_served : (f : Facts T E) (views : List (View E O)) (id : ℕ) (v : View E O) → Kept lock f views → Fits lock f id v → IsNewestServed f.served v
-  newest_served f views id v kept fits = let a = kept.limit in let b = kept.order in (omega arith, every_from (Suits lock f id) (λ p. (p.served ≤ f.served) × (p.next ≤ 2 ^ 63)) (λ p h. let low = h.words.0 in (h.words.1, omega arith)) v.members fits.members)
+  pub newest_served : (f : Facts T E) (views : List (View E O)) (id : ℕ) (v : View E O) → IsKept lock f views → ViewFits lock f id v → IsNewestServed f.served v
+  newest_served f views id v kept fits = let a = kept.limit in let b = kept.order in (omega arith, every_from (MemberFits lock f id) (λ p. (p.served ≤ f.served) × (p.next ≤ 2 ^ 63)) (λ p h. let low = h.words.0 in (h.words.1, omega arith)) v.members fits.members)
 
   -- the view after a load of next
-  pub next_kept : (f : Facts T E) (views : List (View E O)) (id : ℕ) (v : View E O) → Kept lock f views → get_elem? views id ≡ some v → Kept lock f (set views id (after_next f.next v.stage v))
+  pub next_kept : (f : Facts T E) (views : List (View E O)) (id : ℕ) (v : View E O) → IsKept lock f views → get_elem? views id ≡ some v → IsKept lock f (set views id (after_next f.next v.stage v))
   next_kept f views id v kept at = let fits = kept.each_view id v at in
       knows_more lock f views id v (after_next f.next v.stage v) kept at refl (same_passes (knows_next f.next) (λ p. refl) v.members)
       (maps_fit f f id (knows_next f.next) v v.stage (λ p. refl) (next_suits f id) fits.stage fits.alone fits)
 
   -- the view after a load of served
-  pub served_kept : (f : Facts T E) (views : List (View E O)) (id : ℕ) (v : View E O) → Kept lock f views → get_elem? views id ≡ some v → Kept lock f (set views id (after_served f.served v.stage v))
+  pub served_kept : (f : Facts T E) (views : List (View E O)) (id : ℕ) (v : View E O) → IsKept lock f views → get_elem? views id ≡ some v → IsKept lock f (set views id (after_served f.served v.stage v))
   served_kept f views id v kept at = let fits = kept.each_view id v at in
       knows_more lock f views id v (after_served f.served v.stage v) kept at refl (same_passes (knows_served f.served) (λ p. refl) v.members)
       (maps_fit f f id (knows_served f.served) v v.stage (λ p. refl) (λ p. served_suits f id p kept.order) fits.stage fits.alone fits)
 
-  pub looks_next : (slots id : ℕ) (me : Me (Option T) (View E O)) → Allows (Rule lock) slots id me 1 (λ n. n) (saw_next me)
-  looks_next slots id me = allowed lock slots id me 1 (λ n. n) (saw_next me) (λ f views kept at.
-      (after_next f.next me.0.stage me.0, keeps, f, refl, tt, refl, next_kept f views id me.0 kept at, (newest_next f views id me.0 kept (kept.each_view id me.0 at), refl)))
+  pub looks_next : (slots id : ℕ) (me : Me (Option T) (View E O)) → Allows (LockRule lock) slots id me 1 (λ n. n) (LoadsNext me)
+  looks_next slots id me = allowed lock slots id me 1 (λ n. n) (LoadsNext me) (λ f views kept at. unmoved lock id me 1 (λ n. n) (LoadsNext me) f views (after_next f.next me.0.stage me.0) refl
+      (next_kept f views id me.0 kept at) (record { newest = newest_next f views id me.0 kept (kept.each_view id me.0 at); after = refl }))
 
-  pub looks_served : (slots id : ℕ) (me : Me (Option T) (View E O)) → Allows (Rule lock) slots id me 0 (λ n. n) (saw_served me)
-  looks_served slots id me = allowed lock slots id me 0 (λ n. n) (saw_served me) (λ f views kept at.
-      let fits = kept.each_view id me.0 at in (
-        after_served f.served me.0.stage me.0,
-        keeps,
-        f,
-        refl,
-        tt,
-        refl,
-        served_kept f views id me.0 kept at,
-        (
-          newest_served f views id me.0 kept fits,
-          refl,
-          pairwise_all (Suits lock f id) AreInLine (λ p q a b. prefix_line p.seen q.seen f.log a.has_seen b.has_seen) me.0.members fits.members,
-        ),
-      ))
+  pub looks_served : (slots id : ℕ) (me : Me (Option T) (View E O)) → Allows (LockRule lock) slots id me 0 (λ n. n) (LoadsServed me)
+  looks_served slots id me = allowed lock slots id me 0 (λ n. n) (LoadsServed me) (λ f views kept at. let fits = kept.each_view id me.0 at in
+      unmoved lock id me 0 (λ n. n) (LoadsServed me) f views (after_served f.served me.0.stage me.0) refl (served_kept f views id me.0 kept at) (record {
+        newest = newest_served f views id me.0 kept fits;
+        after = refl;
+        order = pairwise_all (MemberFits lock f id) (λ (p q : PassView E O). AreComparable p.seen q.seen) (λ p q a b. in_order p.pass q.pass p.seen q.seen f.log a.continues b.continues) me.0.members fits.members;
+      }))

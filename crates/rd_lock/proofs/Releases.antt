@@ -1,26 +1,9 @@
 -- The release, which gives the value back.
-use Rattle.std.proofs.lemmas.Grind.{common_steps}
+use Rattle.rd_lock.proofs.Prelude.{Act, Adds, Allows, Continues, Facts, Holds, IsKept, Lock, LockRule, MemberFits, NamesUpTo, Out, PassView, Place, Releases, Stage, StageFits, Valid, View, away, carried_after, common_steps, get_elem?, gives, has_put, home, homes_after, signed, single_slot, some, some-injective, ticket, view_of}
 use Rattle.std.proofs.Common.{◌≡◌, ◌≢◌, ℕ, ◌+◌, ◌%◌, ◌^◌, ◌<◌, ◌≤◌, List, [], ◌∷◌, ◌++◌, set, sym, refl, ap, ◌∙◌, subst, inr, arith, Option, Some, None}
-use mathlib.Core.Option.{some, some-injective}
-use lib.ListN.{get_elem?}
-use Rattle.atomic_table.specs.Table.{Act, gives, Valid, homes_after, carried_after, Allows}
-use Rattle.rd_lock.specs.declared.views.PassView.{PassView}
-use Rattle.rd_lock.specs.declared.views.View.{View}
-use Rattle.rd_lock.specs.declared.views.Stage.{Stage}
-use Rattle.rd_lock.specs.declared.views.Stage.TheVariants.{Out, Holds}
-use Rattle.rd_lock.specs.Histories.{named, signed, Adds, NamesUpTo}
-use Rattle.rd_lock.specs.Rule.{Place, home, away, Facts, ticket, view_of, single_slot}
-use Rattle.rd_lock.specs.Steps.{has_put, released}
-use Rattle.rd_lock.proofs.Lock.{Lock, Suits, StageSuits, Kept, Rule}
-use Rattle.rd_lock.proofs.Lists.{every_append, prefix_same, prefix_trans, named_others, names_signed}
-use Rattle.rd_lock.proofs.Keeps.{moved, allowed}
+use Rattle.rd_lock.proofs.Lists.{every_append, continues_same, continues_on, names_signed}
+use Rattle.rd_lock.proofs.Keeps.{moved, allowed, Owed}
 use Rattle.rd_lock.proofs.Looks.{others_fit, one_seat, newest_served}
-use Rattle.rd_lock.proofs.Draws.{found}
-
-module _ {E : Type 0} where
-  abbrev pub found_or : List (ℕ × E) → Stage E → List (ℕ × E)
-  found_or d (Holds t found) = found
-  found_or d _ = d
 
 module _ {T : Type 0} where
   abbrev pub value_or : T → Option T → T
@@ -38,22 +21,27 @@ module _ {T E O : Type 0} (lock : Lock T E O) where
   done f x = record { next = f.next; served = f.served + 1; log = history x; owner = f.owner; taker = f.taker; place = home x }
 
   -- another pass's member, whose entries are as they were
-  done_suits : (f : Facts T E) (id j : ℕ) (x : T) (es : List E) (p q : PassView E O) → Suits lock f id p → j ≢ id → history x ≡ f.log ++ signed p.pass es → Suits lock f j q → Suits lock (done f x) j q
-  done_suits f id j x es p q mine ne added h = grind (arith, common_steps, prefix_trans, named_others, one_seat)
+  done_suits : (f : Facts T E) (id j : ℕ) (x : T) (es : List E) (p q : PassView E O) → MemberFits lock f id p → j ≢ id → history x ≡ f.log ++ signed p.pass es → MemberFits lock f j q → MemberFits lock (done f x) j q
+  done_suits f id j x es p q mine ne added h = record {
+    owned = h.owned;
+    numbered = h.numbered;
+    knows_opening = h.knows_opening;
+    continues = continues_on q.pass p.pass q.seen f.log (history x) es (λ e. ne (sym h.owned ∙ (ap f.owner (sym e) ∙ mine.owned))) h.continues added;
+    words = let low = h.words.1 in (h.words.0, omega arith);
+    one_seat = λ one. absurd (ne (one_seat lock f id j p q one mine h));
+  }
 
   -- the pass that put
-  putter_suits : (f : Facts T E) (id : ℕ) (x : T) (p : PassView E O) → Suits lock f id p → Suits lock (done f x) id (has_put (history x) (f.served + 1) p)
-  putter_suits f id x p h = grind (arith, prefix_same)
+  putter_suits : (f : Facts T E) (id : ℕ) (x : T) (p : PassView E O) → MemberFits lock f id p → MemberFits lock (done f x) id (has_put (history x) (f.served + 1) p)
+  putter_suits f id x p h = grind (arith, continues_same)
 
-  done_stays : (f : Facts T E) (id j : ℕ) (x : T) → j ≢ id → f.taker f.served ≡ id → f.place ≡ away id → (s : Stage E) → StageSuits lock f j s → StageSuits lock (done f x) j s
+  done_stays : (f : Facts T E) (id j : ℕ) (x : T) → j ≢ id → f.taker f.served ≡ id → f.place ≡ away id → (s : Stage E) → StageFits lock f j s → StageFits lock (done f x) j s
   done_stays f id j x ne mine is s h = grind arith
 
-  gives_back : (slots id : ℕ) (p : PassView E O) (t : ℕ) (log : List (ℕ × E)) (x : T) (es : List E) (f : Facts T E) (views : List (View E O)) → history x ≡ log ++ signed p.pass es → origin x ≡ p.origin → Kept lock f views
+  gives_back : (id : ℕ) (p : PassView E O) (t : ℕ) (log : List (ℕ × E)) (x : T) (es : List E) (f : Facts T E) (views : List (View E O)) → history x ≡ log ++ signed p.pass es → origin x ≡ p.origin → IsKept lock f views
       → get_elem? views id ≡ some (view_of (p ∷ []) (Holds t log))
-      → (w : View E O) × (a : Act (Option T)) × (g : Facts T E) × ((((f.served + 1) % 2 ^ 64) ∷ f.next ∷ []) ≡ g.served ∷ g.next ∷ []) × Valid (single_slot f.place) ((0, Some x) ∷ []) a
-      × (homes_after (single_slot f.place) ((0, Some x) ∷ []) a ≡ single_slot g.place) × Kept lock g (set views id w)
-      × released history origin (view_of (p ∷ []) (Holds t log), (0, Some x) ∷ []) f.served (w, carried_after ((0, Some x) ∷ []) a)
-  gives_back slots id p t log x es f views added root_is kept at = let v : View E O = view_of (p ∷ []) (Holds t log) in let fits = kept.each_view id v at in let mine = fits.members.0 in let stage = fits.stage in
+      → Owed lock id (view_of (p ∷ []) (Holds t log), (0, Some x) ∷ []) 0 (λ n. (n + 1) % 2 ^ 64) (Releases history origin (view_of (p ∷ []) (Holds t log), (0, Some x) ∷ [])) f views
+  gives_back id p t log x es f views added root_is kept at = let v : View E O = view_of (p ∷ []) (Holds t log) in let fits = kept.each_view id v at in let mine = fits.members.0 in let stage = fits.stage in
       let g : Facts T E = done f x in let q : PassView E O = has_put (history x) (f.served + 1) p in let w : View E O = view_of (q ∷ []) Out in
       let t_is : t ≡ f.served = stage.0 in let below : t < f.next = stage.1 in let limit = kept.limit in let here : f.taker f.served ≡ id = ap f.taker (sym t_is) ∙ stage.2 in
       let more : history x ≡ f.log ++ signed p.pass es = added ∙ ap (λ l. l ++ signed p.pass es) stage.4 in let number = mine.numbered in
@@ -73,16 +61,16 @@ module _ {T E O : Type 0} (lock : Lock T E O) where
                   let same : t ≡ u = some-injective t u (ap ticket has_t ∙ has.2) in absurd (omega arith)),
               has,
             ))
-            (refl, root_is ∙ mine.informed.1),
-        (
-          newest_served lock f views id v kept fits,
-          (λ u log' is. let same : log ≡ log' = ap (found_or log) is in (mine.has_put ∙ ap (named p.pass 0) (sym stage.4 ∙ same), tt)),
-          (λ y is. let same : x ≡ y = ap (first_value_or x) is in ap (λ (z : T). (view_of (has_put (history z) (f.served + 1) p ∷ []) Out, [])) same),
-        ),
+            (refl, root_is ∙ mine.knows_opening.1),
+        record {
+          newest = newest_served lock f views id v kept fits;
+          found = λ u found is. let same : log ≡ found = cc in (subst (Continues p.pass p.seen) (sym stage.4 ∙ same) mine.continues, tt);
+          after = λ y is. let same : x ≡ y = ap (first_value_or x) is in ap (λ (z : T). (view_of (has_put (history z) (f.served + 1) p ∷ []) Out, [])) same;
+        },
       )
 
   pub releases : (slots id : ℕ) (p : PassView E O) (t : ℕ) (log : List (ℕ × E)) (x : T) → Adds p.pass log (history x) → origin x ≡ p.origin
-      → Allows (Rule lock) slots id (view_of (p ∷ []) (Holds t log), (0, Some x) ∷ []) 0 (λ n. (n + 1) % 2 ^ 64) (released history origin (view_of (p ∷ []) (Holds t log), (0, Some x) ∷ []))
+      → Allows (LockRule lock) slots id (view_of (p ∷ []) (Holds t log), (0, Some x) ∷ []) 0 (λ n. (n + 1) % 2 ^ 64) (Releases history origin (view_of (p ∷ []) (Holds t log), (0, Some x) ∷ []))
   releases slots id p t log x added root_is = let v : View E O = view_of (p ∷ []) (Holds t log) in let c = (0, Some x) ∷ [] in
-      allowed lock slots id (v, c) 0 (λ n. (n + 1) % 2 ^ 64) (released history origin (v, c))
-      (λ f views kept at. gives_back slots id p t log x added.0 f views added.1 root_is kept at)
+      allowed lock slots id (v, c) 0 (λ n. (n + 1) % 2 ^ 64) (Releases history origin (v, c))
+      (λ f views kept at. gives_back id p t log x added.0 f views added.1 root_is kept at)

@@ -1,19 +1,6 @@
 -- Two seats made one, and one made two.
 use Rattle.std.proofs.Common.{◌≡◌, ◌≢◌, ℕ, cond, eqb, List, [], ◌∷◌, ◌++◌, length, set, sym, refl, ap, ◌∙◌, subst, inl, inr, ⊎_elim, eq-eqb, ne_eqb, arith}
-use mathlib.Core.Logic.{dite}
-use mathlib.Core.Option.{some, some-injective}
-use native.Mathlib.Decide.{ℕ_discrete}
-use lib.ListN.{get_elem?}
-use Rattle.atomic_table.specs.Table.{Joins, Splits}
-use Rattle.atomic_table.proofs.Lists.{at_set, at_longer, at_last, set_here, set_else}
-use Rattle.rd_lock.specs.declared.views.PassView.{PassView}
-use Rattle.rd_lock.specs.declared.views.View.{View}
-use Rattle.rd_lock.specs.declared.views.Stage.{Stage}
-use Rattle.rd_lock.specs.declared.views.Stage.TheVariants.{Out}
-use Rattle.rd_lock.specs.Histories.{IsIn}
-use Rattle.std.specs.List.{AllByRecursion}
-use Rattle.rd_lock.specs.Rule.{Place, Facts, view_of, numbers_of, HasPass}
-use Rattle.rd_lock.proofs.Lock.{Lock, Fits, Suits, StageSuits, Rule, Placed}
+use Rattle.rd_lock.proofs.Prelude.{AllByRecursion, Facts, HasPass, IsIn, IsPlaced, Joins, Lock, LockRule, MemberFits, Out, PassView, Place, Splits, Stage, StageFits, View, ViewFits, at_last, at_longer, at_set, dite, get_elem?, numbers_of, set_else, set_here, some, some-injective, view_of, ℕ_discrete}
 use Rattle.rd_lock.proofs.Lists.{inside, at_end, every_append, every_both, pairwise_append, every_from}
 use Rattle.rd_lock.proofs.Facts.{put, put_here, put_else}
 use Rattle.rd_lock.proofs.Looks.{others_fit}
@@ -65,22 +52,22 @@ module _ {T E O : Type 0} (lock : Lock T E O) where
   joined f id other = record { next = f.next; served = f.served; log = f.log; owner = λ p. cond (eqb (f.owner p) other) id (f.owner p); taker = f.taker; place = f.place }
 
   -- one who comes over
-  comes : (f : Facts T E) (id other : ℕ) (p : PassView E O) → Suits lock f other p → Suits lock (joined f id other) id p
+  comes : (f : Facts T E) (id other : ℕ) (p : PassView E O) → MemberFits lock f other p → MemberFits lock (joined f id other) id p
   comes f id other p h = grind arith
 
   -- one who stays
-  stays : (f : Facts T E) (id other j : ℕ) (p : PassView E O) → j ≢ other → Suits lock f j p → Suits lock (joined f id other) j p
+  stays : (f : Facts T E) (id other j : ℕ) (p : PassView E O) → j ≢ other → MemberFits lock f j p → MemberFits lock (joined f id other) j p
   stays f id other j p ne h = grind arith
 
-  same_stage : (f : Facts T E) (id other j : ℕ) (s : Stage E) → StageSuits lock f j s → StageSuits lock (joined f id other) j s
+  same_stage : (f : Facts T E) (id other j : ℕ) (s : Stage E) → StageFits lock f j s → StageFits lock (joined f id other) j s
   same_stage f id other j s h = grind arith
 
   -- members of two seats are apart
-  across : (f : Facts T E) (id other : ℕ) (ps qs : List (PassView E O)) → other ≢ id → AllByRecursion (Suits lock f id) ps → AllByRecursion (Suits lock f other) qs → AllByRecursion (λ q. AllByRecursion (λ (p : PassView E O). p.pass ≢ q.pass) ps) qs
+  across : (f : Facts T E) (id other : ℕ) (ps qs : List (PassView E O)) → other ≢ id → AllByRecursion (MemberFits lock f id) ps → AllByRecursion (MemberFits lock f other) qs → AllByRecursion (λ q. AllByRecursion (λ (p : PassView E O). p.pass ≢ q.pass) ps) qs
   across f id other ps qs ne mine theirs = grind (arith, every_from)
 
   -- a ticket or the value is with neither of two seats that are out
-  pub joins : (id other : ℕ) (ps qs : List (PassView E O)) → Joins (Rule lock) id (view_of ps Out) other (view_of qs Out) (view_of (qs ++ ps) Out) (view_of [] Out)
+  pub joins : (id other : ℕ) (ps qs : List (PassView E O)) → Joins (LockRule lock) id (view_of ps Out) other (view_of qs Out) (view_of (qs ++ ps) Out) (view_of [] Out)
   joins id other ps qs s r at apart there = let f = r.0 in let kept = r.3 in let v : View E O = view_of ps Out in let u : View E O = view_of qs Out in let both : View E O = view_of (qs ++ ps) Out in let spent : View E O = view_of [] Out in
       let g = joined f id other in let views = set s.views id both in let was : get_elem? s.views other ≡ some u = sym (set_else s.views id other both apart) ∙ there in
       let mine = kept.each_view id v at in let theirs = kept.each_view other u was in (
@@ -91,11 +78,11 @@ module _ {T E O : Type 0} (lock : Lock T E O) where
           order = kept.order;
           limit = kept.limit;
           names = kept.names;
-          each_view = λ j w e. ⊎_elim (λ (z : (j ≡ other) × (spent ≡ w)). subst (λ (x : View E O). Fits lock g j x) z.1 (record { members = tt; apart = tt; stage = tt; alone = tt }))
+          each_view = λ j w e. ⊎_elim (λ (z : (j ≡ other) × (spent ≡ w)). subst (λ (x : View E O). ViewFits lock g j x) z.1 (record { members = tt; apart = tt; stage = tt; alone = tt }))
               (λ (z : (j ≢ other) × (get_elem? views j ≡ some w)). ⊎_elim
-              (λ (y : (j ≡ id) × (both ≡ w)). subst (λ (x : ℕ × View E O). Fits lock g x.0 x.1) (λ i. (sym y.0 i, y.1 i)) (record {
-                members = every_append (Suits lock g id) qs ps (every_from (Suits lock f other) (Suits lock g id) (comes f id other) qs theirs.members)
-                    (every_from (Suits lock f id) (Suits lock g id) (λ p. stays f id other id p (λ e. apart (sym e))) ps mine.members);
+              (λ (y : (j ≡ id) × (both ≡ w)). subst (λ (x : ℕ × View E O). ViewFits lock g x.0 x.1) (λ i. (sym y.0 i, y.1 i)) (record {
+                members = every_append (MemberFits lock g id) qs ps (every_from (MemberFits lock f other) (MemberFits lock g id) (comes f id other) qs theirs.members)
+                    (every_from (MemberFits lock f id) (MemberFits lock g id) (λ p. stays f id other id p (λ e. apart (sym e))) ps mine.members);
                 apart = pairwise_append (λ p q. q.pass ≢ p.pass) qs ps theirs.apart mine.apart (across f id other ps qs apart mine.members theirs.members);
                 stage = tt;
                 alone = tt;
@@ -115,20 +102,20 @@ module _ {T E O : Type 0} (lock : Lock T E O) where
   abbrev parted : Facts T E → ℕ → ℕ → Facts T E
   parted f pass new = record { next = f.next; served = f.served; log = f.log; owner = put f.owner pass new; taker = f.taker; place = f.place }
 
-  moves_out : (f : Facts T E) (id new : ℕ) (p : PassView E O) → Suits lock f id p → Suits lock (parted f p.pass new) new p
+  moves_out : (f : Facts T E) (id new : ℕ) (p : PassView E O) → MemberFits lock f id p → MemberFits lock (parted f p.pass new) new p
   moves_out f id new p h = grind arith
 
-  stays_in : (f : Facts T E) (j pass new : ℕ) (q : PassView E O) → q.pass ≢ pass → Suits lock f j q → Suits lock (parted f pass new) j q
+  stays_in : (f : Facts T E) (j pass new : ℕ) (q : PassView E O) → q.pass ≢ pass → MemberFits lock f j q → MemberFits lock (parted f pass new) j q
   stays_in f j pass new q ne h = grind arith
 
-  stage_in : (f : Facts T E) (j pass new : ℕ) (s : Stage E) → StageSuits lock f j s → StageSuits lock (parted f pass new) j s
+  stage_in : (f : Facts T E) (j pass new : ℕ) (s : Stage E) → StageFits lock f j s → StageFits lock (parted f pass new) j s
   stage_in f j pass new s h = grind arith
 
   -- the value stays where it is when a seat comes
-  place_longer : (f g : Facts T E) (views : List (View E O)) (w : View E O) (place : Place T) → g.log ≡ f.log → g.served ≡ f.served → Placed lock f views place → Placed lock g (views ++ w ∷ []) place
+  place_longer : (f g : Facts T E) (views : List (View E O)) (w : View E O) (place : Place T) → g.log ≡ f.log → g.served ≡ f.served → IsPlaced lock f views place → IsPlaced lock g (views ++ w ∷ []) place
   place_longer f g views w place log served h = grind (arith, at_longer)
 
-  pub splits : (id : ℕ) (p : PassView E O) (ps : List (PassView E O)) → Splits (Rule lock) id (view_of (p ∷ ps) Out) (view_of ps Out) (view_of (p ∷ []) Out)
+  pub splits : (id : ℕ) (p : PassView E O) (ps : List (PassView E O)) → Splits (LockRule lock) id (view_of (p ∷ ps) Out) (view_of ps Out) (view_of (p ∷ []) Out)
   splits id p ps s r at = let f = r.0 in let kept = r.3 in let v : View E O = view_of (p ∷ ps) Out in let left : View E O = view_of ps Out in let right : View E O = view_of (p ∷ []) Out in
       let views = set s.views id left in let new = length views in let g = parted f p.pass new in let mine = kept.each_view id v at in let first = mine.members.0 in (
         g,
@@ -139,8 +126,8 @@ module _ {T E O : Type 0} (lock : Lock T E O) where
           limit = kept.limit;
           names = kept.names;
           each_view = λ j w e. ⊎_elim (λ (z : get_elem? views j ≡ some w). ⊎_elim
-              (λ (y : (j ≡ id) × (left ≡ w)). subst (λ (x : ℕ × View E O). Fits lock g x.0 x.1) (λ i. (sym y.0 i, y.1 i)) (record {
-                members = every_both (λ q. q.pass ≢ p.pass) (Suits lock f id) (Suits lock g id) (λ q ne. stays_in f id p.pass new q ne) ps mine.apart.0 mine.members.1;
+              (λ (y : (j ≡ id) × (left ≡ w)). subst (λ (x : ℕ × View E O). ViewFits lock g x.0 x.1) (λ i. (sym y.0 i, y.1 i)) (record {
+                members = every_both (λ q. q.pass ≢ p.pass) (MemberFits lock f id) (MemberFits lock g id) (λ q ne. stays_in f id p.pass new q ne) ps mine.apart.0 mine.members.1;
                 apart = mine.apart.1;
                 stage = tt;
                 alone = tt;
@@ -148,7 +135,7 @@ module _ {T E O : Type 0} (lock : Lock T E O) where
               (λ (y : (j ≢ id) × (get_elem? s.views j ≡ some w)). others_fit lock f g j w
               (λ q h. stays_in f j p.pass new q (λ e. y.0 (sym h.owned ∙ (ap f.owner e ∙ first.owned))) h) (stage_in f j p.pass new) (kept.each_view j w y.1))
               (at_set s.views id j left w z))
-              (λ (z : (j ≡ new) × (right ≡ w)). subst (λ (x : ℕ × View E O). Fits lock g x.0 x.1) (λ i. (sym z.0 i, z.1 i)) (record { members = (moves_out f id new p first, tt); apart = (tt, tt); stage = tt; alone = tt }))
+              (λ (z : (j ≡ new) × (right ≡ w)). subst (λ (x : ℕ × View E O). ViewFits lock g x.0 x.1) (λ i. (sym z.0 i, z.1 i)) (record { members = (moves_out f id new p first, tt); apart = (tt, tt); stage = tt; alone = tt }))
               (at_end views right w j e);
           each_pass = λ k low high. parted_passes s.views id p ps f.owner k at (kept.each_pass k low high);
           each_ticket = λ t low high. let has = kept.each_ticket t low high in let k = f.taker t in let a = no_ticket lock s.views id (p ∷ ps) k t at has in

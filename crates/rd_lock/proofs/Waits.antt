@@ -1,20 +1,8 @@
 -- Loads of served by a pass that waits.
 use Rattle.std.proofs.Common.{◌≡◌, ℕ, List, [], ◌∷◌, set, sym, refl, ap, ◌∙◌, subst, inl, inr, Option, Some, arith}
-use mathlib.Core.Logic.{dite}
-use mathlib.Core.Option.{some, some-injective}
-use native.Mathlib.Decide.{ℕ_discrete}
-use lib.ListN.{get_elem?}
-use Rattle.atomic_table.specs.Table.{Act, keeps, takes, Valid, homes_after, carried_after, Allows}
-use Rattle.atomic_table.proofs.Lists.{set_here}
-use Rattle.rd_lock.specs.declared.views.PassView.{PassView}
-use Rattle.rd_lock.specs.declared.views.View.{View}
-use Rattle.rd_lock.specs.declared.views.Stage.{Stage}
-use Rattle.rd_lock.specs.declared.views.Stage.TheVariants.{Waits, Holds}
-use Rattle.rd_lock.specs.Rule.{Place, home, away, Facts, ticket, view_of, single_slot}
-use Rattle.rd_lock.specs.Steps.{knows_served, after_served, listened}
-use Rattle.rd_lock.proofs.Lock.{Lock, Suits, StageSuits, Kept, Rule, Placed}
+use Rattle.rd_lock.proofs.Prelude.{Act, Allows, Facts, Holds, IsKept, IsPlaced, Lock, LockRule, MemberFits, PassView, Place, Polls, Stage, StageFits, Valid, View, Waits, after_served, away, carried_after, dite, get_elem?, home, homes_after, keeps, knows_served, set_here, single_slot, some, some-injective, takes, ticket, view_of, ℕ_discrete}
 use Rattle.rd_lock.proofs.Lists.{inside}
-use Rattle.rd_lock.proofs.Keeps.{moved, allowed}
+use Rattle.rd_lock.proofs.Keeps.{moved, allowed, Owed, unmoved, takes_home}
 use Rattle.rd_lock.proofs.Looks.{others_fit, served_suits, newest_served, served_kept}
 use Rattle.rd_lock.proofs.Draws.{found}
 
@@ -22,11 +10,11 @@ module _ {T E O : Type 0} (lock : Lock T E O) where
   open lock use {history, origin, root}
 
   -- what a seat that waits for the ticket served finds at home
-  served_home : (f : Facts T E) (views : List (View E O)) (id : ℕ) (p : PassView E O) (place : Place T) → Kept lock f views → get_elem? views id ≡ some (view_of (p ∷ []) (Waits f.served)) → f.place ≡ place
+  served_home : (f : Facts T E) (views : List (View E O)) (id : ℕ) (p : PassView E O) (place : Place T) → IsKept lock f views → get_elem? views id ≡ some (view_of (p ∷ []) (Waits f.served)) → f.place ≡ place
       → (x : T) × (place ≡ home x) × (history x ≡ f.log) × (origin x ≡ root)
-  served_home f views id p (home x) kept at is = let h = subst (Placed lock f views) is kept.is_placed in (x, refl, h.0, h.1)
-  served_home f views id p (away k) kept at is = let h = subst (Placed lock f views) is kept.is_placed in
-      let theirs = subst (StageSuits lock f k) h.2 ((kept.each_view k h.0 h.1).stage) in let mine = (kept.each_view id (view_of (p ∷ []) (Waits f.served)) at).stage in
+  served_home f views id p (home x) kept at is = let h = subst (IsPlaced lock f views) is kept.is_placed in (x, refl, h.0, h.1)
+  served_home f views id p (away k) kept at is = let h = subst (IsPlaced lock f views) is kept.is_placed in
+      let theirs = subst (StageFits lock f k) h.2 ((kept.each_view k h.0 h.1).stage) in let mine = (kept.each_view id (view_of (p ∷ []) (Waits f.served)) at).stage in
       let same : k ≡ id = sym theirs.2 ∙ mine.2 in
       let one : Waits f.served ≡ Holds f.served f.log = ap (λ (u : View E O). u.stage) (some-injective (view_of (p ∷ []) (Waits f.served)) h.0 (sym at ∙ (ap (λ (j : ℕ). get_elem? views j) (sym same) ∙ h.1))) ∙ h.2 in
       absurd (cc)
@@ -34,53 +22,31 @@ module _ {T E O : Type 0} (lock : Lock T E O) where
   abbrev taken : Facts T E → ℕ → Facts T E
   taken f id = record { next = f.next; served = f.served; log = f.log; owner = f.owner; taker = f.taker; place = away id }
 
-  taken_suits : (f : Facts T E) (id j : ℕ) (p : PassView E O) → Suits lock f j p → Suits lock (taken f id) j p
-  taken_suits f id j p h = record { owned = h.owned; numbered = h.numbered; informed = h.informed; has_seen = h.has_seen; has_put = h.has_put; words = h.words; only = h.only }
+  taken_suits : (f : Facts T E) (id j : ℕ) (p : PassView E O) → MemberFits lock f j p → MemberFits lock (taken f id) j p
+  taken_suits f id j p h = record { owned = h.owned; numbered = h.numbered; knows_opening = h.knows_opening; continues = h.continues; words = h.words; one_seat = h.one_seat }
 
-  taken_stays : (f : Facts T E) (id j : ℕ) (x : T) → f.place ≡ home x → (s : Stage E) → StageSuits lock f j s → StageSuits lock (taken f id) j s
+  taken_stays : (f : Facts T E) (id j : ℕ) (x : T) → f.place ≡ home x → (s : Stage E) → StageFits lock f j s → StageFits lock (taken f id) j s
   taken_stays f id j x is s h = grind arith
 
-  served_takes : (slots id : ℕ) (p : PassView E O) (f : Facts T E) (views : List (View E O)) → Kept lock f views → get_elem? views id ≡ some (view_of (p ∷ []) (Waits f.served))
-      → (w : View E O) × (a : Act (Option T)) × (g : Facts T E) × (f.served ∷ f.next ∷ [] ≡ g.served ∷ g.next ∷ []) × Valid (single_slot f.place) [] a
-      × (homes_after (single_slot f.place) [] a ≡ single_slot g.place) × Kept lock g (set views id w) × listened history origin (view_of (p ∷ []) (Waits f.served), []) f.served (w, carried_after [] a)
-  served_takes slots id p f views kept at = let v : View E O = view_of (p ∷ []) (Waits f.served) in let fits = kept.each_view id v at in let there = served_home f views id p f.place kept at refl in let x : T = there.0 in
+  served_takes : (id : ℕ) (p : PassView E O) (f : Facts T E) (views : List (View E O)) → IsKept lock f views → get_elem? views id ≡ some (view_of (p ∷ []) (Waits f.served))
+      → Owed lock id (view_of (p ∷ []) (Waits f.served), []) 0 (λ n. n) (Polls history origin (view_of (p ∷ []) (Waits f.served), [])) f views
+  served_takes id p f views kept at = let v : View E O = view_of (p ∷ []) (Waits f.served) in let fits = kept.each_view id v at in let there = served_home f views id p f.place kept at refl in let x : T = there.0 in
       let at_home : (history x ≡ f.log) × (origin x ≡ root) = (there.2, there.3) in let stage : Stage E = Holds f.served (history x) in let w : View E O = after_served f.served stage v in
-      let g : Facts T E = taken f id in let mine = fits.stage in let suits = served_suits lock f id p kept.order fits.members.0 in (
-        w,
-        takes 0 (Some x),
-        g,
-        refl,
-        subst (λ (l : Place T). get_elem? (single_slot l) 0 ≡ some (some (Some x))) (sym there.1) refl,
-        subst (λ (l : Place T). homes_after (single_slot l) [] (takes 0 (Some x)) ≡ single_slot (away id)) (sym there.1) refl,
-        moved lock f g views id v w kept at kept.order kept.limit kept.names
-            (record { members = (taken_suits f id id (knows_served f.served p) suits, tt); apart = (tt, tt); stage = (refl, mine.1, mine.2, refl, there.2); alone = (knows_served f.served p, refl) }) refl refl
-            (λ j u ne here h. others_fit lock f g j u (taken_suits f id j) (taken_stays f id j x there.1) h)
-            (λ t low high. let has = kept.each_ticket t low high in dite (ℕ_discrete (f.taker t) id)
-            (λ e. inl (e, ap (λ (u : View E O). ticket u.stage) (some-injective v has.0 (sym at ∙ (ap (λ (j : ℕ). get_elem? views j) (sym e) ∙ has.1))) ∙ has.2))
-            (λ ne. inr (ne, has)))
-            (w, set_here views id w (inside views id v at), (λ i. Holds f.served (there.2 i))),
-        (
-          newest_served lock f views id v kept fits,
-          (λ t is. let same : f.served ≡ t = cc in (
-            (λ _. (x, refl, (found lock f id x p at_home fits.members.0, tt))),
-            (λ miss. absurd (miss same)),
-          )),
-        ),
-      )
+      let g : Facts T E = taken f id in let mine = fits.stage in let suits = served_suits lock f id p kept.order fits.members.0 in
+      takes_home lock id v 0 (λ n. n) (Polls history origin (v, [])) f g views w x there.1 refl refl
+      (moved lock f g views id v w kept at kept.order kept.limit kept.names
+      (record { members = (taken_suits f id id (knows_served f.served p) suits, tt); apart = (tt, tt); stage = (refl, mine.1, mine.2, refl, there.2); alone = (knows_served f.served p, refl) }) refl refl
+      (λ j u ne here h. others_fit lock f g j u (taken_suits f id j) (taken_stays f id j x there.1) h)
+      (λ t low high. let has = kept.each_ticket t low high in dite (ℕ_discrete (f.taker t) id)
+      (λ e. inl (e, ap (λ (u : View E O). ticket u.stage) (some-injective v has.0 (sym at ∙ (ap (λ (j : ℕ). get_elem? views j) (sym e) ∙ has.1))) ∙ has.2))
+      (λ ne. inr (ne, has)))
+      (w, set_here views id w (inside views id v at), (λ i. Holds f.served (there.2 i))))
+      (record { newest = newest_served lock f views id v kept fits; served = λ is. (x, (found lock f id x p at_home fits.members.0, tt), refl); waits = λ ne. absurd (ne refl) })
 
-  pub listens : (slots id : ℕ) (p : PassView E O) (t : ℕ) → Allows (Rule lock) slots id (view_of (p ∷ []) (Waits t), []) 0 (λ n. n) (listened history origin (view_of (p ∷ []) (Waits t), []))
-  listens slots id p t = let v : View E O = view_of (p ∷ []) (Waits t) in let then = listened history origin (v, []) in
+  pub listens : (slots id : ℕ) (p : PassView E O) (t : ℕ) → Allows (LockRule lock) slots id (view_of (p ∷ []) (Waits t), []) 0 (λ n. n) (Polls history origin (view_of (p ∷ []) (Waits t), []))
+  listens slots id p t = let v : View E O = view_of (p ∷ []) (Waits t) in let then = Polls history origin (v, []) in
       allowed lock slots id (v, []) 0 (λ n. n) then (λ f views kept at. let fits = kept.each_view id v at in dite (ℕ_discrete f.served t)
-      (λ hit. subst (λ (k : ℕ). (w : View E O) × (a : Act (Option T)) × (g : Facts T E) × (f.served ∷ f.next ∷ [] ≡ g.served ∷ g.next ∷ []) × Valid (single_slot f.place) [] a
-      × (homes_after (single_slot f.place) [] a ≡ single_slot g.place) × Kept lock g (set views id w) × listened history origin (view_of (p ∷ []) (Waits k), []) f.served (w, carried_after [] a)) hit
-      (served_takes slots id p f views kept (at ∙ ap (λ (k : ℕ). some (view_of (p ∷ []) (Waits k))) (sym hit))))
-      (λ miss. (
-        after_served f.served (Waits t) v,
-        keeps,
-        f,
-        refl,
-        tt,
-        refl,
-        served_kept lock f views id v kept at,
-        (newest_served lock f views id v kept fits, (λ u is. let same : t ≡ u = cc in ((λ hit. absurd (miss (hit ∙ sym same))), (λ _. ap (λ (k : ℕ). (after_served f.served (Waits k) v, [])) same)))),
-      )))
+      (λ hit. subst (λ (k : ℕ). Owed lock id (view_of (p ∷ []) (Waits k), []) 0 (λ n. n) (Polls history origin (view_of (p ∷ []) (Waits k), [])) f views) hit
+      (served_takes id p f views kept (at ∙ ap (λ (k : ℕ). some (view_of (p ∷ []) (Waits k))) (sym hit))))
+      (λ miss. unmoved lock id (v, []) 0 (λ n. n) then f views (after_served f.served (Waits t) v) refl (served_kept lock f views id v kept at)
+      (record { newest = newest_served lock f views id v kept fits; served = λ is. let same : t ≡ f.served = cc in absurd (miss (sym same)); waits = λ _. refl })))

@@ -1,12 +1,24 @@
--- Histories: each entry with the number of the pass that put it.
-use Rattle.std.specs.Prelude.{◌≡◌, ◌⊎◌, ℕ, zero, suc, ◌<◌, ◌≤◌, ◌==◌, cond, List, [], ◌∷◌, ◌++◌, map}
+-- Lists, and histories: each entry with the number of the pass that put it.
+use Rattle.std.specs.Prelude.{◌≡◌, ◌≢◌, ◌⊎◌, ℕ, zero, suc, ◌<◌, ◌≤◌, ◌==◌, cond, List, [], ◌∷◌, ◌++◌, length, map}
+use mathlib.Core.Path.{sym}
+use native.Mathlib.Nat.{suc-ne-zero}
+use mathlib.Core.List.{IsPrefix}
 use Rattle.std.specs.List.{AllByRecursion}
 
 module _ {A : Type 0} where
+  -- the one element of a list of one
+  abbrev pub only : (xs : List A) → length xs ≡ 1 → A
+  only [] one = absurd (suc-ne-zero 0 (sym one))
+  only (x ∷ xs) one = x
+
   -- R holds of each element and each later one
   abbrev pub Pairwise : (A → A → Type 0) → List A → Type 0
   Pairwise R [] = Unit {0}
   Pairwise R (x ∷ xs) = AllByRecursion (R x) xs × Pairwise R xs
+
+  -- one of the two lists begins the other
+  abbrev pub AreComparable : List A → List A → Type 0
+  AreComparable xs ys = IsPrefix xs ys ⊎ IsPrefix ys xs
 
 -- the number is in the list
 abbrev pub IsIn : ℕ → List ℕ → Type 0
@@ -29,14 +41,13 @@ module _ {E : Type 0} where
   named pass k [] = []
   named pass k (x ∷ xs) = cond (x.0 == pass) ((k, x.1) ∷ named pass (suc k) xs) (named pass (suc k) xs)
 
+  -- the history `new` goes on from `old` by entries of other passes alone
+  abbrev pub Continues : ℕ → List (ℕ × E) → List (ℕ × E) → Type 0
+  Continues pass old new = (between : List (ℕ × E)) × (new ≡ old ++ between) × AllByRecursion (λ (e : ℕ × E). e.0 ≢ pass) between
+
   -- these entries, each with the number of this pass, as the pass puts them
   abbrev pub signed : ℕ → List E → List (ℕ × E)
   signed pass es = map (λ (e : E). (pass, e)) es
-
-  -- these entries, each with its position, where the first is at position k
-  abbrev pub placed : ℕ → List E → List (ℕ × E)
-  placed k [] = []
-  placed k (e ∷ es) = (k, e) ∷ placed (suc k) es
 
   -- the history `new` is `old` and then entries of this pass
   abbrev pub Adds : ℕ → List (ℕ × E) → List (ℕ × E) → Type 0

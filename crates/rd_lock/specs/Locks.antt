@@ -1,84 +1,13 @@
--- What contracts state of a lock and of its passes. A name that ends in `_in` is about the members
--- of a view, of which a pass has one.
-use Rattle.std.specs.Prelude.{◌≡◌, ℕ, ◌^◌, ◌<◌, ◌≤◌, length, List, [], ◌∷◌, ◌++◌}
-use mathlib.Core.List.{IsPrefix}
+-- What contracts state of a lock and of its passes.
+use Rattle.std.specs.Prelude.{◌≡◌, ℕ, ◌^◌, ◌<◌, ◌≤◌, List}
 use Rattle.rd_lock.specs.declared.views.PassView.{PassView}
-use Rattle.rd_lock.specs.declared.views.View.{View}
 use Rattle.rd_lock.specs.declared.views.Recorded.{Ghosts}
 use Rattle.rd_lock.specs.declared.views.Stage.TheVariants.{Out, Waits, Holds}
 use Rattle.rd_lock.specs.declared.passes.Pass.{Pass}
 use Rattle.rd_lock.specs.declared.locks.TicketLock.{TicketLock}
 use Rattle.rd_lock.specs.declared.tickets.TryTakeError.{TryTakeError}
-use Rattle.rd_lock.specs.Histories.{named, Adds, signed, placed}
-use Rattle.rd_lock.specs.Rule.{number_in}
-
-module _ {E O : Type 0} where
-  -- the history that the pass of this view has seen last
-  abbrev pub seen_in : List (PassView E O) → List (ℕ × E)
-  seen_in [] = []
-  seen_in (p ∷ ps) = p.seen
-
-  -- the entries that the pass of this view has put, each with its position in the history
-  abbrev pub own_in : List (PassView E O) → List (ℕ × E)
-  own_in [] = []
-  own_in (p ∷ ps) = p.own
-
-  -- the greatest value of the word `next` that the pass of this view knows of
-  abbrev pub next_in : List (PassView E O) → ℕ
-  next_in [] = 0
-  next_in (p ∷ ps) = p.next
-
-  -- the greatest value of the word `served` that the pass of this view has seen
-  abbrev pub served_in : List (PassView E O) → ℕ
-  served_in [] = 0
-  served_in (p ∷ ps) = p.served
-
-  -- each member knows that the lock was opened with this many seats and this origin
-  abbrev pub KnowsOpening : ℕ → O → List (PassView E O) → Type 0
-  KnowsOpening seats root [] = Unit {0}
-  KnowsOpening seats root (p ∷ ps) = (p.seats ≡ seats) × (p.origin ≡ root)
-
-  -- the view is as it was, except its stage and what it knows of the two words, which has only
-  -- grown
-  pub record IsSameView (v w : View E O) : Type 0 where
-    pub same_number : number_in w.members ≡ number_in v.members
-    pub same_seen : seen_in w.members ≡ seen_in v.members
-    pub same_own : own_in w.members ≡ own_in v.members
-    pub next : next_in v.members ≤ next_in w.members
-    pub served : served_in v.members ≤ served_in w.members
-
-  -- why a view took nothing: `Busy` with the greatest words that it has seen, which differ, or
-  -- `TicketsEnded` if the next ticket is beyond the last
-  abbrev pub IsMissedIn : View E O → TryTakeError → Type 0
-  IsMissedIn v (TryTakeError.Busy words) = (words.next ≡ next_in v.members) × (words.served ≡ served_in v.members) × (words.served < words.next) × (words.next < 2 ^ 63)
-  IsMissedIn v TryTakeError.TicketsEnded = next_in v.members ≡ 2 ^ 63
-
-module _ {T E O : Type 0} (history : T → List (ℕ × E)) (origin : T → O) (root : O) where
-  -- the value that was taken has the lock's origin, begins with all that the pass had seen, and its
-  -- entries that name the pass are those that the pass put; it is held by a ticket that there is
-  pub record IsTakenIn (v w : View E O) (value : T) : Type 0 where
-    pub rooted : origin value ≡ root
-    pub extends : IsPrefix (seen_in v.members) (history value)
-    pub has_own : own_in v.members ≡ named (number_in v.members) 0 (history value)
-    pub held : (ticket : ℕ) × (ticket < 2 ^ 63) × (w.stage ≡ Holds ticket (history value))
-
-  -- the value may be put back: its origin is the lock's, and its history is the one that the pass
-  -- found and then entries of the pass
-  pub record IsDueIn (v : View E O) (value : T) : Type 0 where
-    pub rooted : origin value ≡ root
-    pub held : (ticket : ℕ) × (found : List (ℕ × E)) × (v.stage ≡ Holds ticket found) × Adds (number_in v.members) found (history value)
-
-module _ {T E O : Type 0} (history : T → List (ℕ × E)) where
-  -- the pass has seen just the history that it put, and its own entries are those there that name
-  -- it: the ones that it had, and the new ones with their positions
-  pub record HasPutIn (v w : View E O) (value : T) : Type 0 where
-    pub same_number : number_in w.members ≡ number_in v.members
-    pub has_seen : seen_in w.members ≡ history value
-    pub has_own : own_in w.members ≡ named (number_in v.members) 0 (history value)
-    pub has_grown : (ticket : ℕ) (found : List (ℕ × E)) (es : List E) → v.stage ≡ Holds ticket found → history value ≡ found ++ signed (number_in v.members) es
-        → own_in w.members ≡ own_in v.members ++ placed (length found) es
-    pub next : next_in v.members ≤ next_in w.members
-    pub served : served_in v.members ≤ served_in w.members
+use Rattle.rd_lock.specs.Histories.{only, named, Adds, Continues}
+use Rattle.rd_lock.specs.Rule.{KnowsOpening}
 
 module _ {T E O : Type 0} where
   -- how many passes the lock was opened with
@@ -90,25 +19,29 @@ module _ {T E O : Type 0} where
   opened_origin origin lock = origin lock.table.shared.key.value.value
 
 module _ {T E O : Type 0} {K : Ghosts T E O} where
+  -- what the pass knows: the one member of its seat's view
+  abbrev pub me : Pass T E O K → PassView E O
+  me pass = only pass.seat.me.0.members pass.alone
+
   -- the pass's number, from 1
   abbrev pub number : Pass T E O K → ℕ
-  number pass = number_in pass.seat.me.0.members
+  number pass = (me pass).pass
 
   -- the history that the pass has seen last
   abbrev pub seen : Pass T E O K → List (ℕ × E)
-  seen pass = seen_in pass.seat.me.0.members
+  seen pass = (me pass).seen
 
-  -- the entries that the pass has put, each with its position in the history
+  -- the entries that the pass has put, each with its position in the history, from 1
   abbrev pub own : Pass T E O K → List (ℕ × E)
-  own pass = own_in pass.seat.me.0.members
+  own pass = named (number pass) 1 (seen pass)
 
   -- the greatest value of the word `next` that the pass knows of
   abbrev pub next_seen : Pass T E O K → ℕ
-  next_seen pass = next_in pass.seat.me.0.members
+  next_seen pass = (me pass).next
 
   -- the greatest value of the word `served` that the pass has seen
   abbrev pub served_seen : Pass T E O K → ℕ
-  served_seen pass = served_in pass.seat.me.0.members
+  served_seen pass = (me pass).served
 
   -- the pass neither waits nor holds
   abbrev pub IsOut : Pass T E O K → Type 0
@@ -125,27 +58,42 @@ module _ {T E O : Type 0} {K : Ghosts T E O} where
   -- the pass is one of the lock's
   pub record IsPassOf (lock : TicketLock T E O) (pass : Pass T E O K) : Type 0 where
     pub table : pass.seat.table_id ≡ lock.table.shared.table_id
-    pub told : KnowsOpening (seats lock) (opened_origin K.origin lock) pass.seat.me.0.members
+    pub knows_opening : KnowsOpening (seats lock) (opened_origin K.origin lock) (me pass)
 
-  -- the pass has the same number, and has seen and put the same entries; what it knows of the two
-  -- words has only grown
-  abbrev pub IsSamePass : Pass T E O K → Pass T E O K → Type 0
-  IsSamePass old new = IsSameView old.seat.me.0 new.seat.me.0
+  -- what the pass knows of the two words has only grown
+  abbrev pub KnowsMore : Pass T E O K → Pass T E O K → Type 0
+  KnowsMore old new = (next_seen old ≤ next_seen new) × (served_seen old ≤ served_seen new)
 
-  -- after a take the pass holds this value, which has the lock's origin, begins with all that the
-  -- pass had seen, and in which the entries that name the pass are those that it put
-  abbrev pub IsTaken : TicketLock T E O → Pass T E O K → Pass T E O K → T → Type 0
-  IsTaken lock old new value = IsTakenIn K.history K.origin (opened_origin K.origin lock) old.seat.me.0 new.seat.me.0 value
+  -- the pass has the same number and has seen the same history, so its own entries are the same;
+  -- what it knows of the two words has only grown
+  pub record IsSamePass (old new : Pass T E O K) : Type 0 where
+    pub same_number : number new ≡ number old
+    pub same_seen : seen new ≡ seen old
+    pub words : KnowsMore old new
 
-  -- why the pass took nothing: the words that it has seen differ, or the tickets are used up
+  -- after a take the pass holds this value by a ticket that there is; the value has the lock's
+  -- origin, and its history goes on from what the pass had seen by entries of others alone
+  pub record IsTaken (lock : TicketLock T E O) (old new : Pass T E O K) (value : T) : Type 0 where
+    pub rooted : K.origin value ≡ opened_origin K.origin lock
+    pub continues : Continues (number old) (seen old) (K.history value)
+    pub held : (ticket : ℕ) × (ticket < 2 ^ 63) × IsHolding new ticket (K.history value)
+
+  -- why the pass took nothing: `Busy` with the greatest words that it has seen, which differ, or
+  -- `TicketsEnded` if the next ticket is beyond the last
   abbrev pub IsMissed : Pass T E O K → TryTakeError → Type 0
-  IsMissed pass missed = IsMissedIn pass.seat.me.0 missed
+  IsMissed pass (TryTakeError.Busy words) = (words.next ≡ next_seen pass) × (words.served ≡ served_seen pass) × (words.served < words.next) × (words.next < 2 ^ 63)
+  IsMissed pass TryTakeError.TicketsEnded = next_seen pass ≡ 2 ^ 63
 
-  -- the pass holds, and may put this value back
-  abbrev pub IsDue : TicketLock T E O → Pass T E O K → T → Type 0
-  IsDue lock pass value = IsDueIn K.history K.origin (opened_origin K.origin lock) pass.seat.me.0 value
+  -- the pass holds and may put this value back: its origin is the lock's, and its history is the
+  -- one that the pass found and then entries of the pass
+  pub record IsDue (lock : TicketLock T E O) (pass : Pass T E O K) (value : T) : Type 0 where
+    pub rooted : K.origin value ≡ opened_origin K.origin lock
+    pub held : (ticket : ℕ) × (found : List (ℕ × E)) × IsHolding pass ticket found × Adds (number pass) found (K.history value)
 
-  -- after a put the pass has seen just this value's history, and its own entries are those there
-  -- that name it
-  abbrev pub HasPut : Pass T E O K → Pass T E O K → T → Type 0
-  HasPut old new value = HasPutIn K.history old.seat.me.0 new.seat.me.0 value
+  -- after a put the pass has seen just this value's history; what it found went on from what it had
+  -- seen by entries of others alone
+  pub record HasPut (old new : Pass T E O K) (value : T) : Type 0 where
+    pub same_number : number new ≡ number old
+    pub continues : (ticket : ℕ) (found : List (ℕ × E)) → IsHolding old ticket found → Continues (number old) (seen old) found
+    pub has_seen : seen new ≡ K.history value
+    pub words : KnowsMore old new

@@ -3,15 +3,22 @@
 use Rattle.std.specs.Prelude.{◌≡◌, ◌≢◌, ℕ, zero, suc, ◌^◌, ◌<◌, ◌≤◌, List, [], ◌∷◌, map, Option, Some, None}
 use mathlib.Core.Option.{some, none}
 use mathlib.Core.Option as maybe
-use mathlib.Core.List.{IsPrefix}
 use lib.ListN.{get_elem?}
 use Rattle.atomic_table.specs.Table.{State}
 use Rattle.rd_lock.specs.declared.views.PassView.{PassView}
 use Rattle.rd_lock.specs.declared.views.View.{View}
 use Rattle.rd_lock.specs.declared.views.Stage.{Stage}
 use Rattle.rd_lock.specs.declared.views.Stage.TheVariants.{Out, Waits, Holds}
-use Rattle.rd_lock.specs.Histories.{Pairwise, IsIn, named, NamesUpTo}
+use Rattle.rd_lock.specs.Histories.{Pairwise, IsIn, Continues, NamesUpTo}
 use Rattle.std.specs.List.{AllByRecursion}
+
+-- what stays of a lock: how what it guards is read, the number of its seats, and the origin of what
+-- it was opened with
+pub record Lock (T E O : Type 0) : Type 0 where
+  pub history : T → List (ℕ × E)
+  pub origin : T → O
+  pub seats : ℕ
+  pub root : O
 
 -- where the value is: at home in the slot, or away with the seat of this number
 pub data Place (T : Type 0) : Type 0 where
@@ -29,6 +36,11 @@ pub record Facts (T E : Type 0) : Type 0 where
   pub taker : ℕ → ℕ
   pub place : Place T
 
+module _ {T E O : Type 0} where
+  -- the lock that is read in these ways, with so many seats and this origin
+  abbrev pub lock_of : (T → List (ℕ × E)) → (T → O) → ℕ → O → Lock T E O
+  lock_of history origin seats root = record { history = history; origin = origin; seats = seats; root = root }
+
 module _ {E : Type 0} where
   -- the ticket of a seat that waits or holds; none if it does neither
   abbrev pub ticket : Stage E → maybe.Option ℕ
@@ -41,10 +53,9 @@ module _ {E O : Type 0} where
   abbrev pub view_of : List (PassView E O) → Stage E → View E O
   view_of members stage = record { members = members; stage = stage }
 
-  -- the number of the pass that is the first member
-  abbrev pub number_in : List (PassView E O) → ℕ
-  number_in [] = 0
-  number_in (p ∷ ps) = p.pass
+  -- the member knows that the lock was opened with this many seats and this origin
+  abbrev pub KnowsOpening : ℕ → O → PassView E O → Type 0
+  KnowsOpening seats root p = (p.seats ≡ seats) × (p.origin ≡ root)
 
   -- the list of the first member alone
   abbrev pub first_of_members : List (PassView E O) → List (PassView E O)
@@ -66,9 +77,13 @@ module _ {E O : Type 0} where
   IsAloneAt (Waits t) ps = (p : PassView E O) × (ps ≡ p ∷ [])
   IsAloneAt (Holds t found) ps = (p : PassView E O) × (ps ≡ p ∷ [])
 
+  -- the seat of this number has this view
+  abbrev pub HasView : List (View E O) → ℕ → View E O → Type 0
+  HasView views seat v = get_elem? views seat ≡ some v
+
   -- the seat of this number has the ticket
   abbrev pub HasTicket : List (View E O) → ℕ → ℕ → Type 0
-  HasTicket views seat t = (v : View E O) × (get_elem? views seat ≡ some v) × (ticket v.stage ≡ some t)
+  HasTicket views seat t = (v : View E O) × HasView views seat v × (ticket v.stage ≡ some t)
 
   -- the numbers of the passes that these members are
   abbrev pub numbers_of : List (PassView E O) → List ℕ
@@ -76,11 +91,11 @@ module _ {E O : Type 0} where
 
   -- the seat of this number has this pass as a member
   abbrev pub HasPass : List (View E O) → ℕ → ℕ → Type 0
-  HasPass views seat pass = (v : View E O) × (get_elem? views seat ≡ some v) × IsIn pass (numbers_of v.members)
+  HasPass views seat pass = (v : View E O) × HasView views seat v × IsIn pass (numbers_of v.members)
 
   -- the view of a pass in a lock that was just opened with both words at `first`
   abbrev pub newcomer : ℕ → O → ℕ → ℕ → PassView E O
-  newcomer seats root first pass = record { pass = pass; seats = seats; origin = root; seen = []; own = []; next = first; served = first }
+  newcomer seats root first pass = record { pass = pass; seats = seats; origin = root; seen = []; next = first; served = first }
 
   -- the views of this many passes in a lock that was just opened, with the numbers from `pass` on
   abbrev pub newcomers : ℕ → O → ℕ → ℕ → ℕ → List (PassView E O)
@@ -105,16 +120,21 @@ module _ {T : Type 0} where
   single_slot (home x) = some (Some x) ∷ []
   single_slot (away seat) = none ∷ []
 
-module _ {T E O : Type 0} (history : T → List (ℕ × E)) (origin : T → O) (seats : ℕ) (root : O) where
+module _ {T E O : Type 0} (lock : Lock T E O) where
   -- what holds of a pass that is a member of the seat of this number
   pub record MemberFits (f : Facts T E) (seat : ℕ) (p : PassView E O) : Type 0 where
+    -- the seat is the one pass's
     pub owned : f.owner p.pass ≡ seat
-    pub numbered : (0 < p.pass) × (p.pass ≤ seats)
-    pub informed : (p.seats ≡ seats) × (p.origin ≡ root)
-    pub has_seen : IsPrefix p.seen f.log
-    pub has_put : p.own ≡ named p.pass 0 f.log
+    -- passes have the numbers from 1 to that of the seats
+    pub numbered : (0 < p.pass) × (p.pass ≤ lock.seats)
+    -- a pass knows what the lock was opened with
+    pub knows_opening : KnowsOpening lock.seats lock.root p
+    -- since the pass has seen the history, only others have put
+    pub continues : Continues p.pass p.seen f.log
+    -- no pass has seen a word above its present value
     pub words : (p.next ≤ f.next) × (p.served ≤ f.served)
-    pub only : seats ≡ 1 → (p.next ≡ f.next) × (p.served ≡ f.served)
+    -- with one seat alone, the words that it has seen are the present ones: nobody else moves them
+    pub one_seat : lock.seats ≡ 1 → (p.next ≡ f.next) × (p.served ≡ f.served)
 
   -- what holds of the seat of this number at this stage
   abbrev pub StageFits : Facts T E → ℕ → Stage E → Type 0
@@ -124,25 +144,35 @@ module _ {T E O : Type 0} (history : T → List (ℕ × E)) (origin : T → O) (
 
   -- what holds of the seat of this number with this view
   pub record ViewFits (f : Facts T E) (seat : ℕ) (v : View E O) : Type 0 where
+    -- each member is a pass of this seat
     pub members : AllByRecursion (MemberFits f seat) v.members
+    -- and no two are the same
     pub apart : Apart v.members
+    -- a ticket that waits or is held is drawn, not finished, and this seat's
     pub stage : StageFits f seat v.stage
+    -- a seat that waits or holds has one member
     pub alone : IsAloneAt v.stage v.members
 
   -- the value is where the facts place it: at home it has the history and the lock's origin, and
   -- away it is with a seat that holds
   abbrev pub IsPlaced : Facts T E → List (View E O) → Place T → Type 0
-  IsPlaced f views (home x) = (history x ≡ f.log) × (origin x ≡ root)
-  IsPlaced f views (away seat) = (v : View E O) × (get_elem? views seat ≡ some v) × (v.stage ≡ Holds f.served f.log)
+  IsPlaced f views (home x) = (lock.history x ≡ f.log) × (lock.origin x ≡ lock.root)
+  IsPlaced f views (away seat) = (v : View E O) × HasView views seat v × (v.stage ≡ Holds f.served f.log)
 
   -- the invariant of the lock, except what the words and the slot have
   pub record IsKept (f : Facts T E) (views : List (View E O)) : Type 0 where
+    -- the words are in order, and at most 2^63
     pub order : f.served ≤ f.next
     pub limit : f.next ≤ 2 ^ 63
-    pub names : NamesUpTo seats f.log
-    pub each_view : (seat : ℕ) (v : View E O) → get_elem? views seat ≡ some v → ViewFits f seat v
-    pub each_pass : (pass : ℕ) → 0 < pass → pass ≤ seats → HasPass views (f.owner pass) pass
+    -- each entry names a pass from 1 to the number of seats
+    pub names : NamesUpTo lock.seats f.log
+    -- each seat knows what is so
+    pub each_view : (seat : ℕ) (v : View E O) → HasView views seat v → ViewFits f seat v
+    -- each pass is in the seat that has it
+    pub each_pass : (pass : ℕ) → 0 < pass → pass ≤ lock.seats → HasPass views (f.owner pass) pass
+    -- each ticket from `served` to below `next` is that of the seat that took it
     pub each_ticket : (t : ℕ) → f.served ≤ t → t < f.next → HasTicket views (f.taker t) t
+    -- where nobody holds, the value is in the slot
     pub is_placed : IsPlaced f views f.place
 
   -- the invariant of the lock: there are facts that its seats keep, and its words and its slot are

@@ -6,7 +6,7 @@ ghost use Rattle.rd_lock.specs.Opening.{members_of, IsSeatOf};
 ghost use Rattle.rd_lock.specs.declared.views.Stage.TheVariants.{Out};
 
 use super::passes::{LockSeat, Pass};
-use super::plays::{Joined, Parted};
+use super::plays::{Joins, Parts};
 use super::slot::LockShared;
 use super::views::Recorded;
 
@@ -26,7 +26,7 @@ pub(crate) fn split_seats<T: Recorded>(
     ensures members { members_of passes.new.items ≡ newcomers seats (T.origin shared.now.key.value.value) shared.now.key.first 1 seats }
 {
     for number in 0..seats {
-        let new = shared.split_seat::<Parted>(&mut seat);
+        let new = shared.split_seat::<Parts>(&mut seat);
         let Ok(()) = passes.push(Pass {
             seat: new,
             number: number + 1,
@@ -52,7 +52,7 @@ pub(crate) fn join_seats<T: Recorded>(
     let Pass { mut seat, .. } = last;
     while let Some(pass) = passes.pop() {
         let Pass { seat: other, .. } = pass;
-        shared.join_seat::<Joined>(&mut seat, other);
+        shared.join_seat::<Joins>(&mut seat, other);
     }
     Some(seat)
 }

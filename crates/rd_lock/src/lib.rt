@@ -7,6 +7,7 @@
 #![tactic(auto)]
 
 mod joining;
+mod laws;
 mod locks;
 mod meeting;
 mod opening;
@@ -18,6 +19,7 @@ mod tables;
 mod tickets;
 mod views;
 
+pub use laws::own_entries_grow_by_what_is_put;
 pub use locks::{NoMemory, TicketLock};
 pub use passes::Pass;
 pub use tickets::{Busy, TICKETS, TicketsEnded, TryTakeError};

@@ -1,11 +1,11 @@
 //! Two passes that meet.
 ghost use Rattle.std.specs.Prelude.{◌≡◌, ◌≤◌};
-ghost use Rattle.rd_lock.specs.Locks.{served_seen, IsOut, IsPassOf, IsSamePass};
-ghost use Rattle.rd_lock.specs.Opening.{AreInLine};
+ghost use Rattle.rd_lock.specs.Histories.{AreComparable};
+ghost use Rattle.rd_lock.specs.Locks.{seen, served_seen, IsOut, IsPassOf, IsSamePass};
 
 use super::locks::TicketLock;
 use super::passes::Pass;
-use super::plays::{Joined, Parted, SawServed};
+use super::plays::{Joins, LoadsServed, Parts};
 use super::rule::SERVED;
 use super::views::Recorded;
 
@@ -20,9 +20,9 @@ impl<T: Recorded> TicketLock<T> {
         ensures pass { IsPassOf self.now result.1 × IsPassOf self.now result.2 }
         ensures out { IsOut result.1 × IsOut result.2 }
         ensures unchanged { IsSamePass one result.1 × IsSamePass other result.2 }
-        ensures order { AreInLine one other }
+        ensures order { AreComparable (seen one) (seen other) }
         ensures newest { (served_seen one ≤ result.0) × (served_seen other ≤ result.0) }
-        ensures told { (served_seen result.1 ≡ result.0) × (served_seen result.2 ≡ result.0) }
+        ensures served { (served_seen result.1 ≡ result.0) × (served_seen result.2 ≡ result.0) }
     {
         let shared = &self.table.shared;
         let Pass {
@@ -33,9 +33,9 @@ impl<T: Recorded> TicketLock<T> {
             seat: joined,
             number: other_number,
         } = other;
-        shared.join_seat::<Joined>(&mut both, joined);
-        let served = shared.load::<SawServed>(&mut both, SERVED);
-        let second = shared.split_seat::<Parted>(&mut both);
+        shared.join_seat::<Joins>(&mut both, joined);
+        let served = shared.load::<LoadsServed>(&mut both, SERVED);
+        let second = shared.split_seat::<Parts>(&mut both);
         (
             served,
             Pass { seat: both, number },

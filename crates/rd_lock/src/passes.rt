@@ -1,6 +1,7 @@
 //! A pass: the right of one party to take what the lock guards.
 ghost use Rattle.std.specs.Prelude.{◌≡◌, length};
-ghost use Rattle.rd_lock.specs.Rule.{in_hand, number_in};
+ghost use Rattle.rd_lock.specs.Histories.{only};
+ghost use Rattle.rd_lock.specs.Rule.{in_hand};
 
 use super::views::{Recorded, View};
 use atomic_table::Seat;
@@ -20,7 +21,7 @@ pub struct Pass<T: Recorded> {
     pub(crate) number: u64,
     ghost alone: { length seat.me.0.members ≡ 1 },
     ghost hand: { seat.me.1 ≡ in_hand seat.me.0.stage },
-    ghost numbered: { number ≡ number_in seat.me.0.members },
+    ghost numbered: { number ≡ (only seat.me.0.members alone).pass },
 }
 
 impl<T: Recorded> Pass<T> {

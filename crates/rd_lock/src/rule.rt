@@ -18,9 +18,9 @@ pub const SLOT: usize = 0;
 pub struct Tickets;
 
 impl<T: Recorded> TableRule<Option<T>, View<T::Entry, T::Origin>, Opened<T>> for Tickets {
-    ghost use Rattle.rd_lock.specs.Rule.{LockRule, opening_view};
+    ghost use Rattle.rd_lock.specs.Rule.{LockRule, lock_of, opening_view};
 
-    ghost holds = { λ key. LockRule T.history T.origin key.seats (T.origin key.value.value) };
+    ghost holds = { λ key. LockRule (lock_of T.history T.origin key.seats (T.origin key.value.value)) };
 
     ghost first = { λ key. opening_view key.seats (T.origin key.value.value) key.first };
 }

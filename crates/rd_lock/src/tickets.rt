@@ -1,10 +1,10 @@
 //! The tickets: draw, wait, hold, release.
 ghost use Rattle.std.specs.Prelude.{◌≡◌, ◌^◌, ◌<◌, IfOk, IfErr, OnOk, OnErr};
-ghost use Rattle.rd_lock.specs.Locks.{own, next_seen, seats, IsOut, IsWaiting, IsPassOf, IsSamePass, IsTaken, IsMissed, IsDue, HasPut};
+ghost use Rattle.rd_lock.specs.Locks.{next_seen, seats, IsOut, IsWaiting, IsPassOf, IsSamePass, IsTaken, IsMissed, IsDue, HasPut};
 
 use super::locks::TicketLock;
 use super::passes::Pass;
-use super::plays::{Drew, Listened, Released, SawNext, SawServed, Tried};
+use super::plays::{Draws, LoadsNext, LoadsServed, Polls, Releases, Tries};
 use super::rule::{NEXT, SERVED};
 use super::slot::{put_in, take_out};
 use super::views::Recorded;
@@ -60,11 +60,11 @@ impl<T: Recorded> TicketLock<T> {
         ensures succeeds { seats self.now ≡ 1 → IfErr result (λ missed. missed ≡ TryTakeError.TicketsEnded) }
     {
         let shared = &self.table.shared;
-        let served = shared.load::<SawServed>(&mut pass.seat, SERVED);
+        let served = shared.load::<LoadsServed>(&mut pass.seat, SERVED);
         if served >= TICKETS {
             return Err(TryTakeError::TicketsEnded);
         }
-        let next = shared.compare_exchange::<Tried>(&mut pass.seat, NEXT, served, served + 1);
+        let next = shared.compare_exchange::<Tries>(&mut pass.seat, NEXT, served, served + 1);
         if next == served {
             return Ok(take_out(shared, &mut pass.seat));
         }
@@ -105,12 +105,12 @@ impl<T: Recorded> TicketLock<T> {
         ensures err { OnErr result ((next_seen pass.new ≡ 2 ^ 63) × IsOut pass.new) }
     {
         let shared = &self.table.shared;
-        let mut ticket = shared.load::<SawNext>(&mut pass.seat, NEXT);
+        let mut ticket = shared.load::<LoadsNext>(&mut pass.seat, NEXT);
         'draws: for _ in rt.forever() {
             if ticket >= TICKETS {
                 return Err(TicketsEnded);
             }
-            let next = shared.compare_exchange::<Drew>(&mut pass.seat, NEXT, ticket, ticket + 1);
+            let next = shared.compare_exchange::<Draws>(&mut pass.seat, NEXT, ticket, ticket + 1);
             if next == ticket {
                 return Ok(ticket);
             }
@@ -130,7 +130,7 @@ impl<T: Recorded> TicketLock<T> {
         let shared = &self.table.shared;
         let pause = Backoff::new();
         'looks: for _ in rt.forever() {
-            if shared.load::<Listened>(&mut pass.seat, SERVED) == ticket {
+            if shared.load::<Polls>(&mut pass.seat, SERVED) == ticket {
                 return take_out(shared, &mut pass.seat);
             }
             pause.snooze();
@@ -148,6 +148,6 @@ impl<T: Recorded> TicketLock<T> {
     {
         let shared = &self.table.shared;
         put_in(shared, &mut pass.seat, value);
-        shared.fetch_add::<Released>(&mut pass.seat, SERVED, 1);
+        shared.fetch_add::<Releases>(&mut pass.seat, SERVED, 1);
     }
 }

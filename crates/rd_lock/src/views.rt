@@ -1,5 +1,5 @@
-//! The types of the lock's invariant: passes as the seats at the table know them. No value of these
-//! types is ever made.
+//! What a lock can guard, and the types of its invariant: passes as the seats at the table know
+//! them. Of these only `Opened` has values, in the table; the others are for contracts alone.
 ghost use Rattle.std.specs.Prelude.{ℕ, List};
 
 use std::collections::LinkedList;
@@ -28,8 +28,6 @@ pub struct PassView<E, O> {
     pub origin: O,
     /// The history that it has seen last.
     pub seen: LinkedList<(u64, E)>,
-    /// The entries that it put, each with its position in the history.
-    pub own: LinkedList<(u64, E)>,
     /// The greatest value of the word `next` that it knows of.
     pub next: u64,
     /// The greatest value of the word `served` that it has seen.

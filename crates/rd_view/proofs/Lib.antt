@@ -1,4 +1,4 @@
+pub mod Prelude
 pub mod ReportLemmas
 pub mod ViewingLemmas
-pub mod GatherLemmas
 pub mod ViewEnds

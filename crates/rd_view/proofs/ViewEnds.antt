@@ -1,27 +1,13 @@
 -- How a view ends.
 use Rattle.std.proofs.Common.{◌≡◌, ◌∙◌, ℕ, suc, Bool, true, false, List, [], ◌∷◌, Option, Result, Ok, Err, Vec, length, refl, sym, ap, subst}
-use Rattle.std.specs.Global.{Global}
-use Rattle.std.specs.Prelude.{IsErrAnd}
-use Rattle.rd_step.specs.Prelude.{Refusal}
-use Rattle.rd_marks.specs.Books.{BookState}
-use Rattle.rd_marks.specs.declared.commands.Command.{Command}
-use Rattle.rd_marks.specs.declared.replies.Reply.{Reply}
-use Rattle.rd_desk.specs.declared.gates.DeskRefusal.{DeskRefusal}
-use Rattle.rd_desk.specs.declared.histories.Call.{Call}
-use Rattle.rd_desk.specs.declared.histories.History.{History}
-use Rattle.rd_script.specs.declared.faults.LineFault.{LineFault}
-use Rattle.rd_view.specs.declared.faults.ViewFault.{ViewFault}
-use Rattle.rd_view.specs.declared.faults.ViewFault.TheVariants.{NoMemory, Write, Busy}
-use Rattle.rd_script.specs.Device.{TakesBeginning}
-use Rattle.rd_view.specs.Views.{view_text}
-use Rattle.rd_view.specs.Viewing.{AreAnswered, IsUnviewed, Views, ViewsScripts, text_of_views}
+use Rattle.rd_view.proofs.Prelude.{Answer, AreAnswered, BookState, Busy, Call, Command, Global, History, IsErrAnd, IsUnviewed, LineFault, NoMemory, TakesBeginning, ViewFault, Views, ViewsScripts, Write, text_of_views, view_text}
 
 module _ (R : ℕ) (opened : BookState) where
   -- there are as many answers as scripts
-  pub told_length : (history : List (ℕ × Call)) (n : ℕ) (said : List (Vec (Result Command LineFault) Global)) (told : List (Option (Vec (Result (Result Reply Refusal) DeskRefusal) Global)))
-      → AreAnswered R opened history n said told → length said ≡ length told
+  pub told_length : (history : List (ℕ × Call)) (n : ℕ) (said : List (Vec (Result Command LineFault) Global)) (answered : List (Option (Vec Answer Global)))
+      → AreAnswered R opened history n said answered → length said ≡ length answered
   told_length history n [] [] are = refl
-  told_length history n (s ∷ said) (t ∷ told) are = ap suc (told_length history (suc n) said told are.1)
+  told_length history n (s ∷ said) (t ∷ answered) are = ap suc (told_length history (suc n) said answered are.1)
   told_length history n _ _ are = absurd are
 
   -- nothing was written where the scripts were not viewed
@@ -45,6 +31,6 @@ module _ (R : ℕ) (opened : BookState) where
       subst (λ x. ViewsScripts R opened scripts old new failed (Err x)) (sym same) (history, views, took, fails)
 
 -- the text of the same lines, answers and number
-pub same_text : (a b : List (Vec (Result Command LineFault) Global)) (c d : List (Option (Vec (Result (Result Reply Refusal) DeskRefusal) Global))) (m n : ℕ) → a ≡ b → c ≡ d → m ≡ n
+pub same_text : (a b : List (Vec (Result Command LineFault) Global)) (c d : List (Option (Vec Answer Global))) (m n : ℕ) → a ≡ b → c ≡ d → m ≡ n
     → view_text 1 a c m ≡ view_text 1 b d n
 same_text a b c d m n e f h = ap (λ xs. view_text 1 xs c m) e ∙ ap (λ xs. view_text 1 b xs m) f ∙ ap (λ k. view_text 1 b d k) h

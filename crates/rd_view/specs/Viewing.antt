@@ -1,22 +1,18 @@
 -- A view: what each viewer was answered, and how that agrees with the history that all of them
 -- made.
-use Rattle.std.specs.Prelude.{◌≡◌, ℕ, suc, ◌<◌, Bool, true, false, List, [], ◌∷◌, ◌++◌, Option, Some, None, Result, Ok, Err, Vec, length, map}
+use Rattle.std.specs.Prelude.{◌≡◌, ℕ, suc, ◌<◌, Bool, true, false, List, [], ◌∷◌, Option, Some, None, Result, Ok, Err, IfErr, Vec, length, map}
 use Rattle.std.specs.Global.{Global}
 use Rattle.std.specs.Io.KnownBytes.{Appends}
-use Rattle.rd_step.specs.Prelude.{Refusal}
 use Rattle.rd_marks.specs.Books.{BookState}
 use Rattle.rd_marks.specs.declared.commands.Command.{Command}
-use Rattle.rd_marks.specs.declared.replies.Reply.{Reply}
-use mathlib.Core.List.{IsPrefix}
-use Rattle.rd_lock.specs.Histories.{named, NamesUpTo}
-use Rattle.rd_desk.specs.declared.gates.DeskRefusal.{DeskRefusal}
-use Rattle.rd_desk.specs.declared.gates.DeskRefusal.TheVariants.{HistoryFull, NotRecorded, TicketsEnded, Busy}
+use Rattle.rd_lock.specs.Histories.{named, Continues, NamesUpTo}
+use Rattle.rd_desk.specs.declared.gates.DeskRefusal.TheVariants.{TicketsEnded}
 use Rattle.rd_desk.specs.declared.histories.Call.{Call}
 use Rattle.rd_desk.specs.declared.histories.History.{History}
 use Rattle.rd_desk.specs.declared.viewers.Ran.{Ran}
 use Rattle.rd_desk.specs.declared.viewers.Ran.TheVariants.{Answered, NoMemory as NotStarted}
-use Rattle.rd_desk.specs.declared.histories.TheConstants.{MOST_CALLS}
-use Rattle.rd_desk.specs.Histories.{entries, viewer_entry, IsLegal, IsUnrecorded}
+use Rattle.rd_desk.specs.Histories.{Answer, entries, IsLegal}
+use Rattle.rd_desk.specs.Asking.{IsSeen, IsNotBusy}
 use Rattle.rd_desk.specs.Viewers.{IsChain}
 use Rattle.std.specs.List.{AllByRecursion, AllZip}
 use Rattle.rd_script.specs.declared.faults.LineFault.{LineFault}
@@ -38,7 +34,7 @@ AreRead scripts said = AllZip (λ script lines. AreSaid (lines_of script.items) 
 
 -- the calls that a history has of these commands with these answers: those that the desk did not
 -- refuse
-abbrev pub calls_of : List Command → List (Result (Result Reply Refusal) DeskRefusal) → List Call
+abbrev pub calls_of : List Command → List Answer → List Call
 calls_of (command ∷ commands) (Ok answer ∷ answers) = record { command = command; answer = answer } ∷ calls_of commands answers
 calls_of (command ∷ commands) (Err refusal ∷ answers) = calls_of commands answers
 calls_of [] answers = []
@@ -57,68 +53,57 @@ passes_of (Answered pass answers ∷ rans) = pass ∷ passes_of rans
 passes_of (NotStarted ∷ rans) = passes_of rans
 
 -- the answers to a viewer, if its thread was started
-abbrev pub answers_of : {P : Type 0} → Ran P → Option (Vec (Result (Result Reply Refusal) DeskRefusal) Global)
+abbrev pub answers_of : {P : Type 0} → Ran P → Option (Vec Answer Global)
 answers_of (Answered pass answers) = Some answers
 answers_of NotStarted = None
 
-module _ (R : ℕ) (opened : BookState) (viewer : ℕ) where
-  -- the viewer of this number had seen the old history, is answered this, and has then seen the new
-  -- one, which begins with the old one and is a legal history of the book that was opened: it ends
-  -- with just this call, or the call is not recorded, as the history that was found is full or was
-  -- refused memory; if no more tickets can be drawn, the new history is the old one
-  abbrev pub IsSeen : List (ℕ × Call) → Command → Result (Result Reply Refusal) DeskRefusal → List (ℕ × Call) → Type 0
-  IsSeen old command (Ok answer) new =
-      (between : List (ℕ × Call)) × (new ≡ (old ++ between) ++ viewer_entry viewer command answer ∷ []) × (length (old ++ between) < MOST_CALLS) × IsLegal R opened new
-  IsSeen old command (Err HistoryFull) new = IsPrefix old new × IsLegal R opened new × IsUnrecorded new HistoryFull
-  IsSeen old command (Err NotRecorded) new = IsPrefix old new × IsLegal R opened new × IsUnrecorded new NotRecorded
-  IsSeen old command (Err TicketsEnded) new = new ≡ old
-  IsSeen old command (Err (Busy words)) new = ⊥
-
 -- after the first answer that the tickets have ended there is no other answer
-abbrev pub StaysEnded : List (Result (Result Reply Refusal) DeskRefusal) → Type 0
+abbrev pub StaysEnded : List Answer → Type 0
 StaysEnded [] = Unit {0}
 StaysEnded (answer ∷ answers) = (answer ≡ Err TicketsEnded → AllByRecursion (λ later. later ≡ Err TicketsEnded) answers) × StaysEnded answers
 
 module _ (R : ℕ) (opened : BookState) (history : List (ℕ × Call)) where
-  -- the viewer of this number asked these commands, one after another, and got these answers; the
-  -- history begins with all that it has seen then, and its calls there, in order, are just those
-  -- that were recorded; once the tickets have ended, they have ended for each later command
-  pub record WasAnswered (viewer : ℕ) (commands : List Command) (answers : List (Result (Result Reply Refusal) DeskRefusal)) : Type 0 where
+  -- the viewer of this number asked these commands, one after another, and got these answers, none
+  -- of which is `Busy`. The history goes on from what it has seen then by calls of others alone, and
+  -- its calls there, in order, are just those that were recorded. Once the tickets have ended, they
+  -- have ended for each later command.
+  pub record WasAnswered (viewer : ℕ) (commands : List Command) (answers : List Answer) : Type 0 where
     pub seen : List (ℕ × Call)
     pub chain : IsChain (IsSeen R opened viewer) [] commands answers seen
-    pub extends : IsPrefix seen history
-    pub calls : map (λ e. e.1) (named viewer 0 history) ≡ calls_of commands answers
+    pub continues : Continues viewer seen history
+    pub calls : map (λ e. e.1) (named viewer 1 history) ≡ calls_of commands answers
+    pub waits : AllByRecursion (λ answer. IfErr answer IsNotBusy) answers
     pub ended : StaysEnded answers
 
   -- the viewer of this number got these answers to its commands, or its thread was not started
-  abbrev pub IsAnswered : ℕ → List Command → Option (Vec (Result (Result Reply Refusal) DeskRefusal) Global) → Type 0
+  abbrev pub IsAnswered : ℕ → List Command → Option (Vec Answer Global) → Type 0
   IsAnswered viewer commands (Some answers) = WasAnswered viewer commands answers.items
   IsAnswered viewer commands None = Unit {0}
 
   -- the viewers from this number on got these answers to the commands of their lines
-  abbrev pub AreAnswered : ℕ → List (Vec (Result Command LineFault) Global) → List (Option (Vec (Result (Result Reply Refusal) DeskRefusal) Global)) → Type 0
+  abbrev pub AreAnswered : ℕ → List (Vec (Result Command LineFault) Global) → List (Option (Vec Answer Global)) → Type 0
   AreAnswered viewer [] [] = Unit {0}
-  AreAnswered viewer (said ∷ others) (told ∷ more) = IsAnswered viewer (commands_of said.items) told × AreAnswered (suc viewer) others more
-  AreAnswered viewer [] (told ∷ more) = ⊥
+  AreAnswered viewer (said ∷ others) (answered ∷ more) = IsAnswered viewer (commands_of said.items) answered × AreAnswered (suc viewer) others more
+  AreAnswered viewer [] (answered ∷ more) = ⊥
   AreAnswered viewer (said ∷ others) [] = ⊥
 
 module _ (R : ℕ) (opened : BookState) where
   -- the history is legal from the book that was opened, each of its entries names one of the
   -- viewers of these lines, and the viewers got these answers
-  abbrev pub IsViewed : List (Vec (Result Command LineFault) Global) → List (Option (Vec (Result (Result Reply Refusal) DeskRefusal) Global)) → List (ℕ × Call) → Type 0
-  IsViewed said told history = IsLegal R opened history × NamesUpTo (length said) history × AreAnswered R opened history 1 said told
+  abbrev pub IsViewed : List (Vec (Result Command LineFault) Global) → List (Option (Vec Answer Global)) → List (ℕ × Call) → Type 0
+  IsViewed said answered history = IsLegal R opened history × NamesUpTo (length said) history × AreAnswered R opened history 1 said answered
 
   -- a view of these scripts with this history: the commands and faults of their lines, and the
   -- answers to the viewers
   pub record Views (scripts : List (Vec ℕ Global)) (history : List (ℕ × Call)) : Type 0 where
     pub said : List (Vec (Result Command LineFault) Global)
-    pub told : List (Option (Vec (Result (Result Reply Refusal) DeskRefusal) Global))
+    pub answered : List (Option (Vec Answer Global))
     pub are_read : AreRead scripts said
-    pub is_viewed : IsViewed said told history
+    pub is_viewed : IsViewed said answered history
 
   -- the text of a view
   abbrev pub text_of_views : {scripts : List (Vec ℕ Global)} {history : List (ℕ × Call)} → Views scripts history → List ℕ
-  text_of_views {history = history} views = view_text 1 views.said views.told (length history)
+  text_of_views {history = history} views = view_text 1 views.said views.answered (length history)
 
   -- what became of a view of these scripts, by its result: its text was written whole, or a
   -- beginning of it, or nothing was written

@@ -23,11 +23,11 @@ pub type ParsedLine = Result<Command, LineFault>;
 pub fn text_of_view(
     alloc: Global,
     said: &[Vec<ParsedLine>],
-    told: &[Option<Vec<Answer>>],
+    answered: &[Option<Vec<Answer>>],
     calls: u64,
 ) -> Result<Vec<u8>, AllocError>
-    requires { length said.now ≡ length told.now }
-    ensures { IfOk result (λ text. text.items ≡ view_text 1 said.now told.now calls) }
+    requires { length said.now ≡ length answered.now }
+    ensures { IfOk result (λ text. text.items ≡ view_text 1 said.now answered.now calls) }
 {
     let mut text = Vec::new(alloc);
     let mut line = Text::new();
@@ -37,7 +37,7 @@ pub fn text_of_view(
             &mut line,
             i as u64 + 1,
             said[i].as_slice(),
-            &told[i],
+            &answered[i],
         )?;
     }
     set_heading(&mut line, Heading::History(calls));
@@ -51,13 +51,13 @@ fn put_viewer(
     line: &mut Text,
     number: u64,
     said: &[ParsedLine],
-    told: &Option<Vec<Answer>>,
+    answered: &Option<Vec<Answer>>,
 ) -> Result<(), AllocError>
-    ensures { OnOk result (text.new.items ≡ text.old.items ++ viewer_text number said.now told.now) }
+    ensures { OnOk result (text.new.items ≡ text.old.items ++ viewer_text number said.now answered.now) }
 {
     set_heading(line, Heading::Viewer(number));
     text.extend_from_slice(line.as_slice())?;
-    match told {
+    match answered {
         Some(answers) => put_report(text, line, said, answers.as_slice()),
         None => put_answer(text, line, &Err(AnyRefusal::Refused(Refusal::NoMemory))),
     }

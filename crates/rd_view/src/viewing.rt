@@ -44,8 +44,8 @@ pub fn view_scripts<R: Threads + Wait + Sync, K: Sink, const N: usize>(
         (K.contents writer.old) (K.contents writer.new) (K.has_failed writer.new) result }
 {
     let said = lines_of_all(alloc, scripts)?;
-    let (told, history) = run_over_desk(rt, alloc, said.as_slice(), book)?;
-    let text = text_of_view(alloc, said.as_slice(), told.as_slice(), history.len())?;
+    let (answered, history) = run_over_desk(rt, alloc, said.as_slice(), book)?;
+    let text = text_of_view(alloc, said.as_slice(), answered.as_slice(), history.len())?;
     write_all(writer, text.as_slice())?;
     Ok(history)
 }
@@ -84,9 +84,9 @@ fn run_over_desk<R: Threads + Wait + Sync, const N: usize>(
     let Ok(rans) = run_viewers(rt, alloc, &desk, work) else {
         return Err(ViewFault::NoMemory);
     };
-    let (passes, told) = passes_and_answers(alloc, rans)?;
+    let (passes, answered) = passes_and_answers(alloc, rans)?;
     match desk.close(passes) {
-        Ok((_, history)) => Ok((told, history)),
+        Ok((_, history)) => Ok((answered, history)),
         Err(words) => Err(ViewFault::Busy(words)),
     }
 }
@@ -128,20 +128,20 @@ fn passes_and_answers<const N: usize>(
     rans: Vec<Ran<DeskPass<N>>>,
 ) -> Result<(Vec<DeskPass<N>>, ViewerAnswers), AllocError>
     ensures passes { IfOk result (λ done. done.0.items ≡ passes_of rans.entry.items) }
-    ensures told { IfOk result (λ done. done.1.items ≡ map answers_of rans.entry.items) }
+    ensures answered { IfOk result (λ done. done.1.items ≡ map answers_of rans.entry.items) }
 {
     let mut passes = Vec::new(alloc);
-    let mut told = Vec::new(alloc);
+    let mut answered = Vec::new(alloc);
     for ran in rans {
         match ran {
             Ran::NoMemory => {
-                told.push(None)?;
+                answered.push(None)?;
             }
             Ran::Answered { pass, answers } => {
                 passes.push(pass)?;
-                told.push(Some(answers))?;
+                answered.push(Some(answers))?;
             }
         }
     }
-    Ok((passes, told))
+    Ok((passes, answered))
 }

@@ -1,16 +1,12 @@
 use Rattle.std.proofs.Common.{◌≡◌, ◌∙◌, ◌+◌, ap, sym, subst, [], ◌∷◌, ◌++◌, take, add-one, arith}
-use Rattle.std.proofs.Math.Seq.{take-suc}
-use Rattle.std.proofs.lemmas.List.{take_all}
-use Rattle.rd_desk.specs.Rooms.{IsRoomFor}
-use Rattle.std.specs.List.{AllZip}
-use Rattle.rd_desk.proofs.ChainLemmas.{one_more_pair}
+use Rattle.rd_desk.proofs.Prelude.{AllZip, IsRoomFor, take-suc, take_all}
+use Rattle.rd_desk.proofs.ChainLemmas.{one_more_pair, taken_with}
 use Rattle.rd_desk.proofs.rooms.make_rooms.Goals as goal
 
 pub loop-i-preserved : goal.loop-i-preserved
 loop-i-preserved g c =
     let all = c.args.work.now.items in let i = c.loop-i.i in let viewer = c.index.result.now in
-    let more : take i all ++ viewer ∷ [] ≡ take (i + 1) all =
-    ap (λ x. take i all ++ x ∷ []) c.index.ensures ∙ sym (take-suc all i viewer (omega arith)) ∙ ap (λ n. take n all) (sym (add-one i)) in
+    let more = taken_with all i viewer (omega arith) c.index.ensures in
     record {
       rooms = subst (λ ws. AllZip IsRoomFor ws c.push_reserved.new.self.items) more (subst (AllZip IsRoomFor (take i all ++ viewer ∷ [])) (sym c.push_reserved.ensures.items)
           (one_more_pair IsRoomFor (take i all) c.loop-i.answers.items viewer c.in_ok-room.room c.loop-i.invariant.rooms (c.in_ok-room.ensures.items, (let k = viewer.1.ok in let n = c.len-in-loop-i.ensures in let m = c.in_ok-room.ensures.capacity in omega arith))));

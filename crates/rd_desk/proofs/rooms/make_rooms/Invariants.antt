@@ -1,6 +1,5 @@
 use Rattle.std.proofs.Common.{◌≡◌, ◌≤◌, take, length, vec_len, vec_capacity}
-use Rattle.std.specs.List.{AllZip}
-use Rattle.rd_desk.specs.Rooms.{IsRoomFor}
+use Rattle.rd_desk.proofs.Prelude.{AllZip, IsRoomFor}
 use Rattle.rd_desk.proofs.rooms.make_rooms.Given as goal
 
 abbrev pub invariant-loop-i : goal.invariant-loop-i

@@ -1,14 +1,12 @@
 use Rattle.std.proofs.Common.{◌≡◌, ◌∙◌, ◌+◌, ap, sym, subst, [], ◌∷◌, ◌++◌, take, add-one, arith}
-use Rattle.std.proofs.Math.Seq.{take-suc}
-use Rattle.rd_desk.specs.Viewers.{IsChain}
-use Rattle.rd_desk.proofs.ChainLemmas.{one_more_told}
+use Rattle.rd_desk.proofs.Prelude.{IsChain, take-suc}
+use Rattle.rd_desk.proofs.ChainLemmas.{one_more_told, taken_with}
 use Rattle.rd_desk.proofs.threads.ask_all.Goals as goal
 
 pub loop-i-preserved : goal.loop-i-preserved
 loop-i-preserved g c =
     let all = c.args.commands.items in let i = c.loop-i.i in let command = c.index.result.now in let told = g.G.Gate.told c.args.gate.now in let pass = c.ask-answer.new.pass in
-    let more : take i all ++ command ∷ [] ≡ take (i + 1) all =
-    ap (λ x. take i all ++ x ∷ []) c.index.ensures ∙ sym (take-suc all i command (omega arith)) ∙ ap (λ n. take n all) (sym (add-one i)) in
+    let more = taken_with all i command (omega arith) c.index.ensures in
     record {
       own = c.ask-answer.ensures.own;
       chain = subst (λ cs. IsChain told c.args.pass cs c.push_reserved.new.self.items pass) more (subst (λ answers. IsChain told c.args.pass (take i all ++ command ∷ []) answers pass) (sym c.push_reserved.ensures.items)

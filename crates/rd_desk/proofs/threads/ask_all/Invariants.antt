@@ -1,5 +1,5 @@
 use Rattle.std.proofs.Common.{◌≡◌, ◌≤◌, take, length, vec_len, vec_capacity}
-use Rattle.rd_desk.specs.Viewers.{IsChain}
+use Rattle.rd_desk.proofs.Prelude.{IsChain}
 use Rattle.rd_desk.proofs.threads.ask_all.Given as goal
 
 abbrev pub invariant-loop-i : goal.invariant-loop-i

@@ -1,7 +1,5 @@
 use Rattle.std.proofs.Common.{arith, sym, subst}
-use Rattle.std.proofs.lemmas.List.{nil_from_length}
-use Rattle.rd_desk.specs.Threads.{IsStarted}
-use Rattle.rd_desk.specs.Viewers.{IsRan}
+use Rattle.rd_desk.proofs.Prelude.{IsRan, IsStarted, nil_from_length}
 use Rattle.rd_desk.proofs.Starting.{one_joined, all_joined, done_ran}
 use Rattle.rd_desk.proofs.threads.join_all.Goals as goal
 use Rattle.rd_desk.proofs.threads.join_all.Goals.{in-None, in-Some-handle}

@@ -1,6 +1,5 @@
 use Rattle.std.proofs.Common.{arith, ap, length}
-use Rattle.std.proofs.lemmas.List.{nil_from_length}
-use denote.Param.Send.{sendable}
+use Rattle.rd_desk.proofs.Prelude.{nil_from_length, sendable}
 use Rattle.rd_desk.proofs.Starting.{begins, next_is_ready, room_is_there, one_started, is_started}
 use Rattle.rd_desk.proofs.threads.start_all.Goals as goal
 

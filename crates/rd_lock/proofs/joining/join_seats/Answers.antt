@@ -1,9 +1,5 @@
 use Rattle.std.proofs.Common.{◌++◌, [], ◌∷◌, sym, ap, ◌∙◌, subst, arith}
-use Rattle.std.proofs.lemmas.List.{append-nil}
-use Rattle.std.specs.List.{AllByRecursion}
-use Rattle.rd_lock.specs.Rule.{in_hand}
-use Rattle.rd_lock.specs.Opening.{IsSeatOf, members_of}
-use Rattle.rd_lock.proofs.Lock.{lock_of}
+use Rattle.rd_lock.proofs.Prelude.{AllByRecursion, IsSeatOf, append-nil, in_hand, lock_of, members_of}
 use Rattle.rd_lock.proofs.PassLists.{joins_it, every_front, every_back, popped}
 use Rattle.rd_lock.proofs.joining.join_seats.Goals as goal
 

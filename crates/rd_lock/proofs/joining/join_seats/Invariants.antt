@@ -1,7 +1,5 @@
 use Rattle.std.proofs.Common.{◌≡◌, [], ◌++◌, vec_len}
-use Rattle.rd_lock.specs.declared.views.Stage.TheVariants.{Out}
-use Rattle.std.specs.List.{AllByRecursion}
-use Rattle.rd_lock.specs.Opening.{members_of, IsSeatOf}
+use Rattle.rd_lock.proofs.Prelude.{AllByRecursion, IsSeatOf, Out, members_of}
 use Rattle.rd_lock.proofs.joining.join_seats.Given as goal
 
 abbrev pub invariant-loop-pass : goal.invariant-loop-pass

@@ -1,8 +1,5 @@
 use Rattle.std.proofs.Common.{◌≡◌, ◌≤◌, [], ◌++◌, length, vec_len, vec_capacity}
-use Rattle.rd_lock.specs.declared.views.Stage.TheVariants.{Out}
-use Rattle.std.specs.List.{AllByRecursion}
-use Rattle.rd_lock.specs.Rule.{newcomers}
-use Rattle.rd_lock.specs.Opening.{members_of, IsSeatOf}
+use Rattle.rd_lock.proofs.Prelude.{AllByRecursion, IsSeatOf, Out, members_of, newcomers}
 use Rattle.rd_lock.proofs.joining.split_seats.Given as goal
 
 abbrev pub invariant-loop-number : goal.invariant-loop-number

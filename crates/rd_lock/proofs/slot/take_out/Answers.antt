@@ -1,5 +1,5 @@
 use Rattle.std.proofs.Common.{◌∷◌, Some, sym, ap, ◌∙◌}
-use Rattle.atomic_table.specs.Table.{rest}
+use Rattle.rd_lock.proofs.Prelude.{rest}
 use Rattle.rd_lock.proofs.slot.take_out.Goals as goal
 
 pub exchange-found-requires : goal.exchange-found-requires

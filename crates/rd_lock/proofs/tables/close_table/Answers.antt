@@ -1,5 +1,5 @@
 use Rattle.std.proofs.Common.{[]}
-use Rattle.rd_lock.proofs.Lock.{lock_of}
+use Rattle.rd_lock.proofs.Prelude.{lock_of}
 use Rattle.rd_lock.proofs.Ends.{ends_alone, has_value, is_left}
 use Rattle.rd_lock.proofs.PassLists.{if_ok_map}
 use Rattle.rd_lock.proofs.tables.close_table.Goals as goal

@@ -1,5 +1,5 @@
 use Rattle.std.proofs.Common.{◌∙◌, sym}
-use Rattle.rd_lock.proofs.Lock.{lock_of}
+use Rattle.rd_lock.proofs.Prelude.{lock_of}
 use Rattle.rd_lock.proofs.Ends.{ends, has_value, is_left, all_equal, none_newer}
 use Rattle.rd_lock.proofs.PassLists.{if_ok_map, if_err_map, is_ok_unless}
 use Rattle.rd_lock.proofs.tables.close_with_seat.Goals as goal

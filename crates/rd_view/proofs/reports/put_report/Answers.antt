@@ -1,7 +1,5 @@
 use Rattle.std.proofs.Common.{◌≡◌, ◌∙◌, ◌++◌, ◌+◌, arith, ap, sym, drop, ltb-true, ltb-false}
-use Rattle.std.proofs.lemmas.List.{append-nil}
-use Rattle.rd_script.specs.Replies.{text_of}
-use Rattle.rd_view.specs.Views.{report_text}
+use Rattle.rd_view.proofs.Prelude.{append-nil, report_text, text_of}
 use Rattle.rd_view.proofs.ReportLemmas.{one_part_more, no_lines, fault_next, answer_next, no_answer}
 use Rattle.rd_view.proofs.reports.put_report.Goals.{in-Err, in-Ok+in-Some}
 use Rattle.rd_view.proofs.reports.put_report.Goals as goal

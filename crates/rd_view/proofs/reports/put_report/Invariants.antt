@@ -1,5 +1,5 @@
 use Rattle.std.proofs.Common.{◌≡◌, ◌≤◌, ◌++◌, drop}
-use Rattle.rd_view.specs.Views.{report_text}
+use Rattle.rd_view.proofs.Prelude.{report_text}
 use Rattle.rd_view.proofs.reports.put_report.Given as goal
 
 -- the answers to the lines before this one are in the text, and as many of the answers were used as

@@ -1,8 +1,5 @@
 use Rattle.std.proofs.Common.{◌≡◌, ◌∙◌, ◌++◌, ap, subst}
-use Rattle.std.specs.Prelude.{OnOk}
-use Rattle.rd_script.specs.declared.writing.headings.Heading.TheVariants.{Viewer}
-use Rattle.rd_script.specs.Headings.{heading_text}
-use Rattle.rd_view.specs.Views.{replies_text, report_text}
+use Rattle.rd_view.proofs.Prelude.{OnOk, Viewer, heading_text, replies_text, report_text}
 use Rattle.rd_view.proofs.ReportLemmas.{both_parts}
 use Rattle.rd_view.proofs.reports.put_viewer.Goals as goal
 
@@ -12,7 +9,7 @@ returns-in-Some c =
     let mid = c.extend_from_slice.new.self.items in
     let new = c.put_report.new.text.items in
     let said = c.args.said.now in
-    both_parts c.put_report.result old mid new (heading_text (Viewer c.args.number)) (replies_text said c.args.told.now)
+    both_parts c.put_report.result old mid new (heading_text (Viewer c.args.number)) (replies_text said c.args.answered.now)
     (c.in_ok-extend_from_slice.ensures.items ∙ ap (λ t. old ++ t) (c.as_slice.ensures.value ∙ c.set_heading.ensures))
     (rw c.in-Some.is (subst (λ answers. OnOk c.put_report.result (new ≡ mid ++ report_text said answers)) c.as_slice-in-Some.ensures.value c.put_report.ensures))
 
@@ -21,6 +18,6 @@ returns-in-None c =
     let old = c.args.text.now.items in
     let mid = c.extend_from_slice.new.self.items in
     let new = c.put_answer.new.text.items in
-    both_parts c.put_answer.result old mid new (heading_text (Viewer c.args.number)) (replies_text c.args.said.now c.args.told.now)
+    both_parts c.put_answer.result old mid new (heading_text (Viewer c.args.number)) (replies_text c.args.said.now c.args.answered.now)
     (c.in_ok-extend_from_slice.ensures.items ∙ ap (λ t. old ++ t) (c.as_slice.ensures.value ∙ c.set_heading.ensures))
     (rw c.in-None.is c.put_answer.ensures)

@@ -1,7 +1,6 @@
 use Rattle.std.proofs.Common.{◌++◌, ◌∷◌, [], arith, subst, take}
-use Rattle.rd_script.specs.Lines.{lines_of, AreSaid}
-use Rattle.rd_view.specs.Viewing.{AreRead}
-use Rattle.rd_view.proofs.GatherLemmas.{one_pair_more, taken_with}
+use Rattle.rd_view.proofs.Prelude.{AreRead, AreSaid, lines_of}
+use Rattle.rd_desk.proofs.ChainLemmas.{one_more_pair, taken_with}
 use Rattle.rd_view.proofs.viewing.lines_of_all.Goals as goal
 
 pub loop-script-preserved : goal.loop-script-preserved
@@ -12,5 +11,5 @@ loop-script-preserved c =
     subst (λ bytes. AreSaid (lines_of bytes) c.in-Ok.lines.items) c.as_slice.ensures.value c.in-Ok.ensures.ok in
     rw c.in_ok-push.ensures.items
     (subst (λ xs. AreRead xs (c.loop-script.said.items ++ c.in-Ok.lines ∷ [])) (taken_with scripts i c.script-item.result (omega arith) c.script-item.is)
-    (one_pair_more (λ script lines. AreSaid (lines_of script.items) lines.items) (take i scripts) c.loop-script.said.items c.script-item.result c.in-Ok.lines
+    (one_more_pair (λ script lines. AreSaid (lines_of script.items) lines.items) (take i scripts) c.loop-script.said.items c.script-item.result c.in-Ok.lines
     c.loop-script.invariant read))

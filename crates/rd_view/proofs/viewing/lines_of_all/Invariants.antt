@@ -1,5 +1,5 @@
 use Rattle.std.proofs.Common.{take}
-use Rattle.rd_view.specs.Viewing.{AreRead}
+use Rattle.rd_view.proofs.Prelude.{AreRead}
 use Rattle.rd_view.proofs.viewing.lines_of_all.Given as goal
 
 -- the scripts before this one were read

@@ -1,18 +1,6 @@
-use denote.Param.Send.{sendable}
-use mathlib.Core.Logic.{∥∥₁_map}
-use Rattle.std.proofs.Crossing.{crosses}
+use Rattle.rd_view.proofs.Prelude.{AllByRecursion, AreAnswered, Continues, IsLegal, IsNewViewer, IsViewerOf, NamesUpTo, answers_of, book_state, book_with_history_send, crosses, desk_sync, entries, length-map, number, number_of, numbers, seat_send, seen, sendable, ∥∥₁_map}
 use Rattle.std.proofs.Common.{◌≡◌, ◌∙◌, length, map, ap, sym, subst, arith}
-use Rattle.std.proofs.lemmas.List.{length-map}
-use Rattle.rd_lock.specs.Histories.{NamesUpTo, numbers}
-use Rattle.std.specs.List.{AllByRecursion}
-use Rattle.rd_lock.specs.Locks.{number}
-use Rattle.rd_desk.specs.Desks.{IsNewViewer, IsViewerOf, AgreesWith}
-use Rattle.rd_desk.specs.Histories.{IsLegal, entries}
-use denote.Param.{number as number_of}
 use Rattle.rd_desk.specs.contracts.recording.BookWithHistoryRecorded.TheImpl as Recorded
-use Rattle.rd_desk.proofs.Sends.{seat_send, book_with_history_send, desk_sync}
-use Rattle.rd_marks.specs.BookViews.{book_state}
-use Rattle.rd_view.specs.Viewing.{AreAnswered, answers_of}
 use Rattle.rd_view.proofs.ViewingLemmas.{all_answered, new_may_ask, own_passes, length-numbers}
 use Rattle.rd_view.proofs.viewing.run_over_desk.Goals as goal
 
@@ -61,9 +49,9 @@ returns-in-Ok-close-clause-ok g c =
     ap (map number) passes ∙ c.in-Ok.ensures.ok.numbered ∙ ap (numbers 1) (sym many ∙ sym (ap length passes) ∙ counted) in (
       subst (λ first. IsLegal g.row.N first (entries history)) state (∥∥₁_map closed.leaves (λ l. (_, l))),
       subst (λ n. NamesUpTo n (entries history)) c.in-Ok.ensures.ok.counted closed.names,
-      subst (λ told. AreAnswered g.row.N opened (entries history) 1 c.args.said.now told) (sym c.in_ok-passes.ensures.told)
+      subst (λ answered. AreAnswered g.row.N opened (entries history) 1 c.args.said.now answered) (sym c.in_ok-passes.ensures.answered)
           (subst (λ first. AreAnswered g.row.N first (entries history) 1 c.args.said.now (map answers_of c.in-Ok-run_viewers.rans.items)) state
           (all_answered g.row.N (Recorded.ghosts (number_of g.row.N)) desk history 1 work c.in-Ok-run_viewers.rans.items c.args.said.now c.in-Ok-run_viewers.ensures.ok
           (subst (λ ps. AllByRecursion (IsNewViewer desk) ps) (sym passes) c.in-Ok.ensures.ok.are_new) numbered c.in_ok-work.ensures.commands
-          (subst (λ ps. AllByRecursion (AgreesWith history) ps) c.in_ok-passes.ensures.passes closed.tells))),
+          (subst (λ ps. AllByRecursion (λ pass. Continues (number pass) (seen pass) (entries history)) ps) c.in_ok-passes.ensures.passes closed.continues))),
     )

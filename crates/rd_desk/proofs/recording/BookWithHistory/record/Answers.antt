@@ -1,7 +1,5 @@
 use Rattle.std.proofs.Common.{subst, ◌≡◌, ◌==◌, ◌≤◌, ℕ, Bool, false, true≢false, inl, inr, sym, List, ◌∷◌, ◌++◌, [], length, length-append, ap, ◌∙◌, arith}
-use Rattle.std.proofs.lemmas.Bool.{cases_eq, eq-eqb}
-use Rattle.rd_marks.specs.BookViews.{book_state}
-use Rattle.rd_desk.specs.Histories.{MOST_CALLS, entries, viewer_entry, IsLeftBy}
+use Rattle.rd_desk.proofs.Prelude.{IsLeftBy, MOST_CALLS, book_state, cases_eq, entries, eq-eqb, viewer_entry}
 use Rattle.rd_desk.proofs.HistoryLemmas.{one_recorded}
 use Rattle.rd_desk.proofs.recording.BookWithHistory.record.Goals as goal
 

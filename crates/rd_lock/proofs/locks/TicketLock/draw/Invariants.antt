@@ -1,5 +1,5 @@
 use Rattle.std.proofs.Common.{◌≡◌, ◌≤◌, ◌^◌}
-use Rattle.rd_lock.specs.Locks.{IsOut, IsPassOf, IsSamePass, next_seen}
+use Rattle.rd_lock.proofs.Prelude.{IsOut, IsPassOf, IsSamePass, next_seen}
 use Rattle.rd_lock.proofs.locks.TicketLock.draw.Given as goal
 
 abbrev pub invariant-draws : goal.invariant-draws

@@ -1,10 +1,8 @@
-use Rattle.std.proofs.Common.{rules, map, ap, ◌∙◌, arith}
-use Rattle.rd_lock.specs.Rule.{in_hand}
-use Rattle.rd_lock.proofs.Lock.{lock_of}
+use Rattle.std.proofs.Common.{rules, map, ap, ◌∙◌, subst}
+use Rattle.rd_lock.proofs.Prelude.{AreComparable, Pairwise, in_hand, knows_served, lock_of}
 use Rattle.rd_lock.proofs.Looks.{looks_served}
 use Rattle.rd_lock.proofs.PassLists.{joins_it, splits_it}
-use Rattle.rd_lock.proofs.Meetings.{some_both, in_line}
-use Rattle.rd_lock.specs.Steps.{knows_served}
+use Rattle.rd_lock.proofs.Meetings.{both_look, in_line}
 use Rattle.rd_lock.proofs.locks.TicketLock.meet.Goals as goal
 
 pub join_seat-requires : goal.join_seat-requires
@@ -23,10 +21,10 @@ pub split_seat-second-requires : goal.split_seat-second-requires
 split_seat-second-requires g c = (
   search rules,
   search rules,
-  splits_it (lock_of g.T.Recorded.history g.T.Recorded.origin _ _) _ c.load-served.new.seat.me.0 (ap (λ m. m.0.stage) c.load-served.ensures.2.1 ∙ ap (λ m. m.0.stage) c.join_seat.ensures.2)
-      (some_both c.args.one.seat.me.0.members c.args.other.seat.me.0.members c.load-served.new.seat.me.0.members c.load-served.result c.args.one.alone
-      (ap (λ m. m.0.members) c.load-served.ensures.2.1 ∙ ap (λ m. map (knows_served c.load-served.result) m.0.members) c.join_seat.ensures.2)),
+  splits_it (lock_of g.T.Recorded.history g.T.Recorded.origin _ _) _ c.load-served.new.seat.me.0 _ _ (ap (λ m. m.0.stage) c.load-served.ensures.2.after ∙ ap (λ m. m.0.stage) c.join_seat.ensures.2)
+      (both_look c.args.one.seat.me.0.members c.args.other.seat.me.0.members c.args.one.alone c.args.other.alone c.load-served.new.seat.me.0.members c.load-served.result
+      (ap (λ m. m.0.members) c.load-served.ensures.2.after ∙ ap (λ m. map (knows_served c.load-served.result) m.0.members) c.join_seat.ensures.2)),
 )
 
 pub returns-clause-order : goal.returns-clause-order
-returns-clause-order g c = grind (arith, in_line)
+returns-clause-order g c = in_line c.args.one.seat.me.0.members c.args.other.seat.me.0.members c.args.one.alone c.args.other.alone (subst (λ m. Pairwise (λ p q. AreComparable p.seen q.seen) m.0.members) c.join_seat.ensures.2 c.load-served.ensures.2.order)

@@ -1,15 +1,15 @@
 use Rattle.std.proofs.Common.{rules, arith}
-use Rattle.rd_lock.proofs.Lock.{lock_of}
+use Rattle.rd_lock.proofs.Prelude.{lock_of}
 use Rattle.rd_lock.proofs.Looks.{looks_served}
-use Rattle.rd_lock.proofs.TryCalls.{out_one, tries_it}
+use Rattle.rd_lock.proofs.Calls.{tries_it}
 use Rattle.rd_lock.proofs.locks.TicketLock.try_take.Goals as goal
 
 pub load-served-requires : goal.load-served-requires
 load-served-requires g c = (search rules, search rules, looks_served (lock_of g.T.Recorded.history g.T.Recorded.origin _ _) _ _ c.args.pass.now.seat.me)
 
 pub compare_exchange-next-requires : goal.compare_exchange-next-requires
-compare_exchange-next-requires g c = let m = c.args.pass.now.seat.me in let o = out_one _ _ m c.args.pass.now.alone c.requires.out c.args.pass.now.hand c.requires.own.told in (
+compare_exchange-next-requires g c = let pass = c.args.pass.now in (
   search rules,
   search rules,
-  tries_it (lock_of g.T.Recorded.history g.T.Recorded.origin _ _) _ _ m c.load-served.new.seat.me c.load-served.result o.0 o.1 c.load-served.ensures.2 (omega arith),
+  tries_it (lock_of g.T.Recorded.history g.T.Recorded.origin _ _) _ _ pass.seat.me c.load-served.new.seat.me c.load-served.result pass.alone c.requires.out pass.hand c.load-served.ensures.2 (omega arith),
 )

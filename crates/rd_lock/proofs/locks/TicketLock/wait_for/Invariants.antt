@@ -1,4 +1,4 @@
-use Rattle.rd_lock.specs.Locks.{IsWaiting, IsPassOf, IsSamePass}
+use Rattle.rd_lock.proofs.Prelude.{IsPassOf, IsSamePass, IsWaiting}
 use Rattle.rd_lock.proofs.locks.TicketLock.wait_for.Given as goal
 
 abbrev pub invariant-looks : goal.invariant-looks

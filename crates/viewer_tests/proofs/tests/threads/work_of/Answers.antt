@@ -1,7 +1,7 @@
 use Rattle.std.proofs.Common.{rules, ◌≡◌, ◌++◌, ◌∷◌, [], sym, subst}
 use Rattle.std.specs.List.{AllByRecursion}
 use Rattle.rd_desk.specs.Desks.{IsViewerOf}
-use Rattle.rd_desk.proofs.Starting.{every_more}
+use Rattle.rd_lock.proofs.Lists.{every_append}
 use Rattle.viewer_tests.proofs.tests.threads.work_of.Goals as goal
 
 pub loop-viewer-preserved : goal.loop-viewer-preserved
@@ -9,5 +9,5 @@ loop-viewer-preserved g c = let i = c.loop-viewer.invariant in let viewer : _ ×
     let items : c.push.new.self.items ≡ c.loop-viewer.work.items ++ viewer ∷ [] = search rules in record {
       new = c.last_pass-pass.ensures.each;
       own = subst (AllByRecursion (λ viewer. IsViewerOf c.args.desk.now viewer.0)) (sym items)
-          (every_more (λ viewer. IsViewerOf c.args.desk.now viewer.0) c.loop-viewer.work.items viewer i.own c.last_pass-pass.ensures.own);
+          (every_append (λ viewer. IsViewerOf c.args.desk.now viewer.0) c.loop-viewer.work.items (viewer ∷ []) i.own (c.last_pass-pass.ensures.own, tt));
     }

@@ -1,4 +1,4 @@
-use Rattle.rd_desk.specs.Threads.{IsStarted}
+use Rattle.rd_desk.proofs.Prelude.{IsStarted}
 use Rattle.rd_desk.proofs.ChainLemmas.{room_for_all}
 use Rattle.rd_desk.proofs.threads.fn.run_all.scope.Goals as goal
 

@@ -1,0 +1,12 @@
+//! What a pass's own entries are: a law, which is the contract of a function that does nothing.
+
+ghost use Rattle.std.specs.Prelude.{◌≡◌, ℕ, ◌+◌, List, ◌++◌, length};
+ghost use Rattle.rd_lock.specs.Histories.{named, Continues};
+
+/// Where a pass finds what goes on from what it had seen by entries of others alone, and puts more,
+/// its own entries are those that it had and then those of the new ones that name it, each with its
+/// position.
+pub fn own_entries_grow_by_what_is_put<E>()
+    ensures { (pass : ℕ) (old found es : List (ℕ × E)) → Continues pass old found
+        → named pass 1 (found ++ es) ≡ named pass 1 old ++ named pass (1 + length found) es }
+{}
