@@ -1,6 +1,6 @@
 -- A text is one trace at most.
 use Rattle.std.proofs.Common.{◌≡◌, ◌≢◌, ℕ, suc, ◌+◌, ◌≤◌, Bool, not, ◌&&◌, ◌==◌, nat_le, if◌then◌else◌, List, [], ◌∷◌, ◌++◌, map, length, slice_get, codes, Option, Some, None, is_some, option_map, Result, Ok, Err, Vec, Global, inl, inr, refl, sym, ap, ap₂, ◌∙◌, subst, subst₂, arith}
-use Rattle.rd_trace.proofs.Prelude.{length-map, slice_get-map, list_all, Data, get, as_array, read, SegName, ArrSlot, Empty, Top, Actor, SLOTS, SegmentParts, ArrayParts, World, Refusal, MOST_ACTORS, Event, fresh_world, numbered, world_of_parts, first_flaw, indexes_fit, array_fits, Parts, Flaw, bytes_of, Mark, BookState, GoThrough, MarksGoThrough, member_count, number_at, items_at, Gives, SpellEachAt, event_of, IsActor, slot_of, filled_slots, IsArray, cell_of, IsSegment, IsSegmentList, IsMark, IsParts, IsStart, start_world, start_flaw, Start, Fresh, OfParts, Trace, IsFirstTrace, IsSecondTrace, IsEither, IsTraceText, loaded_state, seen_mark, IsSameBook, IsTraceRing, IsRefusedAt, IsMarkRefusedAt, IsBookIn, Replays, LoadsTrace, IsReachable, LoadsAgain, IsTextOf, AnyBook, LoadTraceFault, BadTrace, Flawed, TraceMark, TraceStep}
+use Rattle.rd_trace.proofs.Prelude.{length-map, slice_get-map, list_all, Data, get, as_array, read, SegName, ArrSlot, Empty, Top, Actor, SLOTS, SegmentParts, ArrayParts, World, Refusal, MOST_ACTORS, Event, fresh_world, numbered, world_of_parts, first_flaw, indexes_fit, array_fits, Parts, Flaw, bytes_of, Mark, BookState, GoThrough, MarksGoThrough, member_count, number_at, items_at, Gives, SpellEachAt, event_of, IsActor, slot_of, filled_slots, IsArray, cell_of, IsSegment, IsSegmentList, IsMark, IsParts, IsStart, start_world, start_flaw, Start, Fresh, OfParts, Trace, IsFirstTrace, IsSecondTrace, IsEither, IsTraceText, loaded_state, seen_mark, IsSameBook, IsTraceRing, IsRefusedAt, IsMarkRefusedAt, IsBookIn, Replays, LoadsTrace, IsPlayable, LoadsAgain, IsTextOf, AnyBook, LoadTraceFault, BadTrace, Flawed, TraceMark, TraceStep}
 use Rattle.std.proofs.Props.{props}
 use Rattle.std.proofs.lemmas.List.Folds.{list_all-map}
 use mathlib.Core.HLevel.{is_prop→PathP}
@@ -294,26 +294,32 @@ NoneRefused = (R : ℕ) (start : World) (events : List Event) (n : ℕ) (cause :
 
 module _ (none_refused : NoneRefused) (R : ℕ) (t u : Trace R) (same : IsSameTrace t u) where
   -- a trace that is another one goes through with it
-  still_reachable : IsReachable R (loaded_state u) → IsReachable R (loaded_state t)
-  still_reachable h = grind (arith, marks_go, subst₂, seen_go)
+  still_playable : IsPlayable u → IsPlayable t
+  still_playable h = record {
+    marks = record {
+      flawless = same.flaw ∙ h.marks.flawless;
+      marks = marks_go R (start_world t.start) t.marks (subst₂ (SeenGoThrough R) (sym same.world) (sym same.marks) (seen_go R (start_world u.start) u.marks h.marks.marks));
+    };
+    through = subst₂ (GoThrough R) (sym same.world) (ap₂ (λ live undone. live ++ undone) (sym same.live) (sym same.undone)) h.through;
+  }
 
-  no_mark_refused : IsReachable R (loaded_state u) → (m n : ℕ) (cause : Refusal) → IsMarkRefusedAt R (start_world t.start) t.marks m n cause → ⊥
+  no_mark_refused : IsPlayable u → (m n : ℕ) (cause : Refusal) → IsMarkRefusedAt R (start_world t.start) t.marks m n cause → ⊥
   no_mark_refused h m n cause at =
       none_refused R (start_world t.start) at.mark.events n cause
-      (one_goes R (start_world t.start) at.before at.mark at.later (subst (MarksGoThrough R (start_world t.start)) at.all (still_reachable h).marks)) at.refused
+      (one_goes R (start_world t.start) at.before at.mark at.later (subst (MarksGoThrough R (start_world t.start)) at.all (still_playable h).marks.marks)) at.refused
 
-  no_step_refused : IsReachable R (loaded_state u) → (n : ℕ) (cause : Refusal) → IsRefusedAt R (start_world t.start) (t.live ++ t.undone) n cause → ⊥
-  no_step_refused h n cause at = none_refused R (start_world t.start) (t.live ++ t.undone) n cause (still_reachable h).through at
+  no_step_refused : IsPlayable u → (n : ℕ) (cause : Refusal) → IsRefusedAt R (start_world t.start) (t.live ++ t.undone) n cause → ⊥
+  no_step_refused h n cause at = none_refused R (start_world t.start) (t.live ++ t.undone) n cause (still_playable h).through at
 
-module _ (none_refused : NoneRefused) (R : ℕ) (u : Trace R) (flawless : start_flaw u.start ≡ None) (reachable : IsReachable R (loaded_state u)) where
+module _ (none_refused : NoneRefused) (R : ℕ) (u : Trace R) (playable : IsPlayable u) where
   -- over the same ring
   again : (t : Trace R) → IsSameTrace t u → (r : Result AnyBook LoadTraceFault) → (r ≡ Err BadTrace → ⊥) → Replays (IsBookIn R (loaded_state t)) t r → LoadsAgain R (loaded_state u) r
   again t same (Ok book) some h = (h.1.0, subst (λ b. IsSameBook b (loaded_state u)) (sym h.1.1) (same_book R R t u same))
   again t same (Err NoMemory) some h = refl
   again t same (Err BadTrace) some h = absurd (some refl)
-  again t same (Err (Flawed flaw)) some h = let e : Some flaw ≡ None = sym h ∙ same.flaw ∙ flawless in absurd (cc)
-  again t same (Err (TraceMark m n cause)) some h = absurd (no_mark_refused none_refused R t u same reachable m n cause h.1)
-  again t same (Err (TraceStep n cause)) some h = absurd (no_step_refused none_refused R t u same reachable n cause h.1)
+  again t same (Err (Flawed flaw)) some h = let e : Some flaw ≡ None = sym h ∙ same.flaw ∙ playable.marks.flawless in absurd (cc)
+  again t same (Err (TraceMark m n cause)) some h = absurd (no_mark_refused none_refused R t u same playable m n cause h.1)
+  again t same (Err (TraceStep n cause)) some h = absurd (no_step_refused none_refused R t u same playable n cause h.1)
 
   -- over the ring of the text
   again_over : (text : List ℕ) (Q : ℕ) (t : Trace Q) → IsTraceText text u → IsTraceText text t → (r : Result AnyBook LoadTraceFault) → (r ≡ Err BadTrace → ⊥)
@@ -336,5 +342,4 @@ module _ (none_refused : NoneRefused) (R : ℕ) (u : Trace R) (flawless : start_
 pub loads_again : NoneRefused → (text : List ℕ) (r : Result AnyBook LoadTraceFault) → LoadsTrace text r → (R : ℕ) (b : BookState) → IsTraceRing R → IsTextOf R b text → LoadsAgain R b r
 loads_again none_refused text r loads R b ring is =
     let h = is.loads ring in
-    let u = h.reads.0 in
-    subst (λ s. LoadsAgain R s r) h.reads.3 (again_loaded none_refused R u h.reads.2 (subst (IsReachable R) (sym h.reads.3) h.reachable) text h.reads.1 r loads)
+    subst (λ s. LoadsAgain R s r) h.3 (again_loaded none_refused R h.0 h.2 text h.1 r loads)

@@ -1,6 +1,6 @@
 -- Whole sessions as values.
-use Rattle.std.proofs.Common.{◌≡◌, ℕ, zero, suc, ◌+◌, ◌<◌, ◌≤◌, List, [], ◌∷◌, ◌++◌, length, take, get_or, slice_get, Some, Result, Ok, Err, IsOk, inl, inr, refl, sym, ap, ◌∙◌, subst, arith, length-append, rules}
-use Rattle.rd_trace.proofs.Prelude.{length-map, map-append, take_more, get_or-map, same_Some, Data, Refusal, run, MOST_STEPS, Ran, run_entries, Entry, Event, State, state_of, numbered, BookState, GoThrough, KeepsRules, Reads, Gives, SpellEach, items_by, event_of, event_data, SpellsWorld, AreMarks, mark_data, member_count, Trace, IsFirstTrace, IsSecondTrace, IsEither, SpellsBook, saved_trace, book_data, FormFault, BadForm, IsReachable}
+use Rattle.std.proofs.Common.{◌≡◌, ℕ, zero, suc, ◌+◌, ◌<◌, ◌≤◌, List, [], ◌∷◌, ◌++◌, length, take, get_or, slice_get, Some, None, Result, Ok, Err, IsOk, inl, inr, refl, sym, ap, ◌∙◌, subst, arith, length-append, rules}
+use Rattle.rd_trace.proofs.Prelude.{length-map, map-append, take_more, get_or-map, same_Some, Data, Refusal, run, MOST_STEPS, Ran, run_entries, Entry, Event, state_of, numbered, BookState, GoThrough, Reads, Gives, SpellEach, items_by, event_of, event_data, SpellsWorld, AreMarks, mark_data, member_count, Trace, IsFirstTrace, IsSecondTrace, IsEither, loaded_state, saved_trace, book_data, FormFault, BadForm, start_flaw}
 use Rattle.rd_journal.specs.Journal.{Journal, IsRun, start_of, events}
 use Rattle.rd_journal.proofs.RedoneLast.{one_run}
 use Rattle.rd_trace.specs.declared.saved.SavedSession.{SavedSession}
@@ -45,9 +45,9 @@ goes_through R j runs few =
           (went (run R (start_of j) (events (j.live ++ j.undone))) (j.live ++ j.undone) (one_run R j runs));
     }
 
--- so the state of a book whose bookmarks keep their rules is reached
-pub reached : (R : ℕ) (b : BookState) (s : State) → s ≡ b.session → KeepsRules R b → GoThrough R s.start (s.live ++ s.undone) → IsReachable R b
-reached R b s same rules through = grind arith
+-- a value is a trace of version 2 of this state, whose start has no flaw
+abbrev pub SpellsBook : ℕ → BookState → Data → Type 0
+SpellsBook R b d = (t : Trace R) × IsSecondTrace d t × (start_flaw t.start ≡ None) × (loaded_state t ≡ b)
 
 -- the value that a book is written as spells it, if the values of its members do
 pub book_spelled : (R : ℕ) (b : BookState) (start : Data) → SpellsWorld R b.session.start start → SpellEach (Gives event_of) (items_by event_data b.session.live) b.session.live

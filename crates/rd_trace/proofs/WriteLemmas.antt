@@ -1,6 +1,6 @@
 -- The text of a book is a trace of it.
-use Rattle.std.proofs.Common.{◌≡◌, ℕ, ◌^◌, ◌<◌, ◌≤◌, false, List, ◌++◌, Some, IsUtf8, inr, sym, ap, ◌∙◌}
-use Rattle.rd_trace.proofs.Prelude.{Data, depth, read, max_depth, has_float, compact_text, IsInOrder, World, BookState, KeepsRules, Gives, SpellEach, items_by, event_of, event_data, IsStartData, SpellsWorld, IsMark, mark_data, book_data, IsReadBack, IsKept, IsStartAppended, IsReachable, IsTextOf}
+use Rattle.std.proofs.Common.{◌≡◌, ℕ, ◌^◌, ◌<◌, ◌≤◌, false, List, ◌++◌, Some, IsUtf8, inr, sym, ap, ◌∙◌, subst}
+use Rattle.rd_trace.proofs.Prelude.{Data, depth, read, max_depth, has_float, compact_text, IsInOrder, World, BookState, KeepsRules, Gives, SpellEach, items_by, event_of, event_data, IsStartData, SpellsWorld, IsMark, mark_data, book_data, IsReadBack, IsKept, IsStartAppended, GoThrough, MarksGoThrough, IsPlayable, IsTextOf}
 use Rattle.rd_trace.proofs.SavedLemmas.{book_spelled}
 use Rattle.rd_trace.proofs.WholeLemmas.{whole_start, shallow_start, shallow_book}
 use Rattle.rd_trace.proofs.TextLemmas.{each_spelled, list_back, whole_text, book_text, book_back, read_line, back_of_text}
@@ -28,7 +28,7 @@ pub record AreItsParts (R : ℕ) (b : BookState) (start : Data) : Type 0 where
   pub marks : SpellEach (IsKept IsMark) (items_by mark_data b.marks) b.marks
   pub undone : SpellEach (IsKept (Gives event_of)) (items_by event_data b.session.undone) b.session.undone
   pub rules : KeepsRules R b
-  pub reachable : IsReachable R b
+  pub through : GoThrough R b.session.start (b.session.live ++ b.session.undone)
 
 -- the texts of its parts, put together, are the text of a book
 pub text_of_book : (R : ℕ) (b : BookState) (start : Data) (text : List ℕ) → R < 2 ^ 64 → AreItsParts R b start
@@ -44,8 +44,13 @@ text_of_book R b start text fits parts is utf8 =
     let spelled =
     book_spelled R b start parts.spells_start (each_spelled (Gives event_of) live b.session.live parts.live) (each_spelled (Gives event_of) undone b.session.undone parts.undone)
     (record { each = each_spelled IsMark marks b.marks parts.marks; names = parts.rules.names; few = parts.rules.few }) in
+    let back_to = sym spelled.3 in
+    let playable : IsPlayable spelled.0 = record {
+      marks = record { flawless = spelled.2; marks = subst (λ s. MarksGoThrough R s.session.start s.marks) back_to parts.rules.through };
+      through = subst (λ s. GoThrough R s.session.start (s.session.live ++ s.session.undone)) back_to parts.through;
+    } in
     let reads = ap read written ∙ read_line (book_data R start b) (shallow_book R start b parts.is_start) back in
     record {
       written = (start, parts.is_start, written);
-      loads = λ ring. record { reachable = parts.reachable; reads = (spelled.0, (utf8, book_data R start b, reads, (ring, inr spelled.1)), spelled.2, spelled.3) };
+      loads = λ ring. (spelled.0, (utf8, book_data R start b, reads, (ring, inr spelled.1)), playable, spelled.3);
     }

@@ -14,11 +14,8 @@ use Rattle.rd_trace.specs.Names.{name_at, name_data}
 -- value is of another form
 abbrev pub value_of : Data → Option (Option ℕ)
 value_of null = Some None
-value_of (boolean b) = None
 value_of (number n) = option_map Some (as_u64 n)
-value_of (string s) = None
-value_of (array ds) = None
-value_of (object ms) = None
+value_of _ = None
 
 -- the JSON value of a value, or of none
 abbrev pub value_data : Option ℕ → Data
@@ -40,19 +37,15 @@ long_op word x =
 
 -- the call that the items of a list spell: a word, or a word and a number
 abbrev pub op_of_items : Items → Option (Option Op)
-op_of_items no_items = None
 op_of_items (item word no_items) = option_and_then short_op (as_str word)
 op_of_items (item word (item d no_items)) = option_and_then (λ w. option_and_then (long_op w) (whole_number d)) (as_str word)
-op_of_items (item word (item d (item more rest))) = None
+op_of_items _ = None
 
 -- the call that a value spells, or that there is no call; none if it spells neither
 abbrev pub op_of : Data → Option (Option Op)
 op_of null = Some None
-op_of (boolean b) = None
-op_of (number n) = None
-op_of (string s) = None
 op_of (array ds) = op_of_items ds
-op_of (object ms) = None
+op_of _ = None
 
 -- the value as which a call, or none, is written
 abbrev pub op_data : Option Op → Data

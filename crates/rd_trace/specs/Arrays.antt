@@ -1,7 +1,7 @@
 -- The array as a value: an object with its counters and those of its slots that aren't empty, each
 -- with its position.
 use Rattle.std.specs.Prelude.{◌≡◌, ℕ, suc, List, [], ◌∷◌, codes, bytes_eq, if◌then◌else◌, Option, Some, None, option_map, option_and_then}
-use Rattle.serde_json.specs.Data.{Data, null, boolean, number, string, array, object, unsigned, Items, no_items, item, no_members, member}
+use Rattle.serde_json.specs.Data.{Data, null, number, string, array, object, unsigned, Items, no_items, item, no_members, member}
 use Rattle.serde_json.specs.Find.{as_array, as_u64}
 use Rattle.rd_cell.specs.declared.contents.ArrSlot.{ArrSlot}
 use Rattle.rd_cell.specs.declared.contents.ArrSlot.TheVariants.{Empty, Top, Value}
@@ -11,19 +11,14 @@ use Rattle.rd_trace.specs.Spelled.{Gives, SpellEachAt, items_by}
 
 -- the content that a value spells of a slot that isn't empty
 abbrev pub slot_content : Data → Option ArrSlot
-slot_content null = None
-slot_content (boolean b) = None
 slot_content (number n) = option_map Value (as_u64 n)
 slot_content (string s) = if bytes_eq s (codes "top") then Some Top else None
-slot_content (array ds) = None
-slot_content (object ms) = None
+slot_content _ = None
 
 -- the position and the slot that the items of a list spell
 abbrev pub slot_of_items : Items → Option (ℕ × ArrSlot)
-slot_of_items no_items = None
-slot_of_items (item i no_items) = None
 slot_of_items (item i (item s no_items)) = option_and_then (λ position. option_map (λ slot. (position, slot)) (slot_content s)) (whole_number i)
-slot_of_items (item i (item s (item more rest))) = None
+slot_of_items _ = None
 
 -- the position and the slot that a value spells
 abbrev pub slot_of : Data → Option (ℕ × ArrSlot)

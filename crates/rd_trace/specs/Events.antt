@@ -30,11 +30,9 @@ event_by act actor = option_and_then (λ known. option_map (λ n. record { actor
 -- the event that the items of a list spell: its word and its actor, and the number or the choice if
 -- its word takes one
 abbrev pub event_of_items : Items → Option Event
-event_of_items no_items = None
-event_of_items (item word no_items) = None
 event_of_items (item word (item actor no_items)) = event_by (option_and_then act_of_word (as_str word)) (byte_number actor)
 event_of_items (item word (item actor (item d no_items))) = event_by (option_and_then (λ w. act_with w d) (as_str word)) (byte_number actor)
-event_of_items (item word (item actor (item d (item more rest)))) = None
+event_of_items _ = None
 
 -- the event that a value spells
 abbrev pub event_of : Data → Option Event

@@ -2,8 +2,6 @@
 use Rattle.std.specs.Prelude.{◌≡◌, ℕ, List, [], ◌++◌, Some, None, Result, Ok, Err}
 use Rattle.rd_marks.specs.Books.{BookState}
 use Rattle.rd_marks.specs.BookViews.{book_state}
-use Rattle.rd_marks.specs.declared.books.Book.{Book}
-use Rattle.serde_json.specs.Data.{Data}
 use Rattle.rd_trace.specs.declared.any_book.AnyBook.{AnyBook}
 use Rattle.rd_trace.specs.declared.any_book.AnyBook.TheVariants.{Two, Four, Eight}
 use Rattle.rd_trace.specs.declared.faults.LoadTraceFault.{LoadTraceFault}
@@ -12,7 +10,7 @@ use Rattle.rd_trace.specs.declared.faults.FormFault.{FormFault}
 use Rattle.rd_trace.specs.declared.faults.FormFault.TheVariants.{NoMemory as FormNoMemory, BadForm}
 use Rattle.rd_step.specs.Starts.{fresh_world}
 use Rattle.rd_trace.specs.Starts.{start_world, start_flaw}
-use Rattle.rd_trace.specs.Saved.{Trace, IsEither, IsTraceText, loaded_state, IsSameBook}
+use Rattle.rd_trace.specs.Saved.{Trace, IsTraceText, loaded_state, IsSameBook}
 use Rattle.rd_marks.specs.Rules.{GoThrough, MarksGoThrough}
 use Rattle.rd_trace.specs.Traces.{IsRefusedAt, IsMarkRefusedAt}
 
@@ -64,13 +62,6 @@ Replays IsBook t (Err (Flawed flaw)) = start_flaw t.start ≡ Some flaw
 Replays {R} IsBook t (Err (TraceMark m n cause)) = (start_flaw t.start ≡ None) × IsMarkRefusedAt R (start_world t.start) t.marks m n cause
 Replays {R} IsBook t (Err (TraceStep n cause)) = HasMarks t × IsRefusedAt R (start_world t.start) (t.live ++ t.undone) n cause
 
--- the result of loading a value: that of replaying the trace that it spells, or BadTrace if it
--- spells none
-abbrev pub LoadsValue : {R : ℕ} → Data → Result (Book R) LoadTraceFault → Type 0
-LoadsValue d (Err NoMemory) = Unit {0}
-LoadsValue {R} d (Err BadTrace) = (t : Trace R) → IsEither d t → ⊥
-LoadsValue {R} d result = (t : Trace R) × IsEither d t × Replays (λ (book : Book R). book_state book ≡ loaded_state t) t result
-
 -- the result of loading a text: that of replaying the trace that it is, or BadTrace if it is none
 abbrev pub LoadsTrace : List ℕ → Result AnyBook LoadTraceFault → Type 0
 LoadsTrace text (Err NoMemory) = Unit {0}
@@ -84,17 +75,10 @@ IsSameAnswer (Ok book) (Err fault) = ⊥
 IsSameAnswer (Err fault) (Ok book) = ⊥
 IsSameAnswer (Err one) (Err other) = one ≡ other
 
--- from the start of this state the events of each bookmark can run, and so can the live events with
--- the undone ones after them
-pub record IsReachable (R : ℕ) (b : BookState) : Type 0 where
-  pub marks : MarksGoThrough R b.session.start b.marks
-  pub through : GoThrough R b.session.start (b.session.live ++ b.session.undone)
-
--- a text can be loaded as a book in this state: it is a trace of the state, its start has no flaw,
--- and all of its events can run
-pub record IsLoadable (R : ℕ) (b : BookState) (text : List ℕ) : Type 0 where
-  pub reachable : IsReachable R b
-  pub reads : (t : Trace R) × IsTraceText text t × (start_flaw t.start ≡ None) × (loaded_state t ≡ b)
+-- a text can be loaded as a book in this state: it is a trace of the state, whose start has no flaw
+-- and all of whose events can run
+abbrev pub IsLoadable : ℕ → BookState → List ℕ → Type 0
+IsLoadable R b text = (t : Trace R) × IsTraceText text t × IsPlayable t × (loaded_state t ≡ b)
 
 -- the result of loading the text as which a book in this state was written: the same book, unless
 -- memory was refused

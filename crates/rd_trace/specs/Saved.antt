@@ -11,7 +11,7 @@ use Rattle.rd_marks.specs.Books.{Mark, BookState}
 use Rattle.rd_trace.specs.Numbers.{member_count, number_at, items_at}
 use Rattle.rd_trace.specs.Spelled.{Gives, SpellEachAt, items_by}
 use Rattle.rd_trace.specs.Events.{event_of, event_data}
-use Rattle.rd_trace.specs.Starts.{IsStart, IsActorCount, IsStartData, start_world, start_flaw}
+use Rattle.rd_trace.specs.Starts.{IsStart, IsActorCount, IsStartData, start_world}
 use Rattle.rd_trace.specs.Bookmarks.{AreMarks, mark_data, saved_mark}
 use Rattle.rd_trace.specs.Traces.{IsTraceRing}
 use Rattle.rd_trace.specs.declared.starts.Start.{Start}
@@ -84,10 +84,6 @@ HasValue text d = IsUtf8 text × (read text ≡ Some d)
 -- a text is a trace: it is JSON, and its value is one
 abbrev pub IsTraceText : {R : ℕ} → List ℕ → Trace R → Type 0
 IsTraceText text t = IsUtf8 text × (d : Data) × (read text ≡ Some d) × IsTrace d t
-
--- a value is a trace of version 2 of this state, whose start has no flaw
-abbrev pub SpellsBook : ℕ → BookState → Data → Type 0
-SpellsBook R b d = (t : Trace R) × IsSecondTrace d t × (start_flaw t.start ≡ None) × (loaded_state t ≡ b)
 
 -- the object of the values of a book's parts
 abbrev pub book_object : Items → Items → ℕ → Data → Items → Data

@@ -13,12 +13,9 @@ use Rattle.rd_trace.specs.Actors.{value_of, value_data}
 
 -- the cell that the items of a list spell: its safe bit, its index and its value
 abbrev pub cell_of_items : Items → Option Cell
-cell_of_items no_items = None
-cell_of_items (item s no_items) = None
-cell_of_items (item s (item i no_items)) = None
 cell_of_items (item s (item i (item v no_items))) =
     option_and_then (λ safe. option_and_then (λ idx. option_map (λ val. record { safe = safe; idx = idx; val = val }) (value_of v)) (whole_number i)) (as_bool s)
-cell_of_items (item s (item i (item v (item more rest)))) = None
+cell_of_items _ = None
 
 -- the cell that a value spells
 abbrev pub cell_of : Data → Option Cell

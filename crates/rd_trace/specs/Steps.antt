@@ -5,13 +5,18 @@ use Rattle.rd_step.specs.Prelude.{World, model}
 use Rattle.rd_cell.specs.declared.refusal.Refusal.TheVariants.{NoMemory as NoMemoryRefused}
 use Rattle.rd_step.specs.declared.worlds.World.{World as CodeWorld}
 use Rattle.rd_step.specs.declared.entries.Event.{Event}
+use Rattle.serde_json.specs.Data.{Data}
 use Rattle.rd_marks.specs.Books.{Mark, BookState, with_session}
+use Rattle.rd_marks.specs.BookViews.{book_state}
+use Rattle.rd_marks.specs.declared.books.Book.{Book}
 use Rattle.rd_trace.specs.declared.faults.LoadTraceFault.{LoadTraceFault}
 use Rattle.rd_trace.specs.declared.faults.LoadTraceFault.TheVariants.{NoMemory, BadTrace, Flawed, TraceMark, TraceStep}
 use Rattle.rd_trace.specs.declared.replay.RefusedEvent.{RefusedEvent}
 use Rattle.rd_trace.specs.declared.starts.Start.{Start}
 use Rattle.rd_trace.specs.Starts.{start_world, start_flaw}
 use Rattle.rd_marks.specs.Rules.{GoThrough, MarksGoThrough}
+use Rattle.rd_trace.specs.Saved.{Trace, IsEither, loaded_state}
+use Rattle.rd_trace.specs.Loading.{Replays}
 use Rattle.rd_trace.specs.Traces.{session_at, IsRefusedAt, IsMarkRefusedAt}
 
 -- the result of making the world of a start: that world, the start's first flaw, or `NoMemory`
@@ -50,6 +55,13 @@ abbrev pub MakesLive : ℕ → BookState → List Event → List Event → BookS
 MakesLive R old live undone new (Ok _) =
     (new ≡ with_session old (record { start = old.session.start; live = live; undone = undone })) × GoThrough R old.session.start (live ++ undone)
 MakesLive R old live undone new (Err refused) = RefusesOne R old.session.start (live ++ undone) refused
+
+-- the result of loading a value: that of replaying the trace that it spells, or BadTrace if it
+-- spells none
+abbrev pub LoadsValue : {R : ℕ} → Data → Result (Book R) LoadTraceFault → Type 0
+LoadsValue d (Err NoMemory) = Unit {0}
+LoadsValue {R} d (Err BadTrace) = (t : Trace R) → IsEither d t → ⊥
+LoadsValue {R} d result = (t : Trace R) × IsEither d t × Replays (λ (book : Book R). book_state book ≡ loaded_state t) t result
 
 -- these bookmarks were set, each at its events, or an event of one was refused
 abbrev pub SetsMarks : ℕ → BookState → List Mark → BookState → Result (Unit {0}) LoadTraceFault → Type 0

@@ -30,12 +30,12 @@ pub record AreAppended {X : Type 0} (Spells : Data → X → Type 0) (datum : X 
   pub text : new ≡ old ++ joined_text false (items_by datum xs)
   pub kept : SpellEach (IsKept Spells) (items_by datum xs) xs
 
--- the text of a bookmark was appended
+-- the text of a bookmark was appended to a text
 pub record IsMarkAppended (m : Mark) (old new : List ℕ) : Type 0 where
   pub text : new ≡ old ++ compact_text (mark_data m)
   pub kept : IsKept IsMark (mark_data m) m
 
--- so was the text of a value that a start is written as
+-- the text of a value as which the start in this world is written was appended to a text
 pub record IsStartAppended (R : ℕ) (w : World) (old new : List ℕ) : Type 0 where
   pub start : Data
   pub is_start : IsStartData R w start

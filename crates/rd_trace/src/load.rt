@@ -9,7 +9,8 @@ ghost use Rattle.rd_trace.specs.Numbers.{number_at};
 ghost use Rattle.rd_trace.specs.Traces.{IsTraceRing};
 ghost use Rattle.rd_trace.specs.Spelled.{Reads};
 ghost use Rattle.rd_trace.specs.Saved.{HasValue};
-ghost use Rattle.rd_trace.specs.Loading.{LoadsTrace, LoadsAgain, LoadsValue};
+ghost use Rattle.rd_trace.specs.Loading.{LoadsTrace, LoadsAgain};
+ghost use Rattle.rd_trace.specs.Steps.{LoadsValue};
 ghost use Rattle.rd_trace.specs.Writing.{IsTextOf};
 
 use super::any_book::AnyBook;

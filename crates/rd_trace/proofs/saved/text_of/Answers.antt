@@ -1,6 +1,5 @@
 use Rattle.std.proofs.Common.{◌≡◌, false, codes, decimal, string_bytes, refl, sym, ap, ◌∙◌, ◌++◌, subst, arith}
 use Rattle.rd_trace.proofs.Prelude.{state, State, book_state, BookState, KeepsRules, items_by, event_data, mark_data, compact_text, joined_text, IsTextOf}
-use Rattle.rd_trace.proofs.SavedLemmas.{reached}
 use Rattle.rd_trace.proofs.TextLemmas.{whole_text, two_parts}
 use Rattle.rd_trace.proofs.WriteLemmas.{text_of_book}
 use Rattle.rd_trace.proofs.saved.text_of.Goals as goal
@@ -56,6 +55,6 @@ returns g c = λ utf8.
       marks = c.in_ok-put_marks.ensures.marks.kept;
       undone = c.in_ok-put_undone.ensures.kept;
       rules = rules;
-      reachable = reached R (of s) s refl rules c.events_go_through.ensures;
+      through = c.events_go_through.ensures;
     })
     (e1 ∙ ap (λ t. t ++ whole_text (items_by event_data s.live) (items_by mark_data ms) R start.start (items_by event_data s.undone)) c.new-text.ensures.bytes) utf8)
