@@ -1,9 +1,7 @@
 -- What loading a text gives.
-use Rattle.std.proofs.Common.{◌≡◌, ◌≤◌, inl, inr, ℕ, List, [], length, codes, Some, Result, Err, sym, subst, arith}
-use Rattle.rd_trace.proofs.Prelude.{IsDistinct, Data, BookState, MOST_MARKS, HaveDifferentNames, AnyBook, LoadTraceFault, BadTrace, Flawed, TraceMark, TraceStep, Start, number_at, IsStart, HasActorCount, Trace, IsEither, HasValue, IsTraceText, IsTraceRing, LoadsValue, LoadsTrace, LoadsAgain, IsTextOf}
+use Rattle.std.proofs.Common.{◌≡◌, ◌≤◌, inl, inr, ℕ, List, [], length, codes, Some, Err, sym, subst, arith}
+use Rattle.rd_trace.proofs.Prelude.{IsDistinct, Data, MOST_MARKS, HaveDifferentNames, LoadTraceFault, BadTrace, Flawed, TraceMark, TraceStep, Start, number_at, IsStart, HasActorCount, Trace, IsEither, HasValue, IsTraceText, IsTraceRing, LoadsValue, LoadsTrace}
 use Rattle.rd_trace.specs.declared.faults.LoadTraceFault.TheVariants.{NoMemory}
-use Rattle.rd_trace.proofs.OneTrace.{loads_again}
-use Rattle.rd_trace.proofs.ReplayLemmas.{none_refused}
 
 -- What a session that is spelled keeps
 
@@ -47,8 +45,3 @@ module _ (text : List ℕ) (d : Data) (value : HasValue text d) (Q : ℕ) (ring 
   loads_none (Flawed flaw) h = (Q, h.0, is_text h.0 h.1, h.2)
   loads_none (TraceMark m n cause) h = (Q, h.0, is_text h.0 h.1, h.2)
   loads_none (TraceStep n cause) h = (Q, h.0, is_text h.0 h.1, h.2)
-
--- The text of a book
-
-pub gives_again : (text : List ℕ) (r : Result AnyBook LoadTraceFault) → LoadsTrace text r → (R : ℕ) (b : BookState) → IsTraceRing R → IsTextOf R b text → LoadsAgain R b r
-gives_again text r loads R b ring is = loads_again none_refused text r loads R b ring is

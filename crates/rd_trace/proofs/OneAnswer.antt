@@ -1,8 +1,8 @@
 -- Loading a text has one answer, memory aside.
 use Rattle.std.proofs.Common.{◌≡◌, ◌⊎◌, inl, inr, ℕ, ◌+◌, List, [], ◌∷◌, ◌++◌, map, length, Option, Some, None, Result, Ok, Err, refl, sym, ap, ap₂, ◌∙◌, subst, subst₂, arith}
-use Rattle.rd_trace.proofs.Prelude.{length-map, map-append, World, Refusal, Event, Flaw, apply, Mark, GoThrough, start_world, start_flaw, Trace, IsTraceText, loaded_state, seen_mark, IsSameBook, session_at, IsRefusedAt, IsMarkRefusedAt, IsBookIn, IsPlayable, Replays, LoadsTrace, IsSameAnswer, AnyBook, LoadTraceFault, BadTrace, Flawed, TraceMark, TraceStep}
+use Rattle.rd_trace.proofs.Prelude.{length-map, map-append, World, Refusal, Event, Flaw, apply, Mark, GoThrough, start_world, start_flaw, Trace, IsTraceText, loaded_state, seen_mark, IsSameBook, session_at, IsRefusedAt, IsMarkRefusedAt, IsBookIn, IsPlayable, Replays, LoadsTrace, IsSameAnswer, AnyBook, LoadTraceFault, BadTrace, Flawed, TraceMark, TraceStep, LoadsAgain, BookState, IsTextOf, IsTraceRing}
 use Rattle.rd_trace.specs.declared.faults.LoadTraceFault.TheVariants.{NoMemory}
-use Rattle.rd_trace.proofs.OneTrace.{IsSameTrace, SeenGoThrough, seen_go, same_trace, same_book}
+use Rattle.rd_trace.proofs.OneTrace.{Seen, seen, SeenGoThrough, seen_go, same_trace, same_book}
 use Rattle.rd_trace.proofs.ReplayLemmas.{none_refused}
 
 -- ---- two places of one list
@@ -89,26 +89,17 @@ module _ (R : ℕ) (w : World) (ms : List (List ℕ × List Event)) (m p n q : �
 
 -- ---- what is seen of a trace has one answer
 
-record Seen : Type 0 where
-  pub flaw : Option Flaw
-  pub world : World
-  pub marks : List (List ℕ × List Event)
-  pub events : List Event
-
-abbrev seen : (R : ℕ) → Trace R → Seen
-seen R t = record { flaw = start_flaw t.start; world = start_world t.start; marks = map seen_mark t.marks; events = t.live ++ t.undone }
-
 record Plays (R : ℕ) (s : Seen) : Type 0 where
   pub flawless : s.flaw ≡ None
   pub marks : SeenGoThrough R s.world s.marks
-  pub through : GoThrough R s.world s.events
+  pub through : GoThrough R s.world (s.live ++ s.undone)
 
 abbrev Fails : (R : ℕ) → Seen → LoadTraceFault → Type 0
 Fails R s NoMemory = ⊥
 Fails R s BadTrace = ⊥
 Fails R s (Flawed flaw) = s.flaw ≡ Some flaw
 Fails R s (TraceMark m n cause) = (s.flaw ≡ None) × SeenRefusedAt R s.world s.marks m n cause
-Fails R s (TraceStep n cause) = (s.flaw ≡ None) × SeenGoThrough R s.world s.marks × IsRefusedAt R s.world s.events n cause
+Fails R s (TraceStep n cause) = (s.flaw ≡ None) × SeenGoThrough R s.world s.marks × IsRefusedAt R s.world (s.live ++ s.undone) n cause
 
 no_flaw : (o : Option Flaw) (flaw : Flaw) → o ≡ None → o ≡ Some flaw → ⊥
 no_flaw o flaw h k = let e : None ≡ Some flaw = sym h ∙ k in cc
@@ -118,7 +109,7 @@ plays_alone R s NoMemory h k = k
 plays_alone R s BadTrace h k = k
 plays_alone R s (Flawed flaw) h k = no_flaw s.flaw flaw h.flawless k
 plays_alone R s (TraceMark m n cause) h k = no_seen_refused R s.world s.marks s.marks m n cause k.1 k.1.later k.1.all h.marks
-plays_alone R s (TraceStep n cause) h k = none_refused R s.world s.events n cause h.through k.2
+plays_alone R s (TraceStep n cause) h k = none_refused R s.world (s.live ++ s.undone) n cause h.through k.2
 
 one_fault : (R : ℕ) (s : Seen) (e f : LoadTraceFault) → Fails R s e → Fails R s f → e ≡ f
 one_fault R s NoMemory f h k = absurd h
@@ -140,31 +131,45 @@ one_fault R s (TraceStep n cause) BadTrace h k = absurd k
 one_fault R s (TraceStep n cause) (Flawed other) h k = absurd (no_flaw s.flaw other h.0 k)
 one_fault R s (TraceStep n cause) (TraceMark p q why) h k = absurd (no_seen_refused R s.world s.marks s.marks p q why k.1 k.1.later k.1.all h.1)
 one_fault R s (TraceStep n cause) (TraceStep q why) h k =
-    let same = one_refused R s.world s.events n q cause why h.2 k.2 in
+    let same = one_refused R s.world (s.live ++ s.undone) n q cause why h.2 k.2 in
     λ i. TraceStep (same.0 i) (same.1 i)
 
 -- ---- traces
 
-plays_as_seen : (R : ℕ) (t : Trace R) → IsPlayable t → Plays R (seen R t)
+plays_as_seen : (R : ℕ) (t : Trace R) → IsPlayable t → Plays R (seen t)
 plays_as_seen R t h = record { flawless = h.marks.flawless; marks = seen_go R (start_world t.start) t.marks h.marks.marks; through = h.through }
 
-fails_as_seen : (R : ℕ) (t : Trace R) (IsBook : AnyBook → Type 0) (fault : LoadTraceFault) → (fault ≡ NoMemory → ⊥) → Replays IsBook t (Err fault) → Fails R (seen R t) fault
+fails_as_seen : (R : ℕ) (t : Trace R) (IsBook : AnyBook → Type 0) (fault : LoadTraceFault) → (fault ≡ NoMemory → ⊥) → Replays IsBook t (Err fault) → Fails R (seen t) fault
 fails_as_seen R t IsBook fault some l = grind (arith, seen_refused, seen_go)
 
-module _ (R : ℕ) (t u : Trace R) (same : IsSameTrace t u) where
-  as_seen : seen R u ≡ seen R t
-  as_seen = λ i. record { flaw = sym same.flaw i; world = sym same.world i; marks = sym same.marks i; events = sym same.live i ++ sym same.undone i }
+sym_book : {a b : BookState} → IsSameBook a b → IsSameBook b a
+sym_book h = record { session = sym h.session; marks = sym h.marks }
+
+module _ (R : ℕ) (t u : Trace R) (same : seen t ≡ seen u) where
+  -- the first fault of a trace that is the same
+  fails_alike : (f : LoadTraceFault) → (f ≡ NoMemory → ⊥) → Replays (IsBookIn R (loaded_state u)) u (Err f) → Fails R (seen t) f
+  fails_alike f some k = subst (λ s. Fails R s f) (sym same) (fails_as_seen R u (IsBookIn R (loaded_state u)) f some k)
 
   same_answer : (r q : Result AnyBook LoadTraceFault) → (r ≡ Err NoMemory → ⊥) → (q ≡ Err NoMemory → ⊥) → Replays (IsBookIn R (loaded_state t)) t r
       → Replays (IsBookIn R (loaded_state u)) u q → IsSameAnswer r q
   same_answer (Ok a) (Ok b) some also h k = (h.1.0 ∙ sym k.1.0, subst₂ IsSameBook (sym h.1.1) (sym k.1.1) (same_book R R t u same))
-  same_answer (Ok a) (Err f) some also h k =
-      plays_alone R (seen R t) f (plays_as_seen R t h.0) (subst (λ s. Fails R s f) as_seen (fails_as_seen R u (IsBookIn R (loaded_state u)) f (λ is. also (ap Err is)) k))
+  same_answer (Ok a) (Err f) some also h k = plays_alone R (seen t) f (plays_as_seen R t h.0) (fails_alike f (λ is. also (ap Err is)) k)
   same_answer (Err e) (Ok b) some also h k =
-      plays_alone R (seen R t) e (subst (Plays R) as_seen (plays_as_seen R u k.0)) (fails_as_seen R t (IsBookIn R (loaded_state t)) e (λ is. some (ap Err is)) h)
+      plays_alone R (seen t) e (subst (Plays R) (sym same) (plays_as_seen R u k.0)) (fails_as_seen R t (IsBookIn R (loaded_state t)) e (λ is. some (ap Err is)) h)
   same_answer (Err e) (Err f) some also h k =
-      one_fault R (seen R t) e f (fails_as_seen R t (IsBookIn R (loaded_state t)) e (λ is. some (ap Err is)) h)
-      (subst (λ s. Fails R s f) as_seen (fails_as_seen R u (IsBookIn R (loaded_state u)) f (λ is. also (ap Err is)) k))
+      one_fault R (seen t) e f (fails_as_seen R t (IsBookIn R (loaded_state t)) e (λ is. some (ap Err is)) h) (fails_alike f (λ is. also (ap Err is)) k)
+
+  -- a trace that can be played has no fault, and gives its book again
+  no_fault : IsPlayable t → (f : LoadTraceFault) → (f ≡ NoMemory → ⊥) → Replays (IsBookIn R (loaded_state u)) u (Err f) → ⊥
+  no_fault plays f some k = plays_alone R (seen t) f (plays_as_seen R t plays) (fails_alike f some k)
+
+  again : IsPlayable t → (q : Result AnyBook LoadTraceFault) → Replays (IsBookIn R (loaded_state u)) u q → LoadsAgain R (loaded_state t) q
+  again plays (Ok b) k = (k.1.0, subst (λ x. IsSameBook x (loaded_state t)) (sym k.1.1) (sym_book (same_book R R t u same)))
+  again plays (Err NoMemory) k = refl
+  again plays (Err BadTrace) k = absurd k
+  again plays (Err (Flawed flaw)) k = absurd (no_fault plays (Flawed flaw) (λ e. cc) k)
+  again plays (Err (TraceMark m n cause)) k = absurd (no_fault plays (TraceMark m n cause) (λ e. cc) k)
+  again plays (Err (TraceStep n cause)) k = absurd (no_fault plays (TraceStep n cause) (λ e. cc) k)
 
 -- ---- texts
 
@@ -178,18 +183,38 @@ Answers text r =
 answers : (text : List ℕ) (r : Result AnyBook LoadTraceFault) → (r ≡ Err NoMemory → ⊥) → LoadsTrace text r → Answers text r
 answers text r some h = grind arith
 
-module _ (text : List ℕ) (r q : Result AnyBook LoadTraceFault) (some : r ≡ Err NoMemory → ⊥) (also : q ≡ Err NoMemory → ⊥) where
-  over_one_ring : (R Q : ℕ) (t : Trace R) (u : Trace Q) → IsTraceText text t → IsTraceText text u → Replays (IsBookIn R (loaded_state t)) t r
-      → Replays (IsBookIn Q (loaded_state u)) u q → IsSameAnswer r q
-  over_one_ring R Q t u is_t is_u h k =
-      subst (λ P. (v : Trace P) → IsTraceText text v → Replays (IsBookIn P (loaded_state v)) v q → IsSameAnswer r q) (same_trace text R Q t u is_t is_u).0
-      (λ v is_v g. same_answer R t v (same_trace text R R t v is_t is_v).1 r q some also h g) u is_u k
+-- what holds of each trace over its ring that a text is holds of each trace that it is
+over_one_ring : (text : List ℕ) (R : ℕ) (t : Trace R) → IsTraceText text t → (P : (n : ℕ) → Trace n → Type 0) → ((v : Trace R) → IsTraceText text v → seen t ≡ seen v → P R v)
+    → (Q : ℕ) (u : Trace Q) → IsTraceText text u → P Q u
+over_one_ring text R t is_t P each Q u is_u =
+    subst (λ n. (v : Trace n) → IsTraceText text v → P n v) (same_trace text R Q t u is_t is_u).0 (λ v is_v. each v is_v (same_trace text R R t v is_t is_v).1) u is_u
 
+module _ (text : List ℕ) (r q : Result AnyBook LoadTraceFault) (some : r ≡ Err NoMemory → ⊥) (also : q ≡ Err NoMemory → ⊥) where
   same_answers : Answers text r → Answers text q → IsSameAnswer r q
   same_answers (inl h) (inl k) = subst₂ IsSameAnswer (sym h.0) (sym k.0) refl
   same_answers (inl h) (inr (Q, u, is_u, k)) = absurd (h.1 Q u is_u)
   same_answers (inr (R, t, is_t, h)) (inl k) = absurd (k.1 R t is_t)
-  same_answers (inr (R, t, is_t, h)) (inr (Q, u, is_u, k)) = over_one_ring R Q t u is_t is_u h k
+  same_answers (inr (R, t, is_t, h)) (inr (Q, u, is_u, k)) =
+      over_one_ring text R t is_t (λ n v. Replays (IsBookIn n (loaded_state v)) v q → IsSameAnswer r q) (λ v is_v same g. same_answer R t v same r q some also h g) Q u is_u k
 
 pub one_answer : (text : List ℕ) (r q : Result AnyBook LoadTraceFault) → LoadsTrace text r → LoadsTrace text q → (r ≡ Err NoMemory → ⊥) → (q ≡ Err NoMemory → ⊥) → IsSameAnswer r q
 one_answer text r q h k some also = same_answers text r q some also (answers text r some h) (answers text q also k)
+
+-- ---- a text that is loaded again
+
+module _ (text : List ℕ) (R : ℕ) (t : Trace R) (is_t : IsTraceText text t) (plays : IsPlayable t) where
+  replayed : (r : Result AnyBook LoadTraceFault) → (Q : ℕ) × (u : Trace Q) × IsTraceText text u × Replays (IsBookIn Q (loaded_state u)) u r → LoadsAgain R (loaded_state t) r
+  replayed r (Q, u, is_u, k) =
+      over_one_ring text R t is_t (λ n v. Replays (IsBookIn n (loaded_state v)) v r → LoadsAgain R (loaded_state t) r) (λ v is_v same g. again R t v same plays r g) Q u is_u k
+
+  loaded : (r : Result AnyBook LoadTraceFault) → LoadsTrace text r → LoadsAgain R (loaded_state t) r
+  loaded (Ok book) h = replayed (Ok book) h
+  loaded (Err NoMemory) h = refl
+  loaded (Err BadTrace) h = absurd (h R t is_t)
+  loaded (Err (Flawed flaw)) h = replayed (Err (Flawed flaw)) h
+  loaded (Err (TraceMark m n cause)) h = replayed (Err (TraceMark m n cause)) h
+  loaded (Err (TraceStep n cause)) h = replayed (Err (TraceStep n cause)) h
+
+-- the text as which a book is written gives the same book again, unless memory was refused
+pub loads_again : (text : List ℕ) (r : Result AnyBook LoadTraceFault) → LoadsTrace text r → (R : ℕ) (b : BookState) → IsTraceRing R → IsTextOf R b text → LoadsAgain R b r
+loads_again text r loads R b ring is = let h = is.loads ring in subst (λ s. LoadsAgain R s r) h.3 (loaded text R h.0 h.1 h.2 r loads)

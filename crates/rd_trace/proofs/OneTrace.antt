@@ -1,6 +1,6 @@
 -- A text is one trace at most.
-use Rattle.std.proofs.Common.{◌≡◌, ◌≢◌, ℕ, suc, ◌+◌, ◌≤◌, Bool, not, ◌&&◌, ◌==◌, nat_le, if◌then◌else◌, List, [], ◌∷◌, ◌++◌, map, length, slice_get, codes, Option, Some, None, is_some, option_map, Result, Ok, Err, Vec, Global, inl, inr, refl, sym, ap, ap₂, ◌∙◌, subst, subst₂, arith}
-use Rattle.rd_trace.proofs.Prelude.{length-map, slice_get-map, list_all, Data, get, as_array, read, SegName, ArrSlot, Empty, Top, Actor, SLOTS, SegmentParts, ArrayParts, World, Refusal, MOST_ACTORS, Event, fresh_world, numbered, world_of_parts, first_flaw, indexes_fit, array_fits, Parts, Flaw, bytes_of, Mark, BookState, GoThrough, MarksGoThrough, member_count, number_at, items_at, Gives, SpellEachAt, event_of, IsActor, slot_of, filled_slots, IsArray, cell_of, IsSegment, IsSegmentList, IsMark, IsParts, IsStart, start_world, start_flaw, Start, Fresh, OfParts, Trace, IsFirstTrace, IsSecondTrace, IsEither, IsTraceText, loaded_state, seen_mark, IsSameBook, IsTraceRing, IsRefusedAt, IsMarkRefusedAt, IsBookIn, Replays, LoadsTrace, IsPlayable, LoadsAgain, IsTextOf, AnyBook, LoadTraceFault, BadTrace, Flawed, TraceMark, TraceStep}
+use Rattle.std.proofs.Common.{◌≡◌, ◌≢◌, ℕ, suc, ◌+◌, ◌≤◌, Bool, not, ◌&&◌, ◌==◌, nat_le, if◌then◌else◌, List, [], ◌∷◌, map, length, slice_get, codes, Option, Some, None, is_some, option_map, Vec, Global, inl, inr, refl, sym, ap, ap₂, ◌∙◌, subst, arith}
+use Rattle.rd_trace.proofs.Prelude.{length-map, slice_get-map, list_all, Data, get, as_array, read, SegName, ArrSlot, Empty, Top, Actor, SLOTS, SegmentParts, ArrayParts, World, MOST_ACTORS, Event, fresh_world, numbered, world_of_parts, first_flaw, indexes_fit, array_fits, Parts, Flaw, bytes_of, Mark, GoThrough, MarksGoThrough, member_count, number_at, items_at, Gives, SpellEachAt, event_of, IsActor, slot_of, filled_slots, IsArray, cell_of, IsSegment, IsSegmentList, IsMark, IsParts, IsStart, start_world, start_flaw, Start, Fresh, OfParts, Trace, IsFirstTrace, IsSecondTrace, IsEither, IsTraceText, loaded_state, seen_mark, IsSameBook}
 use Rattle.std.proofs.Props.{props}
 use Rattle.std.proofs.lemmas.List.Folds.{list_all-map}
 use mathlib.Core.HLevel.{is_prop→PathP}
@@ -14,7 +14,6 @@ use Rattle.rd_actor.specs.Words.{words_fit}
 use Rattle.rd_step.specs.WellFormed.{next_fits, names_fit, numbers_fit}
 use Rattle.rd_step.specs.declared.flaws.Flaw.TheVariants.{Makers, PlaceNames, ActorNames, Counters, Indexes, ArrayCounters, ActorNumbers, ActorWords}
 use Rattle.rd_trace.proofs.SpellLemmas.{one_given, same_each_at, same_seen_at}
-use Rattle.rd_trace.specs.declared.faults.LoadTraceFault.TheVariants.{NoMemory}
 
 pub some_same : {A : Type 0} (o : Option A) (a b : A) → o ≡ Some a → o ≡ Some b → a ≡ b
 some_same o a b h k = let both : Some a ≡ Some b = sym h ∙ k in cc
@@ -213,39 +212,38 @@ same_mark d m n h k =
 
 -- ---- traces
 
--- two traces are the same, but for how their starts and names lie in memory
-pub record IsSameTrace {R Q : ℕ} (t : Trace R) (u : Trace Q) : Type 0 where
-  pub flaw : start_flaw t.start ≡ start_flaw u.start
-  pub world : start_world t.start ≡ start_world u.start
-  pub marks : map seen_mark t.marks ≡ map seen_mark u.marks
-  pub live : t.live ≡ u.live
-  pub undone : t.undone ≡ u.undone
+-- what is seen of a trace: nothing of how its start and its names lie in memory
+pub record Seen : Type 0 where
+  pub flaw : Option Flaw
+  pub world : World
+  pub marks : List (List ℕ × List Event)
+  pub live : List Event
+  pub undone : List Event
+
+abbrev pub seen : {R : ℕ} → Trace R → Seen
+seen t = record { flaw = start_flaw t.start; world = start_world t.start; marks = map seen_mark t.marks; live = t.live; undone = t.undone }
 
 module _ (R : ℕ) (d : Data) (t u : Trace R) where
-  same_first : IsFirstTrace d t → IsFirstTrace d u → IsSameTrace t u
+  same_first : IsFirstTrace d t → IsFirstTrace d u → seen t ≡ seen u
   same_first h k =
       let count = some_same _ h.actors.0 k.actors.0 h.actors.1.number k.actors.1.number in
-      record {
-        flaw = ap start_flaw h.actors.2 ∙ sym (ap start_flaw k.actors.2);
-        world = ap start_world h.actors.2 ∙ ap (fresh_world R) count ∙ sym (ap start_world k.actors.2);
-        marks = ap (map seen_mark) (h.marks ∙ sym k.marks);
-        live = same_events (codes "events") d t.live u.live h.live k.live;
-        undone = h.undone ∙ sym k.undone;
-      }
+      let flaw = ap start_flaw h.actors.2 ∙ sym (ap start_flaw k.actors.2) in
+      let world = ap start_world h.actors.2 ∙ ap (fresh_world R) count ∙ sym (ap start_world k.actors.2) in
+      let marks = ap (map seen_mark) (h.marks ∙ sym k.marks) in
+      let live = same_events (codes "events") d t.live u.live h.live k.live in
+      let undone = h.undone ∙ sym k.undone in
+      λ i. record { flaw = flaw i; world = world i; marks = marks i; live = live i; undone = undone i }
 
-  same_second : IsSecondTrace d t → IsSecondTrace d u → IsSameTrace t u
+  same_second : IsSecondTrace d t → IsSecondTrace d u → seen t ≡ seen u
   same_second h k =
       let at = some_same (get (codes "start") d) h.start.0 k.start.0 h.start.1 k.start.1 in
       let start = one_start R k.start.0 t.start u.start (subst (λ x. IsStart x t.start) at h.start.2) k.start.2 in
-      record {
-        flaw = start.0;
-        world = start.1;
-        marks = same_seen_at IsMark seen_mark same_mark (items_at (codes "marks") d) t.marks u.marks (h.marks.0, h.marks.1, h.marks.2.each) (k.marks.0, k.marks.1, k.marks.2.each);
-        live = same_events (codes "events") d t.live u.live h.live k.live;
-        undone = same_events (codes "undone") d t.undone u.undone h.undone k.undone;
-      }
+      let marks = same_seen_at IsMark seen_mark same_mark (items_at (codes "marks") d) t.marks u.marks (h.marks.0, h.marks.1, h.marks.2.each) (k.marks.0, k.marks.1, k.marks.2.each) in
+      let live = same_events (codes "events") d t.live u.live h.live k.live in
+      let undone = same_events (codes "undone") d t.undone u.undone h.undone k.undone in
+      λ i. record { flaw = start.0 i; world = start.1 i; marks = marks i; live = live i; undone = undone i }
 
-  same_either : IsEither d t → IsEither d u → IsSameTrace t u
+  same_either : IsEither d t → IsEither d u → seen t ≡ seen u
   same_either (inl h) (inl k) = same_first h k
   same_either (inl h) (inr k) = absurd (two_counts d 4 6 (λ e. omega (arith, e)) h.members k.members)
   same_either (inr h) (inl k) = absurd (two_counts d 6 4 (λ e. omega (arith, e)) h.members k.members)
@@ -255,23 +253,21 @@ ring_of : (R : ℕ) (d : Data) (t : Trace R) → IsEither d t → number_at (cod
 ring_of R d t k = grind arith
 
 -- the traces that a text is are over one ring, and the same
-pub same_trace : (text : List ℕ) (R Q : ℕ) (t : Trace R) (u : Trace Q) → IsTraceText text t → IsTraceText text u → (R ≡ Q) × IsSameTrace t u
+pub same_trace : (text : List ℕ) (R Q : ℕ) (t : Trace R) (u : Trace Q) → IsTraceText text t → IsTraceText text u → (R ≡ Q) × (seen t ≡ seen u)
 same_trace text R Q t u h k =
     let d = k.1 in
     let read_as : IsEither d t = subst (λ x. IsEither x t) (some_same (read text) h.1 d h.2 k.2) h.3.1 in
     let ring = some_same _ R Q (ring_of R d t read_as) (ring_of Q d u k.3.1) in
-    (ring, subst (λ P. (v : Trace P) → IsEither d v → IsSameTrace t v) ring (λ v is. same_either R d t v read_as is) u k.3.1)
+    (ring, subst (λ P. (v : Trace P) → IsEither d v → seen t ≡ seen v) ring (λ v is. same_either R d t v read_as is) u k.3.1)
 
-pub same_book : (R Q : ℕ) (t : Trace R) (u : Trace Q) → IsSameTrace t u → IsSameBook (loaded_state t) (loaded_state u)
-same_book R Q t u s = record { session = λ i. record { start = s.world i; live = s.live i; undone = s.undone i }; marks = s.marks }
+pub same_book : (R Q : ℕ) (t : Trace R) (u : Trace Q) → seen t ≡ seen u → IsSameBook (loaded_state t) (loaded_state u)
+same_book R Q t u same = record { session = λ i. record { start = (same i).world; live = (same i).live; undone = (same i).undone }; marks = λ i. (same i).marks }
 
 pub one_trace : (text : List ℕ) (R Q : ℕ) (t : Trace R) (u : Trace Q) → IsTraceText text t → IsTraceText text u
     → (R ≡ Q) × (start_flaw t.start ≡ start_flaw u.start) × IsSameBook (loaded_state t) (loaded_state u)
-one_trace text R Q t u h k = let p = same_trace text R Q t u h k in (p.0, p.1.flaw, same_book R Q t u p.1)
+one_trace text R Q t u h k = let p = same_trace text R Q t u h k in (p.0, (λ i. (p.1 i).flaw), same_book R Q t u p.1)
 
--- ---- a text that is loaded again
-
--- what is seen of bookmarks goes through just if they do
+-- the events that are seen of each bookmark can run from the start
 abbrev pub SeenGoThrough : ℕ → World → List (List ℕ × List Event) → Type 0
 SeenGoThrough R start [] = Unit {0}
 SeenGoThrough R start (m ∷ ms) = GoThrough R start m.1 × SeenGoThrough R start ms
@@ -279,67 +275,3 @@ SeenGoThrough R start (m ∷ ms) = GoThrough R start m.1 × SeenGoThrough R star
 pub seen_go : (R : ℕ) (start : World) (ms : List Mark) → MarksGoThrough R start ms → SeenGoThrough R start (map seen_mark ms)
 seen_go R start [] h = tt
 seen_go R start (m ∷ ms) h = (h.0, seen_go R start ms h.1)
-
-marks_go : (R : ℕ) (start : World) (ms : List Mark) → SeenGoThrough R start (map seen_mark ms) → MarksGoThrough R start ms
-marks_go R start [] h = tt
-marks_go R start (m ∷ ms) h = (h.0, marks_go R start ms h.1)
-
-one_goes : (R : ℕ) (start : World) (before : List Mark) (m : Mark) (later : List Mark) → MarksGoThrough R start (before ++ m ∷ later) → GoThrough R start m.events
-one_goes R start [] m later h = h.0
-one_goes R start (x ∷ before) m later h = one_goes R start before m later h.1
-
--- events that go through are not refused, as the lemmas on replaying show
-abbrev pub NoneRefused : Type 0
-NoneRefused = (R : ℕ) (start : World) (events : List Event) (n : ℕ) (cause : Refusal) → GoThrough R start events → IsRefusedAt R start events n cause → ⊥
-
-module _ (none_refused : NoneRefused) (R : ℕ) (t u : Trace R) (same : IsSameTrace t u) where
-  -- a trace that is another one goes through with it
-  still_playable : IsPlayable u → IsPlayable t
-  still_playable h = record {
-    marks = record {
-      flawless = same.flaw ∙ h.marks.flawless;
-      marks = marks_go R (start_world t.start) t.marks (subst₂ (SeenGoThrough R) (sym same.world) (sym same.marks) (seen_go R (start_world u.start) u.marks h.marks.marks));
-    };
-    through = subst₂ (GoThrough R) (sym same.world) (ap₂ (λ live undone. live ++ undone) (sym same.live) (sym same.undone)) h.through;
-  }
-
-  no_mark_refused : IsPlayable u → (m n : ℕ) (cause : Refusal) → IsMarkRefusedAt R (start_world t.start) t.marks m n cause → ⊥
-  no_mark_refused h m n cause at =
-      none_refused R (start_world t.start) at.mark.events n cause
-      (one_goes R (start_world t.start) at.before at.mark at.later (subst (MarksGoThrough R (start_world t.start)) at.all (still_playable h).marks.marks)) at.refused
-
-  no_step_refused : IsPlayable u → (n : ℕ) (cause : Refusal) → IsRefusedAt R (start_world t.start) (t.live ++ t.undone) n cause → ⊥
-  no_step_refused h n cause at = none_refused R (start_world t.start) (t.live ++ t.undone) n cause (still_playable h).through at
-
-module _ (none_refused : NoneRefused) (R : ℕ) (u : Trace R) (playable : IsPlayable u) where
-  -- over the same ring
-  again : (t : Trace R) → IsSameTrace t u → (r : Result AnyBook LoadTraceFault) → (r ≡ Err BadTrace → ⊥) → Replays (IsBookIn R (loaded_state t)) t r → LoadsAgain R (loaded_state u) r
-  again t same (Ok book) some h = (h.1.0, subst (λ b. IsSameBook b (loaded_state u)) (sym h.1.1) (same_book R R t u same))
-  again t same (Err NoMemory) some h = refl
-  again t same (Err BadTrace) some h = absurd (some refl)
-  again t same (Err (Flawed flaw)) some h = let e : Some flaw ≡ None = sym h ∙ same.flaw ∙ playable.marks.flawless in absurd (cc)
-  again t same (Err (TraceMark m n cause)) some h = absurd (no_mark_refused none_refused R t u same playable m n cause h.1)
-  again t same (Err (TraceStep n cause)) some h = absurd (no_step_refused none_refused R t u same playable n cause h.1)
-
-  -- over the ring of the text
-  again_over : (text : List ℕ) (Q : ℕ) (t : Trace Q) → IsTraceText text u → IsTraceText text t → (r : Result AnyBook LoadTraceFault) → (r ≡ Err BadTrace → ⊥)
-      → Replays (IsBookIn Q (loaded_state t)) t r → LoadsAgain R (loaded_state u) r
-  again_over text Q t is_u is_t r some h =
-      let ring = (same_trace text R Q u t is_u is_t).0 in
-      subst (λ P. (v : Trace P) → IsTraceText text v → Replays (IsBookIn P (loaded_state v)) v r → LoadsAgain R (loaded_state u) r) ring
-      (λ v is_v g. again v (same_trace text R R v u is_v is_u).1 r some g) t is_t h
-
-  again_loaded : (text : List ℕ) → IsTraceText text u → (r : Result AnyBook LoadTraceFault) → LoadsTrace text r → LoadsAgain R (loaded_state u) r
-  again_loaded text is (Ok book) h = again_over text h.0 h.1 is h.2 (Ok book) (λ e. cc) h.3
-  again_loaded text is (Err NoMemory) h = refl
-  again_loaded text is (Err BadTrace) h = absurd (h R u is)
-  again_loaded text is (Err (Flawed flaw)) h = again_over text h.0 h.1 is h.2 (Err (Flawed flaw)) (λ e. cc) h.3
-  again_loaded text is (Err (TraceMark m n cause)) h = again_over text h.0 h.1 is h.2 (Err (TraceMark m n cause)) (λ e. cc) h.3
-  again_loaded text is (Err (TraceStep n cause)) h = again_over text h.0 h.1 is h.2 (Err (TraceStep n cause)) (λ e. cc) h.3
-
--- a text that a book is written as gives the same book again, whatever loading it gives, unless
--- memory was refused
-pub loads_again : NoneRefused → (text : List ℕ) (r : Result AnyBook LoadTraceFault) → LoadsTrace text r → (R : ℕ) (b : BookState) → IsTraceRing R → IsTextOf R b text → LoadsAgain R b r
-loads_again none_refused text r loads R b ring is =
-    let h = is.loads ring in
-    subst (λ s. LoadsAgain R s r) h.3 (again_loaded none_refused R h.0 h.2 text h.1 r loads)

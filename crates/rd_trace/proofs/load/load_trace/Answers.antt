@@ -1,5 +1,5 @@
-use Rattle.rd_trace.proofs.LoadLemmas.{gives_again}
+use Rattle.rd_trace.proofs.OneAnswer.{loads_again}
 use Rattle.rd_trace.proofs.load.load_trace.Goals as goal
 
 pub returns-clause-again : goal.returns-clause-again
-returns-clause-again c R b ring is = gives_again c.args.text.now c.loaded.result c.loaded.ensures R b ring is
+returns-clause-again c R b ring is = loads_again c.args.text.now c.loaded.result c.loaded.ensures R b ring is
