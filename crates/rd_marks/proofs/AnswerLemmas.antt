@@ -1,9 +1,11 @@
 -- What moves, events and marks are answered, from what the calls say of their results.
-use Rattle.std.proofs.Common.{◌≡◌, ◌⊎◌, ℕ, inl, inr, sym, ap, ◌∙◌, subst, List, length, Option, Result, Ok, Err, OnOk, IfErr}
+use Rattle.std.proofs.Common.{◌≡◌, ◌⊎◌, ℕ, inl, inr, refl, sym, ap, ◌∙◌, subst, List, length, Option, Result, Ok, Err, OnOk, IfErr}
 use Rattle.std.specs.Result.{IsErrAnd}
-use Rattle.rd_marks.proofs.Prelude.{Refusal, NoMemory, OpReply, World, Event, Entry, IsPrefix, Session, state, track, Journal, State, MayLackMemory, state_of, apply, reply_to, lists_in, here_in, AreRuns, events, Mark, BookState, with_session, Answered, answer_with, move_answer, Happened, length-map}
+use Rattle.rd_marks.proofs.Prelude.{Refusal, NoMemory, OpReply, World, Event, Entry, IsPrefix, Session, state, track, Journal, State, MayLackMemory, state_of, apply, reply_to, lists_in, here_in, AreRuns, events, Mark, BookState, with_session, Answered, answer_with, move_answer, Happened, length-map, result_map}
 use Rattle.rd_journal.specs.Sessions.{AnswersAs, GoesAlong}
 use Rattle.rd_marks.specs.Commands.{step_counts}
+use Rattle.rd_marks.specs.Events.{as_reply}
+use Rattle.rd_marks.specs.declared.replies.EventReply.{EventReply}
 use Rattle.rd_marks.specs.declared.replies.Reply.{Reply}
 use Rattle.rd_marks.specs.declared.replies.Reply.TheVariants.{Applied}
 use Rattle.rd_marks.specs.declared.books.Book.{Book}
@@ -30,10 +32,28 @@ move_answered old new marks after answer (Err e) moved answers kept counts refus
     (λ i. record { answer = its i; state = record { session = state (answers.1 i); marks = kept i } })
     ∙ sym (ap (move_answer (record { session = state old; marks = marks })) answers.0)
 
+-- the answer to a move that was made, and what it leaves
+pub move_made : (b : BookState) (new : State) (after : List Mark) (reply : Reply) (moved : Result State Refusal) → moved ≡ Ok new → after ≡ b.marks → reply ≡ step_counts new
+    → record { answer = Ok reply; state = record { session = new; marks = after } } ≡ move_answer b moved
+move_made b new after reply moved made kept counts =
+    (λ i. record { answer = Ok (counts i); state = record { session = new; marks = kept i } }) ∙ sym (ap (move_answer b) made)
+
 -- what is passed up is the answer
-passed_up : (refusal : Refusal) (answer : Result Reply Refusal) → IsErrAnd answer (λ e. e ≡ refusal) → answer ≡ Err refusal
-passed_up refusal (Ok reply) is = absurd is
+passed_up : {X : Type 0} (refusal : Refusal) (answer : Result X Refusal) → IsErrAnd answer (λ e. e ≡ refusal) → answer ≡ Err refusal
+passed_up refusal (Ok x) is = absurd is
 passed_up refusal (Err e) is = ap (λ (x : Refusal). Err x) is
+
+-- the answer to a move that was refused, and what it leaves
+pub move_refused : {R : ℕ} (old new : Session R) (marks : List Mark) (refusal : Refusal) (answer : Result Reply Refusal) (moved : Result State Refusal)
+    → AnswersAs moved (Err refusal) old new → IsErrAnd answer (λ e. e ≡ refusal)
+    → record { answer = answer; state = record { session = state new; marks = marks } } ≡ move_answer (record { session = state old; marks = marks }) moved
+move_refused old new marks refusal answer moved answers is = move_answered old new marks marks answer (Err refusal) moved answers refl tt (passed_up refusal answer is)
+
+-- what an event is answered is passed up as the reply to its command
+pub event_passed_up : (R : ℕ) (b after : BookState) (e : Event) (refusal : Refusal) (answer : Result Reply Refusal) → IsErrAnd answer (λ x. x ≡ refusal)
+    → Happened R b e (record { answer = Err refusal; state = after }) → Happened R b e (record { answer = answer; state = after })
+event_passed_up R b after e refusal answer is happened =
+    subst (λ (a : Result Reply Refusal). Happened R b e (record { answer = a; state = after })) (sym (passed_up refusal answer is)) happened
 
 module _ (R : ℕ) (old new : Journal) (marks : List Mark) (e : Event) where
   abbrev pub before : BookState
@@ -51,11 +71,11 @@ module _ (R : ℕ) (old new : Journal) (marks : List Mark) (e : Event) where
       inl ((λ i. record { answer = Ok (Applied (count i) (sym its i)); state = record { session = state_of new; marks = kept i } }) ∙ sym (ap of_step made))
 
   -- the answer to an event that was refused
-  pub event_refused : (answer : Result Reply Refusal) (refusal : Refusal) → new ≡ old → IsErrAnd answer (λ e. e ≡ refusal)
+  pub event_refused : (answer : Result EventReply Refusal) (refusal : Refusal) → new ≡ old → IsErrAnd answer (λ e. e ≡ refusal)
       → (apply R (state_of old) e ≡ Err refusal) ⊎ ((refusal ≡ NoMemory) × MayLackMemory R (state_of old) e)
-      → Happened R before e (record { answer = answer; state = record { session = state_of new; marks = marks } })
+      → Happened R before e (record { answer = result_map as_reply answer; state = record { session = state_of new; marks = marks } })
   event_refused answer refusal same is (inl h) =
-      inl ((λ i. record { answer = passed_up refusal answer is i; state = record { session = state_of (same i); marks = marks } }) ∙ sym (ap of_step h))
+      inl ((λ i. record { answer = result_map as_reply (passed_up refusal answer is i); state = record { session = state_of (same i); marks = marks } }) ∙ sym (ap of_step h))
   event_refused answer refusal same is (inr h) =
-      let said : answer ≡ Err NoMemory = passed_up refusal answer is ∙ ap (λ (x : Refusal). Err x) h.0 in
+      let said : result_map as_reply answer ≡ Err NoMemory = ap (result_map as_reply) (passed_up refusal answer is) ∙ ap (λ (x : Refusal). Err x) h.0 in
       inr (h.1, λ i. record { answer = said i; state = record { session = state_of (same i); marks = marks } })

@@ -56,14 +56,6 @@ module _ (here there : List Entry) (begins : IsPrefix there here) where
       let fact_6 = take-append-le n (events new.live) new_ahead in
       grind (arith, stands, short, within, same, length-map, length-take, fact_3, fact_4, fact_5, fact_6, fact, fact_2, still_begins (events old.live ++ old_ahead))
 
-  -- where steps were taken out after them, if the call was not refused
-  pub after_out : {R : ℕ} {Q : Type 0} (r : Result (Unit {0}) Refusal) (moved : Result State Refusal) (n : ℕ) (old new : Session R)
-      → IsPrefix (events here) (track old) → OnOk r (length there ≤ n) → AnswersAs moved r old new → (moved ≡ Ok (state new) → n ≤ length (journal old).live)
-      → OnOk r Q → (Q → take n (journal new).live ≡ take n (journal old).live) → IsPrefix (events there) (track new)
-  after_out (Ok tt) moved n old new stands short answers within left leaves =
-      track_cut n (journal old) (journal new) (events (ahead_entries old.entries)) (events (ahead_entries new.entries)) stands short (within answers) (leaves left)
-  after_out (Err e) moved n old new stands short answers within left leaves = rw answers.1 (still_begins (track old) stands)
-
 -- entries with the events of the live steps begin the track
 pub live_begin : {R : ℕ} (session : Session R) (xs : List Entry) → events xs ≡ (state session).live → IsPrefix (events xs) (track session)
 live_begin session xs its = grind (arith, take-append_seam)

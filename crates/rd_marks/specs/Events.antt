@@ -1,10 +1,13 @@
--- Which commands are events: `Command::of_event` returns the command of an event. What a command
--- that is an event is answered is in `Commands.antt`.
+-- Which commands are events, and the reply to one that happened. What an event is answered is in
+-- `Commands.antt`.
 use Rattle.std.specs.Prelude.{Option, Some, None}
 use Rattle.rd_actor.specs.declared.actors.Act.TheVariants.{Enq as CallsEnq, Deq as CallsDeq, AEnq as CallsArrayEnq, ADeq as CallsArrayDeq, Go as GoesOn, Starve as Starves}
 use Rattle.rd_step.specs.declared.entries.Event.{Event}
 use Rattle.rd_marks.specs.declared.commands.Command.{Command}
 use Rattle.rd_marks.specs.declared.commands.Command.TheVariants.{Enq, Deq, ArrayEnq, ArrayDeq, Go, Starve}
+use Rattle.rd_marks.specs.declared.replies.EventReply.{EventReply}
+use Rattle.rd_marks.specs.declared.replies.Reply.{Reply}
+use Rattle.rd_marks.specs.declared.replies.Reply.TheVariants.{Applied}
 use Rattle.rd_marks.specs.Commands.{event}
 
 -- the event that a command is, if it is one
@@ -16,3 +19,7 @@ as_event (ArrayDeq actor) = Some (event actor CallsArrayDeq)
 as_event (Go actor) = Some (event actor GoesOn)
 as_event (Starve actor choice) = Some (event actor (Starves choice))
 as_event _ = None
+
+-- the reply to a command that is an event, by what the event is answered
+abbrev pub as_reply : EventReply → Reply
+as_reply done = Applied done.step done.reply

@@ -195,18 +195,6 @@ impl Bookmarks {
         are_equivalent(alloc, &ones, &others)
     }
 
-    /// Notes that a call took steps out of the track: if it was not refused, the first `n` steps
-    /// stayed.
-    pub(crate) fn cut_back(&mut self, done: &Result<(), Refusal>, n: u64)
-        ensures lists { lists_in self.new ≡ lists_in self.old }
-        ensures begins { IsPrefix (here_in self.new) (here_in self.old) }
-        ensures short { OnOk done.now (length (here_in self.new) ≤ n) }
-    {
-        if let Ok(()) = done {
-            self.cut_here(n as usize);
-        }
-    }
-
     /// Notes that all steps of the track after the first `n` may have changed.
     pub(crate) fn cut_here(&mut self, n: usize)
         ensures lists { lists_in self.new ≡ lists_in self.old }

@@ -4,8 +4,8 @@
 //! from the session's start. Nothing outside this crate depends on that.
 //!
 //! The calls of a book are here; what each command answers is in `books/`: `obeying` has the
-//! commands, `moves` the events, undos and redos, `bookmarks` the bookmarks, and `queries` the
-//! rest; `saving` has what saves a book and loads it again.
+//! commands, `moves` the undos and redos, `bookmarks` the bookmarks, and `queries` the rest;
+//! `saving` has what saves a book and loads it again.
 
 mod bookmarks;
 mod moves;
@@ -15,17 +15,20 @@ mod saving;
 
 ghost use Rattle.std.specs.Prelude.{◌≡◌, ◌<◌, ◌≤◌, ◌⊎◌, [], length, Ok, Err, OnOk, OnErr, IfErr, IsOk};
 ghost use Rattle.rd_cell.specs.declared.refusal.Refusal.TheVariants.{NoMemory};
+ghost use Rattle.rd_step.specs.Prelude.{result_map};
 ghost use Rattle.rd_step.specs.Run.{events};
 ghost use Rattle.rd_depend.specs.Beginnings.{IsPrefix};
-ghost use Rattle.rd_journal.specs.Sessions.{state, track};
+ghost use Rattle.rd_journal.specs.Sessions.{state, track, MayRefuse};
 ghost use Rattle.rd_marks.specs.Layout.{AreRuns};
 ghost use Rattle.rd_marks.specs.Kept.{lists_in, here_in};
 
 use super::bookmarks::Bookmarks;
 use super::names::MarkName;
+use super::replies::EventReply;
 use rd_cell::Refusal;
 use rd_cell::limits::MOST_MARKS;
 use rd_journal::Session;
+use rd_step::Event;
 use std::alloc::Global;
 
 /// A session with bookmarks.
@@ -54,6 +57,8 @@ impl<const R: usize> Book<R> {
     ghost use Rattle.rd_marks.specs.Beginnings.{CountsBeginnings, NeedsNoEntry};
     ghost use Rattle.rd_marks.specs.BookViews.{book_state, session_of, name_room, mark_entries, MayRefuseToGo};
     ghost use Rattle.rd_marks.specs.Rules.{KeepsRules};
+    ghost use Rattle.rd_marks.specs.Commands.{Happened};
+    ghost use Rattle.rd_marks.specs.Events.{as_reply};
     ghost use Rattle.rd_marks.specs.Books.{marked_events, mark, drop_mark, goto_mark, mark_at, MakesSteps, AnswersSame};
 
     /// Returns a book over a session, without bookmarks. It takes no memory.
@@ -74,6 +79,26 @@ impl<const R: usize> Book<R> {
         ensures value { result.now ≡ session_of self.now }
     {
         &self.session
+    }
+
+    /// Makes an event happen as the last live step, and discards what was undone. Returns the
+    /// step's number, and the reply of the call that it ends, if it ends one. The bookmarks stay.
+    ///
+    /// # Errors
+    ///
+    /// The refusal of `Session::apply`. Nothing has changed then.
+    pub fn apply(&mut self, event: Event) -> Result<EventReply, Refusal>
+        ensures answer { Happened R (book_state self.old) event (record { answer = result_map as_reply result; state = book_state self.new }) }
+        ensures memory { IfErr result (MayRefuse (session_of self.old) event) }
+        ensures start { (book_state self.new).session.start ≡ (book_state self.old).session.start }
+        ensures unchanged { OnErr result (book_state self.new ≡ book_state self.old) }
+    {
+        let (step, entry) = self.session.apply(event)?;
+        self.bookmarks.cut_here(step as usize - 1);
+        Ok(EventReply {
+            step,
+            reply: entry.reply,
+        })
     }
 
     /// Sets a bookmark of this name at the live steps. It is the last one.

@@ -79,7 +79,7 @@ impl Command {
     }
 
     /// Returns the event that the command is, if it is one.
-    pub(crate) fn as_event(&self) -> Option<Event>
+    pub fn as_event(&self) -> Option<Event>
         ensures { result ≡ as_event self.now }
     {
         let (actor, act) = match *self {

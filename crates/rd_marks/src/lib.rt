@@ -15,4 +15,4 @@ mod stretches;
 pub use books::Book;
 pub use commands::Command;
 pub use names::MarkName;
-pub use replies::Reply;
+pub use replies::{EventReply, Reply};

@@ -6,6 +6,15 @@ use rd_cell::Content;
 use rd_origin::Origin;
 use rd_step::Entry;
 
+/// What an event that happened is answered. It is plain data: copying it takes no memory.
+#[derive(Clone, Copy, Debug, PartialEq, Eq)]
+pub struct EventReply {
+    /// The number of its step, the last live one.
+    pub step: u64,
+    /// What the call replied that the step ended, if it ended one.
+    pub reply: Option<OpReply>,
+}
+
 /// A reply. It is plain data: copying it takes no memory.
 #[derive(Clone, Copy, Debug, PartialEq, Eq)]
 pub enum Reply {

@@ -1,12 +1,15 @@
 //! A script: each line is read, obeyed and answered before the next one is read.
 
-ghost use Rattle.std.specs.Prelude.{◌≡◌, ℕ, List, true, false, OnOk, OnErr};
+ghost use Rattle.std.specs.Prelude.{◌≡◌, ℕ, List, Result, true, false, OnOk, OnErr};
 ghost use Rattle.std.specs.Io.KnownBytes.{Appends};
+ghost use Rattle.rd_cell.specs.declared.refusal.Refusal.{Refusal};
+ghost use Rattle.rd_marks.specs.declared.replies.Reply.{Reply};
 ghost use Rattle.rd_marks.specs.BookViews.{book_state};
+ghost use Rattle.rd_marks.specs.Commands.{Happened, IsObeyed};
 ghost use Rattle.rd_script.specs.Device.{TakesBeginning};
 ghost use Rattle.rd_script.specs.Lines.{Holds};
 ghost use Rattle.rd_script.specs.Replies.{text_of};
-ghost use Rattle.rd_script.specs.Answers.{Answered, AnswersLine};
+ghost use Rattle.rd_script.specs.Answers.{Answered, AnswersLine, line_answer};
 ghost use Rattle.rd_script.specs.Script.{WritesAnswer, RunsScript};
 
 use super::answers::{AnyRefusal, LineAnswer};
@@ -14,9 +17,10 @@ use super::devices::sinks::{Sink, WriteFault, write_all};
 use super::devices::sources::Source;
 use super::faults::ScriptFault;
 use super::reading::lines::{Line, Reading, next_line};
-use super::writing::lines::{set_refused, set_reply, set_text};
+use super::writing::lines::{set_event_reply, set_refused, set_reply, set_text};
 use super::writing::texts::Text;
-use rd_marks::Book;
+use rd_marks::{Book, Command};
+use rd_step::Event;
 
 /// Runs a script over a book: reads its lines to the end, obeys each when it is complete and writes
 /// its answer at once. Returns the number of lines.
@@ -86,10 +90,34 @@ fn answer_line<const R: usize>(book: &mut Book<R>, line: &Line, text: &mut Text)
 {
     match line.command() {
         Err(fault) => set_refused(text, &AnyRefusal::Unread(fault)),
-        Ok(command) => match book.obey(command) {
-            Err(refusal) => set_refused(text, &AnyRefusal::Refused(refusal)),
-            Ok(reply) => set_reply(text, &reply),
+        Ok(command) => match command.as_event() {
+            Some(event) => answer_event(book, event, text),
+            None => answer_command(book, command, text),
         },
+    }
+}
+
+/// Makes an event happen, and makes the text the line of its answer.
+fn answer_event<const R: usize>(book: &mut Book<R>, event: Event, text: &mut Text)
+    ensures answers { (answer : Result Reply Refusal) × Happened R (book_state book.old) event (record { answer = answer; state = book_state book.new })
+        × (text.new.items ≡ text_of (line_answer answer)) }
+    ensures start { (book_state book.new).session.start ≡ (book_state book.old).session.start }
+{
+    match book.apply(event) {
+        Err(refusal) => set_refused(text, &AnyRefusal::Refused(refusal)),
+        Ok(done) => set_event_reply(text, done),
+    }
+}
+
+/// Obeys a command, and makes the text the line of its answer.
+fn answer_command<const R: usize>(book: &mut Book<R>, command: Command, text: &mut Text)
+    ensures answers { (answer : Result Reply Refusal) × IsObeyed R (book_state book.old) command (record { answer = answer; state = book_state book.new })
+        × (text.new.items ≡ text_of (line_answer answer)) }
+    ensures start { (book_state book.new).session.start ≡ (book_state book.old).session.start }
+{
+    match book.obey(command) {
+        Err(refusal) => set_refused(text, &AnyRefusal::Refused(refusal)),
+        Ok(reply) => set_reply(text, &reply),
     }
 }
 

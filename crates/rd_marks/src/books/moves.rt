@@ -1,31 +1,15 @@
-//! Events, undos and redos as commands: the call of the session, and its answer.
+//! Undos and redos as commands: the call of the session, and its answer.
 
 ghost use Rattle.std.specs.Prelude.{◌≡◌, Ok, Err, OnOk, IfErr};
-ghost use Rattle.rd_journal.specs.Sessions.{MayRefuse};
 
 use super::super::replies::Reply;
 use super::Book;
 use rd_cell::Refusal;
-use rd_step::Event;
 
 impl<const R: usize> Book<R> {
     ghost use Rattle.rd_journal.specs.State.{undo, undo_at, roll, back, redo, forward};
-    ghost use Rattle.rd_marks.specs.BookViews.{book_state, session_of};
-    ghost use Rattle.rd_marks.specs.Commands.{Happened, move_answer, step_counts};
-
-    /// Makes an event happen. Returns the number of its step, and the reply of the call that it
-    /// ends, if it ends one.
-    pub(super) fn answer_event(&mut self, event: Event) -> Result<Reply, Refusal>
-        ensures happens { Happened R (book_state self.old) event (record { answer = result; state = book_state self.new }) }
-        ensures memory { IfErr result (MayRefuse (session_of self.old) event) }
-    {
-        let (step, entry) = self.session.apply(event)?;
-        self.bookmarks.cut_here(step as usize - 1);
-        Ok(Reply::Applied {
-            step,
-            reply: entry.reply,
-        })
-    }
+    ghost use Rattle.rd_marks.specs.BookViews.{book_state};
+    ghost use Rattle.rd_marks.specs.Commands.{move_answer, step_counts};
 
     /// Undoes the last live step. Returns how many steps are live and undone then.
     pub(super) fn answer_undo(&mut self) -> Result<Reply, Refusal>
@@ -39,9 +23,9 @@ impl<const R: usize> Book<R> {
     pub(super) fn answer_undo_at(&mut self, k: u64) -> Result<Reply, Refusal>
         ensures { record { answer = result; state = book_state self.new } ≡ move_answer (book_state self.old) (undo_at R (book_state self.old).session k) }
     {
-        let done = self.session.undo_at(k);
-        self.bookmarks.cut_back(&done, k.saturating_sub(1));
-        self.counts_after(done)
+        self.session.undo_at(k)?;
+        self.bookmarks.cut_here(k.saturating_sub(1) as usize);
+        Ok(self.step_counts())
     }
 
     /// Undoes the live step of this number and just the later ones that depend on it. Returns how
@@ -49,9 +33,9 @@ impl<const R: usize> Book<R> {
     pub(super) fn answer_roll(&mut self, k: u64) -> Result<Reply, Refusal>
         ensures { record { answer = result; state = book_state self.new } ≡ move_answer (book_state self.old) (roll R (book_state self.old).session k) }
     {
-        let done = self.session.roll(k);
-        self.bookmarks.cut_back(&done, k.saturating_sub(1));
-        self.counts_after(done)
+        self.session.roll(k)?;
+        self.bookmarks.cut_here(k.saturating_sub(1) as usize);
+        Ok(self.step_counts())
     }
 
     /// Undoes the last `n` live steps, all or none. Returns how many steps are live and undone

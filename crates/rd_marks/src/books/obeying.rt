@@ -7,14 +7,15 @@ ghost use Rattle.std.specs.Result.{ForErr};
 
 use super::super::commands::Command;
 use super::super::laws::a_book_is_the_run_of_its_live_events;
-use super::super::replies::Reply;
+use super::super::replies::{EventReply, Reply};
 use super::Book;
 use rd_cell::Refusal;
+use rd_step::Event;
 use std::alloc::Global;
 
 impl<const R: usize> Book<R> {
     ghost use Rattle.rd_marks.specs.BookViews.{book_state, session_of, name_room, MayRefuseAsGoing};
-    ghost use Rattle.rd_marks.specs.Commands.{IsObeyed, NeedsNoMemory};
+    ghost use Rattle.rd_marks.specs.Commands.{IsObeyed, Happened, NeedsNoMemory};
     ghost use Rattle.rd_marks.specs.Headline.{Headline};
     ghost use Rattle.rd_marks.specs.Events.{as_event};
 
@@ -65,6 +66,15 @@ impl<const R: usize> Book<R> {
         }
         a_book_is_the_run_of_its_live_events(self);
         Ok(answers)
+    }
+
+    /// Makes an event happen, and returns the reply to its command.
+    fn answer_event(&mut self, event: Event) -> Result<Reply, Refusal>
+        ensures happens { Happened R (book_state self.old) event (record { answer = result; state = book_state self.new }) }
+        ensures memory { IfErr result (MayRefuse (session_of self.old) event) }
+    {
+        let EventReply { step, reply } = self.apply(event)?;
+        Ok(Reply::Applied { step, reply })
     }
 
     /// Obeys a command that is no event, and returns the answer.

@@ -1,6 +1,7 @@
-//! The events of a book's bookmarks, and going to the start, which saving and loading a book need.
+//! The events of a book's bookmarks, and going back, which saving and loading a book need.
 
-ghost use Rattle.std.specs.Prelude.{◌≡◌};
+ghost use Rattle.std.specs.Prelude.{◌≡◌, ◌≤◌, length, take, Ok};
+ghost use Rattle.rd_journal.specs.State.{back};
 
 use super::Book;
 use rd_cell::Refusal;
@@ -9,7 +10,7 @@ use std::alloc::Global;
 
 impl<const R: usize> Book<R> {
     ghost use Rattle.rd_marks.specs.BookViews.{book_state};
-    ghost use Rattle.rd_marks.specs.Books.{mark_events, mark_event, to_start, AnswersEvents};
+    ghost use Rattle.rd_marks.specs.Books.{mark_events, mark_event, at_events, to_start, AnswersEvents};
 
     /// The event of this number, from 1, of the bookmark of this number, from 1, if there is one.
     /// It takes no memory, and looks at each stretch once at most; `mark_events` gives all of them
@@ -54,5 +55,26 @@ impl<const R: usize> Book<R> {
         ensures { book_state self.new ≡ to_start (book_state self.old) }
     {
         self.session.go_along(0);
+    }
+
+    /// Goes back to the first `n` live steps, where none is undone: 0 is the start. The bookmarks
+    /// stay. It takes no memory.
+    pub fn keep_first(&mut self, n: u64)
+        requires within { n ≤ length (book_state self.old).session.live }
+        ensures { book_state self.new ≡ at_events (book_state self.old) (take n (book_state self.old).session.live) }
+    {
+        self.session.go_along(n);
+    }
+
+    /// Undoes the last `n` live steps. The bookmarks stay. It takes no memory.
+    pub fn go_back(&mut self, n: u64)
+        requires within { n ≤ length (book_state self.old).session.live }
+        ensures session { back (book_state self.old).session n ≡ Ok (book_state self.new).session }
+        ensures marks { (book_state self.new).marks ≡ (book_state self.old).marks }
+    {
+        match self.session.back(n) {
+            Err(_) => unreachable!(),
+            Ok(()) => {}
+        }
     }
 }

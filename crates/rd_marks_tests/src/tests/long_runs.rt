@@ -44,18 +44,23 @@ fn on_steps(live: u64, number: u64) -> Command {
     }
 }
 
-/// The command that the number chooses: mostly an event.
-fn command<const R: usize>(book: &Book<R>, actors: u8, number: u64) -> Result<Command, Refusal>
+/// Has the book do what the number chooses, mostly an event. Returns whether memory was refused.
+fn lacks_memory<const R: usize>(
+    book: &mut Book<R>,
+    actors: u8,
+    number: u64,
+) -> Result<bool, Refusal>
     requires some { 1 ≤ actors }
 {
-    match (number >> 56) % 18 {
-        0 | 1 | 2 => on_bookmarks(number),
-        3 | 4 | 5 | 6 => Ok(on_steps(book.session().len(), number)),
+    let command = match (number >> 56) % 18 {
+        0 | 1 | 2 => on_bookmarks(number)?,
+        3 | 4 | 5 | 6 => on_steps(book.session().len(), number),
         _ => {
             let event = drawn_event(book.session().world(), actors, number);
-            Ok(Command::of_event(event))
+            return Ok(book.apply(event) == Err(Refusal::NoMemory));
         }
-    }
+    };
+    Ok(book.obey(command) == Err(Refusal::NoMemory))
 }
 
 /// Whether a run of commands over a fresh world of this many actors is refused memory anywhere.
@@ -71,8 +76,7 @@ fn is_refused_memory<const R: usize>(alloc: Global, actors: u8) -> Result<bool, 
     let mut is_refused = false;
     for _ in 0..COMMANDS {
         number = next(number);
-        let command = command(&book, actors, number)?;
-        if book.obey(command) == Err(Refusal::NoMemory) {
+        if lacks_memory(&mut book, actors, number)? {
             is_refused = true;
         }
     }

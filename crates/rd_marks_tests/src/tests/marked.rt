@@ -196,7 +196,7 @@ const AT_THE_START: [(Command, Result<Reply, Refusal>); 5] = [
 #[test]
 fn at_the_start_the_bookmarks_stay(rt: HostRuntime) -> Result<(), Fail> {
     let mut book = marked_book(rt.alloc())?;
-    book.to_start();
+    book.keep_first(0);
     compare(&rt, &book, EVENTS);
     for (command, wanted) in AT_THE_START {
         assert_eq!(rt; book.obey(command), wanted, "{command:?}");
@@ -206,6 +206,16 @@ fn at_the_start_the_bookmarks_stay(rt: HostRuntime) -> Result<(), Fail> {
         book.obey(Command::GotoMark(MarkName::new(b"a")?)),
         Ok(there)
     );
+    Ok(())
+}
+
+#[test]
+fn going_back_leaves_the_bookmarks(rt: HostRuntime) -> Result<(), Fail> {
+    let mut book = marked_book(rt.alloc())?;
+    let len = book.session().len();
+    book.go_back(len);
+    compare(&rt, &book, EVENTS);
+    assert_eq!(rt; book.session().len(), 0);
     Ok(())
 }
 
@@ -224,6 +234,7 @@ const COMMANDS: [(Act, Command); 7] = [
 fn each_kind_of_event_is_a_command(rt: HostRuntime) {
     for (act, command) in COMMANDS {
         let event = Event { actor: 1, act };
-        assert!(rt; Command::of_event(event) == command, "{act:?}");
+        assert!(rt; command.as_event() == Some(event), "{act:?}");
     }
+    assert!(rt; Command::Len.as_event().is_none());
 }

@@ -1,21 +1,22 @@
 //! The line of an answer.
 //!
 //! A run makes the lines of all its answers in one buffer, so that no answer needs a new one. It
-//! makes the line of a reply or of a refusal from just that, since a whole `LineAnswer`, which has
-//! room for a step's entry, takes time to copy.
+//! makes the line of a reply, of what an event is answered or of a refusal from just that, since a
+//! whole `LineAnswer` or `Reply`, which has room for a step's entry, takes time to copy.
 
 ghost use Rattle.std.specs.Prelude.{◌≡◌, [], ◌∷◌, Ok, Err};
+ghost use Rattle.rd_marks.specs.Events.{as_reply};
 ghost use Rattle.rd_script.specs.Puts.{Puts, PutsUpTo};
 ghost use Rattle.rd_script.specs.Refusals.{trace_step_words, trace_mark_words, busy_words, any_words};
 ghost use Rattle.rd_script.specs.Replies.{text_of};
 
 use super::numbers::{put_spaced, put_words_and_number};
 use super::refusals::{name_of_fault, name_of_stop, put_refusal};
-use super::replies::put_reply;
+use super::replies::{put_event_reply, put_reply};
 use super::texts::{Text, put};
 use crate::answers::{AnyRefusal, LineAnswer};
 use rd_cell::Refusal;
-use rd_marks::Reply;
+use rd_marks::{EventReply, Reply};
 
 /// Replaces the text by the line of an answer, with its line feed.
 pub fn set_text(text: &mut Text, answer: &LineAnswer)
@@ -33,6 +34,15 @@ pub fn set_reply(text: &mut Text, reply: &Reply)
 {
     text.clear();
     put_reply(text, reply);
+    end_line(text);
+}
+
+/// Replaces the text by the line of what an event that happened is answered, with its line feed.
+pub fn set_event_reply(text: &mut Text, done: EventReply)
+    ensures { text.new.items ≡ text_of (Ok (as_reply done)) }
+{
+    text.clear();
+    put_event_reply(text, done);
     end_line(text);
 }
 

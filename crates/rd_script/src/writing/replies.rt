@@ -2,6 +2,7 @@
 
 ghost use Rattle.std.specs.Prelude.{◌≤◌, ◌+◌, length};
 ghost use Rattle.rd_marks.specs.Names.{bytes_of};
+ghost use Rattle.rd_marks.specs.Events.{as_reply};
 ghost use Rattle.rd_script.specs.Puts.{Puts, PutsUpTo};
 ghost use Rattle.rd_script.specs.Replies.{event_reply, step_number, origin_words, number_or_none, reply_words};
 
@@ -11,7 +12,7 @@ use super::numbers::{put_number, put_spaced, put_words_and_number, yes_or_no};
 use super::steps::{put_call_reply, put_step};
 use super::texts::{Text, put};
 use rd_actor::OpReply;
-use rd_marks::{MarkName, Reply};
+use rd_marks::{EventReply, MarkName, Reply};
 use rd_origin::Origin;
 
 /// Appends to the text the words of a reply.
@@ -19,10 +20,7 @@ pub fn put_reply(text: &mut Text, reply: &Reply)
     ensures { PutsUpTo 400 text.old.items text.new.items (reply_words reply.now) }
 {
     match *reply {
-        Reply::Applied { step, reply } => {
-            put_words_and_number(text, b"ok", step);
-            put_event_reply(text, reply);
-        }
+        Reply::Applied { step, reply } => put_event_reply(text, EventReply { step, reply }),
         Reply::At { live, undone } => {
             put_words_and_number(text, b"at", live);
             put_spaced(text, undone);
@@ -50,8 +48,16 @@ pub fn put_reply(text: &mut Text, reply: &Reply)
     }
 }
 
+/// Appends to the text the words of what an event that happened is answered.
+pub fn put_event_reply(text: &mut Text, done: EventReply)
+    ensures { PutsUpTo 50 text.old.items text.new.items (reply_words (as_reply done)) }
+{
+    put_words_and_number(text, b"ok", done.step);
+    put_ended_call(text, done.reply);
+}
+
 /// Appends to the text a space and what a call replied, if the event ended one.
-fn put_event_reply(text: &mut Text, reply: Option<OpReply>)
+fn put_ended_call(text: &mut Text, reply: Option<OpReply>)
     ensures { PutsUpTo 27 text.old.items text.new.items (event_reply reply) }
 {
     match reply {

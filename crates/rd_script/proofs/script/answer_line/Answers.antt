@@ -1,6 +1,8 @@
-use Rattle.std.proofs.Common.{Ok, Err, refl}
+use Rattle.std.proofs.Common.{Err, Ok, refl, sym, ◌∙◌}
+use Rattle.rd_marks.proofs.ObeyLemmas.{event_obeyed}
 use Rattle.rd_script.proofs.Prelude.{book_state}
-use Rattle.rd_script.specs.declared.answers.AnyRefusal.TheVariants.{Refused, Unread}
+use Rattle.rd_script.specs.Answers.{line_answer}
+use Rattle.rd_script.specs.declared.answers.AnyRefusal.TheVariants.{Unread}
 use Rattle.rd_script.proofs.script.answer_line.Goals as goal
 
 pub returns-in-Err-clause-answers : goal.returns-in-Err-clause-answers
@@ -11,18 +13,21 @@ returns-in-Err-clause-answers g c said held = (
   c.set_refused.ensures,
 )
 
-pub returns-in-Err-obey-clause-answers : goal.returns-in-Err-obey-clause-answers
-returns-in-Err-obey-clause-answers g c said held = (
-  record { answer = Err (Refused c.in-Err-obey.refusal); state = book_state c.obey.new.self },
-  record { said = Ok c.in-Ok.command; says = c.in-Ok.ensures said held; answers = (Err c.in-Err-obey.refusal, c.in-Err-obey.ensures.answer, refl) },
-  refl,
-  c.set_refused-in-Err-obey.ensures,
-)
+pub returns-in-Some-clause-answers : goal.returns-in-Some-clause-answers
+returns-in-Some-clause-answers g c said held =
+    let done = c.answer_event.ensures.answers in
+    let obeyed = event_obeyed g.row.R (book_state c.args.book.now) c.in-Ok.command c.in-Some.event _ (sym c.as_event.ensures ∙ c.in-Some.is) done.1 in (
+      record { answer = line_answer done.0; state = book_state c.answer_event.new.book },
+      record { said = Ok c.in-Ok.command; says = c.in-Ok.ensures said held; answers = (done.0, obeyed, refl) },
+      refl,
+      done.2,
+    )
 
-pub returns-in-Ok-obey-clause-answers : goal.returns-in-Ok-obey-clause-answers
-returns-in-Ok-obey-clause-answers g c said held = (
-  record { answer = Ok c.in-Ok-obey.reply; state = book_state c.obey.new.self },
-  record { said = Ok c.in-Ok.command; says = c.in-Ok.ensures said held; answers = (Ok c.in-Ok-obey.reply, c.in-Ok-obey.ensures.answer, refl) },
-  refl,
-  c.set_reply.ensures,
-)
+pub returns-in-None-clause-answers : goal.returns-in-None-clause-answers
+returns-in-None-clause-answers g c said held =
+    let done = c.answer_command.ensures.answers in (
+      record { answer = line_answer done.0; state = book_state c.answer_command.new.book },
+      record { said = Ok c.in-Ok.command; says = c.in-Ok.ensures said held; answers = (done.0, done.1, refl) },
+      refl,
+      done.2,
+    )

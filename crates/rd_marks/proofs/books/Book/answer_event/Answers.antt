@@ -1,41 +1,11 @@
-use Rattle.std.proofs.Common.{[], ◌∷◌, length, length-append, refl, ap, arith}
-use Rattle.rd_marks.proofs.Prelude.{ahead_entries, journal, state, events, marks_of, lists_in}
-use Rattle.rd_marks.proofs.Here.{track_cut, added_leaves}
-use Rattle.rd_marks.proofs.AnswerLemmas.{event_made, event_refused}
-use Rattle.rd_marks.proofs.Starts.{apply_start, start_stays, runs_stay}
-use Rattle.std.proofs.lemmas.Result.{on_err_weaker}
+use Rattle.rd_marks.proofs.Prelude.{book_state}
+use Rattle.rd_marks.proofs.AnswerLemmas.{event_passed_up}
 use Rattle.rd_step.proofs.PassedUp.{error_passed_up}
 use Rattle.rd_marks.proofs.books.Book.answer_event.Goals as goal
 
-pub invariant_of-self : goal.invariant_of-self
-invariant_of-self g c =
-    let book = c.args.self.now in
-    let start = start_stays c.apply.result (journal book.session) (journal c.apply.new.self) _ (apply_start g.row.R (state book.session) c.args.event) c.apply.ensures.ok (on_err_weaker c.apply.result (λ is. is.journal) c.apply.ensures.unchanged) in
-    record { runs = rw start book.runs; stands = rw c.in_err-step.ensures.unchanged.track book.stands }
-
-pub invariant_of-self-2 : goal.invariant_of-self-2
-invariant_of-self-2 g c =
-    let old = journal c.args.self.now.session in
-    let same = on_err_weaker c.apply.result (λ is. is.journal) c.apply.ensures.unchanged in
-    record {
-      runs =
-          runs_stay g.row.R _ _ _ _ (start_stays c.apply.result (journal c.args.self.now.session) (journal c.apply.new.self) _ (apply_start g.row.R (state c.args.self.now.session) c.args.event)
-          c.apply.ensures.ok same) c.cut_here.ensures.lists c.args.self.now.runs;
-      stands =
-          track_cut _ _ c.cut_here.ensures.begins (length old.live) old (journal c.apply.new.self) (events (ahead_entries c.args.self.now.session.entries)) _ c.args.self.now.stands
-          (omega (arith, c.cut_here.ensures.short, c.in_ok-step.ensures.step.number, ap length c.in_ok-step.ensures.step.entries.live, length-append old.live (c.in_ok-step.entry ∷ []))) (omega arith)
-          (added_leaves _ c.in_ok-step.entry old (journal c.apply.new.self) refl c.in_ok-step.ensures.step.entries);
-    }
-
 pub returns-in_err-step-clause-happens : goal.returns-in_err-step-clause-happens
 returns-in_err-step-clause-happens g c =
-    event_refused g.row.R (journal c.args.self.now.session) (journal c.apply.new.self) (marks_of (lists_in c.args.self.now.bookmarks)) c.args.event
-    c.from_residual.result _ c.in_err-step.ensures.unchanged.journal c.from_residual.ensures.1 c.in_err-step.ensures.err
-
-pub returns-clause-happens : goal.returns-clause-happens
-returns-clause-happens g c =
-    event_made g.row.R (journal c.args.self.now.session) (journal c.apply.new.self) (marks_of (lists_in c.args.self.now.bookmarks)) c.args.event
-    _ c.in_ok-step.step c.in_ok-step.entry.reply c.in_ok-step.ensures.ok c.in_ok-step.ensures.step.number c.in_ok-step.ensures.reply (ap marks_of c.cut_here.ensures.lists)
+    event_passed_up g.row.R (book_state c.args.self.now) (book_state c.apply.new.self) c.args.event c.in_err-step.field-0.0 c.from_residual.result c.from_residual.ensures.1 c.in_err-step.ensures.answer
 
 pub returns-in_err-step-clause-memory : goal.returns-in_err-step-clause-memory
 returns-in_err-step-clause-memory g c = error_passed_up _ c.in_err-step.field-0.0 c.from_residual.result c.from_residual.ensures.1 c.in_err-step.ensures.memory
