@@ -1,6 +1,6 @@
 //! The commands of a book, as values.
 
-ghost use Rattle.std.specs.Prelude.{◌≡◌, Some};
+ghost use Rattle.std.specs.Prelude.{◌≡◌};
 ghost use Rattle.rd_marks.specs.Events.{as_event};
 
 use super::names::MarkName;
@@ -63,21 +63,6 @@ pub enum Command {
 }
 
 impl Command {
-    /// Returns the command that is this event.
-    pub fn of_event(event: Event) -> Command
-        ensures { as_event result ≡ Some event }
-    {
-        let actor = event.actor;
-        match event.act {
-            Act::Enq(value) => Command::Enq(actor, value),
-            Act::Deq => Command::Deq(actor),
-            Act::AEnq(value) => Command::ArrayEnq(actor, value),
-            Act::ADeq => Command::ArrayDeq(actor),
-            Act::Go => Command::Go(actor),
-            Act::Starve(choice) => Command::Starve(actor, choice),
-        }
-    }
-
     /// Returns the event that the command is, if it is one.
     pub fn as_event(&self) -> Option<Event>
         ensures { result ≡ as_event self.now }

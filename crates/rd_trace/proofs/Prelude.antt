@@ -57,7 +57,7 @@ pub use Rattle.rd_trace.specs.Saved.{HasValue, IsEither, IsFirstTrace, IsSameBoo
 pub use Rattle.rd_trace.specs.Segments.{IsSegment, IsSegmentList, cell_data, cell_of, cell_of_items, list_data, segment_data}
 pub use Rattle.rd_trace.specs.Spelled.{AreSpelled, Gives, Reads, SpellEach, SpellEachAt, elements, items_by, itself}
 pub use Rattle.rd_trace.specs.Starts.{HasActorCount, IsFreshStart, IsParts, IsStart, IsStartData, SpellsWorld, fresh_data, parts_data, start_flaw, start_world}
-pub use Rattle.rd_trace.specs.Steps.{GoesTo, IsAt, IsFaultOfMark, IsFaultOfStep, LoadsValue, MakesLive, RefusesOne, SetsMarks, StepsAll}
+pub use Rattle.rd_trace.specs.Steps.{GoesTo, IsAt, IsFaultOfMark, IsFaultOfStep, LoadsValue, MakesLive, RefusesOne, SetsMarks}
 pub use Rattle.rd_trace.specs.Texts.{AreAppended, IsKept, IsMarkAppended, IsReadBack, IsStartAppended, joined_text}
 pub use Rattle.rd_trace.specs.Traces.{IsMarkRefusedAt, IsRefusedAt, IsTraceRing, ring_length, session_at}
 pub use Rattle.rd_trace.specs.Writing.{IsTextOf}

@@ -1,20 +1,16 @@
 -- Steps that are made again: what goes through, and what is refused.
-use Rattle.rd_trace.proofs.Prelude.{common_steps, AllByRecursion, cond-false, IsDistinct-head, IsDistinct-tail, take-append_seam, drop-append_seam, append-nil, length-map, map-append, map_more, get_or-map, take_more, take_all, drop_all, take-take, take-append-drop, drop-append-le, length-take-le, length-drop, OutOfMemory, World, Refusal, TooLong, MarkTaken, TooManyMarks, Stepped, step, Ran, run, MOST_STEPS, run_entries, preceded_by, and_then, result_map, Entry, Event, State, step_after, with_event, apply, back_one, times, back, MarkName, MOST_MARKS, bytes_of, same_name, Mark, BookState, with_session, with_marks, marked_events, mark, GoThrough, MarksGoThrough, HaveDifferentNames, SavedMark, LoadTraceFault, saved_mark, start_world, start_flaw, Trace, loaded_state, session_at, IsRefusedAt, IsMarkRefusedAt, HasMarks, IsPlayable, Replays, IsAt, RefusesOne, StepsAll, GoesTo, MakesLive, SetsMarks, IsFaultOfStep, IsFaultOfMark}
-use Rattle.std.proofs.Common.{◌≡◌, ◌≢◌, ◌⊎◌, inl, inr, ℕ, zero, suc, ◌+◌, ◌-◌, ◌<◌, ◌≤◌, ◌==◌, if◌then◌else◌, Bool, true, false, List, [], ◌∷◌, ◌++◌, length, take, drop, get_or, map, Some, None, is_some, Result, Ok, Err, IsOk, refl, sym, ap, ap₂, ◌∙◌, subst, arith, append_assoc, length-append, ne_eqb, eq-eqb}
+use Rattle.rd_trace.proofs.Prelude.{common_steps, AllByRecursion, cond-false, IsDistinct-head, IsDistinct-tail, take-append_seam, drop-append_seam, append-nil, length-map, map-append, map_more, get_or-map, take_more, take_all, drop_all, take-take, take-append-drop, drop-append-le, length-take-le, length-drop, OutOfMemory, World, Refusal, TooLong, MarkTaken, TooManyMarks, Stepped, step, Ran, run, MOST_STEPS, preceded_by, and_then, result_map, Entry, Event, State, step_after, with_event, apply, back_one, times, back, MarkName, MOST_MARKS, bytes_of, same_name, Mark, BookState, with_session, with_marks, marked_events, mark, GoThrough, MarksGoThrough, HaveDifferentNames, SavedMark, LoadTraceFault, saved_mark, start_world, start_flaw, Trace, loaded_state, session_at, IsRefusedAt, IsMarkRefusedAt, HasMarks, IsPlayable, Replays, IsAt, RefusesOne, GoesTo, MakesLive, SetsMarks, IsFaultOfStep, IsFaultOfMark}
+use Rattle.std.proofs.Common.{◌≡◌, ◌≢◌, ◌⊎◌, inl, inr, ℕ, zero, suc, ◌+◌, ◌-◌, ◌<◌, ◌≤◌, ◌==◌, if◌then◌else◌, Bool, false, List, [], ◌∷◌, ◌++◌, length, take, drop, get_or, map, Some, None, is_some, Result, Ok, Err, IsOk, refl, sym, ap, ap₂, ◌∙◌, subst, arith, append_assoc, length-append, ne_eqb, eq-eqb}
 use Rattle.std.proofs.lemmas.Cmp.{nat_list_eq_equiv}
 use Rattle.rd_step.specs.Run.{events}
 use Rattle.rd_journal.proofs.Calls.{back_goes}
-use Rattle.rd_marks.specs.declared.commands.Command.{Command}
 use Rattle.rd_marks.specs.declared.replies.Reply.{Reply}
-use Rattle.rd_marks.specs.Commands.{Answered, answer_with, move_answer, Happened, IsObeyed}
-use Rattle.rd_marks.specs.Events.{as_event}
+use Rattle.rd_marks.specs.Books.{at_events}
+use Rattle.rd_marks.specs.Commands.{Answered, answer_with, Happened}
 use Rattle.rd_trace.specs.declared.replay.RefusedEvent.{RefusedEvent}
 use Rattle.rd_trace.proofs.SpellLemmas.{split_at, take_item}
 
 -- Books and lists
-
-same_book : (b c : BookState) → b.session.start ≡ c.session.start → b.session.live ≡ c.session.live → b.session.undone ≡ c.session.undone → b.marks ≡ c.marks → b ≡ c
-same_book b c start live undone marks = λ i. record { session = record { start = start i; live = live i; undone = undone i }; marks = marks i }
 
 same_state : (s t : State) → s.start ≡ t.start → s.live ≡ t.live → s.undone ≡ t.undone → s ≡ t
 same_state s t start live undone = λ i. record { start = start i; live = live i; undone = undone i }
@@ -44,23 +40,7 @@ run_last : (R : ℕ) (w : World) (es : List Event) (e : Event) → IsOk (step_af
 run_last R w [] e h = one_step R (step R w e) h
 run_last R w (x ∷ es) e h = run_on R es e (λ v k. run_last R v es e k) (step R w x) h
 
-runs_first : (R : ℕ) (xs ys : List Event) → ((v : World) → IsOk (run R v (xs ++ ys)) → IsOk (run R v xs)) → (o : Result Stepped Refusal)
-    → IsOk (run_after R (xs ++ ys) o) → IsOk (run_after R xs o)
-runs_first R xs ys from o k = grind arith
-
--- the first events of a run run
-first_run : (R : ℕ) (w : World) (xs ys : List Event) → IsOk (run R w (xs ++ ys)) → IsOk (run R w xs)
-first_run R w [] ys h = refl
-first_run R w (x ∷ xs) ys h = runs_first R xs ys (λ v k. first_run R v xs ys k) (step R w x) h
-
--- a run that leaves entries goes through
-went : (ran : Result Ran Refusal) (xs : List Entry) → run_entries ran ≡ Ok xs → IsOk ran
-went ran xs h = grind arith
-
 -- One event
-
-apply_at : (R : ℕ) (s : State) (e : Event) → apply R s e ≡ apply R (session_at s.start s.live) e
-apply_at R s e = grind arith
 
 -- what an event that happened leaves, and what it shows of its step
 applied_parts : (s after : State) (e : Event) (full : Bool) (o : Result Stepped Refusal) → (if full then Err TooLong else result_map (λ stepped. with_event s e) o) ≡ Ok after
@@ -74,44 +54,28 @@ not_full n few other = let apart : n ≢ MOST_STEPS = λ e. cc (eq-eqb n MOST_ST
 is_memory : (refusal : Refusal) → (refusal ≡ OutOfMemory) ⊎ (refusal ≢ OutOfMemory)
 is_memory refusal = grind arith
 
--- what is undone after steps: nothing, if there was one
-abbrev pub undone_behind : List Event → List Event → List Event
-undone_behind undone [] = undone
-undone_behind undone (e ∷ es) = []
+pub none_stepped : (R : ℕ) (b : BookState) → GoThrough R b.session.start b.session.live → b.session.undone ≡ [] → GoesTo R b (b.session.live ++ []) b (Ok tt)
+none_stepped R b through none =
+    let all = sym (append-nil b.session.live) in (
+      (λ i. record { session = record { start = b.session.start; live = all i; undone = none i }; marks = b.marks }),
+      subst (λ (es : List Event). GoThrough R b.session.start es) all through,
+    )
 
-none_behind : (undone xs : List Event) (e : Event) → undone_behind undone (xs ++ e ∷ []) ≡ []
-none_behind undone xs e = grind (arith, common_steps)
-
--- these events were put after the live ones so far
-pub record HasStepped (R : ℕ) (old now : BookState) (done : List Event) : Type 0 where
-  pub start : now.session.start ≡ old.session.start
-  pub live : now.session.live ≡ old.session.live ++ done
-  pub undone : now.session.undone ≡ undone_behind old.session.undone done
-  pub marks : now.marks ≡ old.marks
-  pub through : GoThrough R old.session.start (old.session.live ++ done)
-
-pub none_stepped : (R : ℕ) (b : BookState) → GoThrough R b.session.start b.session.live → HasStepped R b b []
-none_stepped R b k = grind (arith, append-nil)
-
-module _ (R : ℕ) (old now : BookState) (es : List Event) (i : ℕ) (e : Event) (within : i < length es) (is : e ≡ get_or es i e) (so_far : HasStepped R old now (take i es)) where
+-- the events before this one happened so far
+module _ (R : ℕ) (old now : BookState) (es : List Event) (i : ℕ) (e : Event) (within : i < length es) (is : e ≡ get_or es i e) (so_far : GoesTo R old (old.session.live ++ take i es) now (Ok tt)) where
   at_now : apply R now.session e ≡ apply R (session_at old.session.start (old.session.live ++ take i es)) e
-  at_now = apply_at R now.session e ∙ ap₂ (λ (w : World) (live : List Event). apply R (session_at w live) e) so_far.start so_far.live
+  at_now = ap (λ (b : BookState). apply R b.session e) so_far.0
 
-  pub one_stepped : (after : BookState) → apply R now.session e ≡ Ok after.session → after.marks ≡ now.marks → HasStepped R old after (take (i + 1) es)
+  pub one_stepped : (after : BookState) → apply R now.session e ≡ Ok after.session → after.marks ≡ now.marks → GoesTo R old (old.session.live ++ take (i + 1) es) after (Ok tt)
   one_stepped after h marks =
       let w = old.session.start in
       let live = old.session.live ++ take i es in
       let p = applied_parts (session_at w live) after.session e _ _ (sym at_now ∙ h) in
-      let all : live ++ e ∷ [] ≡ old.session.live ++ (take i es ++ e ∷ []) = append_assoc old.session.live (take i es) (e ∷ []) in
-      subst (λ (done : List Event). HasStepped R old after done) (sym (take_item es i e within is))
-      (record {
-        start = ap (λ (s : State). s.start) p.2;
-        live = ap (λ (s : State). s.live) p.2 ∙ all;
-        undone = ap (λ (s : State). s.undone) p.2 ∙ sym (none_behind old.session.undone (take i es) e);
-        marks = marks ∙ so_far.marks;
-        through =
-            grind (arith, length-append, not_full, run_last);
-      })
+      let through : GoThrough R w (live ++ e ∷ []) = grind (arith, length-append, not_full, run_last) in
+      let all : live ++ e ∷ [] ≡ old.session.live ++ take (i + 1) es =
+      append_assoc old.session.live (take i es) (e ∷ []) ∙ ap (λ (fs : List Event). old.session.live ++ fs) (sym (take_item es i e within is)) in
+      subst (λ (done : List Event). GoesTo R old done after (Ok tt)) all
+      ((λ j. record { session = p.2 j; marks = (marks ∙ ap (λ (b : BookState). b.marks) so_far.0) j }), through)
 
   refused_at : (n : ℕ) (cause : Refusal) → n ≡ length now.session.live + 1 → apply R now.session e ≡ Err cause
       → IsRefusedAt R old.session.start (old.session.live ++ es) n cause
@@ -121,8 +85,8 @@ module _ (R : ℕ) (old now : BookState) (es : List Event) (i : ℕ) (e : Event)
     later = drop (i + 1) es;
     all =
         grind (arith, split_at, append_assoc);
-    number = number ∙ ap (λ (fs : List Event). length fs + 1) so_far.live;
-    through = so_far.through;
+    number = number ∙ ap (λ (b : BookState). length b.session.live + 1) so_far.0;
+    through = so_far.1;
     refused = sym at_now ∙ h;
   }
 
@@ -134,23 +98,10 @@ module _ (R : ℕ) (old now : BookState) (es : List Event) (i : ℕ) (e : Event)
     | inr other ↦ inr (other, refused_at n cause number h)
   ]
 
--- one of some events was refused
-pub some_refused : (R : ℕ) (old new : BookState) (es : List Event) (refused : RefusedEvent) → 1 ≤ length es
-    → RefusesOne R old.session.start (old.session.live ++ es) refused → StepsAll R old es new (Err refused)
-some_refused R old new es refused some k = grind arith
+pub all_of : (R : ℕ) (old new : BookState) (es : List Event) (i : ℕ) → length es ≤ i → GoesTo R old (old.session.live ++ take i es) new (Ok tt) → GoesTo R old (old.session.live ++ es) new (Ok tt)
+all_of R old new es i all h = subst (λ (done : List Event). GoesTo R old (old.session.live ++ done) new (Ok tt)) (take_all i es all) h
 
--- all of them happened
-pub all_stepped : (R : ℕ) (old new : BookState) (es : List Event) → HasStepped R old new es → StepsAll R old es new (Ok tt)
-all_stepped R old new es k = grind (arith, same_book, append-nil)
-
-pub all_of : (R : ℕ) (old new : BookState) (es : List Event) (i : ℕ) → length es ≤ i → HasStepped R old new (take i es) → StepsAll R old es new (Ok tt)
-all_of R old new es i all h = all_stepped R old new es (subst (λ (done : List Event). HasStepped R old new done) (take_all i es all) h)
-
--- Commands
-
--- what a command that is an event is answered
-pub event_happened : (R : ℕ) (b : BookState) (command : Command) (e : Event) (a : Answered) → as_event command ≡ Some e → IsObeyed R b command a → Happened R b e a
-event_happened R b command e a k obeyed = grind arith
+-- An event's answer
 
 event_not_made : (b after : BookState) (cause : Refusal) (reply : State → Reply) (o : Result State Refusal)
     → record { answer = Err cause; state = after } ≡ answer_with b reply (with_session b) o → o ≡ Err cause
@@ -168,20 +119,8 @@ not_happened R b after e cause (inr h) = inr (cc (ap (λ (a : Answered). a.answe
 
 -- Going back
 
-move_made : (b after : BookState) (reply : Reply) (o : Result State Refusal) → record { answer = Ok reply; state = after } ≡ move_answer b o
-    → (o ≡ Ok after.session) × (after.marks ≡ b.marks)
-move_made b after reply o h = grind arith
-
-pub went_back : (b after : BookState) (n : ℕ) (reply : Reply) → record { answer = Ok reply; state = after } ≡ move_answer b (back b.session n)
-    → (back b.session n ≡ Ok after.session) × (after.marks ≡ b.marks)
-went_back b after n reply h = move_made b after reply (back b.session n) h
-
 goes_back : (s : State) (n : ℕ) → n ≤ length s.live → back s n ≡ Ok (times n back_one s)
 goes_back s n within = back_goes s (times n back_one s) n within refl
-
--- not more steps than are live can be undone
-pub can_go_back : (b after : BookState) (n : ℕ) (cause : Refusal) → n ≤ length b.session.live → record { answer = Err cause; state = after } ≡ move_answer b (back b.session n) → ⊥
-can_go_back b after n cause within h = grind arith
 
 -- this many times back, k events are still live
 back_parts : (n k : ℕ) (s : State) → n + k ≡ length s.live → times n back_one s ≡ record { start = s.start; live = take k s.live; undone = drop k s.live ++ s.undone }
@@ -215,33 +154,22 @@ shared_less j k es fs h same = sym (take-take k j es h) ∙ ap (λ (gs : List Ev
 
 -- Making just these events live
 
+-- it matters nothing which ones were live
+goes_from : (R : ℕ) (old new : BookState) (es fs : List Event) (r : Result (Unit {0}) RefusedEvent) → GoesTo R (at_events old fs) es new r → GoesTo R old es new r
+goes_from R old new es fs (Ok done) h = h
+goes_from R old new es fs (Err refused) h = h
+
 -- after some live events all others of a list are made
-goes_on : (R : ℕ) (old mid new : BookState) (es rest : List Event) (r : Result (Unit {0}) RefusedEvent) → mid.session.start ≡ old.session.start → mid.marks ≡ old.marks
-    → mid.session.live ++ rest ≡ es → 1 ≤ length rest → StepsAll R mid rest new r → GoesTo R old es new r
-goes_on R old mid new es rest r start marks all some k = grind arith
-
-pub goes_to : (R : ℕ) (old mid new : BookState) (es rest : List Event) (n k j : ℕ) (r : Result (Unit {0}) RefusedEvent) → n + k ≡ length old.session.live → k < length es → k ≤ j
-    → take j old.session.live ≡ take j es → back old.session n ≡ Ok mid.session → mid.marks ≡ old.marks → rest ≡ drop k es → StepsAll R mid rest new r → GoesTo R old es new r
-goes_to R old mid new es rest n k j r enough within below shared back marks behind h =
-    let left = back_left n k old.session mid.session enough back in
+pub goes_to : (R : ℕ) (old mid new : BookState) (es rest : List Event) (k : ℕ) (r : Result (Unit {0}) RefusedEvent) → mid ≡ at_events old (take k old.session.live)
+    → take k old.session.live ≡ take k es → rest ≡ drop k es → GoesTo R mid (mid.session.live ++ rest) new r → GoesTo R old es new r
+goes_to R old mid new es rest k r at shared behind h =
     let all : mid.session.live ++ rest ≡ es =
-    ap₂ (λ (fs gs : List Event). fs ++ gs) (ap (λ (s : State). s.live) left ∙ shared_less j k old.session.live es below shared) behind ∙ take-append-drop k es in
-    goes_on R old mid new es rest r (ap (λ (s : State). s.start) left) marks all (omega (arith, ap length all, length-append mid.session.live rest, ap (λ (s : State). length s.live) left, length-take-le k old.session.live (omega arith))) h
-
--- whether a list is empty, by its length
-pub none_in : (es : List Event) → true ≡ (length es == 0) → es ≡ []
-none_in es h = grind (arith, common_steps, ne_eqb)
-
-pub some_in : (es : List Event) → false ≡ (length es == 0) → 1 ≤ length es
-some_in es h = grind arith
+    ap₂ (λ (fs gs : List Event). fs ++ gs) (ap (λ (b : BookState). b.session.live) at ∙ shared) behind ∙ take-append-drop k es in
+    goes_from R old new es (take k old.session.live) r (subst (λ (b : BookState). GoesTo R b es new r) at (subst (λ (fs : List Event). GoesTo R mid fs new r) all h))
 
 -- all that is after the first events
 pub rest_of : (k : ℕ) (es : List Event) → take (length es - k) (drop k es) ≡ drop k es
 rest_of k es = take_all (length es - k) (drop k es) (omega (arith, length-drop k es))
-
--- no event is made live
-pub to_none : (R : ℕ) (old new : BookState) (es : List Event) → es ≡ [] → new ≡ with_session old (session_at old.session.start []) → GoesTo R old es new (Ok tt)
-to_none R old new es none k = grind arith
 
 -- And undone ones after them
 
@@ -251,13 +179,12 @@ refused_before R w es fs n cause k = grind (arith, append_assoc)
 pub live_refused : (R : ℕ) (w : World) (es fs : List Event) (refused : RefusedEvent) → RefusesOne R w es refused → RefusesOne R w (es ++ fs) refused
 live_refused R w es fs refused k = grind (arith, refused_before)
 
-pub undone_refused : (R : ℕ) (old mid new : BookState) (es fs : List Event) (refused : RefusedEvent) → IsAt old es mid → StepsAll R mid fs new (Err refused)
+pub undone_refused : (R : ℕ) (old mid new : BookState) (es fs : List Event) (refused : RefusedEvent) → IsAt old es mid → GoesTo R mid (mid.session.live ++ fs) new (Err refused)
     → RefusesOne R old.session.start (es ++ fs) refused
-undone_refused R old mid new es fs refused at k = grind arith
+undone_refused R old mid new es fs refused at h = subst (λ (b : BookState). RefusesOne R b.session.start (b.session.live ++ fs) refused) at h
 
-all_behind : (R : ℕ) (old mid now : BookState) (es fs : List Event) → IsAt old es mid → GoThrough R old.session.start es → StepsAll R mid fs now (Ok tt)
-    → IsAt old (es ++ fs) now × GoThrough R old.session.start (es ++ fs)
-all_behind R old mid now es fs at through k = grind (arith, append-nil)
+all_behind : (R : ℕ) (old mid now : BookState) (es fs : List Event) → IsAt old es mid → GoesTo R mid (mid.session.live ++ fs) now (Ok tt) → GoesTo R old (es ++ fs) now (Ok tt)
+all_behind R old mid now es fs at h = subst (λ (b : BookState). GoesTo R b (b.session.live ++ fs) now (Ok tt)) at h
 
 back_to : (w : World) (es fs : List Event) (t : State) → back (session_at w (es ++ fs)) (length fs) ≡ Ok t → t ≡ record { start = w; live = es; undone = fs }
 back_to w es fs t goes =
@@ -266,13 +193,15 @@ back_to w es fs t goes =
     (take-append_seam es fs) (append-nil (drop (length es) (es ++ fs)) ∙ drop-append_seam es fs)
 
 -- this many events are live that those after can be undone
-pub enough_live : (R : ℕ) (old mid now : BookState) (es fs : List Event) → IsAt old es mid → GoThrough R old.session.start es → StepsAll R mid fs now (Ok tt)
-    → length fs ≤ length now.session.live
-enough_live R old mid now es fs at through k = grind (arith, all_behind, length-append)
+pub enough_live : (R : ℕ) (old mid now : BookState) (es fs : List Event) → IsAt old es mid → GoesTo R mid (mid.session.live ++ fs) now (Ok tt) → length fs ≤ length now.session.live
+enough_live R old mid now es fs at h = omega (arith, ap (λ (b : BookState). length b.session.live) (all_behind R old mid now es fs at h).0, length-append es fs)
 
-pub made_live : (R : ℕ) (old mid now new : BookState) (es fs : List Event) → IsAt old es mid → GoThrough R old.session.start es → StepsAll R mid fs now (Ok tt)
+pub made_live : (R : ℕ) (old mid now new : BookState) (es fs : List Event) → IsAt old es mid → GoesTo R mid (mid.session.live ++ fs) now (Ok tt)
     → back now.session (length fs) ≡ Ok new.session → new.marks ≡ now.marks → MakesLive R old es fs new (Ok tt)
-made_live R old mid now new es fs at through k goes marks = grind (arith, common_steps, all_behind, back_to)
+made_live R old mid now new es fs at h goes marks =
+    let there = all_behind R old mid now es fs at h in
+    let its = back_to old.session.start es fs new.session (ap (λ (b : BookState). back b.session (length fs)) (sym there.0) ∙ goes) in
+    ((λ i. record { session = its i; marks = (marks ∙ ap (λ (b : BookState). b.marks) there.0) i }), there.1)
 
 -- Bookmarks
 

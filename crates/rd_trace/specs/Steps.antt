@@ -1,6 +1,6 @@
 -- The results of the parts of replaying a trace: worlds, steps, bookmarks. No public clause cites
 -- them.
-use Rattle.std.specs.Prelude.{◌≡◌, ◌≢◌, ◌⊎◌, ◌++◌, ℕ, List, [], Some, None, Result, Ok, Err}
+use Rattle.std.specs.Prelude.{◌≡◌, ◌≢◌, ◌⊎◌, ◌++◌, ℕ, List, Some, None, Result, Ok, Err}
 use Rattle.rd_step.specs.Prelude.{World, model}
 use Rattle.rd_cell.specs.declared.refusal.Refusal.TheVariants.{NoMemory as NoMemoryRefused}
 use Rattle.rd_step.specs.declared.worlds.World.{World as CodeWorld}
@@ -37,13 +37,6 @@ IsAt old live new = new ≡ with_session old (session_at old.session.start live)
 -- the start
 abbrev pub RefusesOne : ℕ → World → List Event → RefusedEvent → Type 0
 RefusesOne R start events refused = (refused.cause ≡ NoMemoryRefused) ⊎ ((refused.cause ≢ NoMemoryRefused) × IsRefusedAt R start events refused.step refused.cause)
-
--- these events were made to happen after the live ones, or one was refused; if there are none,
--- nothing changed
-abbrev pub StepsAll : ℕ → BookState → List Event → BookState → Result (Unit {0}) RefusedEvent → Type 0
-StepsAll R old [] new result = (result ≡ Ok tt) × (new ≡ old)
-StepsAll R old events new (Ok _) = IsAt old (old.session.live ++ events) new × GoThrough R old.session.start (old.session.live ++ events)
-StepsAll R old events new (Err refused) = RefusesOne R old.session.start (old.session.live ++ events) refused
 
 -- just these events were made live, or one was refused
 abbrev pub GoesTo : ℕ → BookState → List Event → BookState → Result (Unit {0}) RefusedEvent → Type 0

@@ -1,9 +1,8 @@
 //! A session that was read, made to happen: its bookmarks one after another, then its live events,
 //! then its undone ones.
 
-ghost use Rattle.std.specs.Prelude.{◌≡◌, ◌≤◌, ◌↔◌, [], map, length, take, Ok, IsTrue};
+ghost use Rattle.std.specs.Prelude.{◌≡◌, ◌≤◌, ◌↔◌, ◌++◌, [], map, length, take, IsTrue};
 ghost use Rattle.rd_step.specs.Prelude.{MOST_CELLS};
-ghost use Rattle.rd_journal.specs.State.{back};
 ghost use Rattle.rd_journal.specs.Sessions.{state};
 ghost use Rattle.rd_marks.specs.BookViews.{book_state};
 ghost use Rattle.rd_marks.specs.NameBytes.{MOST_MARKS};
@@ -12,7 +11,7 @@ ghost use Rattle.rd_marks.specs.Rules.{GoThrough, HaveDifferentNames};
 ghost use Rattle.rd_trace.specs.Bookmarks.{saved_mark};
 ghost use Rattle.rd_trace.specs.Saved.{saved_trace, loaded_state};
 ghost use Rattle.rd_trace.specs.Loading.{Replays};
-ghost use Rattle.rd_trace.specs.Steps.{MakesWorld, StepsAll, GoesTo, MakesLive, SetsMarks, IsFaultOfStep, IsFaultOfMark};
+ghost use Rattle.rd_trace.specs.Steps.{MakesWorld, GoesTo, MakesLive, SetsMarks, IsFaultOfStep, IsFaultOfMark};
 
 use super::bookmarks::SavedMark;
 use super::faults::LoadTraceFault;
@@ -20,7 +19,7 @@ use super::saved::SavedSession;
 use super::starts::Start;
 use rd_cell::Refusal;
 use rd_journal::Session;
-use rd_marks::{Book, Command};
+use rd_marks::Book;
 use rd_step::{Event, Unassembled, World};
 use std::alloc::Global;
 
@@ -112,7 +111,7 @@ fn make_live<const R: usize>(
 {
     go_to(book, events)?;
     step_all(book, undone)?;
-    go_back(book, undone.len() as u64);
+    book.go_back(undone.len() as u64);
     Ok(())
 }
 
@@ -121,12 +120,8 @@ fn make_live<const R: usize>(
 fn go_to<const R: usize>(book: &mut Book<R>, events: &[Event]) -> Result<(), RefusedEvent>
     ensures { GoesTo R (book_state book.old) events.now (book_state book.new) result }
 {
-    if events.is_empty() {
-        book.to_start();
-        return Ok(());
-    }
-    let kept = shared_beginning(book.session(), events).min(events.len() - 1);
-    go_back(book, book.session().len() - kept as u64);
+    let kept = shared_beginning(book.session(), events);
+    book.keep_first(kept as u64);
     step_all(book, &events[kept..])
 }
 
@@ -153,25 +148,14 @@ fn is_same(event: &Event, other: &Event) -> bool
     *event == *other
 }
 
-/// Undoes this many of the live steps.
-fn go_back<const R: usize>(book: &mut Book<R>, n: u64)
-    requires { n ≤ length (book_state book.old).session.live }
-    ensures session { back (book_state book.old).session n ≡ Ok (book_state book.new).session }
-    ensures marks { (book_state book.new).marks ≡ (book_state book.old).marks }
-{
-    match book.obey(Command::Back(n)) {
-        Err(_) => unreachable!(),
-        Ok(_) => {}
-    }
-}
-
-/// Makes events happen in order, or returns the first one that was refused.
+/// Makes events happen in order, where none is undone, or returns the first one that was refused.
 fn step_all<const R: usize>(book: &mut Book<R>, events: &[Event]) -> Result<(), RefusedEvent>
-    requires { GoThrough R (book_state book.old).session.start (book_state book.old).session.live }
-    ensures { StepsAll R (book_state book.old) events.now (book_state book.new) result }
+    requires through { GoThrough R (book_state book.old).session.start (book_state book.old).session.live }
+    requires none { (book_state book.old).session.undone ≡ [] }
+    ensures { GoesTo R (book_state book.old) ((book_state book.old).session.live ++ events.now) (book_state book.new) result }
 {
     for event in events {
-        if let Err(cause) = book.obey(Command::of_event(*event)) {
+        if let Err(cause) = book.apply(*event) {
             return Err(RefusedEvent {
                 step: book.session().len() + 1,
                 cause,

@@ -196,7 +196,7 @@ const AT_THE_START: [(Command, Result<Reply, Refusal>); 5] = [
 #[test]
 fn at_the_start_the_bookmarks_stay(rt: HostRuntime) -> Result<(), Fail> {
     let mut book = marked_book(rt.alloc())?;
-    book.keep_first(0);
+    book.to_start();
     compare(&rt, &book, EVENTS);
     for (command, wanted) in AT_THE_START {
         assert_eq!(rt; book.obey(command), wanted, "{command:?}");

@@ -72,7 +72,7 @@ fn a_chain_of_bookmarks_keeps_the_steps_of_the_last(rt: HostRuntime) -> Result<(
         assert_eq!(rt; book.nodes(), book.session().len(), "link {i}");
     }
     assert!(rt; is_at_mark(&book, rt.alloc())?);
-    book.keep_first(0);
+    book.to_start();
     book.goto_mark(letter(LINKS - 1)?)?;
     assert!(rt; is_at_mark(&book, rt.alloc())?);
     book.drop_mark(letter(LINKS - 1)?)?;

@@ -20,10 +20,10 @@ returns-in_err-step_all g c =
 pub go_back-requires : goal.go_back-requires
 go_back-requires g c =
     let old = book_state c.args.book.now in
-    (omega arith, enough_live g.row.R old (book_state c.go_to.new.book) (book_state c.step_all.new.book) c.args.events.now c.args.undone.now c.in_ok-go_to.ensures.0 c.in_ok-go_to.ensures.1 c.in_ok-step_all.ensures)
+    (omega arith, enough_live g.row.R old (book_state c.go_to.new.book) (book_state c.step_all.new.book) c.args.events.now c.args.undone.now c.in_ok-go_to.ensures.0 c.in_ok-step_all.ensures)
 
 pub returns : goal.returns
 returns g c =
     let old = book_state c.args.book.now in
-    made_live g.row.R old (book_state c.go_to.new.book) (book_state c.step_all.new.book) (book_state c.go_back.new.book) c.args.events.now c.args.undone.now
-    c.in_ok-go_to.ensures.0 c.in_ok-go_to.ensures.1 c.in_ok-step_all.ensures c.go_back.ensures.session c.go_back.ensures.marks
+    made_live g.row.R old (book_state c.go_to.new.book) (book_state c.step_all.new.book) (book_state c.go_back.new.self) c.args.events.now c.args.undone.now
+    c.in_ok-go_to.ensures.0 c.in_ok-step_all.ensures c.go_back.ensures.session c.go_back.ensures.marks

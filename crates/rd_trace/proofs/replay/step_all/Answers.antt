@@ -1,27 +1,25 @@
 use Rattle.std.proofs.Common.{◌≡◌, ◌+◌, length, ap, ◌∙◌, arith}
 use Rattle.rd_trace.proofs.Prelude.{get_or_default, State, BookState, book_state}
-use Rattle.rd_trace.proofs.ReplayLemmas.{none_stepped, one_stepped, one_refused, some_refused, all_of, event_happened, happened, not_happened}
+use Rattle.rd_trace.proofs.ReplayLemmas.{none_stepped, one_stepped, one_refused, all_of, happened, not_happened}
 use Rattle.rd_trace.proofs.replay.step_all.Goals as goal
 
 pub loop-event-init : goal.loop-event-init
-loop-event-init g c = none_stepped g.row.R (book_state c.args.book.now) c.requires
+loop-event-init g c = none_stepped g.row.R (book_state c.args.book.now) c.requires.through c.requires.none
 
 pub returns-in-Err : goal.returns-in-Err
 returns-in-Err g c =
     let old = book_state c.args.book.now in
     let now = book_state c.loop-event.book in
-    let after = book_state c.obey.new.self in
     let number : c.len.result + 1 ≡ length now.session.live + 1 =
     ap (λ n. n + 1) (c.len.ensures.count ∙ ap (λ (s : State). length s.live) (c.session.ensures.state ∙ ap (λ (b : BookState). b.session) c.in-Err.ensures.unchanged)) in
-    some_refused g.row.R old after c.args.events.now (record { step = c.len.result + 1; cause = c.in-Err.cause }) (omega arith)
-    (one_refused g.row.R old now c.args.events.now c.loop-event.event-index _ c.loop-event-test.true (get_or_default c.args.events.now c.loop-event.event-index _ _ c.loop-event-test.true) c.loop-event.invariant (c.len.result + 1) c.in-Err.cause number
-    (not_happened g.row.R now after _ c.in-Err.cause (event_happened g.row.R now c.of_event.result _ _ c.of_event.ensures c.in-Err.ensures.answer)))
+    one_refused g.row.R old now c.args.events.now c.loop-event.event-index _ c.loop-event-test.true (get_or_default c.args.events.now c.loop-event.event-index _ _ c.loop-event-test.true) c.loop-event.invariant (c.len.result + 1) c.in-Err.cause number
+    (not_happened g.row.R now (book_state c.apply.new.self) _ c.in-Err.cause c.in-Err.ensures.answer)
 
 pub loop-event-preserved : goal.loop-event-preserved
 loop-event-preserved g c =
     let now = book_state c.loop-event.book in
-    let after = book_state c.obey.new.self in
-    let did = happened g.row.R now after _ c.in_default.field-0 (event_happened g.row.R now c.of_event.result _ _ c.of_event.ensures c.in_default.ensures.answer) in
+    let after = book_state c.apply.new.self in
+    let did = happened g.row.R now after _ _ c.in_default.ensures.answer in
     one_stepped g.row.R (book_state c.args.book.now) now c.args.events.now c.loop-event.event-index _ c.loop-event-test.true (get_or_default c.args.events.now c.loop-event.event-index _ _ c.loop-event-test.true) c.loop-event.invariant after did.0 did.1
 
 pub returns : goal.returns
