@@ -37,7 +37,7 @@ LoadsFile d result =
 abbrev pub ViewsFiles : ℕ → ℕ → ℕ → Option (List ℕ) → Option (List ℕ) → Bool → Result ℕ ProgramFault → Type 0
 ViewsFiles count R actors output output' failed result =
     (((fault : ProgramFault) × (result ≡ Err fault) × IsUnread fault) × Keeps output output' × (failed ≡ false))
-    ⊎ ((scripts : List (Vec ℕ Global)) × (length scripts ≡ count) × ViewsOver R (fresh_state R actors) scripts output output' failed result)
+    ⊎ ((scripts : List (Vec ℕ Global)) × (length scripts ≡ count) × ViewsOver (fresh_state R actors) scripts output output' failed result)
 
 -- the input was not used: no byte was read, and it has not failed
 abbrev pub LeavesInput : Devices → Type 0

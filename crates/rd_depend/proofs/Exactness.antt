@@ -5,35 +5,35 @@ use Rattle.rd_depend.proofs.Prelude.{map-append, take_all, World, Stepped, step,
 use Rattle.rd_depend.proofs.FirstOfActor.{MayComeFirst, one_place}
 
 -- an entry that depends on no earlier one goes first, and the others run on with their entries
-pub front : (R : ℕ) (w : World) (xs : List Entry) (x : Entry) (ys : List Entry) → IsRunFrom R w (xs ++ x ∷ ys) → IsFree x xs → FirstStep R w x (xs ++ ys)
-front R w xs x ys h free =
-    let to = runs_to R w (xs ++ x ∷ ys) h in
-    let m = middle R w xs x ys to.last to.runs in
-    let first = goes_first R w x.event (events xs) (events ys) (record { world = m.before; entries = xs })
+pub front : (w : World) (xs : List Entry) (x : Entry) (ys : List Entry) → IsRunFrom w (xs ++ x ∷ ys) → IsFree x xs → FirstStep w x (xs ++ ys)
+front w xs x ys h free =
+    let to = runs_to w (xs ++ x ∷ ys) h in
+    let m = middle w xs x ys to.last to.runs in
+    let first = goes_first w x.event (events xs) (events ys) (record { world = m.before; entries = xs })
     (record { world = m.after; entry = x }) (record { world = to.last; entries = ys }) m.ran m.goes free m.rest in
     record {
       after = first.after;
       goes = first.goes;
-      rest = ap run_entries (ap (run R first.after) (map-append (λ (y : Entry). y.event) xs ys) ∙ first.runs);
+      rest = ap run_entries (ap (run first.after) (map-append (λ (y : Entry). y.event) xs ys) ∙ first.runs);
     }
 
 -- Where the first event of the one list may be in the other
 
 -- equivalent lists have it at an entry that depends on no earlier one; without it there and in the
 -- world after it the rests are equivalent
-pub record ComesFirst (R : ℕ) (w : World) (e : Event) (es : List Event) (rest : List Entry) : Type 0 where
+pub record ComesFirst (w : World) (e : Event) (es : List Event) (rest : List Entry) : Type 0 where
   pub left : List Entry
   pub may : MayComeFirst e rest left
   pub stepped : Stepped
-  pub goes : step R w e ≡ Ok stepped
-  pub on : IsEquivalent R stepped.world es (events left)
+  pub goes : step w e ≡ Ok stepped
+  pub on : IsEquivalent stepped.world es (events left)
 
-pub comes_first : (R : ℕ) (w : World) (e : Event) (es : List Event) (rest : List Entry) → IsRunFrom R w rest
-    → IsEquivalent R w (e ∷ es) (events rest) → ComesFirst R w e es rest
-comes_first R w e es rest runs h =
-    let to = runs_to R w rest runs in
+pub comes_first : (w : World) (e : Event) (es : List Event) (rest : List Entry) → IsRunFrom w rest
+    → IsEquivalent w (e ∷ es) (events rest) → ComesFirst w e es rest
+comes_first w e es rest runs h =
+    let to = runs_to w rest runs in
     let q : Ran = record { world = to.last; entries = rest } in
-    let s = stands_in R w e h.earlier h.later q (ap (run R w) (sym h.stands) ∙ to.runs) h.independent in
+    let s = stands_in w e h.earlier h.later q (ap (run w) (sym h.stands) ∙ to.runs) h.independent in
     let left : h.earlier ++ h.later ≡ events (s.before ++ s.behind) =
     (λ i. sym s.before_events i ++ sym s.behind_events i) ∙ sym (map-append (λ (y : Entry). y.event) s.before s.behind) in
     record {
@@ -41,16 +41,16 @@ comes_first R w e es rest runs h =
       may = grind arith;
       stepped = h.stepped;
       goes = h.goes;
-      on = subst (λ (l : List Event). IsEquivalent R h.stepped.world es l) left h.rest;
+      on = subst (λ (l : List Event). IsEquivalent h.stepped.world es l) left h.rest;
     }
 
 -- and the way back
-pub stands_first : (R : ℕ) (w : World) (x : Entry) (u : World) (es : List Event) (rest left : List Entry) → IsRunFrom R w rest
-    → step R w x.event ≡ Ok (record { world = u; entry = x }) → (m : MayComeFirst x.event rest left)
-    → IsEquivalent R u es (events left) → IsEquivalent R w (x.event ∷ es) (events rest)
-stands_first R w x u es rest left runs goes m on =
-    let to = runs_to R w (m.earlier ++ m.entry ∷ m.later) (subst (λ (l : List Entry). IsRunFrom R w l) m.stands runs) in
-    let mid = middle R w m.earlier m.entry m.later to.last to.runs in
+pub stands_first : (w : World) (x : Entry) (u : World) (es : List Event) (rest left : List Entry) → IsRunFrom w rest
+    → step w x.event ≡ Ok (record { world = u; entry = x }) → (m : MayComeFirst x.event rest left)
+    → IsEquivalent u es (events left) → IsEquivalent w (x.event ∷ es) (events rest)
+stands_first w x u es rest left runs goes m on =
+    let to = runs_to w (m.earlier ++ m.entry ∷ m.later) (subst (λ (l : List Entry). IsRunFrom w l) m.stands runs) in
+    let mid = middle w m.earlier m.entry m.later to.last to.runs in
     record {
       earlier = events m.earlier;
       later = events m.later;
@@ -60,7 +60,7 @@ stands_first R w x u es rest left runs goes m on =
         ran = record { world = mid.before; entries = m.earlier };
         runs = mid.ran;
         stepped = record { world = mid.after; entry = m.entry };
-        goes = ap (step R mid.before) (sym m.its_event) ∙ mid.goes;
+        goes = ap (step mid.before) (sym m.its_event) ∙ mid.goes;
         free = m.free;
       };
       stepped = record { world = u; entry = x };
@@ -75,16 +75,16 @@ one_left e rest l k a b = grind (arith, one_place)
 
 -- where the first event of a run may come first in another from the same world, the entry is the
 -- same there, and what is left runs on from the world after it
-pub record RunsOn (R : ℕ) (v : World) (x entry : Entry) (left : List Entry) : Type 0 where
+pub record RunsOn (v : World) (x entry : Entry) (left : List Entry) : Type 0 where
   pub same : entry ≡ x
-  pub runs : IsRunFrom R v left
+  pub runs : IsRunFrom v left
 
-pub runs_on : (R : ℕ) (w : World) (x : Entry) (xs ys left : List Entry) (first : FirstStep R w x xs) → IsRunFrom R w ys → (m : MayComeFirst x.event ys left)
-    → RunsOn R first.after x m.entry left
-runs_on R w x xs ys left first runs m =
-    let to_front = front R w m.earlier m.entry m.later (subst (λ (l : List Entry). IsRunFrom R w l) m.stands runs) m.free in
+pub runs_on : (w : World) (x : Entry) (xs ys left : List Entry) (first : FirstStep w x xs) → IsRunFrom w ys → (m : MayComeFirst x.event ys left)
+    → RunsOn first.after x m.entry left
+runs_on w x xs ys left first runs m =
+    let to_front = front w m.earlier m.entry m.later (subst (λ (l : List Entry). IsRunFrom w l) m.stands runs) m.free in
     let same : record { world = to_front.after; entry = m.entry } ≡ record { world = first.after; entry = x } =
-    as_stepped-same _ _ (sym to_front.goes ∙ ap (step R w) m.its_event ∙ first.goes) in
+    as_stepped-same _ _ (sym to_front.goes ∙ ap (step w) m.its_event ∙ first.goes) in
     record {
       same = ap (λ (s : Stepped). s.entry) same;
       runs =
@@ -92,15 +92,15 @@ runs_on R w x xs ys left first runs m =
     }
 
 -- and the runs are equivalent exactly where what is left of them is
-pub equivalent_first : (R : ℕ) (w : World) (x : Entry) (xs ys left : List Entry) (first : FirstStep R w x xs) → IsRunFrom R w ys → MayComeFirst x.event ys left
-    → IsEquivalent R w (events (x ∷ xs)) (events ys) ↔ IsEquivalent R first.after (events xs) (events left)
-equivalent_first R w x xs ys left first runs m = (
+pub equivalent_first : (w : World) (x : Entry) (xs ys left : List Entry) (first : FirstStep w x xs) → IsRunFrom w ys → MayComeFirst x.event ys left
+    → IsEquivalent w (events (x ∷ xs)) (events ys) ↔ IsEquivalent first.after (events xs) (events left)
+equivalent_first w x xs ys left first runs m = (
   λ h.
-      let c = comes_first R w x.event (events xs) ys runs h in
+      let c = comes_first w x.event (events xs) ys runs h in
       let there : c.stepped ≡ record { world = first.after; entry = x } = as_stepped-same _ _ (sym c.goes ∙ first.goes) in
-      subst (λ (s : Stepped). IsEquivalent R s.world (events xs) (events left)) there
-      (subst (λ (l : List Entry). IsEquivalent R c.stepped.world (events xs) (events l)) (one_left x.event ys c.left left c.may m) c.on),
-  λ h. stands_first R w x first.after (events xs) ys left runs first.goes m h,
+      subst (λ (s : Stepped). IsEquivalent s.world (events xs) (events left)) there
+      (subst (λ (l : List Entry). IsEquivalent c.stepped.world (events xs) (events l)) (one_left x.event ys c.left left c.may m) c.on),
+  λ h. stands_first w x first.after (events xs) ys left runs first.goes m h,
 )
 
 pub no_events : (rest : List Entry) → events rest ≡ [] → rest ≡ []
@@ -111,24 +111,24 @@ no_events (x ∷ xs) h = cc
 
 -- after it: the world there, from which what is left of both lists runs, and they are equivalent
 -- exactly where this is
-record Behind (R : ℕ) (w : World) (a b xs ys : List Entry) : Type 0 where
+record Behind (w : World) (a b xs ys : List Entry) : Type 0 where
   here : World
-  first_runs : IsRunFrom R here xs
-  second_runs : IsRunFrom R here ys
-  exactly : IsEquivalent R w (events a) (events b) ↔ IsEquivalent R here (events xs) (events ys)
+  first_runs : IsRunFrom here xs
+  second_runs : IsRunFrom here ys
+  exactly : IsEquivalent w (events a) (events b) ↔ IsEquivalent here (events xs) (events ys)
 
-behind : (R n : ℕ) (w : World) (a b : List Entry) → IsRunFrom R w a → IsRunFrom R w b → n ≤ length a → n ≤ length b
-    → events (take n a) ≡ events (take n b) → Behind R w a b (drop n a) (drop n b)
-behind R zero w a b runs_a runs_b in_a in_b h = record { here = w; first_runs = runs_a; second_runs = runs_b; exactly = (λ e. e, λ e. e) }
-behind R (suc n) w [] b runs_a runs_b in_a in_b h = absurd (omega arith)
-behind R (suc n) w (x ∷ xs) [] runs_a runs_b in_a in_b h = absurd (omega arith)
-behind R (suc n) w (x ∷ xs) (y ∷ ys) runs_a runs_b in_a in_b h =
+behind : (n : ℕ) (w : World) (a b : List Entry) → IsRunFrom w a → IsRunFrom w b → n ≤ length a → n ≤ length b
+    → events (take n a) ≡ events (take n b) → Behind w a b (drop n a) (drop n b)
+behind zero w a b runs_a runs_b in_a in_b h = record { here = w; first_runs = runs_a; second_runs = runs_b; exactly = (λ e. e, λ e. e) }
+behind (suc n) w [] b runs_a runs_b in_a in_b h = absurd (omega arith)
+behind (suc n) w (x ∷ xs) [] runs_a runs_b in_a in_b h = absurd (omega arith)
+behind (suc n) w (x ∷ xs) (y ∷ ys) runs_a runs_b in_a in_b h =
     let e : y.event ≡ x.event = cc in
     let m : MayComeFirst x.event (y ∷ ys) ys =
     record { earlier = []; entry = y; later = ys; stands = refl; its_event = e; free = tt; leaves = refl } in
-    let first = first_step R w x xs runs_a in
-    let one = equivalent_first R w x xs (y ∷ ys) ys first runs_b m in
-    let r = behind R n first.after xs ys first.rest (runs_on R w x xs (y ∷ ys) ys first runs_b m).runs (omega arith) (omega arith) cc in
+    let first = first_step w x xs runs_a in
+    let one = equivalent_first w x xs (y ∷ ys) ys first runs_b m in
+    let r = behind n first.after xs ys first.rest (runs_on w x xs (y ∷ ys) ys first runs_b m).runs (omega arith) (omega arith) cc in
     record {
       here = r.here;
       first_runs = r.first_runs;
@@ -142,9 +142,9 @@ all_behind a n = take_all (length a - n) (drop n a) (omega (arith, length-drop n
 -- an answer for what is after the common beginning is one for the lists
 pub right_behind : (a b : List Entry) (n : ℕ) (same : Bool) → n ≤ length a → n ≤ length b → events (take n a) ≡ events (take n b)
     → DecidesEquivalence (take (length a - n) (drop n a)) (take (length b - n) (drop n b)) same → DecidesEquivalence a b same
-right_behind a b n same in_a in_b h right R w runs_a runs_b =
-    let r = behind R n w a b runs_a runs_b in_a in_b h in
+right_behind a b n same in_a in_b h right w runs_a runs_b =
+    let r = behind n w a b runs_a runs_b in_a in_b h in
     let rest : DecidesEquivalence (drop n a) (drop n b) same =
     grind (arith, all_behind) in
-    let there = rest R r.here r.first_runs r.second_runs in
+    let there = rest r.here r.first_runs r.second_runs in
     (λ k. r.exactly.1 (there.0 k), λ k. there.1 (r.exactly.0 k))

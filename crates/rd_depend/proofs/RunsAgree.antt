@@ -1,6 +1,6 @@
 -- Of two runs from one world the events are equivalent exactly where the entries of the one may be
 -- taken out of the other.
-use Rattle.std.proofs.Common.{◌≡◌, ℕ, true, false, refl, sym, ap, subst, List, [], ◌∷◌, ◌++◌, Ok, arith}
+use Rattle.std.proofs.Common.{◌≡◌, true, false, refl, sym, ap, subst, List, [], ◌∷◌, ◌++◌, Ok, arith}
 use Rattle.rd_depend.proofs.Prelude.{World, step, IsFree, Entry, IsEquivalent, events, IsRunFrom, first_step, DecidesEquivalence}
 use Rattle.rd_depend.proofs.FirstOfActor.{MayComeFirst}
 use Rattle.rd_depend.proofs.Exactness.{comes_first, runs_on, equivalent_first, no_events}
@@ -9,18 +9,18 @@ use Rattle.rd_depend.proofs.KeysMeet.{MakingWrote, apart_of_free, free_of_apart}
 
 -- A step of a run at the whole of a segment is its making, which wrote
 
-making_wrote : (R : ℕ) (w v : World) (x : Entry) → step R w x.event ≡ Ok (record { world = v; entry = x }) → MakingWrote x
-making_wrote h w v x k t e = grind arith
+making_wrote : (w v : World) (x : Entry) → step w x.event ≡ Ok (record { world = v; entry = x }) → MakingWrote x
+making_wrote w v x k t e = grind arith
 
 abbrev AllMakingsWrote : List Entry → Type 0
 AllMakingsWrote [] = Unit {0}
 AllMakingsWrote (x ∷ xs) = MakingWrote x × AllMakingsWrote xs
 
-makings_wrote : (R : ℕ) (w : World) (xs : List Entry) → IsRunFrom R w xs → AllMakingsWrote xs
-makings_wrote R w [] h = tt
-makings_wrote R w (x ∷ xs) h =
-    let first = first_step R w x xs h in
-    (making_wrote R w first.after x first.goes, makings_wrote R first.after xs first.rest)
+makings_wrote : (w : World) (xs : List Entry) → IsRunFrom w xs → AllMakingsWrote xs
+makings_wrote w [] h = tt
+makings_wrote w (x ∷ xs) h =
+    let first = first_step w x xs h in
+    (making_wrote w first.after x first.goes, makings_wrote first.after xs first.rest)
 
 makings_before : (xs ys : List Entry) → AllMakingsWrote (xs ++ ys) → AllMakingsWrote xs
 makings_before [] ys h = tt
@@ -38,13 +38,13 @@ all_free x (y ∷ ys) h = (free_of_apart x y h.0, all_free x ys h.1)
 
 -- What is equivalent may be taken out, one step after another
 
-pub equivalent_taken : (R : ℕ) (w : World) (xs ys : List Entry) → IsRunFrom R w xs → IsRunFrom R w ys → IsEquivalent R w (events xs) (events ys) → TakesAll xs ys
-equivalent_taken R w [] ys runs_x runs_y h = no_events ys h
-equivalent_taken R w (x ∷ xs) ys runs_x runs_y h =
-    let c = comes_first R w x.event (events xs) ys runs_y h in
-    let first = first_step R w x xs runs_x in
-    let on = runs_on R w x xs ys c.left first runs_y c.may in
-    let makings = makings_wrote R w (c.may.earlier ++ c.may.entry ∷ c.may.later) (subst (λ (l : List Entry). IsRunFrom R w l) c.may.stands runs_y) in (
+pub equivalent_taken : (w : World) (xs ys : List Entry) → IsRunFrom w xs → IsRunFrom w ys → IsEquivalent w (events xs) (events ys) → TakesAll xs ys
+equivalent_taken w [] ys runs_x runs_y h = no_events ys h
+equivalent_taken w (x ∷ xs) ys runs_x runs_y h =
+    let c = comes_first w x.event (events xs) ys runs_y h in
+    let first = first_step w x xs runs_x in
+    let on = runs_on w x xs ys c.left first runs_y c.may in
+    let makings = makings_wrote w (c.may.earlier ++ c.may.entry ∷ c.may.later) (subst (λ (l : List Entry). IsRunFrom w l) c.may.stands runs_y) in (
       c.left,
       record {
         earlier = c.may.earlier;
@@ -56,7 +56,7 @@ equivalent_taken R w (x ∷ xs) ys runs_x runs_y h =
             grind (arith, all_apart, makings_before);
         leaves = c.may.leaves;
       },
-      equivalent_taken R first.after xs c.left first.rest on.runs ((equivalent_first R w x xs ys c.left first runs_y c.may).0 h),
+      equivalent_taken first.after xs c.left first.rest on.runs ((equivalent_first w x xs ys c.left first runs_y c.may).0 h),
     )
 
 -- and the way back
@@ -64,18 +64,18 @@ equivalent_taken R w (x ∷ xs) ys runs_x runs_y h =
 taken_first : (x : Entry) (ys left : List Entry) → Takes x ys left → MayComeFirst x.event ys left
 taken_first x ys left t = grind (arith, all_free)
 
-taken_same : (R : ℕ) (w : World) (xs ys : List Entry) → IsRunFrom R w xs → IsRunFrom R w ys → TakesAll xs ys → IsEquivalent R w (events xs) (events ys)
-taken_same R w [] ys runs_x runs_y h = ap events h
-taken_same R w (x ∷ xs) ys runs_x runs_y h =
-    let first = first_step R w x xs runs_x in
+taken_same : (w : World) (xs ys : List Entry) → IsRunFrom w xs → IsRunFrom w ys → TakesAll xs ys → IsEquivalent w (events xs) (events ys)
+taken_same w [] ys runs_x runs_y h = ap events h
+taken_same w (x ∷ xs) ys runs_x runs_y h =
+    let first = first_step w x xs runs_x in
     let m = taken_first x ys h.0 h.1 in
-    (equivalent_first R w x xs ys h.0 first runs_y m).1
-    (taken_same R first.after xs h.0 first.rest (runs_on R w x xs ys h.0 first runs_y m).runs h.2)
+    (equivalent_first w x xs ys h.0 first runs_y m).1
+    (taken_same first.after xs h.0 first.rest (runs_on w x xs ys h.0 first runs_y m).runs h.2)
 
 -- the answers
 
 pub taken_equivalent : (a b : List Entry) → TakesAll a b → DecidesEquivalence a b true
-taken_equivalent a b h R w runs_a runs_b = (λ yes. taken_same R w a b runs_a runs_b h, λ equivalent. refl)
+taken_equivalent a b h w runs_a runs_b = (λ yes. taken_same w a b runs_a runs_b h, λ equivalent. refl)
 
 pub untaken_different : (a b : List Entry) → (TakesAll a b → ⊥) → DecidesEquivalence a b false
-untaken_different a b h R w runs_a runs_b = (λ yes. cc, λ equivalent. absurd (h (equivalent_taken R w a b runs_a runs_b equivalent)))
+untaken_different a b h w runs_a runs_b = (λ yes. cc, λ equivalent. absurd (h (equivalent_taken w a b runs_a runs_b equivalent)))

@@ -1,5 +1,5 @@
 -- What an answer about the equivalence of two runs states.
-use Rattle.std.specs.Prelude.{◌↔◌, ℕ, Bool, IsTrue, List}
+use Rattle.std.specs.Prelude.{◌↔◌, Bool, IsTrue, List}
 use Rattle.rd_step.specs.Prelude.{World}
 use Rattle.rd_step.specs.Equivalence.{IsEquivalent}
 use Rattle.rd_step.specs.Run.{events, IsRunFrom}
@@ -7,4 +7,4 @@ use Rattle.rd_step.specs.declared.entries.Entry.{Entry}
 
 -- the answer is whether the events of two runs are equivalent, from any start from which both run
 abbrev pub DecidesEquivalence : List Entry → List Entry → Bool → Type 0
-DecidesEquivalence a b same = (R : ℕ) (w : World) → IsRunFrom R w a → IsRunFrom R w b → IsTrue same ↔ IsEquivalent R w (events a) (events b)
+DecidesEquivalence a b same = (w : World) → IsRunFrom w a → IsRunFrom w b → IsTrue same ↔ IsEquivalent w (events a) (events b)

@@ -38,6 +38,6 @@ pub fn lone_undos_that_take_a_step_out_take_its_closure_out()
 
 /// Causal equivalence of two runs from one start is symmetric.
 pub fn equivalence_is_symmetric()
-    ensures { (R : ℕ) (w : World) (es fs : List Event) (r q : Ran) → run R w es ≡ Ok r → run R w fs ≡ Ok q → IsEquivalent R w es fs
-        → IsEquivalent R w fs es }
+    ensures { (w : World) (es fs : List Event) (r q : Ran) → run w es ≡ Ok r → run w fs ≡ Ok q → IsEquivalent w es fs
+        → IsEquivalent w fs es }
 {}

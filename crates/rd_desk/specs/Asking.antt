@@ -17,16 +17,16 @@ abbrev pub IsNotBusy : DeskRefusal → Type 0
 IsNotBusy (Busy words) = ⊥
 IsNotBusy _ = Unit {0}
 
-module _ (R : ℕ) (opened : BookState) where
+module _ (opened : BookState) where
   -- the viewer of this number had seen the old history, is answered this, and has then seen the new
   -- one, a legal history of the book that was opened. What a call finds goes on from the old history
   -- by calls of others alone; an answered call is then added to it. A refused one is not: what was
   -- found is full or was refused room, or, if the lock was not taken, the new history is the old one.
   abbrev pub IsSeen : ℕ → List (ℕ × Call) → Command → Answer → List (ℕ × Call) → Type 0
   IsSeen viewer old command (Ok answer) new =
-      (found : List (ℕ × Call)) × Continues viewer old found × (length found < MOST_CALLS) × (new ≡ found ++ viewer_entry viewer command answer ∷ []) × IsLegal R opened new
-  IsSeen viewer old command (Err HistoryFull) new = Continues viewer old new × (length new ≡ MOST_CALLS) × IsLegal R opened new
-  IsSeen viewer old command (Err NotRecorded) new = Continues viewer old new × (length new < MOST_CALLS) × IsLegal R opened new
+      (found : List (ℕ × Call)) × Continues viewer old found × (length found < MOST_CALLS) × (new ≡ found ++ viewer_entry viewer command answer ∷ []) × IsLegal opened new
+  IsSeen viewer old command (Err HistoryFull) new = Continues viewer old new × (length new ≡ MOST_CALLS) × IsLegal opened new
+  IsSeen viewer old command (Err NotRecorded) new = Continues viewer old new × (length new < MOST_CALLS) × IsLegal opened new
   IsSeen viewer old command (Err TicketsEnded) new = new ≡ old
   IsSeen viewer old command (Err (Busy words)) new = new ≡ old
 
@@ -38,11 +38,11 @@ module _ {T O : Type 0} {K : Ghosts T Call O} where
   KnowsWords pass (Err (Busy words)) = IsMissed pass (missed.Busy words)
   KnowsWords pass answer = Unit {0}
 
-  module _ (R : ℕ) (opened : BookState) (old new : Pass T Call O K) (command : Command) (answer : Answer) where
+  module _ (opened : BookState) (old new : Pass T Call O K) (command : Command) (answer : Answer) where
     -- what a viewer knows after a call
     pub record KnowsOutcome : Type 0 where
       pub same_number : number new ≡ number old
-      pub has_seen : IsSeen R opened (number old) (seen old) command answer (seen new)
+      pub has_seen : IsSeen opened (number old) (seen old) command answer (seen new)
       pub grown : KnowsMore old new
       pub words : KnowsWords new answer
 

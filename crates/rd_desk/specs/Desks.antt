@@ -46,6 +46,6 @@ module _ {R : ℕ} where
     -- viewer of the desk; and the history goes on from what each pass that was handed in had seen by
     -- calls of others alone
     pub record IsClosedOver (desk : Desk R) (passes : List (Pass (BookWithHistory R) Call (Book R) K)) (book : Book R) (history : History) : Type 0 where
-      pub leaves : IsLeftBy R (opened_state desk) (entries history) (book_state book)
+      pub leaves : IsLeftBy (opened_state desk) (entries history) (book_state book)
       pub names : NamesUpTo (viewers desk) (entries history)
       pub continues : AllByRecursion (λ (pass : Pass (BookWithHistory R) Call (Book R) K). Continues (number pass) (seen pass) (entries history)) passes

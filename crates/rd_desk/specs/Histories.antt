@@ -25,17 +25,17 @@ viewer_entry viewer command answer = (viewer, record { command = command; answer
 
 -- the entries lead from a book in this state to one in the last: each command in turn may be
 -- answered as its entry records
-abbrev pub Leaves : ℕ → BookState → List (ℕ × Call) → BookState → Type 0
-Leaves R b es last = AreObeyed R b (map (λ e. e.1.command) es) (map (λ e. e.1.answer) es) last
+abbrev pub Leaves : BookState → List (ℕ × Call) → BookState → Type 0
+Leaves b es last = AreObeyed b (map (λ e. e.1.command) es) (map (λ e. e.1.answer) es) last
 
 -- the entries are a legal history of a book in this state: they lead to some last state (the bars
 -- mean that there are states between the commands, but not which)
-abbrev pub IsLegal : ℕ → BookState → List (ℕ × Call) → Type 0
-IsLegal R b es = ∥ ((last : BookState) × Leaves R b es last) ∥₁
+abbrev pub IsLegal : BookState → List (ℕ × Call) → Type 0
+IsLegal b es = ∥ ((last : BookState) × Leaves b es last) ∥₁
 
 -- the entries are a legal history of a book in this state, and lead to this last state
-abbrev pub IsLeftBy : ℕ → BookState → List (ℕ × Call) → BookState → Type 0
-IsLeftBy R b es last = ∥ Leaves R b es last ∥₁
+abbrev pub IsLeftBy : BookState → List (ℕ × Call) → BookState → Type 0
+IsLeftBy b es last = ∥ Leaves b es last ∥₁
 
 -- why a call is not recorded in this history: the history is full, or it is not full, and the room
 -- for one more call was refused

@@ -28,7 +28,7 @@ impl<const R: usize> Desk<R> {
     pub fn ask<W: Wait>(&self, rt: &W, pass: &mut DeskPass<R>, command: Command) -> Answer
         requires own { IsViewerOf self.now pass.old }
         ensures own { IsViewerOf self.now pass.new }
-        ensures outcome { KnowsOutcome R (opened_state self.now) pass.old pass.new command result }
+        ensures outcome { KnowsOutcome (opened_state self.now) pass.old pass.new command result }
         ensures ended { next_seen pass.old ≡ 2 ^ 63 → result ≡ Err TicketsEnded }
         ensures waits { IfErr result IsNotBusy }
     {
@@ -46,7 +46,7 @@ impl<const R: usize> Desk<R> {
     pub fn try_ask(&self, pass: &mut DeskPass<R>, command: Command) -> Answer
         requires own { IsViewerOf self.now pass.old }
         ensures own { IsViewerOf self.now pass.new }
-        ensures outcome { KnowsOutcome R (opened_state self.now) pass.old pass.new command result }
+        ensures outcome { KnowsOutcome (opened_state self.now) pass.old pass.new command result }
         ensures ended { next_seen pass.old ≡ 2 ^ 63 → result ≡ Err TicketsEnded }
         ensures succeeds { viewers self.now ≡ 1 → IfErr result IsNotBusy }
     {
@@ -68,7 +68,7 @@ impl<const R: usize> Desk<R> {
         requires own { IsPassOf self.now.lock pass.old }
         requires taken { IsTaken self.now.lock pass.old pass.old kept }
         ensures own { IsViewerOf self.now pass.new }
-        ensures outcome { KnowsOutcome R (opened_state self.now) pass.old pass.new command result }
+        ensures outcome { KnowsOutcome (opened_state self.now) pass.old pass.new command result }
         ensures waits { IfErr result IsNotBusy }
     {
         let answer = kept.record(pass.number(), command);

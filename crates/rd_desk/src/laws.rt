@@ -14,9 +14,9 @@ ghost use Rattle.rd_desk.specs.Histories.{viewer_entry};
 /// A viewer's own calls grow by just the call that was answered, which is last in what it has seen,
 /// and by no call that was refused.
 pub fn own_calls_grow_by_the_answered_one()
-    ensures answered { (R : ℕ) (opened : BookState) (viewer : ℕ) (old new : List (ℕ × Call)) (command : Command) (answer : Result Reply Refusal)
-        → IsSeen R opened viewer old command (Ok answer) new
+    ensures answered { (opened : BookState) (viewer : ℕ) (old new : List (ℕ × Call)) (command : Command) (answer : Result Reply Refusal)
+        → IsSeen opened viewer old command (Ok answer) new
         → named viewer 1 new ≡ named viewer 1 old ++ (length new, (viewer_entry viewer command answer).1) ∷ [] }
-    ensures refused { (R : ℕ) (opened : BookState) (viewer : ℕ) (old new : List (ℕ × Call)) (command : Command) (refusal : DeskRefusal)
-        → IsSeen R opened viewer old command (Err refusal) new → named viewer 1 new ≡ named viewer 1 old }
+    ensures refused { (opened : BookState) (viewer : ℕ) (old new : List (ℕ × Call)) (command : Command) (refusal : DeskRefusal)
+        → IsSeen opened viewer old command (Err refusal) new → named viewer 1 new ≡ named viewer 1 old }
 {}

@@ -23,7 +23,7 @@ pub struct BookWithHistory<const R: usize> {
     pub(crate) book: Box<Book<R>>,
     pub(crate) history: History,
     pub(crate) opened: Snapshot<Book<R>>,
-    ghost legal: { IsLeftBy R (book_state opened.value) (entries history) (book_state book.value) },
+    ghost legal: { IsLeftBy (book_state opened.value) (entries history) (book_state book.value) },
     ghost few: { length (entries history) ≤ MOST_CALLS },
 }
 

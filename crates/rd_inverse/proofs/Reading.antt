@@ -10,18 +10,18 @@ use Rattle.rd_step.proofs.Removal.{can_undo, taken_out}
 use Rattle.rd_step.proofs.Room.{read_returns_none}
 
 -- putting the words of the entry's actor back, and no content, undoes the entry's step
-pub record IsUndoneByWords (R : ℕ) (now : World) (x : Entry) : Type 0 where
+pub record IsUndoneByWords (now : World) (x : Entry) : Type 0 where
   pub same : revert now x.event.actor x.old_actor None None ≡ unstep now x
-  pub formed : IsWellFormed R (revert now x.event.actor x.old_actor None None)
+  pub formed : IsWellFormed (revert now x.event.actor x.old_actor None None)
   pub room : (m : ℕ) → room_returned x.place x.old_content m ≡ 0
 
-pub undone_by_words : (R : ℕ) (now : World) (x : Entry) → WasStepped R now x → is_nothing x.wrote ≡ true → IsUndoneByWords R now x
-undone_by_words R now x was e =
-    let again = (taken_out R now x was).again in
-    let found : now.at ≡ (unstep now x).at = (changes_only R (unstep now x) was.event (record { world = now; entry = x }) again).reading e in
-    let same : revert now x.event.actor x.old_actor None None ≡ unstep now x = λ i. record { at = found i; actor = with_actor x.event.actor x.old_actor now.actor } in
+pub undone_by_words : (now : World) (x : Entry) → WasStepped now x → is_nothing x.wrote ≡ true → IsUndoneByWords now x
+undone_by_words now x was e =
+    let again = (taken_out now x was).again in
+    let found : now.at ≡ (unstep now x).at = (changes_only (unstep now x) was.event (record { world = now; entry = x }) again).reading e in
+    let same : revert now x.event.actor x.old_actor None None ≡ unstep now x = λ i. record { ring = now.ring; at = found i; actor = with_actor x.event.actor x.old_actor now.actor } in
     record {
       same = same;
-      formed = subst (λ (w : World). IsWellFormed R w) (sym same) (can_undo R now x was).formed;
-      room = λ m. read_returns_none R (unstep now x) was.event (record { world = now; entry = x }) m again e;
+      formed = subst (λ (w : World). IsWellFormed w) (sym same) (can_undo now x was).formed;
+      room = λ m. read_returns_none (unstep now x) was.event (record { world = now; entry = x }) m again e;
     }

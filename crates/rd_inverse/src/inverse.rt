@@ -15,10 +15,10 @@ use rd_step::{Entry, World};
 /// that remains may depend on it (Danos and Krivine 2004). What is left is the run without it,
 /// whichever run that was.
 pub fn unstep<const R: usize>(world: &mut World<R>, entry: &Entry)
-    requires { WasStepped R (model world.old) entry.now }
+    requires { WasStepped (model world.old) entry.now }
     ensures back { model world.new ≡ unstep (model world.old) entry.now }
-    ensures taken_out { (was : WasStepped R (model world.old) entry.now)
-        → IsTakenOut R (model world.old) (model world.new) entry.now was }
+    ensures taken_out { (was : WasStepped (model world.old) entry.now)
+        → IsTakenOut (model world.old) (model world.new) entry.now was }
     ensures room { (m : ℕ) → room world.new m ≡ room world.old m + room_returned entry.now.place entry.now.old_content m }
 {
     let actor = entry.event.actor;

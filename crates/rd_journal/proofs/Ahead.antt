@@ -10,24 +10,24 @@ use Rattle.rd_journal.proofs.Walks.{room_first}
 -- The first steps of a run
 
 -- they are a run
-pub first_run : (R n : ℕ) (w : World) (xs : List Entry) → IsRunFrom R w xs → IsRunFrom R w (take n xs)
-first_run R zero w xs h = refl
-first_run R (suc n) w [] h = h
-first_run R (suc n) w (x ∷ xs) h =
-    let first = first_step R w x xs h in
-    ap (λ (r : Result Stepped Refusal). run_entries (and_then r (λ s. result_map (preceded_by s.entry) (run R s.world (events (take n xs)))))) first.goes
-    ∙ preceded_entries x (run R first.after (events (take n xs))) (take n xs) (first_run R n first.after xs first.rest)
+pub first_run : (n : ℕ) (w : World) (xs : List Entry) → IsRunFrom w xs → IsRunFrom w (take n xs)
+first_run zero w xs h = refl
+first_run (suc n) w [] h = h
+first_run (suc n) w (x ∷ xs) h =
+    let first = first_step w x xs h in
+    ap (λ (r : Result Stepped Refusal). run_entries (and_then r (λ s. result_map (preceded_by s.entry) (run s.world (events (take n xs)))))) first.goes
+    ∙ preceded_entries x (run first.after (events (take n xs))) (take n xs) (first_run n first.after xs first.rest)
 
 -- The session
 
-pub run_undone : (R n : ℕ) (j : Journal) → IsRun R j → IsRun R (with_undone n j)
-run_undone R n j runs = grind (arith, first_run)
+pub run_undone : (n : ℕ) (j : Journal) → IsRun j → IsRun (with_undone n j)
+run_undone n j runs = grind (arith, first_run)
 
-pub session_undone : (R n : ℕ) (j : Journal) (room : ℕ → ℕ) → IsSession R j room → IsSession R (with_undone n j) room
-session_undone R n j room session = grind (arith, length-take, run_undone, room_first)
+pub session_undone : (n : ℕ) (j : Journal) (room : ℕ → ℕ) → IsSession j room → IsSession (with_undone n j) room
+session_undone n j room session = grind (arith, length-take, run_undone, room_first)
 
-pub is_session : {R : ℕ} (s : Session R) → IsSession R (journal s) (room s.world)
-is_session {R} s = session_undone R s.undone _ (room s.world) s.kept
+pub is_session : {R : ℕ} (s : Session R) → IsSession (journal s) (room s.world)
+is_session s = session_undone s.undone _ (room s.world) s.kept
 
 -- Moves, where n of the steps ahead are undone
 

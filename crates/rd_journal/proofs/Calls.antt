@@ -40,9 +40,9 @@ back_start zero s = refl
 back_start (suc n) s = back_start n s
 
 -- what is left is the run of all but the last events
-pub before_last : (R n : ℕ) (old new : Journal) → IsMovedBack n old new → IsRun R new → state_of new ≡ times n back_one (state_of old)
-    → IsBeforeLast R n old new
-before_last R n old new moved runs goes = grind (arith, back_start, take-map)
+pub before_last : (n : ℕ) (old new : Journal) → IsMovedBack n old new → IsRun new → state_of new ≡ times n back_one (state_of old)
+    → IsBeforeLast n old new
+before_last n old new moved runs goes = grind (arith, back_start, take-map)
 
 -- Entries by number
 
@@ -54,29 +54,29 @@ entry_found j k x some within here = grind (arith, ok_or, slice_get-get_or)
 
 -- One more step
 
-pub longer_session : (R : ℕ) (old new : Journal) (e : Event) (x : Entry) (before after : ℕ → ℕ)
-    → IsSession R old before → length old.live < MOST_STEPS → step R old.world e ≡ Ok (record { world = new.world; entry = x }) → IsLengthened x old new
-    → IsSession R new after
-longer_session R old new e x before after session less h longer =
+pub longer_session : (old new : Journal) (e : Event) (x : Entry) (before after : ℕ → ℕ)
+    → IsSession old before → length old.live < MOST_STEPS → step old.world e ≡ Ok (record { world = new.world; entry = x }) → IsLengthened x old new
+    → IsSession new after
+longer_session old new e x before after session less h longer =
     let live : length new.live ≡ length old.live + 1 = ap length longer.live ∙ length-append old.live (x ∷ []) in
     let none : length new.undone ≡ 0 = ap length longer.undone in
     let whole : new ≡ record { world = new.world; live = old.live ++ x ∷ []; undone = [] } =
     λ i. record { world = new.world; live = longer.live i; undone = longer.undone i } in
     record {
       few = omega arith;
-      runs = subst (λ (j : Journal). IsRun R j) (sym whole) (grown R old.world new.world old.live old.undone [] x e session.runs h refl);
+      runs = subst (λ (j : Journal). IsRun j) (sym whole) (grown old.world new.world old.live old.undone [] x e session.runs h refl);
       has_room = subst (λ (ys : List Entry). HasRoom ys after) (sym longer.undone) (record { at = λ k. omega arith });
     }
 
 -- a session that opens in a world
-pub opened_session : (R : ℕ) (j : Journal) (room : ℕ → ℕ) → IsWellFormed R j.world → j.live ≡ [] → j.undone ≡ [] → IsSession R j room
-opened_session R j room formed live undone = grind arith
+pub opened_session : (j : Journal) (room : ℕ → ℕ) → IsWellFormed j.world → j.live ≡ [] → j.undone ≡ [] → IsSession j room
+opened_session j room formed live undone = grind arith
 
 -- a session whose journal is as it was is a session still, with as much room
-same_session : (R : ℕ) (old new : Journal) (before after : ℕ → ℕ) → IsSession R old before → new ≡ old → ((m : ℕ) → before m ≤ after m)
-    → IsSession R new after
-same_session R old new before after session same more =
-    subst (λ (j : Journal). IsSession R j after) (sym same) (record {
+same_session : (old new : Journal) (before after : ℕ → ℕ) → IsSession old before → new ≡ old → ((m : ℕ) → before m ≤ after m)
+    → IsSession new after
+same_session old new before after session same more =
+    subst (λ (j : Journal). IsSession j after) (sym same) (record {
       few = session.few;
       runs = session.runs;
       has_room = record { at = λ m. let a = session.has_room.at m in let b = more m in omega arith };
@@ -84,15 +84,15 @@ same_session R old new before after session same more =
 
 -- the same of a session whose world and entries are as they were
 pub record IsStill {R : ℕ} (old : Session R) (world : CodeWorld R) (entries : Entries) : Type 0 where
-  pub kept : IsSession R (whole_journal (model world) entries) (room world)
+  pub kept : IsSession (whole_journal (model world) entries) (room world)
   pub within : old.undone ≤ length (ahead_entries entries)
   pub indexed : IsIndexOf old.index (kept_entries entries)
 
 pub still : {R : ℕ} (old : Session R) (world : CodeWorld R) (entries : Entries) → model world ≡ model old.world → live_entries entries ≡ live_entries old.entries
     → ahead_entries entries ≡ ahead_entries old.entries → ((m : ℕ) → room old.world m ≤ room world m) → IsStill old world entries
-still {R} old world entries same live ahead more = record {
+still old world entries same live ahead more = record {
   kept =
-      same_session R (whole_journal (model old.world) old.entries) (whole_journal (model world) entries) (room old.world) (room world) old.kept
+      same_session (whole_journal (model old.world) old.entries) (whole_journal (model world) entries) (room old.world) (room world) old.kept
       (λ i. record { world = same i; live = live i; undone = ahead i }) more;
   within = omega (arith, old.within, ap length ahead);
   indexed = subst (λ (es : List Entry). IsIndexOf old.index es) (λ i. sym live i ++ sym ahead i) old.indexed;
@@ -107,50 +107,50 @@ unchanged old new world live ahead count = record {
 }
 
 -- the event is answered as its step is, since the live events run to the world
-applied : (R : ℕ) (j : Journal) (e : Event) (r : Result Stepped Refusal) → IsRun R j → length j.live < MOST_STEPS → step R j.world e ≡ r
-    → apply R (state_of j) e ≡ result_map (λ stepped. with_event (state_of j) e) r
-applied R j e r runs less k = grind (arith, live_len, cond-false, ne_eqb)
+applied : (j : Journal) (e : Event) (r : Result Stepped Refusal) → IsRun j → length j.live < MOST_STEPS → step j.world e ≡ r
+    → apply (state_of j) e ≡ result_map (λ stepped. with_event (state_of j) e) r
+applied j e r runs less k = grind (arith, live_len, cond-false, ne_eqb)
 
 mapped_ok : {X Y : Type 0} (f : X → Y) (r : Result X Refusal) → IsOk r → IsOk (result_map f r)
 mapped_ok f r ok = grind arith
 
 -- where the step goes, so does the event
-pub applies : (R : ℕ) (j : Journal) (e : Event) → IsRun R j → length j.live < MOST_STEPS → IsOk (step R j.world e) → IsOk (apply R (state_of j) e)
-applies R j e runs less ok = rw (applied R j e (step R j.world e) runs less refl) (mapped_ok (λ (stepped : Stepped). with_event (state_of j) e) (step R j.world e) ok)
+pub applies : (j : Journal) (e : Event) → IsRun j → length j.live < MOST_STEPS → IsOk (step j.world e) → IsOk (apply (state_of j) e)
+applies j e runs less ok = rw (applied j e (step j.world e) runs less refl) (mapped_ok (λ (stepped : Stepped). with_event (state_of j) e) (step j.world e) ok)
 
 is_ok : (r : Result Stepped Refusal) (s : Stepped) → r ≡ Ok s → IsOk r
 is_ok r s h = grind arith
 
 -- where memory is missing it may be refused in the session's state
-may_lack : {R : ℕ} (s : Session R) (e : Event) → IsOutOfMemory R (journal s) (capacity s) (session_room s) (index s) e → MayLackMemory R (state s) e
-may_lack {R} s e out = record {
+may_lack : {R : ℕ} (s : Session R) (e : Event) → IsOutOfMemory (journal s) (capacity s) (session_room s) (index s) e → MayLackMemory (state s) e
+may_lack s e out = record {
   not_full = omega (arith, out.not_full, live_len (journal s));
   asked = elim out.asked [
     | inl h ↦ inl (ap events h.0)
-    | inr h ↦ inr (applies R (journal s) e (is_session s).runs out.not_full (elim h [ inl made ↦ made.0 | inr lone ↦ is_ok _ lone.after lone.goes ]))
+    | inr h ↦ inr (applies (journal s) e (is_session s).runs out.not_full (elim h [ inl made ↦ made.0 | inr lone ↦ is_ok _ lone.after lone.goes ]))
   ];
 }
 
 -- so what is said of the session is said of its state
 pub said_of_state : {R : ℕ} {X : Type 0} (s : Session R) (e : Event) (r : Result X Refusal) → IfErr r (MayRefuse s e)
-    → IfErr r (λ refusal. (apply R (state s) e ≡ Err refusal) ⊎ ((refusal ≡ NoMemory) × MayLackMemory R (state s) e))
+    → IfErr r (λ refusal. (apply (state s) e ≡ Err refusal) ⊎ ((refusal ≡ NoMemory) × MayLackMemory (state s) e))
 said_of_state s e (Ok x) h = h
 said_of_state s e (Err refusal) (inl h) = inl h
 said_of_state s e (Err refusal) (inr h) = inr (h.0, may_lack s e h.1)
 
-pub apply_refused : (R : ℕ) (j : Journal) (e : Event) (refusal : Refusal) → IsRun R j → length j.live < MOST_STEPS → step R j.world e ≡ Err refusal
-    → apply R (state_of j) e ≡ Err refusal
-apply_refused R j e refusal runs less h = applied R j e (Err refusal) runs less h
+pub apply_refused : (j : Journal) (e : Event) (refusal : Refusal) → IsRun j → length j.live < MOST_STEPS → step j.world e ≡ Err refusal
+    → apply (state_of j) e ≡ Err refusal
+apply_refused j e refusal runs less h = applied j e (Err refusal) runs less h
 
-pub apply_goes : (R : ℕ) (old new : Journal) (e : Event) (x : Entry) → IsRun R old → length old.live < MOST_STEPS
-    → step R old.world e ≡ Ok (record { world = new.world; entry = x }) → IsLengthened x old new → apply R (state_of old) e ≡ Ok (state_of new)
-apply_goes R old new e x runs less h longer =
-    let start = start_stays R old.world new.world old.live x e (now_formed R old runs) h in
-    let its = step_event R old.world e (record { world = new.world; entry = x }) h in
+pub apply_goes : (old new : Journal) (e : Event) (x : Entry) → IsRun old → length old.live < MOST_STEPS
+    → step old.world e ≡ Ok (record { world = new.world; entry = x }) → IsLengthened x old new → apply (state_of old) e ≡ Ok (state_of new)
+apply_goes old new e x runs less h longer =
+    let start = start_stays old.world new.world old.live x e (now_formed old runs) h in
+    let its = step_event old.world e (record { world = new.world; entry = x }) h in
     let all : events (old.live ++ x ∷ []) ≡ events old.live ++ e ∷ [] =
     map-append (λ (y : Entry). y.event) old.live (x ∷ []) ∙ ap (λ (f : Event). events old.live ++ f ∷ []) its in
     let whole : new ≡ record { world = new.world; live = old.live ++ x ∷ []; undone = [] } =
     λ i. record { world = new.world; live = longer.live i; undone = longer.undone i } in
-    applied R old e (Ok (record { world = new.world; entry = x })) runs less h
+    applied old e (Ok (record { world = new.world; entry = x })) runs less h
     ∙ (λ i. Ok (record { start = sym start i; live = sym all i; undone = [] }))
     ∙ ap (λ (j : Journal). Ok (state_of j)) (sym whole)

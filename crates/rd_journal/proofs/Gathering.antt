@@ -46,40 +46,40 @@ gathered_inside l before block k g = g.inside ∙ append-nil block
 -- The run
 
 -- a step that depends on none of a block of steps before it may go before them
-pub moved_before : (R : ℕ) (u w : World) (b : List Entry) (y : Entry) (zs : List Entry) → run R u (events (b ++ (y ∷ zs))) ≡ Ok (record { world = w; entries = b ++ (y ∷ zs) })
-    → depends_on_one b y ≡ false → run R u (events (y ∷ (b ++ zs))) ≡ Ok (record { world = w; entries = y ∷ (b ++ zs) })
-moved_before R u w [] y zs h free = h
-moved_before R u w (x ∷ b) y zs h free =
+pub moved_before : (u w : World) (b : List Entry) (y : Entry) (zs : List Entry) → run u (events (b ++ (y ∷ zs))) ≡ Ok (record { world = w; entries = b ++ (y ∷ zs) })
+    → depends_on_one b y ≡ false → run u (events (y ∷ (b ++ zs))) ≡ Ok (record { world = w; entries = y ∷ (b ++ zs) })
+moved_before u w [] y zs h free = h
+moved_before u w (x ∷ b) y zs h free =
     let both = or_parts (depends x y) (depends_on_one b y) free in
-    let first = beginning R u x (b ++ (y ∷ zs)) w h in
-    let then_y = beginning R first.after y (b ++ zs) w (moved_before R first.after w b y zs first.rest both.1) in
-    let sw = commutes R u x.event y.event (record { world = first.after; entry = x }) (record { world = then_y.after; entry = y }) first.goes then_y.goes both.0 in
-    let rest : run R sw.second.world (events (b ++ zs)) ≡ Ok (record { world = w; entries = b ++ zs }) =
-    ap (λ (v : World). run R v (events (b ++ zs))) sw.same_world ∙ then_y.rest in
-    run-cons R u y.event (events (x ∷ (b ++ zs))) sw.first (record { world = w; entries = sw.second.entry ∷ (b ++ zs) }) sw.goes_first
-    (run-cons R sw.first.world x.event (events (b ++ zs)) sw.second (record { world = w; entries = b ++ zs }) sw.goes_second rest)
+    let first = beginning u x (b ++ (y ∷ zs)) w h in
+    let then_y = beginning first.after y (b ++ zs) w (moved_before first.after w b y zs first.rest both.1) in
+    let sw = commutes u x.event y.event (record { world = first.after; entry = x }) (record { world = then_y.after; entry = y }) first.goes then_y.goes both.0 in
+    let rest : run sw.second.world (events (b ++ zs)) ≡ Ok (record { world = w; entries = b ++ zs }) =
+    ap (λ (v : World). run v (events (b ++ zs))) sw.same_world ∙ then_y.rest in
+    run-cons u y.event (events (x ∷ (b ++ zs))) sw.first (record { world = w; entries = sw.second.entry ∷ (b ++ zs) }) sw.goes_first
+    (run-cons sw.first.world x.event (events (b ++ zs)) sw.second (record { world = w; entries = b ++ zs }) sw.goes_second rest)
     ∙ (λ i. Ok (record { world = w; entries = sw.same_entry i ∷ (sw.entry_unchanged i ∷ (b ++ zs)) }))
 
 -- gathering the closure of a block after the others leaves a run to the same world
-pub gathered_run : (R : ℕ) (u w : World) (b ys : List Entry) → run R u (events (b ++ ys)) ≡ Ok (record { world = w; entries = b ++ ys })
-    → let zs = unmarked (closure_from b ys) ys ++ (b ++ marked (closure_from b ys) ys) in run R u (events zs) ≡ Ok (record { world = w; entries = zs })
-gathered_run R u w b [] h = h
-gathered_run R u w b (y ∷ ys) h =
+pub gathered_run : (u w : World) (b ys : List Entry) → run u (events (b ++ ys)) ≡ Ok (record { world = w; entries = b ++ ys })
+    → let zs = unmarked (closure_from b ys) ys ++ (b ++ marked (closure_from b ys) ys) in run u (events zs) ≡ Ok (record { world = w; entries = zs })
+gathered_run u w b [] h = h
+gathered_run u w b (y ∷ ys) h =
     elim (cases_Bool (depends_on_one b y)) [
       | inl e ↦
-          let more : run R u (events ((b ++ y ∷ []) ++ ys)) ≡ Ok (record { world = w; entries = (b ++ y ∷ []) ++ ys }) =
-          subst (λ (zs : List Entry). run R u (events zs) ≡ Ok (record { world = w; entries = zs })) (sym (append_assoc b (y ∷ []) ys)) h in
+          let more : run u (events ((b ++ y ∷ []) ++ ys)) ≡ Ok (record { world = w; entries = (b ++ y ∷ []) ++ ys }) =
+          subst (λ (zs : List Entry). run u (events zs) ≡ Ok (record { world = w; entries = zs })) (sym (append_assoc b (y ∷ []) ys)) h in
           let out = unmarked (closure_from (b ++ y ∷ []) ys) ys in
           let same : out ++ ((b ++ y ∷ []) ++ marked (closure_from (b ++ y ∷ []) ys) ys) ≡ unmarked (closure_from b (y ∷ ys)) (y ∷ ys) ++ (b ++ marked (closure_from b (y ∷ ys)) (y ∷ ys)) =
           grind (arith, append_assoc) in
-          subst (λ (zs : List Entry). run R u (events zs) ≡ Ok (record { world = w; entries = zs })) same (gathered_run R u w (b ++ y ∷ []) ys more)
+          subst (λ (zs : List Entry). run u (events zs) ≡ Ok (record { world = w; entries = zs })) same (gathered_run u w (b ++ y ∷ []) ys more)
       | inr e ↦
-          let first = beginning R u y (b ++ ys) w (moved_before R u w b y ys h e) in
+          let first = beginning u y (b ++ ys) w (moved_before u w b y ys h e) in
           let ms = closure_from b ys in
-          let rest = gathered_run R first.after w b ys first.rest in
-          let all = run-cons R u y.event (events (unmarked ms ys ++ (b ++ marked ms ys))) (record { world = first.after; entry = y })
+          let rest = gathered_run first.after w b ys first.rest in
+          let all = run-cons u y.event (events (unmarked ms ys ++ (b ++ marked ms ys))) (record { world = first.after; entry = y })
           (record { world = w; entries = unmarked ms ys ++ (b ++ marked ms ys) }) first.goes rest in
           let same : y ∷ (unmarked ms ys ++ (b ++ marked ms ys)) ≡ unmarked (closure_from b (y ∷ ys)) (y ∷ ys) ++ (b ++ marked (closure_from b (y ∷ ys)) (y ∷ ys)) =
           ap (λ (d : Bool). let m = d ∷ closure_from (if d then b ++ y ∷ [] else b) ys in unmarked m (y ∷ ys) ++ (b ++ marked m (y ∷ ys))) (sym e) in
-          subst (λ (zs : List Entry). run R u (events zs) ≡ Ok (record { world = w; entries = zs })) same all
+          subst (λ (zs : List Entry). run u (events zs) ≡ Ok (record { world = w; entries = zs })) same all
     ]

@@ -47,34 +47,34 @@ taken_out_few k old new x at moved few = grind (arith, common_steps, around_it, 
 
 -- the k-th live step of a journal may be undone alone, and each journal that this leaves is a run
 -- of the same start
-pub record MayUndoAt (R : ℕ) (old : Journal) (k : ℕ) (x : Entry) : Type 0 where
-  pub was : WasStepped R old.world x
-  pub start : (new : Journal) → IsTakenOut R old.world new.world x was → IsUndoneAlone k old new → start_of new ≡ start_of old
-  pub runs : (new : Journal) → IsTakenOut R old.world new.world x was → IsUndoneAlone k old new → IsRun R new
+pub record MayUndoAt (old : Journal) (k : ℕ) (x : Entry) : Type 0 where
+  pub was : WasStepped old.world x
+  pub start : (new : Journal) → IsTakenOut old.world new.world x was → IsUndoneAlone k old new → start_of new ≡ start_of old
+  pub runs : (new : Journal) → IsTakenOut old.world new.world x was → IsUndoneAlone k old new → IsRun new
 
-may_undo_around : (R : ℕ) (old : Journal) (k : ℕ) (x : Entry) → IsNumber old.live k x
-    → MayTakeOut R old.world (take (k - 1) old.live) (drop k old.live) old.undone x → MayUndoAt R old k x
-may_undo_around R old k x at may = record { was = may.was; start = start; runs = runs }
+may_undo_around : (old : Journal) (k : ℕ) (x : Entry) → IsNumber old.live k x
+    → MayTakeOut old.world (take (k - 1) old.live) (drop k old.live) old.undone x → MayUndoAt old k x
+may_undo_around old k x at may = record { was = may.was; start = start; runs = runs }
   where
     same : (new : Journal) → IsUndoneAlone k old new
         → new ≡ record { world = new.world; live = take (k - 1) old.live ++ drop k old.live; undone = x ∷ old.undone }
     same new moved = grind (arith, common_steps, taken_out_front)
 
-    start : (new : Journal) → IsTakenOut R old.world new.world x may.was → IsUndoneAlone k old new → start_of new ≡ start_of old
+    start : (new : Journal) → IsTakenOut old.world new.world x may.was → IsUndoneAlone k old new → start_of new ≡ start_of old
     start new out moved =
         ap start_of (same new moved) ∙ may.start new.world out
         ∙ ap (λ (l : List Entry). start_of (record { world = old.world; live = l; undone = old.undone })) (sym (around_it old.live k x at))
 
-    runs : (new : Journal) → IsTakenOut R old.world new.world x may.was → IsUndoneAlone k old new → IsRun R new
-    runs new out moved = subst (λ (j : Journal). IsRun R j) (sym (same new moved)) (may.runs new.world out)
+    runs : (new : Journal) → IsTakenOut old.world new.world x may.was → IsUndoneAlone k old new → IsRun new
+    runs new out moved = subst (λ (j : Journal). IsRun j) (sym (same new moved)) (may.runs new.world out)
 
-pub may_undo_at : (R : ℕ) (old : Journal) (k : ℕ) (x : Entry) → IsNumber old.live k x → first_dependant old.live k ≡ None → IsRun R old
-    → MayUndoAt R old k x
-may_undo_at R old k x at none runs =
+pub may_undo_at : (old : Journal) (k : ℕ) (x : Entry) → IsNumber old.live k x → first_dependant old.live k ≡ None → IsRun old
+    → MayUndoAt old k x
+may_undo_at old k x at none runs =
     let free : IsFree x (drop k old.live) = none_is_free x (k + 1) (drop k old.live) (sym (first_behind old.live k x at) ∙ none) in
-    let cut : IsRun R (record { world = old.world; live = take (k - 1) old.live ++ x ∷ drop k old.live; undone = old.undone }) =
-    subst (λ (l : List Entry). IsRun R (record { world = old.world; live = l; undone = old.undone })) (around_it old.live k x at) runs in
-    may_undo_around R old k x at (may_take_out R old.world (take (k - 1) old.live) (drop k old.live) old.undone x cut free)
+    let cut : IsRun (record { world = old.world; live = take (k - 1) old.live ++ x ∷ drop k old.live; undone = old.undone }) =
+    subst (λ (l : List Entry). IsRun (record { world = old.world; live = l; undone = old.undone })) (around_it old.live k x at) runs in
+    may_undo_around old k x at (may_take_out old.world (take (k - 1) old.live) (drop k old.live) old.undone x cut free)
 
 -- The state without it
 
@@ -89,13 +89,13 @@ answer_missing j (suc i) n len h =
     ap (λ (m : ℕ). Err (NoSuchStep m)) len
     ∙ sym (cond-false (nat_lt i (length j.live)) _ _ (le-ltb i (length j.live) (omega (arith, h, len))))
 
-pub undo_at_missing : (R : ℕ) (j : Journal) (k n : ℕ) → n ≡ length j.live → (k ≡ 0) ⊎ (n < k) → undo_at R (state_of j) k ≡ Err (NoSuchStep n)
-undo_at_missing R j k n len l = grind (arith, length-map, le-ltb, cond-false)
+pub undo_at_missing : (j : Journal) (k n : ℕ) → n ≡ length j.live → (k ≡ 0) ⊎ (n < k) → undo_at (state_of j) k ≡ Err (NoSuchStep n)
+undo_at_missing j k n len l = grind (arith, length-map, le-ltb, cond-false)
 
 pub answer_there : (j : Journal) (k : ℕ) → 1 ≤ k → k ≤ length j.live → answer_at j k ≡ answer_unless (first_dependant j.live k)
 answer_there j k some within = grind arith
 
-pub undo_at_there : (R : ℕ) (j : Journal) (k : ℕ) → IsRun R j → 1 ≤ k → k ≤ length j.live
-    → undo_at R (state_of j) k ≡ undone_alone_unless (state_of j) k (first_dependant j.live k)
-undo_at_there R j zero runs some within = absurd (omega arith)
-undo_at_there R j (suc i) runs some within = grind (arith, length-map, cond-true, lt-ltb)
+pub undo_at_there : (j : Journal) (k : ℕ) → IsRun j → 1 ≤ k → k ≤ length j.live
+    → undo_at (state_of j) k ≡ undone_alone_unless (state_of j) k (first_dependant j.live k)
+undo_at_there j zero runs some within = absurd (omega arith)
+undo_at_there j (suc i) runs some within = grind (arith, length-map, cond-true, lt-ltb)

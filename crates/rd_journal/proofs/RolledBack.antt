@@ -13,13 +13,13 @@ abbrev pub closure_last : Journal → ℕ → Journal
 closure_last j k = record { world = j.world; live = without_closure j.live k ++ closure_of j.live k; undone = j.undone }
 
 -- it is a run of the same start
-pub record IsReordered (R : ℕ) (j : Journal) (k : ℕ) : Type 0 where
+pub record IsReordered (j : Journal) (k : ℕ) : Type 0 where
   pub start : start_of (closure_last j k) ≡ start_of j
-  pub runs : IsRun R (closure_last j k)
+  pub runs : IsRun (closure_last j k)
 
-reordered_run : (R : ℕ) (s w : World) (l : List Entry) (i : ℕ) → i < length l → run R s (events l) ≡ Ok (record { world = w; entries = l })
-    → let zs = without_closure l (suc i) ++ closure_of l (suc i) in run R s (events zs) ≡ Ok (record { world = w; entries = zs })
-reordered_run R s w l i low h =
+reordered_run : (s w : World) (l : List Entry) (i : ℕ) → i < length l → run s (events l) ≡ Ok (record { world = w; entries = l })
+    → let zs = without_closure l (suc i) ++ closure_of l (suc i) in run s (events zs) ≡ Ok (record { world = w; entries = zs })
+reordered_run s w l i low h =
     let found = nth l i low in
     let x = found.0 in
     let c = cut_at l i x low found.1 in
@@ -27,33 +27,33 @@ reordered_run R s w l i low h =
     let ys = drop (suc i) l in
     let one : i + 1 ≡ suc i = omega arith in
     let around : l ≡ xs ++ x ∷ ys = sym (take-append-drop i l) ∙ ap (λ (zs : List Entry). xs ++ zs) (drop_one_less l i x low found.1 ∙ ap (λ (n : ℕ). x ∷ drop n l) one) in
-    let m = middle R s xs x ys w (subst (λ (zs : List Entry). run R s (events zs) ≡ Ok (record { world = w; entries = zs })) around h) in
-    let from : run R m.before (events (x ∷ ys)) ≡ Ok (record { world = w; entries = x ∷ ys }) =
-    run-cons R m.before x.event (events ys) (record { world = m.after; entry = x }) (record { world = w; entries = ys }) m.goes m.rest in
+    let m = middle s xs x ys w (subst (λ (zs : List Entry). run s (events zs) ≡ Ok (record { world = w; entries = zs })) around h) in
+    let from : run m.before (events (x ∷ ys)) ≡ Ok (record { world = w; entries = x ∷ ys }) =
+    run-cons m.before x.event (events ys) (record { world = m.after; entry = x }) (record { world = w; entries = ys }) m.goes m.rest in
     let ms = closure_from (x ∷ []) ys in
     let zs = unmarked ms ys ++ ((x ∷ []) ++ marked ms ys) in
-    let turned = gathered_run R m.before w (x ∷ []) ys from in
-    let all : run R s (events (xs ++ zs)) ≡ Ok (record { world = w; entries = xs ++ zs }) =
-    ap (run R s) (map-append (λ (y : Entry). y.event) xs zs)
-    ∙ run_joined R s (events xs) (events zs) (record { world = m.before; entries = xs }) (record { world = w; entries = zs }) m.ran turned in
+    let turned = gathered_run m.before w (x ∷ []) ys from in
+    let all : run s (events (xs ++ zs)) ≡ Ok (record { world = w; entries = xs ++ zs }) =
+    ap (run s) (map-append (λ (y : Entry). y.event) xs zs)
+    ∙ run_joined s (events xs) (events zs) (record { world = m.before; entries = xs }) (record { world = w; entries = zs }) m.ran turned in
     let same : xs ++ zs ≡ without_closure l (suc i) ++ closure_of l (suc i) =
     sym (append_assoc xs (unmarked ms ys) (x ∷ marked ms ys)) ∙ (λ t. sym c.outside t ++ sym c.inside t) in
-    subst (λ (qs : List Entry). run R s (events qs) ≡ Ok (record { world = w; entries = qs })) same all
+    subst (λ (qs : List Entry). run s (events qs) ≡ Ok (record { world = w; entries = qs })) same all
 
-reordered_at : (R : ℕ) (j : Journal) (i : ℕ) → i < length j.live → IsRun R j → IsReordered R j (suc i)
-reordered_at R j i low runs =
+reordered_at : (j : Journal) (i : ℕ) → i < length j.live → IsRun j → IsReordered j (suc i)
+reordered_at j i low runs =
     let s = start_of j in
     let zs = without_closure j.live (suc i) ++ closure_of j.live (suc i) in
-    let ran = reordered_run R s j.world j.live i low runs.live_ran in
-    let back : world_before j.world zs ≡ s = goes_back R s j.world zs runs.well_formed ran in
+    let ran = reordered_run s j.world j.live i low runs.live_ran in
+    let back : world_before j.world zs ≡ s = goes_back s j.world zs runs.well_formed ran in
     record {
       start = back;
       runs = grind arith;
     }
 
-pub reordered : (R : ℕ) (j : Journal) (k : ℕ) → 1 ≤ k → k ≤ length j.live → IsRun R j → IsReordered R j k
-reordered R j zero some within runs = absurd (omega arith)
-reordered R j (suc i) some within runs = reordered_at R j i (omega arith) runs
+pub reordered : (j : Journal) (k : ℕ) → 1 ≤ k → k ≤ length j.live → IsRun j → IsReordered j k
+reordered j zero some within runs = absurd (omega arith)
+reordered j (suc i) some within runs = reordered_at j i (omega arith) runs
 
 -- The session with the closure gathered last
 
@@ -67,21 +67,21 @@ pub record IsGatheredLast (k : ℕ) (old new : Journal) : Type 0 where
 gathered_journal : (k : ℕ) (old new : Journal) → IsGatheredLast k old new → new ≡ closure_last old k
 gathered_journal k old new g = λ i. record { world = g.world i; live = g.live i; undone = g.undone i }
 
-pub gathered_session : (R k : ℕ) (old new : Journal) (room : ℕ → ℕ) → IsSession R old room → 1 ≤ k → k ≤ length old.live → IsGatheredLast k old new
-    → IsSession R new room
-gathered_session R k old new room session some within g =
-    let re = reordered R old k some within session.runs in
+pub gathered_session : (k : ℕ) (old new : Journal) (room : ℕ → ℕ) → IsSession old room → 1 ≤ k → k ≤ length old.live → IsGatheredLast k old new
+    → IsSession new room
+gathered_session k old new room session some within g =
+    let re = reordered old k some within session.runs in
     record {
       few = omega (arith, g.len, ap length g.undone, session.few);
-      runs = subst (λ (j : Journal). IsRun R j) (sym (gathered_journal k old new g)) re.runs;
+      runs = subst (λ (j : Journal). IsRun j) (sym (gathered_journal k old new g)) re.runs;
       has_room = subst (λ (ys : List Entry). HasRoom ys room) (sym g.undone) session.has_room;
     }
 
-pub rolled_start : (R k n : ℕ) (old mid new : Journal) → IsRun R old → 1 ≤ k → k ≤ length old.live → IsGatheredLast k old mid
+pub rolled_start : (k n : ℕ) (old mid new : Journal) → IsRun old → 1 ≤ k → k ≤ length old.live → IsGatheredLast k old mid
     → state_of new ≡ times n back_one (state_of mid) → start_of new ≡ start_of old
-rolled_start R k n old mid new runs some within g state =
+rolled_start k n old mid new runs some within g state =
     ap (λ (s : State). s.start) state ∙ back_start n (state_of mid) ∙ ap start_of (gathered_journal k old mid g)
-    ∙ (reordered R old k some within runs).start
+    ∙ (reordered old k some within runs).start
 
 -- The state
 
@@ -100,8 +100,8 @@ unmarked-map (false ∷ bs) (x ∷ xs) = ap (λ (es : List Event). x.event ∷ e
 pub rolled_state : (k : ℕ) (old new : Journal) → IsRolledBack k old new → start_of new ≡ start_of old → state_of new ≡ undone_marked (state_of old) (closure old.live k)
 rolled_state k old new is start = grind (arith, unmarked-map, map-append, marked-map)
 
-pub rolled_run : (R k : ℕ) (old new : Journal) → IsRolledBack k old new → start_of new ≡ start_of old → IsRun R new → IsWithoutClosure R k old new
-rolled_run R k old new is start runs = grind (arith, unmarked-map)
+pub rolled_run : (k : ℕ) (old new : Journal) → IsRolledBack k old new → start_of new ≡ start_of old → IsRun new → IsWithoutClosure k old new
+rolled_run k old new is start runs = grind (arith, unmarked-map)
 
 -- The answers
 
@@ -111,9 +111,9 @@ roll_answer_missing j k n len h = grind arith
 pub roll_answer_there : (j : Journal) (k : ℕ) → 1 ≤ k → k ≤ length j.live → Ok tt ≡ roll_answer j k
 roll_answer_there j k some within = grind arith
 
-pub roll_missing : (R : ℕ) (j : Journal) (k n : ℕ) → n ≡ length j.live → (k ≡ 0) ⊎ (n < k) → roll R (state_of j) k ≡ Err (NoSuchStep n)
-roll_missing R j k n len l = grind (arith, length-map, le-ltb, cond-false)
+pub roll_missing : (j : Journal) (k n : ℕ) → n ≡ length j.live → (k ≡ 0) ⊎ (n < k) → roll (state_of j) k ≡ Err (NoSuchStep n)
+roll_missing j k n len l = grind (arith, length-map, le-ltb, cond-false)
 
-pub roll_there : (R : ℕ) (j : Journal) (k : ℕ) → IsRun R j → 1 ≤ k → k ≤ length j.live → roll R (state_of j) k ≡ Ok (undone_marked (state_of j) (closure j.live k))
-roll_there R j zero runs some within = absurd (omega arith)
-roll_there R j (suc i) runs some within = grind (arith, length-map, cond-true, lt-ltb)
+pub roll_there : (j : Journal) (k : ℕ) → IsRun j → 1 ≤ k → k ≤ length j.live → roll (state_of j) k ≡ Ok (undone_marked (state_of j) (closure j.live k))
+roll_there j zero runs some within = absurd (omega arith)
+roll_there j (suc i) runs some within = grind (arith, length-map, cond-true, lt-ltb)

@@ -22,16 +22,16 @@ record Rolled (s t : State) (r : Ran) (n : ℕ) : Type 0 where
   within : n ≤ length s.live
   goes : t ≡ undone_marked s (closure r.entries n)
 
-rolled : (R : ℕ) (s t : State) (r : Ran) (n : ℕ) → run_of R s ≡ Ok r → roll R s n ≡ Ok t → Rolled s t r n
-rolled R s t r n ran k = grind arith
+rolled : (s t : State) (r : Ran) (n : ℕ) → run_of s ≡ Ok r → roll s n ≡ Ok t → Rolled s t r n
+rolled s t r n ran k = grind arith
 
-pub closure_redone : (R : ℕ) (i j k : Journal) (n : ℕ) → IsRun R i → IsRun R k → roll R (state_of i) n ≡ Ok (state_of j)
+pub closure_redone : (i j k : Journal) (n : ℕ) → IsRun i → IsRun k → roll (state_of i) n ≡ Ok (state_of j)
     → forward (state_of j) (length (closure_of i.live n)) ≡ Ok (state_of k) → IsClosureLast n i k
-closure_redone R i j k n ri rk back on =
-    let went = rolled R (state_of i) (state_of j) (record { world = i.world; entries = i.live }) n ri.live_ran back in
+closure_redone i j k n ri rk back on =
+    let went = rolled (state_of i) (state_of j) (record { world = i.world; entries = i.live }) n ri.live_ran back in
     let its = λ (x : Entry). x.event in
     let within : n ≤ length i.live = omega (arith, went.within, length-map i.live its) in
-    let re = reordered R i n went.some within ri in
+    let re = reordered i n went.some within ri in
     let ms = closure i.live n in
     let xs = without_closure i.live n in
     let ys = closure_of i.live n in
@@ -42,7 +42,7 @@ closure_redone R i j k n ri rk back on =
     went_on (state_of j) (state_of k) (length ys) on ∙ (λ t. times (many t) forward_one (left t)) ∙ forward_all (start_of i) (events xs) (events ys) (events i.undone) in
     let same : state_of k ≡ state_of (closure_last i n) =
     there ∙ (λ t. record { start = sym re.start t; live = sym (map-append its xs ys) t; undone = events i.undone }) in
-    let one : k ≡ closure_last i n = one_journal R k (closure_last i n) rk re.runs same in
+    let one : k ≡ closure_last i n = one_journal k (closure_last i n) rk re.runs same in
     record {
       world = ap (λ (l : Journal). l.world) one;
       live = ap (λ (l : Journal). l.live) one;

@@ -8,18 +8,18 @@ pub given_back : (xs ys : List Entry) (x : Entry) (before after : ℕ → ℕ) �
 given_back xs ys x before after front has gives = grind arith
 
 -- a making that is redone finds its room
-pub redo_room : (R : ℕ) (w v : World) (ys zs : List Entry) (x : Entry) (room : ℕ → ℕ) → ys ≡ x ∷ zs
-    → step R w x.event ≡ Ok (record { world = v; entry = x }) → HasRoom ys room → makes_segment R w x.event ≡ true → 1 ≤ room x.event.actor
-redo_room R w v ys zs x room first goes has makes = grind arith
+pub redo_room : (w v : World) (ys zs : List Entry) (x : Entry) (room : ℕ → ℕ) → ys ≡ x ∷ zs
+    → step w x.event ≡ Ok (record { world = v; entry = x }) → HasRoom ys room → makes_segment w x.event ≡ true → 1 ≤ room x.event.actor
+redo_room w v ys zs x room first goes has makes = grind arith
 
 -- and what is left is enough for the others
-pub redone_room : (R : ℕ) (w v : World) (ys zs : List Entry) (x : Entry) (before after : ℕ → ℕ) → ys ≡ x ∷ zs
-    → step R w x.event ≡ Ok (record { world = v; entry = x }) → HasRoom ys before
-    → ((m : ℕ) → before m ≤ after m + room_used (makes_segment R w x.event) x.event.actor m) → HasRoom zs after
-redone_room R w v ys zs x before after first goes has left = grind arith
+pub redone_room : (w v : World) (ys zs : List Entry) (x : Entry) (before after : ℕ → ℕ) → ys ≡ x ∷ zs
+    → step w x.event ≡ Ok (record { world = v; entry = x }) → HasRoom ys before
+    → ((m : ℕ) → before m ≤ after m + room_used (makes_segment w x.event) x.event.actor m) → HasRoom zs after
+redone_room w v ys zs x before after first goes has left = grind arith
 
 -- a step that is undone at once gives back the room that it took
-pub stepped_back : (R : ℕ) (w v : World) (e : Event) (x : Entry) (before stepped after : ℕ → ℕ) → step R w e ≡ Ok (record { world = v; entry = x })
-    → ((m : ℕ) → before m ≤ stepped m + room_used (makes_segment R w e) e.actor m) → ((m : ℕ) → after m ≡ stepped m + room_returned x.place x.old_content m)
+pub stepped_back : (w v : World) (e : Event) (x : Entry) (before stepped after : ℕ → ℕ) → step w e ≡ Ok (record { world = v; entry = x })
+    → ((m : ℕ) → before m ≤ stepped m + room_used (makes_segment w e) e.actor m) → ((m : ℕ) → after m ≡ stepped m + room_returned x.place x.old_content m)
     → (m : ℕ) → before m ≤ after m
-stepped_back R w v e x before stepped after goes took gives m = omega (arith, room_used_returned R w e (record { world = v; entry = x }) m goes, took m, gives m)
+stepped_back w v e x before stepped after goes took gives m = omega (arith, room_used_returned w e (record { world = v; entry = x }) m goes, took m, gives m)

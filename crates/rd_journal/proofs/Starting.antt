@@ -6,30 +6,30 @@ use Rattle.rd_journal.proofs.Runs.{goes_back, may_take_out}
 
 -- the last of the steps that lead to a world may be undone, and then the others lead to what is
 -- left
-pub record MayStepBack (R : ℕ) (start w : World) (xs : List Entry) (x : Entry) : Type 0 where
-  pub was : WasStepped R w x
-  pub left : LeadsTo R start (unstep w x) xs
+pub record MayStepBack (start w : World) (xs : List Entry) (x : Entry) : Type 0 where
+  pub was : WasStepped w x
+  pub left : LeadsTo start (unstep w x) xs
 
-pub may_step_back : (R : ℕ) (start w : World) (xs : List Entry) (x : Entry) → LeadsTo R start w (xs ++ x ∷ []) → MayStepBack R start w xs x
-may_step_back R start w xs x leads =
+pub may_step_back : (start w : World) (xs : List Entry) (x : Entry) → LeadsTo start w (xs ++ x ∷ []) → MayStepBack start w xs x
+may_step_back start w xs x leads =
     let v = unstep w x in
-    let back : world_before w (xs ++ x ∷ []) ≡ start = goes_back R start w (xs ++ x ∷ []) leads.well_formed leads.ran in
-    let may = may_take_out R w xs [] [] x (grind arith) tt in
-    let out = taken_out R w x may.was in
+    let back : world_before w (xs ++ x ∷ []) ≡ start = goes_back start w (xs ++ x ∷ []) leads.well_formed leads.ran in
+    let may = may_take_out w xs [] [] x (grind arith) tt in
+    let out = taken_out w x may.was in
     record {
       was = may.was;
       left =
-          subst (λ (l : List Entry). LeadsTo R start v l) (append-nil xs)
-          (record { well_formed = leads.well_formed; ran = ap (λ (u : World). run R u (events (xs ++ []))) (sym (may.start v out ∙ back)) ∙ (may.runs v out).live_ran });
+          subst (λ (l : List Entry). LeadsTo start v l) (append-nil xs)
+          (record { well_formed = leads.well_formed; ran = ap (λ (u : World). run u (events (xs ++ []))) (sym (may.start v out ∙ back)) ∙ (may.runs v out).live_ran });
     }
 
 -- the live steps lead from the start to the world
-pub live_lead : (R : ℕ) (j : Journal) → IsRun R j → LeadsTo R (start_of j) j.world j.live
-live_lead R j runs = record { well_formed = runs.well_formed; ran = runs.live_ran }
+pub live_lead : (j : Journal) → IsRun j → LeadsTo (start_of j) j.world j.live
+live_lead j runs = record { well_formed = runs.well_formed; ran = runs.live_ran }
 
 -- no step leads from a world to that world alone
-pub led_nowhere : (R : ℕ) (start w : World) → LeadsTo R start w [] → w ≡ start
-led_nowhere R start w leads = grind arith
+pub led_nowhere : (start w : World) → LeadsTo start w [] → w ≡ start
+led_nowhere start w leads = grind arith
 
 -- the first n and one more
 pub one_more : {X : Type 0} (xs : List X) (n : ℕ) (x : X) → 1 ≤ n → n ≤ length xs → x ≡ get_or xs (n - 1) x → take n xs ≡ take (n - 1) xs ++ x ∷ []

@@ -33,72 +33,72 @@ returned_next xs i m count more next d h counted one is = grind (arith, common_s
 -- Who makes
 
 -- a step brings no actor, and its own is there
-not_its_actor : (R : ℕ) (w : World) (e : Event) (s : Stepped) (m : ℕ) → step R w e ≡ Ok s → is_some (w.actor m) ≡ false → m ≢ e.actor
-not_its_actor R w e s m k none same = grind arith
+not_its_actor : (w : World) (e : Event) (s : Stepped) (m : ℕ) → step w e ≡ Ok s → is_some (w.actor m) ≡ false → m ≢ e.actor
+not_its_actor w e s m k none same = grind arith
 
-brings_no_actor : (R : ℕ) (w : World) (e : Event) (s : Stepped) (m : ℕ) → step R w e ≡ Ok s → is_some (w.actor m) ≡ false
+brings_no_actor : (w : World) (e : Event) (s : Stepped) (m : ℕ) → step w e ≡ Ok s → is_some (w.actor m) ≡ false
     → is_some (s.world.actor m) ≡ false
-brings_no_actor R w e s m k none = grind (arith, took, with_actor-other, not_its_actor)
+brings_no_actor w e s m k none = grind (arith, took, with_actor-other, not_its_actor)
 
 used_by_other : (made : Bool) (n m : ℕ) → m ≢ n → room_used made n m ≡ 0
 used_by_other made n m ne = grind arith
 
 -- who is no actor makes nothing
-none_made : (R : ℕ) (w : World) (xs : List Entry) (m : ℕ) → IsRunFrom R w xs → is_some (w.actor m) ≡ false → room_returned_by xs m ≡ 0
-none_made R w [] m h none = refl
-none_made R w (x ∷ xs) m h none =
-    let first = first_step R w x xs h in
+none_made : (w : World) (xs : List Entry) (m : ℕ) → IsRunFrom w xs → is_some (w.actor m) ≡ false → room_returned_by xs m ≡ 0
+none_made w [] m h none = refl
+none_made w (x ∷ xs) m h none =
+    let first = first_step w x xs h in
     let s : Stepped = record { world = first.after; entry = x } in
-    let used = room_used_returned R w x.event s m first.goes in
-    let other = used_by_other (makes_segment R w x.event) x.event.actor m (not_its_actor R w x.event s m first.goes none) in
-    let rest = none_made R first.after xs m first.rest (brings_no_actor R w x.event s m first.goes none) in
+    let used = room_used_returned w x.event s m first.goes in
+    let other = used_by_other (makes_segment w x.event) x.event.actor m (not_its_actor w x.event s m first.goes none) in
+    let rest = none_made first.after xs m first.rest (brings_no_actor w x.event s m first.goes none) in
     omega (arith, used, other, rest)
 
 -- Runs cut in two
 
 -- where the first entries' run is known, the others run on from its world
-pub runs_on : (R : ℕ) (s w : World) (xs ys : List Entry) → run R s (events xs) ≡ Ok (record { world = w; entries = xs }) → IsRunFrom R s (xs ++ ys)
-    → IsRunFrom R w ys
-runs_on R s w [] ys h k = grind (arith, as_ok-same)
-runs_on R s w (x ∷ xs) ys h k =
-    let first = first_step R s x (xs ++ ys) k in
-    let known = beginning R s x xs w h in
+pub runs_on : (s w : World) (xs ys : List Entry) → run s (events xs) ≡ Ok (record { world = w; entries = xs }) → IsRunFrom s (xs ++ ys)
+    → IsRunFrom w ys
+runs_on s w [] ys h k = grind (arith, as_ok-same)
+runs_on s w (x ∷ xs) ys h k =
+    let first = first_step s x (xs ++ ys) k in
+    let known = beginning s x xs w h in
     let both : record { world = first.after; entry = x } ≡ record { world = known.after; entry = x } = cc (first.goes, known.goes) in
     let there : first.after ≡ known.after = ap (λ (t : Stepped). t.world) both in
-    runs_on R known.after w xs ys known.rest (subst (λ (v : World). IsRunFrom R v (xs ++ ys)) there first.rest)
+    runs_on known.after w xs ys known.rest (subst (λ (v : World). IsRunFrom v (xs ++ ys)) there first.rest)
 
 -- The session with these entries after the border
 
 -- there is room for every maker where there is for those that are actors after the live steps
-pub room_for_all : (R : ℕ) (w : World) (xs ys : List Entry) (room : ℕ → ℕ) → run R (world_before w xs) (events xs) ≡ Ok (record { world = w; entries = xs })
-    → (n : ℕ) → IsRunFrom R (world_before w xs) (take n xs ++ ys) → HasRoomForAll w ys room → HasRoom ys room
-room_for_all R w xs ys room ran n h has = record { at = each }
+pub room_for_all : (w : World) (xs ys : List Entry) (room : ℕ → ℕ) → run (world_before w xs) (events xs) ≡ Ok (record { world = w; entries = xs })
+    → (n : ℕ) → IsRunFrom (world_before w xs) (take n xs ++ ys) → HasRoomForAll w ys room → HasRoom ys room
+room_for_all w xs ys room ran n h has = record { at = each }
   where
     each : (m : ℕ) → room_returned_by ys m ≤ room m
     each m =
         elim (cases_Bool (is_some ((world_before w xs).actor m))) [
           | inl e ↦
-              let there : is_some (w.actor m) ≡ true = run_stays_actor R (world_before w xs) (events xs) (record { world = w; entries = xs }) m ran e in
+              let there : is_some (w.actor m) ≡ true = run_stays_actor (world_before w xs) (events xs) (record { world = w; entries = xs }) m ran e in
               has.at m there
-          | inr e ↦ omega (arith, none_made R (world_before w xs) (take n xs ++ ys) m h e, returned_joined (take n xs) ys m)
+          | inr e ↦ omega (arith, none_made (world_before w xs) (take n xs ++ ys) m h e, returned_joined (take n xs) ys m)
         ]
 
 -- after the first n live steps these were made, and lead on from the start
-pub record IsExchanged (R : ℕ) (old new : Journal) (room : ℕ → ℕ) : Type 0 where
-  pub session : IsSession R new room
+pub record IsExchanged (old new : Journal) (room : ℕ → ℕ) : Type 0 where
+  pub session : IsSession new room
   pub start : start_of new ≡ start_of old
 
-pub exchanged : (R n : ℕ) (old new : Journal) (given : List Entry) (w : World) (room : ℕ → ℕ) → n ≤ length old.live → n + length given ≤ MOST_STEPS
-    → LeadsTo R (start_of old) w (take n old.live) → run R w (events given) ≡ Ok (record { world = new.world; entries = given }) → IsSwitched n given old new
-    → IsExchanged R old new room
-exchanged R n old new given w room within few leads goes is =
+pub exchanged : (n : ℕ) (old new : Journal) (given : List Entry) (w : World) (room : ℕ → ℕ) → n ≤ length old.live → n + length given ≤ MOST_STEPS
+    → LeadsTo (start_of old) w (take n old.live) → run w (events given) ≡ Ok (record { world = new.world; entries = given }) → IsSwitched n given old new
+    → IsExchanged old new room
+exchanged n old new given w room within few leads goes is =
     let s = start_of old in
     let l = take n old.live ++ given in
-    let all : run R s (events l) ≡ Ok (record { world = new.world; entries = l }) =
-    ap (run R s) (map-append (λ (x : Entry). x.event) (take n old.live) given)
-    ∙ run_joined R s (events (take n old.live)) (events given) (record { world = w; entries = take n old.live }) (record { world = new.world; entries = given }) leads.ran goes in
+    let all : run s (events l) ≡ Ok (record { world = new.world; entries = l }) =
+    ap (run s) (map-append (λ (x : Entry). x.event) (take n old.live) given)
+    ∙ run_joined s (events (take n old.live)) (events given) (record { world = w; entries = take n old.live }) (record { world = new.world; entries = given }) leads.ran goes in
     let whole : new ≡ record { world = new.world; live = l; undone = [] } = λ i. record { world = new.world; live = is.live i; undone = is.undone i } in
-    let back : world_before new.world l ≡ s = goes_back R s new.world l leads.well_formed all in
+    let back : world_before new.world l ≡ s = goes_back s new.world l leads.well_formed all in
     record {
       session = grind (arith, length-append, length-take-le);
       start = ap (λ (xs : List Entry). world_before new.world xs) is.live ∙ back;

@@ -23,12 +23,12 @@ pub forward_back : (s t : State) (n : ℕ) → back s n ≡ Ok t → forward t n
 forward_back s t n h = grind (arith, times_back, length-append, length-drop, forward_goes, there)
 
 -- a state has one journal
-pub one_journal : (R : ℕ) (i j : Journal) → IsRun R i → IsRun R j → state_of i ≡ state_of j → i ≡ j
-one_journal R i j ri rj same = grind arith
+pub one_journal : (i j : Journal) → IsRun i → IsRun j → state_of i ≡ state_of j → i ≡ j
+one_journal i j ri rj same = grind arith
 
 -- going forward as far gives the journal from before
-pub forward_back_journal : (R : ℕ) (i j k : Journal) (n : ℕ) → IsRun R i → IsRun R k → back (state_of i) n ≡ Ok (state_of j)
+pub forward_back_journal : (i j k : Journal) (n : ℕ) → IsRun i → IsRun k → back (state_of i) n ≡ Ok (state_of j)
     → forward (state_of j) n ≡ Ok (state_of k) → k ≡ i
-forward_back_journal R i j k n ri rk went goes =
+forward_back_journal i j k n ri rk went goes =
     let both : as_ok (state_of k) ≡ Ok (state_of i) = sym goes ∙ forward_back (state_of i) (state_of j) n went in
-    one_journal R k i rk ri (as_ok-same (state_of k) (state_of i) both)
+    one_journal k i rk ri (as_ok-same (state_of k) (state_of i) both)

@@ -8,75 +8,75 @@ use Rattle.rd_journal.proofs.Switching.{returned_joined, runs_on}
 -- What is left is a session
 
 -- the live and the undone entries are those of one run from the start
-pub whole_run : (R : ℕ) (j : Journal) → IsRun R j → IsRunFrom R (start_of j) (j.live ++ j.undone)
-whole_run R j runs =
-    let on = runs_to R j.world j.undone runs.undone_run_on in
-    ap run_entries (ap (run R (start_of j)) (map-append (λ (x : Entry). x.event) j.live j.undone)
-    ∙ run_joined R (start_of j) (events j.live) (events j.undone) (record { world = j.world; entries = j.live })
+pub whole_run : (j : Journal) → IsRun j → IsRunFrom (start_of j) (j.live ++ j.undone)
+whole_run j runs =
+    let on = runs_to j.world j.undone runs.undone_run_on in
+    ap run_entries (ap (run (start_of j)) (map-append (λ (x : Entry). x.event) j.live j.undone)
+    ∙ run_joined (start_of j) (events j.live) (events j.undone) (record { world = j.world; entries = j.live })
     (record { world = on.last; entries = j.undone }) runs.live_ran on.runs)
 
 -- the start stays where the first steps lead from it to the world
-pub led_back : (R n : ℕ) (old new : Journal) → LeadsTo R (start_of old) new.world (take (length old.live - n) old.live) → IsMovedBack n old new
+pub led_back : (n : ℕ) (old new : Journal) → LeadsTo (start_of old) new.world (take (length old.live - n) old.live) → IsMovedBack n old new
     → start_of new ≡ start_of old
-led_back R n old new leads moved = grind (arith, goes_back)
+led_back n old new leads moved = grind (arith, goes_back)
 
 -- n steps back, where the others lead from the start to the world
-pub moved_back : (R n : ℕ) (old new : Journal) (before after : ℕ → ℕ) → n ≤ length old.live → IsSession R old before
-    → LeadsTo R (start_of old) new.world (take (length old.live - n) old.live)
-    → ((m : ℕ) → before m + room_returned_by (drop (length old.live - n) old.live) m ≤ after m) → IsMovedBack n old new → IsSession R new after
-moved_back R n old new before after within session leads gives moved =
+pub moved_back : (n : ℕ) (old new : Journal) (before after : ℕ → ℕ) → n ≤ length old.live → IsSession old before
+    → LeadsTo (start_of old) new.world (take (length old.live - n) old.live)
+    → ((m : ℕ) → before m + room_returned_by (drop (length old.live - n) old.live) m ≤ after m) → IsMovedBack n old new → IsSession new after
+moved_back n old new before after within session leads gives moved =
     let s = start_of old in
     let k = length old.live - n in
     let l = take k old.live in
     let u = drop k old.live ++ old.undone in
     let whole : new ≡ record { world = new.world; live = l; undone = u } = λ i. record { world = new.world; live = moved.live i; undone = moved.undone i } in
-    let back : world_before new.world l ≡ s = goes_back R s new.world l leads.well_formed leads.ran in
+    let back : world_before new.world l ≡ s = goes_back s new.world l leads.well_formed leads.ran in
     let cut : l ++ u ≡ old.live ++ old.undone =
     sym (append_assoc l (drop k old.live) old.undone) ∙ ap (λ (xs : List Entry). xs ++ old.undone) (take-append-drop k old.live) in
-    subst (λ (j : Journal). IsSession R j after) (sym whole) (record {
+    subst (λ (j : Journal). IsSession j after) (sym whole) (record {
       few = omega (arith, session.few, ap length cut, length-append l u, length-append old.live old.undone);
       runs = record {
-        well_formed = subst (λ (w : World). IsWellFormed R w) (sym back) leads.well_formed;
-        live_ran = ap (λ (w : World). run R w (events l)) back ∙ leads.ran;
-        undone_run_on = runs_on R s new.world l u leads.ran (subst (λ (xs : List Entry). IsRunFrom R s xs) (sym cut) (whole_run R old session.runs));
+        well_formed = subst (λ (w : World). IsWellFormed w) (sym back) leads.well_formed;
+        live_ran = ap (λ (w : World). run w (events l)) back ∙ leads.ran;
+        undone_run_on = runs_on s new.world l u leads.ran (subst (λ (xs : List Entry). IsRunFrom s xs) (sym cut) (whole_run old session.runs));
       };
       has_room = record { at = λ m. omega (arith, session.has_room.at m, gives m, returned_joined (drop k old.live) old.undone m) };
     })
 
 -- the live steps and the next ones run from the start to the world that these run to
-run_on : (R n : ℕ) (old : Journal) (w : World) → IsRun R old → run R old.world (events (take n old.undone)) ≡ Ok (record { world = w; entries = take n old.undone })
-    → run R (start_of old) (events (old.live ++ take n old.undone)) ≡ Ok (record { world = w; entries = old.live ++ take n old.undone })
-run_on R n old w runs goes =
-    ap (run R (start_of old)) (map-append (λ (x : Entry). x.event) old.live (take n old.undone))
-    ∙ run_joined R (start_of old) (events old.live) (events (take n old.undone)) (record { world = old.world; entries = old.live })
+run_on : (n : ℕ) (old : Journal) (w : World) → IsRun old → run old.world (events (take n old.undone)) ≡ Ok (record { world = w; entries = take n old.undone })
+    → run (start_of old) (events (old.live ++ take n old.undone)) ≡ Ok (record { world = w; entries = old.live ++ take n old.undone })
+run_on n old w runs goes =
+    ap (run (start_of old)) (map-append (λ (x : Entry). x.event) old.live (take n old.undone))
+    ∙ run_joined (start_of old) (events old.live) (events (take n old.undone)) (record { world = old.world; entries = old.live })
     (record { world = w; entries = take n old.undone }) runs.live_ran goes
 
-pub led_forward : (R n : ℕ) (old new : Journal) → IsRun R old
-    → run R old.world (events (take n old.undone)) ≡ Ok (record { world = new.world; entries = take n old.undone }) → IsMovedForward n old new
+pub led_forward : (n : ℕ) (old new : Journal) → IsRun old
+    → run old.world (events (take n old.undone)) ≡ Ok (record { world = new.world; entries = take n old.undone }) → IsMovedForward n old new
     → start_of new ≡ start_of old
-led_forward R n old new runs goes moved =
+led_forward n old new runs goes moved =
     ap (λ (xs : List Entry). world_before new.world xs) moved.live
-    ∙ goes_back R (start_of old) new.world (old.live ++ take n old.undone) runs.well_formed (run_on R n old new.world runs goes)
+    ∙ goes_back (start_of old) new.world (old.live ++ take n old.undone) runs.well_formed (run_on n old new.world runs goes)
 
 -- n steps forward, where they run to the world
-pub moved_forward : (R n : ℕ) (old new : Journal) (before after : ℕ → ℕ) → IsSession R old before
-    → run R old.world (events (take n old.undone)) ≡ Ok (record { world = new.world; entries = take n old.undone }) → HasRoom (drop n old.undone) after
-    → IsMovedForward n old new → IsSession R new after
-moved_forward R n old new before after session goes has moved =
+pub moved_forward : (n : ℕ) (old new : Journal) (before after : ℕ → ℕ) → IsSession old before
+    → run old.world (events (take n old.undone)) ≡ Ok (record { world = new.world; entries = take n old.undone }) → HasRoom (drop n old.undone) after
+    → IsMovedForward n old new → IsSession new after
+moved_forward n old new before after session goes has moved =
     let a = take n old.undone in
     let l = old.live ++ a in
     let u = drop n old.undone in
     let whole : new ≡ record { world = new.world; live = l; undone = u } = λ i. record { world = new.world; live = moved.live i; undone = moved.undone i } in
-    let all = run_on R n old new.world session.runs goes in
-    let back : world_before new.world l ≡ start_of old = goes_back R (start_of old) new.world l session.runs.well_formed all in
-    subst (λ (j : Journal). IsSession R j after) (sym whole) (record {
+    let all = run_on n old new.world session.runs goes in
+    let back : world_before new.world l ≡ start_of old = goes_back (start_of old) new.world l session.runs.well_formed all in
+    subst (λ (j : Journal). IsSession j after) (sym whole) (record {
       few = omega (arith, session.few, ap length (take-append-drop n old.undone), length-append a u, length-append old.live a);
       runs = record {
-        well_formed = subst (λ (w : World). IsWellFormed R w) (sym back) session.runs.well_formed;
-        live_ran = ap (λ (w : World). run R w (events l)) back ∙ all;
+        well_formed = subst (λ (w : World). IsWellFormed w) (sym back) session.runs.well_formed;
+        live_ran = ap (λ (w : World). run w (events l)) back ∙ all;
         undone_run_on =
-            runs_on R old.world new.world a u goes
-            (subst (λ (xs : List Entry). IsRunFrom R old.world xs) (sym (take-append-drop n old.undone)) session.runs.undone_run_on);
+            runs_on old.world new.world a u goes
+            (subst (λ (xs : List Entry). IsRunFrom old.world xs) (sym (take-append-drop n old.undone)) session.runs.undone_run_on);
       };
       has_room = has;
     })

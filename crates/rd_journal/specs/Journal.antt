@@ -22,16 +22,16 @@ abbrev pub start_of : Journal → World
 start_of j = world_before j.world j.live
 
 -- these are the entries of a run from a well-formed world to another
-pub record LeadsTo (R : ℕ) (start w : World) (xs : List Entry) : Type 0 where
-  pub well_formed : IsWellFormed R start
-  pub ran : run R start (events xs) ≡ Ok (record { world = w; entries = xs })
+pub record LeadsTo (start w : World) (xs : List Entry) : Type 0 where
+  pub well_formed : IsWellFormed start
+  pub ran : run start (events xs) ≡ Ok (record { world = w; entries = xs })
 
 -- the journal is a run: the live events run from a well-formed start to its world and leave its
 -- live entries, and the undone events run on from there and leave its undone entries
-pub record IsRun (R : ℕ) (j : Journal) : Type 0 where
-  pub well_formed : IsWellFormed R (start_of j)
-  pub live_ran : run R (start_of j) (events j.live) ≡ Ok (record { world = j.world; entries = j.live })
-  pub undone_run_on : IsRunFrom R j.world j.undone
+pub record IsRun (j : Journal) : Type 0 where
+  pub well_formed : IsWellFormed (start_of j)
+  pub live_ran : run (start_of j) (events j.live) ≡ Ok (record { world = j.world; entries = j.live })
+  pub undone_run_on : IsRunFrom j.world j.undone
 
 -- the entry of the live step of this number, from 1
 abbrev pub entry_of : Journal → ℕ → Result Entry Refusal

@@ -20,7 +20,7 @@ journal_of w r n = with_undone n (whole_journal w r)
 
 -- a session's journal is one run that leads through its world, with no more entries than may be
 -- live, and there is room for all that is undone
-pub record IsSession (R : ℕ) (j : Journal) (room : ℕ → ℕ) : Type 0 where
+pub record IsSession (j : Journal) (room : ℕ → ℕ) : Type 0 where
   pub few : length j.live + length j.undone ≤ MOST_STEPS
-  pub runs : IsRun R j
+  pub runs : IsRun j
   pub has_room : HasRoom j.undone room

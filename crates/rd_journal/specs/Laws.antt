@@ -7,11 +7,11 @@ use Rattle.rd_journal.specs.Journal.{Journal, start_of, events, run_entries}
 -- the entry is that of the live step that k others are before: their run leads from the start to a
 -- world where the step leaves this entry, and its old words are the actor's words and the place's
 -- content in that world
-pub record IsStepAfter (R k : ℕ) (j : Journal) (x : Entry) : Type 0 where
+pub record IsStepAfter (k : ℕ) (j : Journal) (x : Entry) : Type 0 where
   pub before : World
-  pub ran : run R (start_of j) (take k (events j.live)) ≡ Ok (record { world = before; entries = take k j.live })
+  pub ran : run (start_of j) (take k (events j.live)) ≡ Ok (record { world = before; entries = take k j.live })
   pub after : World
-  pub goes : step R before x.event ≡ Ok (record { world = after; entry = x })
+  pub goes : step before x.event ≡ Ok (record { world = after; entry = x })
   pub old_actor : before.actor x.event.actor ≡ Some x.old_actor
   pub old_content : (p : Place) → x.place ≡ Some p → operand before.at p ≡ x.old_content
 
@@ -30,5 +30,5 @@ pub record IsClosureLast (n : ℕ) (old new : Journal) : Type 0 where
   pub undone : new.undone ≡ old.undone
 
 -- live followed by undone is one run from the start, with the entries of both
-abbrev pub IsOneRun : ℕ → Journal → Type 0
-IsOneRun R j = run_entries (run R (start_of j) (events (j.live ++ j.undone))) ≡ Ok (j.live ++ j.undone)
+abbrev pub IsOneRun : Journal → Type 0
+IsOneRun j = run_entries (run (start_of j) (events (j.live ++ j.undone))) ≡ Ok (j.live ++ j.undone)

@@ -12,8 +12,8 @@ pub record IsLengthened (x : Entry) (old new : Journal) : Type 0 where
 
 -- the step of an event leads from the old world to the new one, and its entry is the last live one,
 -- with this number
-pub record IsStepOf (R : ℕ) (e : Event) (done : ℕ × Entry) (old new : Journal) : Type 0 where
-  pub goes : step R old.world e ≡ Ok (record { world = new.world; entry = done.1 })
+pub record IsStepOf (e : Event) (done : ℕ × Entry) (old new : Journal) : Type 0 where
+  pub goes : step old.world e ≡ Ok (record { world = new.world; entry = done.1 })
   pub entries : IsLengthened done.1 old new
   pub number : done.0 ≡ length new.live
 
@@ -29,9 +29,9 @@ pub record IsMovedForward (n : ℕ) (old new : Journal) : Type 0 where
   pub undone : new.undone ≡ drop n old.undone
 
 -- world and live entries are those of the run of all but the last n live events
-abbrev pub IsBeforeLast : ℕ → ℕ → Journal → Journal → Type 0
-IsBeforeLast R n old new =
-    run R (start_of old) (take (length old.live - n) (events old.live)) ≡ Ok (record { world = new.world; entries = new.live })
+abbrev pub IsBeforeLast : ℕ → Journal → Journal → Type 0
+IsBeforeLast n old new =
+    run (start_of old) (take (length old.live - n) (events old.live)) ≡ Ok (record { world = new.world; entries = new.live })
 
 -- the k-th live entry became the front of the undone ones, all others are as they were, and no
 -- entry changed
@@ -40,8 +40,8 @@ pub record IsUndoneAlone (k : ℕ) (old new : Journal) : Type 0 where
   pub undone : new.undone ≡ take 1 (drop (k - 1) old.live) ++ old.undone
 
 -- world and live entries are those of the run of the live events without the k-th
-abbrev pub IsRunWithout : ℕ → ℕ → Journal → Journal → Type 0
-IsRunWithout R k old new = run R (start_of old) (without (events old.live) k) ≡ Ok (record { world = new.world; entries = new.live })
+abbrev pub IsRunWithout : ℕ → Journal → Journal → Type 0
+IsRunWithout k old new = run (start_of old) (without (events old.live) k) ≡ Ok (record { world = new.world; entries = new.live })
 
 -- the answer to undoing a step alone: done, or `Depended` with the first step that depends on it
 abbrev pub answer_unless : Option ℕ → Result Unit Refusal
@@ -66,9 +66,9 @@ pub record IsRolledBack (k : ℕ) (old new : Journal) : Type 0 where
   pub undone : new.undone ≡ closure_of old.live k ++ old.undone
 
 -- world and live entries are those of the run of the live events outside the causal closure of k
-abbrev pub IsWithoutClosure : ℕ → ℕ → Journal → Journal → Type 0
-IsWithoutClosure R k old new =
-    run R (start_of old) (unmarked (closure old.live k) (events old.live)) ≡ Ok (record { world = new.world; entries = new.live })
+abbrev pub IsWithoutClosure : ℕ → Journal → Journal → Type 0
+IsWithoutClosure k old new =
+    run (start_of old) (unmarked (closure old.live k) (events old.live)) ≡ Ok (record { world = new.world; entries = new.live })
 
 -- the answer to rolling back the k-th live step: `NoSuchStep` if there is no such step, else done
 abbrev pub roll_answer : Journal → ℕ → Result Unit Refusal

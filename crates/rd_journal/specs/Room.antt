@@ -36,10 +36,10 @@ pub record IsNotIndexed (stepped : Result Stepped Refusal) (undone : List Entry)
 -- memory was refused to the event, while fewer steps are live than may be: for one more entry,
 -- where none is undone and the live ones fill the room that there is; for a segment that nothing
 -- else refuses, where the maker has no room; or for the index of dependants
-pub record IsOutOfMemory (R : ℕ) (j : Journal) (capacity : ℕ) (room : ℕ → ℕ) (index : DependIndex) (e : Event) : Type 0 where
+pub record IsOutOfMemory (j : Journal) (capacity : ℕ) (room : ℕ → ℕ) (index : DependIndex) (e : Event) : Type 0 where
   pub not_full : length j.live < MOST_STEPS
-  pub asked : ((j.undone ≡ []) × (capacity ≡ length j.live)) ⊎ FindsNoRoom (step R j.world e) (makes_segment R j.world e) (room e.actor)
-      ⊎ IsNotIndexed (step R j.world e) j.undone index
+  pub asked : ((j.undone ≡ []) × (capacity ≡ length j.live)) ⊎ FindsNoRoom (step j.world e) (makes_segment j.world e) (room e.actor)
+      ⊎ IsNotIndexed (step j.world e) j.undone index
 
 -- the refusal of the step itself is answered only where there is room for its entry
 abbrev pub ComesAfterRoom : ℕ → ℕ → Refusal → Type 0

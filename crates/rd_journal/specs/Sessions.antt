@@ -58,7 +58,7 @@ pub record IsUnchanged {R : ℕ} (old new : Session R) : Type 0 where
 -- a session may refuse an event so: as the event is refused in its state, or for lack of memory
 -- where room is missing
 abbrev pub MayRefuse : {R : ℕ} → Session R → Event → Refusal → Type 0
-MayRefuse {R} s e refusal = (apply R (state s) e ≡ Err refusal) ⊎ ((refusal ≡ NoMemory) × IsOutOfMemory R (journal s) (capacity s) (room s) (index s) e)
+MayRefuse s e refusal = (apply (state s) e ≡ Err refusal) ⊎ ((refusal ≡ NoMemory) × IsOutOfMemory (journal s) (capacity s) (room s) (index s) e)
 
 -- a session lacks room for going to these events: for the entries of those after the first ones,
 -- which stay

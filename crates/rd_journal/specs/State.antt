@@ -17,16 +17,16 @@ abbrev pub state_of : Journal → State
 state_of j = record { start = start_of j; live = events j.live; undone = events j.undone }
 
 -- the run of the live events from the start; of a session's state it is never refused
-abbrev pub run_of : ℕ → State → Result Ran Refusal
-run_of R s = run R s.start s.live
+abbrev pub run_of : State → Result Ran Refusal
+run_of s = run s.start s.live
 
 -- the step that an event makes in the last world of a run
-abbrev pub step_after : ℕ → Result Ran Refusal → Event → Result Stepped Refusal
-step_after R r e = and_then r (λ ran. step R ran.world e)
+abbrev pub step_after : Result Ran Refusal → Event → Result Stepped Refusal
+step_after r e = and_then r (λ ran. step ran.world e)
 
 -- what the event's call replies in the last world of the live events, if the event ends one
-abbrev pub reply_to : ℕ → State → Event → Option OpReply
-reply_to R s e = option_and_then (λ stepped. stepped.entry.reply) (result_ok (step_after R (run_of R s) e))
+abbrev pub reply_to : State → Event → Option OpReply
+reply_to s e = option_and_then (λ stepped. stepped.entry.reply) (result_ok (step_after (run_of s) e))
 
 -- the state with the event put last in live and nothing undone
 abbrev pub with_event : State → Event → State
@@ -34,15 +34,15 @@ with_event s e = record { start = s.start; live = s.live ++ e ∷ []; undone = [
 
 -- the state after an event: refused if as many steps are live as may be, else as its step is
 -- refused in the last world of the live events
-abbrev pub apply : ℕ → State → Event → Result State Refusal
-apply R s e =
-    if length s.live == MOST_STEPS then Err TooLong else result_map (λ stepped. with_event s e) (step_after R (run_of R s) e)
+abbrev pub apply : State → Event → Result State Refusal
+apply s e =
+    if length s.live == MOST_STEPS then Err TooLong else result_map (λ stepped. with_event s e) (step_after (run_of s) e)
 
 -- memory may be refused to an event in this state: fewer steps are live than may be, and either none
 -- is undone or nothing else refuses the event
-pub record MayLackMemory (R : ℕ) (s : State) (e : Event) : Type 0 where
+pub record MayLackMemory (s : State) (e : Event) : Type 0 where
   pub not_full : length s.live < MOST_STEPS
-  pub asked : (s.undone ≡ []) ⊎ IsOk (apply R s e)
+  pub asked : (s.undone ≡ []) ⊎ IsOk (apply s e)
 
 -- the state where the last of live became the front of undone, if there was one
 abbrev pub back_one : State → State
@@ -88,11 +88,11 @@ undone_alone_unless s k None = Ok (undone_alone s k)
 
 -- the state after undoing the k-th live step alone: refused if there is none, and with the number
 -- of the first live step that depends on it, if there is one
-abbrev pub undo_at : ℕ → State → ℕ → Result State Refusal
-undo_at R s zero = Err (NoSuchStep (length s.live))
-undo_at R s (suc i) =
+abbrev pub undo_at : State → ℕ → Result State Refusal
+undo_at s zero = Err (NoSuchStep (length s.live))
+undo_at s (suc i) =
     if nat_lt i (length s.live)
-    then and_then (run_of R s) (λ ran. undone_alone_unless s (suc i) (first_dependant ran.entries (suc i)))
+    then and_then (run_of s) (λ ran. undone_alone_unless s (suc i) (first_dependant ran.entries (suc i)))
     else Err (NoSuchStep (length s.live))
 
 -- the state where the marked live events became the front of undone, in their order, and all others
@@ -102,11 +102,11 @@ undone_marked s marks = record { start = s.start; live = unmarked marks s.live; 
 
 -- the state after rolling back the k-th live step: it and just the later ones that depend on it,
 -- directly or through others, became the front of undone; refused if there is none
-abbrev pub roll : ℕ → State → ℕ → Result State Refusal
-roll R s zero = Err (NoSuchStep (length s.live))
-roll R s (suc i) =
+abbrev pub roll : State → ℕ → Result State Refusal
+roll s zero = Err (NoSuchStep (length s.live))
+roll s (suc i) =
     if nat_lt i (length s.live)
-    then result_map (λ ran. undone_marked s (closure ran.entries (suc i))) (run_of R s)
+    then result_map (λ ran. undone_marked s (closure ran.entries (suc i))) (run_of s)
     else Err (NoSuchStep (length s.live))
 
 -- the state whose live events are the first n from before and then these, with nothing undone

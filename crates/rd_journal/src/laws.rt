@@ -3,7 +3,7 @@
 
 ghost use Rattle.std.specs.Prelude.{◌≡◌, ℕ, length, Ok};
 ghost use Rattle.rd_step.specs.Prelude.{closure_of};
-ghost use Rattle.rd_journal.specs.Journal.{Journal, IsRun};
+ghost use Rattle.rd_journal.specs.Journal.{Journal, start_of, IsRun};
 ghost use Rattle.rd_journal.specs.Laws.{IsMovedLast, IsClosureLast, IsOneRun};
 ghost use Rattle.rd_journal.specs.State.{State, state_of, undo_at, back, redo, forward, roll};
 
@@ -16,21 +16,26 @@ pub fn forward_after_back_gives_the_state_back()
 /// A start, live events and undone events determine the world and every entry: what a call does to
 /// the state determines what it does to the whole session.
 pub fn a_state_has_one_journal()
-    ensures { (R : ℕ) (i j : Journal) → IsRun R i → IsRun R j → state_of i ≡ state_of j → i ≡ j }
+    ensures { (i j : Journal) → IsRun i → IsRun j → state_of i ≡ state_of j → i ≡ j }
 {}
 
 /// The loop lemma: going back and then forward as far gives the world and every entry, live and
 /// undone, from before. For one step it is among the laws of rd_step, as
 /// `entries_undo_their_steps`.
 pub fn forward_after_back_gives_the_journal_back()
-    ensures { (R : ℕ) (i j k : Journal) (n : ℕ) → IsRun R i → IsRun R k → back (state_of i) n ≡ Ok (state_of j)
+    ensures { (i j k : Journal) (n : ℕ) → IsRun i → IsRun k → back (state_of i) n ≡ Ok (state_of j)
         → forward (state_of j) n ≡ Ok (state_of k) → k ≡ i }
+{}
+
+/// The world in which the live steps began has rings of the same size as the world after them.
+pub fn the_start_has_the_ring_of_the_world()
+    ensures { (j : Journal) → (start_of j).ring ≡ j.world.ring }
 {}
 
 /// The live events followed by the undone ones are one run from the start. So the front of the
 /// undone ones can always be redone.
 pub fn live_and_undone_are_one_run()
-    ensures { (R : ℕ) (j : Journal) → IsRun R j → IsOneRun R j }
+    ensures { (j : Journal) → IsRun j → IsOneRun j }
 {}
 
 /// A step that is undone alone, from anywhere among the live ones, and then redone is the last one,
@@ -43,13 +48,13 @@ pub fn live_and_undone_are_one_run()
 /// rows and all well-formed worlds, which reach the journal as the contract of `unstep` in
 /// rd_inverse.
 pub fn a_step_undone_alone_and_redone_is_the_last()
-    ensures { (R : ℕ) (i j k : Journal) (n : ℕ) → IsRun R i → IsRun R k → undo_at R (state_of i) n ≡ Ok (state_of j)
+    ensures { (i j k : Journal) (n : ℕ) → IsRun i → IsRun k → undo_at (state_of i) n ≡ Ok (state_of j)
         → redo (state_of j) ≡ Ok (state_of k) → IsMovedLast n i k }
 {}
 
 /// If all steps that a rollback undid are redone, the world is that from before it, no entry has
 /// changed, and the redone steps are the last ones, in their order.
 pub fn a_closure_rolled_back_and_redone_is_last()
-    ensures { (R : ℕ) (i j k : Journal) (n : ℕ) → IsRun R i → IsRun R k → roll R (state_of i) n ≡ Ok (state_of j)
+    ensures { (i j k : Journal) (n : ℕ) → IsRun i → IsRun k → roll (state_of i) n ≡ Ok (state_of j)
         → forward (state_of j) (length (closure_of i.live n)) ≡ Ok (state_of k) → IsClosureLast n i k }
 {}

@@ -51,7 +51,7 @@ pub struct Session<const R: usize> {
     index: DependIndex,
     /// How many of the steps ahead are undone.
     undone: usize,
-    ghost kept: { IsSession R (whole_journal (model world) entries) (world_room world) },
+    ghost kept: { IsSession (whole_journal (model world) entries) (world_room world) },
     ghost within: { undone ≤ length (ahead_entries entries) },
     ghost indexed: { IsIndexOf index (kept_entries entries) },
 }
@@ -100,13 +100,13 @@ impl<const R: usize> Session<R> {
     /// has changed then.
     pub fn apply(&mut self, event: Event) -> Result<(u64, Entry), Refusal>
         // A step is made in the world, and its event is put last in the state.
-        ensures ok { OnOk result (apply R (state self.old) event ≡ Ok (state self.new)) }
-        ensures reply { IfOk result (λ done. reply_to R (state self.old) event ≡ done.1.reply) }
-        ensures step { IfOk result (λ done. IsStepOf R event done (journal self.old) (journal self.new)) }
+        ensures ok { OnOk result (apply (state self.old) event ≡ Ok (state self.new)) }
+        ensures reply { IfOk result (λ done. reply_to (state self.old) event ≡ done.1.reply) }
+        ensures step { IfOk result (λ done. IsStepOf event done (journal self.old) (journal self.new)) }
 
         // It is refused in its state, or for lack of memory, and then nothing changes.
-        ensures err { IfErr result (λ refusal. (apply R (state self.old) event ≡ Err refusal)
-            ⊎ ((refusal ≡ Refusal.NoMemory) × MayLackMemory R (state self.old) event)) }
+        ensures err { IfErr result (λ refusal. (apply (state self.old) event ≡ Err refusal)
+            ⊎ ((refusal ≡ Refusal.NoMemory) × MayLackMemory (state self.old) event)) }
         ensures memory { IfErr result (MayRefuse self.old event) }
         ensures order { IfErr result (λ refusal. ComesAfterRoom (length (journal self.new).live) (capacity self.new) refusal) }
         ensures unchanged { OnErr result (IsUnchanged self.old self.new) }
@@ -155,9 +155,9 @@ impl<const R: usize> Session<R> {
     /// the number of the first live step that depends on the `k`-th, if there is one. Nothing has
     /// changed then.
     pub fn undo_at(&mut self, k: u64) -> Result<(), Refusal>
-        ensures state { AnswersAs (undo_at R (state self.old) k) result self.old self.new }
+        ensures state { AnswersAs (undo_at (state self.old) k) result self.old self.new }
         ensures entries { OnOk result (IsUndoneAlone k (journal self.old) (journal self.new)) }
-        ensures run { OnOk result (IsRunWithout R k (journal self.old) (journal self.new)) }
+        ensures run { OnOk result (IsRunWithout k (journal self.old) (journal self.new)) }
         ensures answer { result ≡ answer_at (journal self.old) k }
         ensures capacity { capacity self.new ≡ capacity self.old }
     {
@@ -184,9 +184,9 @@ impl<const R: usize> Session<R> {
     /// `NoSuchStep`, with the number of live steps, if `k` is not from 1 to it. Nothing has changed
     /// then.
     pub fn roll(&mut self, k: u64) -> Result<(), Refusal>
-        ensures state { AnswersAs (roll R (state self.old) k) result self.old self.new }
+        ensures state { AnswersAs (roll (state self.old) k) result self.old self.new }
         ensures entries { OnOk result (IsRolledBack k (journal self.old) (journal self.new)) }
-        ensures run { OnOk result (IsWithoutClosure R k (journal self.old) (journal self.new)) }
+        ensures run { OnOk result (IsWithoutClosure k (journal self.old) (journal self.new)) }
         ensures answer { result ≡ roll_answer (journal self.old) k }
         ensures capacity { capacity self.new ≡ capacity self.old }
     {
@@ -208,7 +208,7 @@ impl<const R: usize> Session<R> {
     pub fn back(&mut self, n: u64) -> Result<(), Refusal>
         ensures state { AnswersAs (back (state self.old) n) result self.old self.new }
         ensures entries { OnOk result (IsMovedBack n (journal self.old) (journal self.new)) }
-        ensures run { OnOk result (IsBeforeLast R n (journal self.old) (journal self.new)) }
+        ensures run { OnOk result (IsBeforeLast n (journal self.old) (journal self.new)) }
         ensures succeeds { n ≤ length (journal self.old).live → IsOk result }
         ensures along { GoesAlong self.old self.new }
     {
@@ -268,7 +268,7 @@ impl<const R: usize> Session<R> {
     pub fn switch(&mut self, n: u64, entries: &[Entry]) -> Result<(), Refusal>
         requires within { n ≤ length (journal self.old).live }
         requires few { n + length entries.now ≤ MOST_STEPS }
-        requires run { IsRunFrom R (start_of (journal self.old)) (take n (journal self.old).live ++ entries.now) }
+        requires run { IsRunFrom (start_of (journal self.old)) (take n (journal self.old).live ++ entries.now) }
         ensures ok { OnOk result (state self.new ≡ switch (state self.old) n (events entries.now)) }
         ensures entries { OnOk result (IsSwitched n entries.now (journal self.old) (journal self.new)) }
         ensures err { IfErr result (λ refusal. (refusal ≡ Refusal.NoMemory)

@@ -14,9 +14,9 @@ use Rattle.rd_marks.proofs.Starts.{answers_start}
 -- what a move along the track leaves of the bookmarks
 pub kept_along : {R : ℕ} (book : Book R) (new : Session R) (done : Result (Unit {0}) Refusal) (moved : Result State Refusal)
     → ((t : State) → moved ≡ Ok t → t.start ≡ (state book.session).start) → AnswersAs moved done book.session new → GoesAlong book.session new
-    → AreRuns R (state new).start (lists_in book.bookmarks) × IsPrefix (events (here_in book.bookmarks)) (track new)
-kept_along {R} book new done moved starts answers along = (
-  subst (λ (w : World). AreRuns R w (lists_in book.bookmarks)) (sym (answers_start moved done book.session new starts answers)) book.runs,
+    → AreRuns (state new).start (lists_in book.bookmarks) × IsPrefix (events (here_in book.bookmarks)) (track new)
+kept_along book new done moved starts answers along = (
+  subst (λ (w : World). AreRuns w (lists_in book.bookmarks)) (sym (answers_start moved done book.session new starts answers)) book.runs,
   subst (λ (es : List Event). IsPrefix (events (here_in book.bookmarks)) es) (sym along.track) book.stands,
 )
 
@@ -50,30 +50,30 @@ pub move_refused : {R : ℕ} (old new : Session R) (marks : List Mark) (refusal 
 move_refused old new marks refusal answer moved answers is = move_answered old new marks marks answer (Err refusal) moved answers refl tt (passed_up refusal answer is)
 
 -- what an event is answered is passed up as the reply to its command
-pub event_passed_up : (R : ℕ) (b after : BookState) (e : Event) (refusal : Refusal) (answer : Result Reply Refusal) → IsErrAnd answer (λ x. x ≡ refusal)
-    → Happened R b e (record { answer = Err refusal; state = after }) → Happened R b e (record { answer = answer; state = after })
-event_passed_up R b after e refusal answer is happened =
-    subst (λ (a : Result Reply Refusal). Happened R b e (record { answer = a; state = after })) (sym (passed_up refusal answer is)) happened
+pub event_passed_up : (b after : BookState) (e : Event) (refusal : Refusal) (answer : Result Reply Refusal) → IsErrAnd answer (λ x. x ≡ refusal)
+    → Happened b e (record { answer = Err refusal; state = after }) → Happened b e (record { answer = answer; state = after })
+event_passed_up b after e refusal answer is happened =
+    subst (λ (a : Result Reply Refusal). Happened b e (record { answer = a; state = after })) (sym (passed_up refusal answer is)) happened
 
-module _ (R : ℕ) (old new : Journal) (marks : List Mark) (e : Event) where
+module _ (old new : Journal) (marks : List Mark) (e : Event) where
   abbrev pub before : BookState
   before = record { session = state_of old; marks = marks }
 
   abbrev of_step : Result State Refusal → Answered
-  of_step r = answer_with before (λ s. Applied (length s.live) (reply_to R (state_of old) e)) (with_session before) r
+  of_step r = answer_with before (λ s. Applied (length s.live) (reply_to (state_of old) e)) (with_session before) r
 
   -- the answer to an event that made a step
-  pub event_made : (after : List Mark) (n : ℕ) (reply : Option OpReply) → apply R (state_of old) e ≡ Ok (state_of new) → n ≡ length new.live
-      → reply_to R (state_of old) e ≡ reply → after ≡ marks
-      → Happened R before e (record { answer = Ok (Applied n reply); state = record { session = state_of new; marks = after } })
+  pub event_made : (after : List Mark) (n : ℕ) (reply : Option OpReply) → apply (state_of old) e ≡ Ok (state_of new) → n ≡ length new.live
+      → reply_to (state_of old) e ≡ reply → after ≡ marks
+      → Happened before e (record { answer = Ok (Applied n reply); state = record { session = state_of new; marks = after } })
   event_made after n reply made number its kept =
       let count : n ≡ length (state_of new).live = number ∙ sym (length-map new.live (λ (x : Entry). x.event)) in
       inl ((λ i. record { answer = Ok (Applied (count i) (sym its i)); state = record { session = state_of new; marks = kept i } }) ∙ sym (ap of_step made))
 
   -- the answer to an event that was refused
   pub event_refused : (answer : Result EventReply Refusal) (refusal : Refusal) → new ≡ old → IsErrAnd answer (λ e. e ≡ refusal)
-      → (apply R (state_of old) e ≡ Err refusal) ⊎ ((refusal ≡ NoMemory) × MayLackMemory R (state_of old) e)
-      → Happened R before e (record { answer = result_map as_reply answer; state = record { session = state_of new; marks = marks } })
+      → (apply (state_of old) e ≡ Err refusal) ⊎ ((refusal ≡ NoMemory) × MayLackMemory (state_of old) e)
+      → Happened before e (record { answer = result_map as_reply answer; state = record { session = state_of new; marks = marks } })
   event_refused answer refusal same is (inl h) =
       inl ((λ i. record { answer = result_map as_reply (passed_up refusal answer is i); state = record { session = state_of (same i); marks = marks } }) ∙ sym (ap of_step h))
   event_refused answer refusal same is (inr h) =

@@ -7,27 +7,27 @@ use Rattle.rd_marks.proofs.Prelude.{take-length, NoMemory, Session, state, journ
 -- A start and its events determine the entries of a run
 
 -- what a run began with
-pub record Began (R : ℕ) (w : World) (x : Entry) (xs : List Entry) : Type 0 where
+pub record Began (w : World) (x : Entry) (xs : List Entry) : Type 0 where
   pub stepped : Stepped
-  pub goes : step R w x.event ≡ Ok stepped
+  pub goes : step w x.event ≡ Ok stepped
   pub entry : stepped.entry ≡ x
-  pub rest : run_entries (run R stepped.world (events xs)) ≡ Ok xs
+  pub rest : run_entries (run stepped.world (events xs)) ≡ Ok xs
 
-began_by : (R : ℕ) (w : World) (x : Entry) (xs : List Entry) (r : Result Stepped Refusal) → step R w x.event ≡ r
-    → run_entries (and_then r (λ s. result_map (preceded_by s.entry) (run R s.world (events xs)))) ≡ Ok (x ∷ xs) → Began R w x xs
-began_by R w x xs r goes k = grind arith
+began_by : (w : World) (x : Entry) (xs : List Entry) (r : Result Stepped Refusal) → step w x.event ≡ r
+    → run_entries (and_then r (λ s. result_map (preceded_by s.entry) (run s.world (events xs)))) ≡ Ok (x ∷ xs) → Began w x xs
+began_by w x xs r goes k = grind arith
 
-pub began : (R : ℕ) (w : World) (x : Entry) (xs : List Entry) → run_entries (run R w (events (x ∷ xs))) ≡ Ok (x ∷ xs) → Began R w x xs
-began R w x xs h = began_by R w x xs (step R w x.event) refl h
+pub began : (w : World) (x : Entry) (xs : List Entry) → run_entries (run w (events (x ∷ xs))) ≡ Ok (x ∷ xs) → Began w x xs
+began w x xs h = began_by w x xs (step w x.event) refl h
 
 -- where the events of two runs begin alike, their entries do
-pub begin_alike : (R : ℕ) (n : ℕ) (w : World) (xs ys : List Entry) → run_entries (run R w (events xs)) ≡ Ok xs → run_entries (run R w (events ys)) ≡ Ok ys
+pub begin_alike : (n : ℕ) (w : World) (xs ys : List Entry) → run_entries (run w (events xs)) ≡ Ok xs → run_entries (run w (events ys)) ≡ Ok ys
     → take n (events xs) ≡ take n (events ys) → take n xs ≡ take n ys
-begin_alike R zero w xs ys p q h = refl
-begin_alike R (suc n) w [] [] p q h = refl
-begin_alike R (suc n) w [] (y ∷ ys) p q h = cc
-begin_alike R (suc n) w (x ∷ xs) [] p q h = cc
-begin_alike R (suc n) w (x ∷ xs) (y ∷ ys) p q h = grind (arith, began R w x xs p, began R w y ys q, begin_alike R n (began R w y ys q).stepped.world xs ys)
+begin_alike zero w xs ys p q h = refl
+begin_alike (suc n) w [] [] p q h = refl
+begin_alike (suc n) w [] (y ∷ ys) p q h = cc
+begin_alike (suc n) w (x ∷ xs) [] p q h = cc
+begin_alike (suc n) w (x ∷ xs) (y ∷ ys) p q h = grind (arith, began w x xs p, began w y ys q, begin_alike n (began w y ys q).stepped.world xs ys)
 
 -- a list from a position to its end
 pub to_the_end : {X : Type 0} (n : ℕ) (xs : List X) → take (length xs - n) (drop n xs) ≡ drop n xs
@@ -45,9 +45,9 @@ pub switched : {X : Type 0} (r : Result X Refusal) (s t : State) (n : ℕ) (zs y
 switched r s t n zs ys given h k = grind (arith, joined_events)
 
 -- what a switch to entries of a run asks for
-pub may_switch : (R : ℕ) (j : Journal) (n : ℕ) (zs ys : List Entry) → zs ≡ drop n ys → IsRunFrom R (start_of j) j.live → AreEntriesOfRun R (start_of j) ys
-    → take n (state_of j).live ≡ take n (events ys) → IsRunFrom R (start_of j) (take n j.live ++ zs)
-may_switch R j n zs ys given ran kept h = grind (arith, kept.ran, take-append-drop, begin_alike R n (start_of j) j.live ys ran kept.ran)
+pub may_switch : (j : Journal) (n : ℕ) (zs ys : List Entry) → zs ≡ drop n ys → IsRunFrom (start_of j) j.live → AreEntriesOfRun (start_of j) ys
+    → take n (state_of j).live ≡ take n (events ys) → IsRunFrom (start_of j) (take n j.live ++ zs)
+may_switch j n zs ys given ran kept h = grind (arith, kept.ran, take-append-drop, begin_alike n (start_of j) j.live ys ran kept.ran)
 
 pub few_enough : (n : ℕ) (zs ys : List Entry) → zs ≡ drop n ys → n ≤ length ys → length ys ≤ MOST_STEPS → n + length zs ≤ MOST_STEPS
 few_enough n zs ys given h k = omega (arith, ap length given, length-drop n ys)

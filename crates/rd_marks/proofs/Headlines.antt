@@ -9,13 +9,13 @@ use Rattle.rd_journal.specs.State.{undone_alone_unless}
 use Rattle.rd_marks.specs.Headline.{IsRunOfLive}
 
 -- what undoing a step that is live comes to
-there : (R : ℕ) (j : Journal) (i : ℕ) → IsRun R j → i < length j.live
-    → undo_at R (state_of j) (suc i) ≡ undone_alone_unless (state_of j) (suc i) (first_dependant j.live (suc i))
-there R j i runs within = grind (arith, length-map, cond-true, lt-ltb)
+there : (j : Journal) (i : ℕ) → IsRun j → i < length j.live
+    → undo_at (state_of j) (suc i) ≡ undone_alone_unless (state_of j) (suc i) (first_dependant j.live (suc i))
+there j i runs within = grind (arith, length-map, cond-true, lt-ltb)
 
 -- what undoing a step that is not live comes to
-missing : (R : ℕ) (j : Journal) (i : ℕ) → length j.live ≤ i → undo_at R (state_of j) (suc i) ≡ Err (NoSuchStep (length j.live))
-missing R j i past = grind (arith, length-map, cond-false, le-ltb)
+missing : (j : Journal) (i : ℕ) → length j.live ≤ i → undo_at (state_of j) (suc i) ≡ Err (NoSuchStep (length j.live))
+missing j i past = grind (arith, length-map, cond-false, le-ltb)
 
 -- nothing depends on a step that is not live
 none : (j : Journal) (i : ℕ) → length j.live ≤ i → first_dependant j.live (suc i) ≡ None
@@ -27,13 +27,13 @@ names s k n None = grind arith
 names s k n (Some j) = grind arith
 
 -- a lone undo is refused exactly where there is a dependant, and names the first
-refused : (R : ℕ) (j : Journal) → IsRun R j → (k n : ℕ) → (undo_at R (state_of j) k ≡ Err (Depended n)) ↔ (first_dependant j.live k ≡ Some n)
-refused R j runs zero n = grind arith
-refused R j runs (suc i) n = elim (cases_lt i (length j.live)) [
-  | inl within ↦ rw (there R j i runs within) (names (state_of j) (suc i) n (first_dependant j.live (suc i)))
-  | inr past ↦ rw (missing R j i past) (rw (none j i past) (grind arith))
+refused : (j : Journal) → IsRun j → (k n : ℕ) → (undo_at (state_of j) k ≡ Err (Depended n)) ↔ (first_dependant j.live k ≡ Some n)
+refused j runs zero n = grind arith
+refused j runs (suc i) n = elim (cases_lt i (length j.live)) [
+  | inl within ↦ rw (there j i runs within) (names (state_of j) (suc i) n (first_dependant j.live (suc i)))
+  | inr past ↦ rw (missing j i past) (rw (none j i past) (grind arith))
 ]
 
 -- a book over this journal, whatever its marks
-pub run_of_live : (R : ℕ) (j : Journal) (b : BookState) → b.session ≡ state_of j → IsRun R j → IsRunOfLive R b j
-run_of_live R j b is runs = rw is (record { ran = runs.live_ran; refused = refused R j runs })
+pub run_of_live : (j : Journal) (b : BookState) → b.session ≡ state_of j → IsRun j → IsRunOfLive b j
+run_of_live j b is runs = rw is (record { ran = runs.live_ran; refused = refused j runs })

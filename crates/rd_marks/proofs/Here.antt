@@ -32,12 +32,12 @@ added_leaves n x old new all more = grind (arith, take-append_seam, take-length)
 within_by : {X Y : Type 0} (b : Bool) (i l : ℕ) (r : Result X Y) (e : Y) (x : X) → nat_lt i l ≡ b → (if b then r else Err e) ≡ Ok x → suc i ≤ l
 within_by b i l r e x below h = grind arith
 
-pub undone_within : (R : ℕ) (s : State) (k : ℕ) (t : State) → undo_at R s k ≡ Ok t → k ≤ length s.live
-undone_within R s zero t h = omega arith
-undone_within R s (suc i) t h = within_by (nat_lt i (length s.live)) i (length s.live) _ _ t refl h
+pub undone_within : (s : State) (k : ℕ) (t : State) → undo_at s k ≡ Ok t → k ≤ length s.live
+undone_within s zero t h = omega arith
+undone_within s (suc i) t h = within_by (nat_lt i (length s.live)) i (length s.live) _ _ t refl h
 
-pub rolled_within : (R : ℕ) (s : State) (k : ℕ) (t : State) → roll R s k ≡ Ok t → k ≤ length s.live
-rolled_within R s k t l = grind arith
+pub rolled_within : (s : State) (k : ℕ) (t : State) → roll s k ≡ Ok t → k ≤ length s.live
+rolled_within s k t l = grind arith
 
 module _ (here there : List Entry) (begins : IsPrefix there here) where
   -- what begins it begins the same track

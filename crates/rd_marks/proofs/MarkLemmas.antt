@@ -80,14 +80,14 @@ goto_not_done P r b name es there h goes = grind arith
 
 -- The comparison of two marks
 
-module _ (R : ℕ) (w : World) (o p : Option (List Event)) where
-  pub both_there : (es fs : List Event) (said : Result Bool Refusal) → o ≡ Some es → p ≡ Some fs → AnswersSame R w (Some es) (Some fs) said → AnswersSame R w o p said
+module _ (w : World) (o p : Option (List Event)) where
+  pub both_there : (es fs : List Event) (said : Result Bool Refusal) → o ≡ Some es → p ≡ Some fs → AnswersSame w (Some es) (Some fs) said → AnswersSame w o p said
   both_there es fs said h k a = rw (h, k) a
 
 -- entries that are those of runs from the start are compared from there
-pub decided : (R : ℕ) (w : World) (xs ys : List Entry) (same : Bool) → AreEntriesOfRun R w xs → AreEntriesOfRun R w ys
-    → DecidesEquivalence xs ys same → IsTrue same ↔ IsEquivalent R w (events xs) (events ys)
-decided R w xs ys same p q d = d R w p.ran q.ran
+pub decided : (w : World) (xs ys : List Entry) (same : Bool) → AreEntriesOfRun w xs → AreEntriesOfRun w ys
+    → DecidesEquivalence xs ys same → IsTrue same ↔ IsEquivalent w (events xs) (events ys)
+decided w xs ys same p q d = d w p.ran q.ran
 
 -- The mark of a number
 

@@ -21,11 +21,11 @@ pub record LeavesStart (b : BookState) (a : Answered) : Type 0 where
 move_leaves : (b : BookState) (r : Result State Refusal) → ((t : State) → r ≡ Ok t → t.start ≡ b.session.start) → LeavesStart b (move_answer b r)
 move_leaves b r starts = grind arith
 
-happens_leaves : (R : ℕ) (b : BookState) (e : Event) → LeavesStart b (happens R b e)
-happens_leaves R b e = of_applied (apply R b.session e) (apply_start R b.session e)
+happens_leaves : (b : BookState) (e : Event) → LeavesStart b (happens b e)
+happens_leaves b e = of_applied (apply b.session e) (apply_start b.session e)
   where
     of_applied : (r : Result State Refusal) → ((t : State) → r ≡ Ok t → t.start ≡ b.session.start)
-        → LeavesStart b (answer_with b (λ s. Applied (length s.live) (reply_to R b.session e)) (with_session b) r)
+        → LeavesStart b (answer_with b (λ s. Applied (length s.live) (reply_to b.session e)) (with_session b) r)
     of_applied r starts = grind arith
 
 goto_start : (b : BookState) (name : MarkName) (t : BookState) → goto_mark b name ≡ Ok t → t.session.start ≡ b.session.start
@@ -38,49 +38,49 @@ query_leaves b a same = grind arith
 as_this : (b : BookState) (a c : Answered) → LeavesStart b c → a ≡ c → LeavesStart b a
 as_this b a c leaves h = subst (λ (x : Answered). LeavesStart b x) (sym h) leaves
 
-pub happened_leaves : (R : ℕ) (b : BookState) (e : Event) (a : Answered) → Happened R b e a → LeavesStart b a
-happened_leaves R b e a k = grind (arith, as_this, happens_leaves)
+pub happened_leaves : (b : BookState) (e : Event) (a : Answered) → Happened b e a → LeavesStart b a
+happened_leaves b e a k = grind (arith, as_this, happens_leaves)
 
 made_leaves : (b : BookState) (reply : BookState → Reply) (r : Result BookState Refusal) (P : Type 0) (a : Answered)
     → ((t : BookState) → r ≡ Ok t → t.session.start ≡ b.session.start) → IsMade b reply r P a → LeavesStart b a
 made_leaves b reply r P a starts k = grind arith
 
-pub obeyed_leaves : (R : ℕ) (b : BookState) (c : Command) (a : Answered) → IsObeyed R b c a → LeavesStart b a
-obeyed_leaves R b (command.Enq actor value) a h = happened_leaves R b (event actor (act.Enq value)) a h
-obeyed_leaves R b (command.Deq actor) a h = happened_leaves R b (event actor act.Deq) a h
-obeyed_leaves R b (command.ArrayEnq actor value) a h = happened_leaves R b (event actor (act.AEnq value)) a h
-obeyed_leaves R b (command.ArrayDeq actor) a h = happened_leaves R b (event actor act.ADeq) a h
-obeyed_leaves R b (command.Go actor) a h = happened_leaves R b (event actor act.Go) a h
-obeyed_leaves R b (command.Starve actor choice) a h = happened_leaves R b (event actor (act.Starve choice)) a h
-obeyed_leaves R b command.Undo a h = as_this b a _ (move_leaves b (undo b.session) (undo_start b.session)) h
-obeyed_leaves R b (command.UndoAt k) a h = as_this b a _ (move_leaves b (undo_at R b.session k) (undo_at_start R b.session k)) h
-obeyed_leaves R b (command.Roll k) a h = as_this b a _ (move_leaves b (roll R b.session k) (roll_start R b.session k)) h
-obeyed_leaves R b (command.Back n) a h = as_this b a _ (move_leaves b (back b.session n) (back_start b.session n)) h
-obeyed_leaves R b command.Redo a h = as_this b a _ (move_leaves b (redo b.session) (redo_start b.session)) h
-obeyed_leaves R b (command.Forward n) a h = as_this b a _ (move_leaves b (forward b.session n) (forward_start b.session n)) h
-obeyed_leaves R b (command.Mark name) a h = grind (arith, made_leaves)
-obeyed_leaves R b (command.DropMark name) a h = grind (arith, as_this)
-obeyed_leaves R b (command.GotoMark name) a h = made_leaves b _ (goto_mark b name) _ a (goto_start b name) h
-obeyed_leaves R b _ a h = grind (arith, query_leaves)
+pub obeyed_leaves : (b : BookState) (c : Command) (a : Answered) → IsObeyed b c a → LeavesStart b a
+obeyed_leaves b (command.Enq actor value) a h = happened_leaves b (event actor (act.Enq value)) a h
+obeyed_leaves b (command.Deq actor) a h = happened_leaves b (event actor act.Deq) a h
+obeyed_leaves b (command.ArrayEnq actor value) a h = happened_leaves b (event actor (act.AEnq value)) a h
+obeyed_leaves b (command.ArrayDeq actor) a h = happened_leaves b (event actor act.ADeq) a h
+obeyed_leaves b (command.Go actor) a h = happened_leaves b (event actor act.Go) a h
+obeyed_leaves b (command.Starve actor choice) a h = happened_leaves b (event actor (act.Starve choice)) a h
+obeyed_leaves b command.Undo a h = as_this b a _ (move_leaves b (undo b.session) (undo_start b.session)) h
+obeyed_leaves b (command.UndoAt k) a h = as_this b a _ (move_leaves b (undo_at b.session k) (undo_at_start b.session k)) h
+obeyed_leaves b (command.Roll k) a h = as_this b a _ (move_leaves b (roll b.session k) (roll_start b.session k)) h
+obeyed_leaves b (command.Back n) a h = as_this b a _ (move_leaves b (back b.session n) (back_start b.session n)) h
+obeyed_leaves b command.Redo a h = as_this b a _ (move_leaves b (redo b.session) (redo_start b.session)) h
+obeyed_leaves b (command.Forward n) a h = as_this b a _ (move_leaves b (forward b.session n) (forward_start b.session n)) h
+obeyed_leaves b (command.Mark name) a h = grind (arith, made_leaves)
+obeyed_leaves b (command.DropMark name) a h = grind (arith, as_this)
+obeyed_leaves b (command.GotoMark name) a h = made_leaves b _ (goto_mark b name) _ a (goto_start b name) h
+obeyed_leaves b _ a h = grind (arith, query_leaves)
 
 -- a command that is an event is answered as the event is
-pub event_obeyed : (R : ℕ) (b : BookState) (c : Command) (e : Event) (a : Answered) → as_event c ≡ Some e → Happened R b e a → IsObeyed R b c a
-event_obeyed R b (command.Enq actor value) e a is h = subst (λ (x : Event). Happened R b x a) (sym (same_Some _ e is)) h
-event_obeyed R b (command.Deq actor) e a is h = subst (λ (x : Event). Happened R b x a) (sym (same_Some _ e is)) h
-event_obeyed R b (command.ArrayEnq actor value) e a is h = subst (λ (x : Event). Happened R b x a) (sym (same_Some _ e is)) h
-event_obeyed R b (command.ArrayDeq actor) e a is h = subst (λ (x : Event). Happened R b x a) (sym (same_Some _ e is)) h
-event_obeyed R b (command.Go actor) e a is h = subst (λ (x : Event). Happened R b x a) (sym (same_Some _ e is)) h
-event_obeyed R b (command.Starve actor choice) e a is h = subst (λ (x : Event). Happened R b x a) (sym (same_Some _ e is)) h
-event_obeyed R b _ e a is h = cc
+pub event_obeyed : (b : BookState) (c : Command) (e : Event) (a : Answered) → as_event c ≡ Some e → Happened b e a → IsObeyed b c a
+event_obeyed b (command.Enq actor value) e a is h = subst (λ (x : Event). Happened b x a) (sym (same_Some _ e is)) h
+event_obeyed b (command.Deq actor) e a is h = subst (λ (x : Event). Happened b x a) (sym (same_Some _ e is)) h
+event_obeyed b (command.ArrayEnq actor value) e a is h = subst (λ (x : Event). Happened b x a) (sym (same_Some _ e is)) h
+event_obeyed b (command.ArrayDeq actor) e a is h = subst (λ (x : Event). Happened b x a) (sym (same_Some _ e is)) h
+event_obeyed b (command.Go actor) e a is h = subst (λ (x : Event). Happened b x a) (sym (same_Some _ e is)) h
+event_obeyed b (command.Starve actor choice) e a is h = subst (λ (x : Event). Happened b x a) (sym (same_Some _ e is)) h
+event_obeyed b _ e a is h = cc
 
 -- One more command of a list
 
-pub one_more_obeyed : (R : ℕ) (b m t : BookState) (cs : List Command) (answers : List (Result Reply Refusal)) (c : Command) (answer : Result Reply Refusal)
-    → AreObeyed R b cs answers m → IsObeyed R m c (record { answer = answer; state = t }) → AreObeyed R b (cs ++ c ∷ []) (answers ++ answer ∷ []) t
-one_more_obeyed R b m t [] [] c answer h k = grind arith
-one_more_obeyed R b m t [] (y ∷ ys) c answer h k = absurd h
-one_more_obeyed R b m t (x ∷ xs) [] c answer h k = absurd h
-one_more_obeyed R b m t (x ∷ xs) (y ∷ ys) c answer h k = (h.0, h.1, one_more_obeyed R h.0 m t xs ys c answer h.2 k)
+pub one_more_obeyed : (b m t : BookState) (cs : List Command) (answers : List (Result Reply Refusal)) (c : Command) (answer : Result Reply Refusal)
+    → AreObeyed b cs answers m → IsObeyed m c (record { answer = answer; state = t }) → AreObeyed b (cs ++ c ∷ []) (answers ++ answer ∷ []) t
+one_more_obeyed b m t [] [] c answer h k = grind arith
+one_more_obeyed b m t [] (y ∷ ys) c answer h k = absurd h
+one_more_obeyed b m t (x ∷ xs) [] c answer h k = absurd h
+one_more_obeyed b m t (x ∷ xs) (y ∷ ys) c answer h k = (h.0, h.1, one_more_obeyed h.0 m t xs ys c answer h.2 k)
 
 -- an event sets no mark
 pub event_needs : (b : BookState) (room : ℕ) (c : Command) (e : Event) → as_event c ≡ Some e → NeedsNoMemory b room c → ⊥

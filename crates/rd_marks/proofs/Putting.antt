@@ -89,17 +89,17 @@ module _ (old new : List Stretch) (unchanged : IsUnchanged old new) where
 
 -- The entries of a place with which the live steps begin are theirs
 
-pub same_entries : (R : ℕ) (w : World) (ss : List Stretch) → AreNested ss → (ms : List (MarkName × Place)) → AreNeeded ss (places_of ms) → AreRuns R w (named_lists ss ms)
-    → (at : Place) → IsWithin ss at → (live : List Entry) → IsRunFrom R w live → IsAlong ss at.stretch at.number (events live) → entries_at ss at ≡ take at.number live
-same_entries R w ss rule ms needed runs at within live run along = by at.number refl
+pub same_entries : (w : World) (ss : List Stretch) → AreNested ss → (ms : List (MarkName × Place)) → AreNeeded ss (places_of ms) → AreRuns w (named_lists ss ms)
+    → (at : Place) → IsWithin ss at → (live : List Entry) → IsRunFrom w live → IsAlong ss at.stretch at.number (events live) → entries_at ss at ≡ take at.number live
+same_entries w ss rule ms needed runs at within live run along = by at.number refl
   where
     by : (n : ℕ) → at.number ≡ n → entries_at ss at ≡ take at.number live
     by zero none = rw none refl
     by (suc n) some =
         let r = begins_one ss rule ms needed at.stretch at.number (stretch_within ss at within (omega (arith, some))) within in
-        let all = All-contains (λ (l : MarkName × List Entry). AreEntriesOfRun R w l.1) (named_lists ss ms) (r.0.0, entries_at ss r.0.1) runs
+        let all = All-contains (λ (l : MarkName × List Entry). AreEntriesOfRun w l.1) (named_lists ss ms) (r.0.0, entries_at ss r.0.1) runs
         (contains_mapped (λ (m : MarkName × Place). (m.0, entries_at ss m.1)) ms r.0 r.1) in
-        grind (arith, r.2, along, events_of_first at.number (entries_at ss r.0.1), events_of_first at.number (stretch_list ss at.stretch), begin_alike R at.number w (entries_at ss r.0.1) live all.ran run)
+        grind (arith, r.2, along, events_of_first at.number (entries_at ss r.0.1), events_of_first at.number (stretch_list ss at.stretch), begin_alike at.number w (entries_at ss r.0.1) live all.ran run)
 
 -- Shrinking
 
@@ -148,9 +148,9 @@ count_fits ss rule ms needed within few =
 
 -- The entries of the new list are those of a run as well
 
-pub runs_put : (R : ℕ) (w : World) (ls ms : List (MarkName × List Entry)) (name : MarkName) (xs : List Entry) → AreRuns R w ls → AreEntriesOfRun R w xs → ms ≡ ls ++ (name, xs) ∷ [] → AreRuns R w ms
-runs_put R w ls ms name xs runs run its =
-    rw its (All-push (λ (l : MarkName × List Entry). AreEntriesOfRun R w l.1) ls (name, xs) runs run)
+pub runs_put : (w : World) (ls ms : List (MarkName × List Entry)) (name : MarkName) (xs : List Entry) → AreRuns w ls → AreEntriesOfRun w xs → ms ≡ ls ++ (name, xs) ∷ [] → AreRuns w ms
+runs_put w ls ms name xs runs run its =
+    rw its (All-push (λ (l : MarkName × List Entry). AreEntriesOfRun w l.1) ls (name, xs) runs run)
 
 -- a name that none of the lists has is none of the names
 pub none_named : (f : Place → List Entry) (o : Option Place) → option_map f o ≡ None → o ≡ None
@@ -159,21 +159,21 @@ none_named f o h = grind arith
 -- Setting a bookmark
 
 -- what the bookmarks and the place where the track lies are then
-pub record IsSet (R : ℕ) (w : World) (old new : List Stretch) (ms es : List (MarkName × Place)) (name : MarkName) (live : List Entry) (steps : List Event) (there : Place) : Type 0 where
+pub record IsSet (w : World) (old new : List Stretch) (ms es : List (MarkName × Place)) (name : MarkName) (live : List Entry) (steps : List Event) (there : Place) : Type 0 where
   pub kept : IsKept new es there
   pub lists : named_lists new es ≡ named_lists old ms ++ (name, live) ∷ []
-  pub runs : AreRuns R w (named_lists new es)
+  pub runs : AreRuns w (named_lists new es)
   pub stands : IsPrefix (events (entries_at new there)) steps
 
-module _ (R : ℕ) (w : World) (old : List Stretch) (rule : AreNested old) (ms : List (MarkName × Place)) (here : Place) (kept : IsKept old ms here) (fewer : length (named_lists old ms) < MOST_MARKS)
-    (runs : AreRuns R w (named_lists old ms)) (live : List Entry) (run : AreEntriesOfRun R w live) (steps : List Event) (stands : IsPrefix (events (entries_at old here)) steps)
+module _ (w : World) (old : List Stretch) (rule : AreNested old) (ms : List (MarkName × Place)) (here : Place) (kept : IsKept old ms here) (fewer : length (named_lists old ms) < MOST_MARKS)
+    (runs : AreRuns w (named_lists old ms)) (live : List Entry) (run : AreEntriesOfRun w live) (steps : List Event) (stands : IsPrefix (events (entries_at old here)) steps)
     (began : IsPrefix (events live) steps) (at : Place) (within : IsWithin old at) (along : IsAlong old at.stretch at.number (events live)) where
   pub is_set : (new : List Stretch) (grown : Grown) → IsGrown old new at live grown → (name : MarkName) (mid es : List (MarkName × Place)) → mid ≡ ms
       → es ≡ names_shifted grown.shift mid ++ (name, grown.place) ∷ [] → (there : Place) (n : ℕ) → (here.number ≤ n → there ≡ grown.place) → (n < here.number → there ≡ shifted grown.shift here)
-      → IsSet R w old new ms es name live steps there
+      → IsSet w old new ms es name live steps there
   is_set new grown grows name mid es reserved its there n near far =
       let all : entries_at new grown.place ≡ live =
-      grows.put ∙ ap (λ (xs : List Entry). xs ++ drop at.number live) (same_entries R w old rule ms kept.needed runs at within live run.ran along) ∙ take-append-drop at.number live in
+      grows.put ∙ ap (λ (xs : List Entry). xs ++ drop at.number live) (same_entries w old rule ms kept.needed runs at within live run.ran along) ∙ take-append-drop at.number live in
       let put_now = its ∙ ap (λ (fs : List (MarkName × Place)). names_shifted grown.shift fs ++ (name, grown.place) ∷ []) reserved in
       let lists : named_lists new es ≡ named_lists old ms ++ (name, live) ∷ [] =
       ap (named_lists new) put_now ∙ lists_put old new at live grown grows name ms kept.within ∙ ap (λ (xs : List Entry). named_lists old ms ++ (name, xs) ∷ []) all in
@@ -182,6 +182,6 @@ module _ (R : ℕ) (w : World) (old : List Stretch) (rule : AreNested old) (ms :
       record {
         kept = kept_put old new at live grown grows name ms kept.within here there kept (omega (arith, fewer, length-map {B = MarkName × List Entry} ms (λ m. (m.0, entries_at old m.1)))) es put_now lies.0;
         lists = lists;
-        runs = runs_put R w (named_lists old ms) (named_lists new es) name live runs run lists;
+        runs = runs_put w (named_lists old ms) (named_lists new es) name live runs run lists;
         stands = lies.1;
       }

@@ -1,5 +1,5 @@
 -- The rules that the bookmarks of a book keep, from how it keeps them.
-use Rattle.std.proofs.Common.{◌≡◌, ◌≤◌, ℕ, refl, sym, ap, subst, List, [], ◌∷◌, map, length, Result, Ok, IsOk, arith}
+use Rattle.std.proofs.Common.{◌≡◌, ◌≤◌, refl, sym, ap, subst, List, [], ◌∷◌, map, length, Result, Ok, IsOk, arith}
 use Rattle.rd_marks.proofs.Prelude.{IsDistinct, length-map, All-head, All-tail, World, Refusal, run, Ran, Entry, MarkName, MOST_MARKS, same_name, Mark, BookState, AreRuns, AreEntriesOfRun, mark_of, marks_of, run_entries, events}
 use Rattle.rd_marks.specs.Rules.{GoThrough, MarksGoThrough, KeepsRules}
 
@@ -7,23 +7,23 @@ use Rattle.rd_marks.specs.Rules.{GoThrough, MarksGoThrough, KeepsRules}
 went : (ran : Result Ran Refusal) (xs : List Entry) → run_entries ran ≡ Ok xs → IsOk ran
 went ran xs h = grind arith
 
-events_go : (R : ℕ) (w : World) (xs : List Entry) → AreEntriesOfRun R w xs → GoThrough R w (events xs)
-events_go R w xs h = record { few = omega (arith, h.few, length-map xs (λ (x : Entry). x.event)); runs = went (run R w (events xs)) xs h.ran }
+events_go : (w : World) (xs : List Entry) → AreEntriesOfRun w xs → GoThrough w (events xs)
+events_go w xs h = record { few = omega (arith, h.few, length-map xs (λ (x : Entry). x.event)); runs = went (run w (events xs)) xs h.ran }
 
-marks_go : (R : ℕ) (w : World) (ls : List (MarkName × List Entry)) → AreRuns R w ls → MarksGoThrough R w (marks_of ls)
-marks_go R w [] h = tt
-marks_go R w (l ∷ ls) h =
-    (events_go R w l.1 (All-head (λ n. AreEntriesOfRun R w n.1) l ls h), marks_go R w ls (All-tail (λ n. AreEntriesOfRun R w n.1) l ls h))
+marks_go : (w : World) (ls : List (MarkName × List Entry)) → AreRuns w ls → MarksGoThrough w (marks_of ls)
+marks_go w [] h = tt
+marks_go w (l ∷ ls) h =
+    (events_go w l.1 (All-head (λ n. AreEntriesOfRun w n.1) l ls h), marks_go w ls (All-tail (λ n. AreEntriesOfRun w n.1) l ls h))
 
 names_of : (ls : List (MarkName × List Entry)) → map (λ l. l.0) ls ≡ map (λ m. m.name) (marks_of ls)
 names_of [] = refl
 names_of (l ∷ ls) = ap (λ (names : List MarkName). l.0 ∷ names) (names_of ls)
 
-pub keeps_rules : (R : ℕ) (b : BookState) (ls : List (MarkName × List Entry)) → b.marks ≡ marks_of ls → length ls ≤ MOST_MARKS
-    → AreRuns R b.session.start ls → IsDistinct same_name (map (λ l. l.0) ls) → KeepsRules R b
-keeps_rules R b ls same few runs distinct = record {
+pub keeps_rules : (b : BookState) (ls : List (MarkName × List Entry)) → b.marks ≡ marks_of ls → length ls ≤ MOST_MARKS
+    → AreRuns b.session.start ls → IsDistinct same_name (map (λ l. l.0) ls) → KeepsRules b
+keeps_rules b ls same few runs distinct = record {
   few = omega (arith, few, ap length same, length-map ls (λ l. mark_of l));
   names =
       grind (arith, names_of);
-  through = subst (λ (xs : List Mark). MarksGoThrough R b.session.start xs) (sym same) (marks_go R b.session.start ls runs);
+  through = subst (λ (xs : List Mark). MarksGoThrough b.session.start xs) (sym same) (marks_go b.session.start ls runs);
 }

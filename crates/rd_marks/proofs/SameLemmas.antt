@@ -7,15 +7,15 @@ use Rattle.rd_marks.proofs.EntryLemmas.{began, to_the_end}
 use Rattle.rd_marks.proofs.Starting.{begins_shorter, event_length}
 
 -- equivalent lists are equally long
-pub equivalent_length : (R : ℕ) (w : World) (es fs : List Event) → IsEquivalent R w es fs → length es ≡ length fs
-equivalent_length R w [] fs h = sym (ap length h)
-equivalent_length R w (e ∷ es) fs h = grind (arith, length-append, equivalent_length R h.stepped.world es (h.earlier ++ h.later) h.rest)
+pub equivalent_length : (w : World) (es fs : List Event) → IsEquivalent w es fs → length es ≡ length fs
+equivalent_length w [] fs h = sym (ap length h)
+equivalent_length w (e ∷ es) fs h = grind (arith, length-append, equivalent_length h.stepped.world es (h.earlier ++ h.later) h.rest)
 
 -- a list that runs is equivalent to itself
-pub equivalent_itself : (R : ℕ) (w : World) (xs : List Entry) → IsRunFrom R w xs → IsEquivalent R w (events xs) (events xs)
-equivalent_itself R w [] h = refl
-equivalent_itself R w (x ∷ xs) h =
-    let b = began R w x xs h in
+pub equivalent_itself : (w : World) (xs : List Entry) → IsRunFrom w xs → IsEquivalent w (events xs) (events xs)
+equivalent_itself w [] h = refl
+equivalent_itself w (x ∷ xs) h =
+    let b = began w x xs h in
     record {
       earlier = [];
       later = events xs;
@@ -23,13 +23,13 @@ equivalent_itself R w (x ∷ xs) h =
       independent = record { ran = record { world = w; entries = [] }; runs = refl; stepped = b.stepped; goes = b.goes; free = tt };
       stepped = b.stepped;
       goes = b.goes;
-      rest = equivalent_itself R b.stepped.world xs b.rest;
+      rest = equivalent_itself b.stepped.world xs b.rest;
     }
 
 module _ (ones others : List Entry) (m n c : ℕ) (long : length ones ≡ m) (long_too : length others ≡ n) (alike : take c ones ≡ take c others) where
   -- lists that are alike up to the end of one are equivalent exactly if they are equally long
   pub decided_by_length : (c ≡ m) ⊎ (c ≡ n) → (same : Bool) → same ≡ (m == n) → DecidesEquivalence ones others same
-  decided_by_length meets same tested h w p q = grind (arith, eqb-true, take_all, equivalent_itself, event_length, equivalent_length, eq-eqb)
+  decided_by_length meets same tested w p q = grind (arith, eqb-true, take_all, equivalent_itself, event_length, equivalent_length, eq-eqb)
 
   -- an answer for what is after what they have in common is one for the lists
   pub decided_behind : c ≤ m → c ≤ n → (same : Bool) (xs ys : List Entry) → xs ≡ drop c ones → ys ≡ drop c others → DecidesEquivalence xs ys same → DecidesEquivalence ones others same

@@ -10,8 +10,8 @@ of_ok s t r k h = let e : s ≡ t = cc in ap (λ (u : State). u.start) (sym e)
 unless_start : (s t : State) (b : Bool) (e : Refusal) (r : Result State Refusal) → (r ≡ Ok t → t.start ≡ s.start) → (if b then Err e else r) ≡ Ok t → t.start ≡ s.start
 unless_start s t b e r f h = grind arith
 
-pub apply_start : (R : ℕ) (s : State) (e : Event) (t : State) → apply R s e ≡ Ok t → t.start ≡ s.start
-apply_start R s e t h = grind arith
+pub apply_start : (s : State) (e : Event) (t : State) → apply s e ≡ Ok t → t.start ≡ s.start
+apply_start s e t h = grind arith
 
 times_back_start : (n : ℕ) (s : State) → (times n back_one s).start ≡ s.start
 times_back_start zero s = refl
@@ -33,11 +33,11 @@ undo_start s t h = unless_start s t (length s.live == 0) _ _ (of_ok (back_one s)
 pub redo_start : (s t : State) → redo s ≡ Ok t → t.start ≡ s.start
 redo_start s t h = unless_start s t (length s.undone == 0) _ _ (of_ok (forward_one s) t _ refl) h
 
-pub undo_at_start : (R : ℕ) (s : State) (k : ℕ) (t : State) → undo_at R s k ≡ Ok t → t.start ≡ s.start
-undo_at_start R s k t l = grind arith
+pub undo_at_start : (s : State) (k : ℕ) (t : State) → undo_at s k ≡ Ok t → t.start ≡ s.start
+undo_at_start s k t l = grind arith
 
-pub roll_start : (R : ℕ) (s : State) (k : ℕ) (t : State) → roll R s k ≡ Ok t → t.start ≡ s.start
-roll_start R s k t l = grind arith
+pub roll_start : (s : State) (k : ℕ) (t : State) → roll s k ≡ Ok t → t.start ≡ s.start
+roll_start s k t l = grind arith
 
 -- the start stays, whatever a call answered
 pub start_stays : {X : Type 0} (r : Result X Refusal) (i j : Journal) (moved : Result State Refusal)
@@ -54,5 +54,5 @@ pub start_kept : {X : Type 0} (r : Result X Refusal) (i j : Journal) (es : List 
 start_kept r i j es h g = grind arith
 
 -- so the bookmarks' entries stay runs from it
-pub runs_stay : (R : ℕ) (v w : World) (lists kept : List (MarkName × List Entry)) → w ≡ v → kept ≡ lists → AreRuns R v lists → AreRuns R w kept
-runs_stay R v w lists kept e same runs = rw (e, same) runs
+pub runs_stay : (v w : World) (lists kept : List (MarkName × List Entry)) → w ≡ v → kept ≡ lists → AreRuns v lists → AreRuns w kept
+runs_stay v w lists kept e same runs = rw (e, same) runs

@@ -67,11 +67,11 @@ MakesSteps b name = (es : List Event) × (marked_events b.marks name ≡ Some es
 -- this may be answered to comparing the events of two marks: whether they are causally equivalent
 -- from the start; that a mark is missing; or, if neither list begins the other, that memory was
 -- refused
-abbrev pub AnswersSame : ℕ → World → Option (List Event) → Option (List Event) → Result Bool Refusal → Type 0
-AnswersSame R start (Some es) (Some fs) (Ok same) = IsTrue same ↔ IsEquivalent R start es fs
-AnswersSame R start (Some es) (Some fs) (Err refusal) = (refusal ≡ NoMemory) × NeitherIsPrefix es fs
-AnswersSame R start (Some es) None said = said ≡ Err NoMark
-AnswersSame R start None fs said = said ≡ Err NoMark
+abbrev pub AnswersSame : World → Option (List Event) → Option (List Event) → Result Bool Refusal → Type 0
+AnswersSame start (Some es) (Some fs) (Ok same) = IsTrue same ↔ IsEquivalent start es fs
+AnswersSame start (Some es) (Some fs) (Err refusal) = (refusal ≡ NoMemory) × NeitherIsPrefix es fs
+AnswersSame start (Some es) None said = said ≡ Err NoMark
+AnswersSame start None fs said = said ≡ Err NoMark
 
 -- the events of the mark of this number, from 1, if there is one
 abbrev pub mark_events : BookState → ℕ → Option (List Event)

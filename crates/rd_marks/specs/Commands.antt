@@ -45,18 +45,18 @@ move_answer b moved = answer_with b step_counts (with_session b) moved
 
 -- the reply to a query of the run of the live events: what `look` finds there, as `reply_of` says it,
 -- or a refusal
-abbrev pub query_reply : {X : Type 0} → ℕ → BookState → (X → Reply) → (Ran → Result X Refusal) → Result Reply Refusal
-query_reply R b reply_of look = result_map reply_of (and_then (run_of R b.session) look)
+abbrev pub query_reply : {X : Type 0} → BookState → (X → Reply) → (Ran → Result X Refusal) → Result Reply Refusal
+query_reply b reply_of look = result_map reply_of (and_then (run_of b.session) look)
 
 -- the answer to an event that happens in the last world of the live events, and the state after it:
 -- the number of its step, the last live one, and the reply of the call that it ends, if it ends one
-abbrev pub happens : ℕ → BookState → Event → Answered
-happens R b e = answer_with b (λ s. reply.Applied (length s.live) (reply_to R b.session e)) (with_session b) (apply R b.session e)
+abbrev pub happens : BookState → Event → Answered
+happens b e = answer_with b (λ s. reply.Applied (length s.live) (reply_to b.session e)) (with_session b) (apply b.session e)
 
 -- an event may be answered so and leave this state: as it happens, or, where memory may be refused
 -- to it, by NoMemory with nothing changed
-abbrev pub Happened : ℕ → BookState → Event → Answered → Type 0
-Happened R b e answered = (answered ≡ happens R b e) ⊎ (MayLackMemory R b.session e × (answered ≡ refused b NoMemory))
+abbrev pub Happened : BookState → Event → Answered → Type 0
+Happened b e answered = (answered ≡ happens b e) ⊎ (MayLackMemory b.session e × (answered ≡ refused b NoMemory))
 
 -- setting or going to a mark may be answered so and leave this state: as it is defined, or, only if
 -- it asks for room, by NoMemory with nothing changed
@@ -70,46 +70,46 @@ NeedsNoMemory b room (command.Mark name) = IsOk (mark b name) × (0 < room) × N
 NeedsNoMemory b room _ = ⊥
 
 -- the comparison of two marks may be answered so
-pub record IsCompared (R : ℕ) (b : BookState) (one other : MarkName) (answer : Result Reply Refusal) : Type 0 where
+pub record IsCompared (b : BookState) (one other : MarkName) (answer : Result Reply Refusal) : Type 0 where
   pub said : Result Bool Refusal
-  pub compared : AnswersSame R b.session.start (marked_events b.marks one) (marked_events b.marks other) said
+  pub compared : AnswersSame b.session.start (marked_events b.marks one) (marked_events b.marks other) said
   pub answers : answer ≡ result_map reply.Same said
 
 -- a query may be answered so; no other command is a query
-abbrev pub AnswersQuery : ℕ → BookState → Command → Result Reply Refusal → Type 0
-AnswersQuery R b command.Marks answer = answer ≡ Ok (reply.Marks (length b.marks))
-AnswersQuery R b (command.MarkAt i) answer = answer ≡ result_map (λ m. reply.Mark m.0 m.1) (mark_at b i)
-AnswersQuery R b (command.Same one other) answer = IsCompared R b one other answer
-AnswersQuery R b (command.Origin k) answer = answer ≡ query_reply R b reply.Origin (λ ran. origin_in ran.entries k)
-AnswersQuery R b (command.Writer place) answer = answer ≡ query_reply R b reply.Writer (λ ran. last_writer_in ran place)
-AnswersQuery R b (command.Show place) answer = answer ≡ query_reply R b reply.Content (λ ran. ok_or (content_at ran.world.at place) NoSuchPlace)
-AnswersQuery R b (command.Actor n) answer = answer ≡ query_reply R b reply.Actor (λ ran. ok_or (ran.world.actor n) NoActor)
-AnswersQuery R b (command.Step k) answer = answer ≡ query_reply R b (reply.Step k) (λ ran. ok_or (numbered ran.entries k) (NoSuchStep (length ran.entries)))
-AnswersQuery R b command.Len answer = answer ≡ Ok (step_counts b.session)
-AnswersQuery R b _ answer = ⊥
+abbrev pub AnswersQuery : BookState → Command → Result Reply Refusal → Type 0
+AnswersQuery b command.Marks answer = answer ≡ Ok (reply.Marks (length b.marks))
+AnswersQuery b (command.MarkAt i) answer = answer ≡ result_map (λ m. reply.Mark m.0 m.1) (mark_at b i)
+AnswersQuery b (command.Same one other) answer = IsCompared b one other answer
+AnswersQuery b (command.Origin k) answer = answer ≡ query_reply b reply.Origin (λ ran. origin_in ran.entries k)
+AnswersQuery b (command.Writer place) answer = answer ≡ query_reply b reply.Writer (λ ran. last_writer_in ran place)
+AnswersQuery b (command.Show place) answer = answer ≡ query_reply b reply.Content (λ ran. ok_or (content_at ran.world.at place) NoSuchPlace)
+AnswersQuery b (command.Actor n) answer = answer ≡ query_reply b reply.Actor (λ ran. ok_or (ran.world.actor n) NoActor)
+AnswersQuery b (command.Step k) answer = answer ≡ query_reply b (reply.Step k) (λ ran. ok_or (numbered ran.entries k) (NoSuchStep (length ran.entries)))
+AnswersQuery b command.Len answer = answer ≡ Ok (step_counts b.session)
+AnswersQuery b _ answer = ⊥
 
 -- a command may be answered so, and leave this state; a query leaves the state as it is
-abbrev pub IsObeyed : ℕ → BookState → Command → Answered → Type 0
-IsObeyed R b (command.Enq actor value) answered = Happened R b (event actor (act.Enq value)) answered
-IsObeyed R b (command.Deq actor) answered = Happened R b (event actor act.Deq) answered
-IsObeyed R b (command.ArrayEnq actor value) answered = Happened R b (event actor (act.AEnq value)) answered
-IsObeyed R b (command.ArrayDeq actor) answered = Happened R b (event actor act.ADeq) answered
-IsObeyed R b (command.Go actor) answered = Happened R b (event actor act.Go) answered
-IsObeyed R b (command.Starve actor choice) answered = Happened R b (event actor (act.Starve choice)) answered
-IsObeyed R b command.Undo answered = answered ≡ move_answer b (undo b.session)
-IsObeyed R b (command.UndoAt k) answered = answered ≡ move_answer b (undo_at R b.session k)
-IsObeyed R b (command.Roll k) answered = answered ≡ move_answer b (roll R b.session k)
-IsObeyed R b (command.Back n) answered = answered ≡ move_answer b (back b.session n)
-IsObeyed R b command.Redo answered = answered ≡ move_answer b (redo b.session)
-IsObeyed R b (command.Forward n) answered = answered ≡ move_answer b (forward b.session n)
-IsObeyed R b (command.Mark name) answered = IsMade b (λ c. reply.Marked (length c.session.live)) (mark b name) (IsOk (mark b name)) answered
-IsObeyed R b (command.DropMark name) answered = answered ≡ answer_with b (λ c. reply.Dropped) (λ c. c) (drop_mark b name)
-IsObeyed R b (command.GotoMark name) answered = IsMade b (λ c. step_counts c.session) (goto_mark b name) (MakesSteps b name) answered
-IsObeyed R b query answered = AnswersQuery R b query answered.answer × (answered.state ≡ b)
+abbrev pub IsObeyed : BookState → Command → Answered → Type 0
+IsObeyed b (command.Enq actor value) answered = Happened b (event actor (act.Enq value)) answered
+IsObeyed b (command.Deq actor) answered = Happened b (event actor act.Deq) answered
+IsObeyed b (command.ArrayEnq actor value) answered = Happened b (event actor (act.AEnq value)) answered
+IsObeyed b (command.ArrayDeq actor) answered = Happened b (event actor act.ADeq) answered
+IsObeyed b (command.Go actor) answered = Happened b (event actor act.Go) answered
+IsObeyed b (command.Starve actor choice) answered = Happened b (event actor (act.Starve choice)) answered
+IsObeyed b command.Undo answered = answered ≡ move_answer b (undo b.session)
+IsObeyed b (command.UndoAt k) answered = answered ≡ move_answer b (undo_at b.session k)
+IsObeyed b (command.Roll k) answered = answered ≡ move_answer b (roll b.session k)
+IsObeyed b (command.Back n) answered = answered ≡ move_answer b (back b.session n)
+IsObeyed b command.Redo answered = answered ≡ move_answer b (redo b.session)
+IsObeyed b (command.Forward n) answered = answered ≡ move_answer b (forward b.session n)
+IsObeyed b (command.Mark name) answered = IsMade b (λ c. reply.Marked (length c.session.live)) (mark b name) (IsOk (mark b name)) answered
+IsObeyed b (command.DropMark name) answered = answered ≡ answer_with b (λ c. reply.Dropped) (λ c. c) (drop_mark b name)
+IsObeyed b (command.GotoMark name) answered = IsMade b (λ c. step_counts c.session) (goto_mark b name) (MakesSteps b name) answered
+IsObeyed b query answered = AnswersQuery b query answered.answer × (answered.state ≡ b)
 
 -- commands, one after another, may be answered so, and leave this last state
-abbrev pub AreObeyed : ℕ → BookState → List Command → List (Result Reply Refusal) → BookState → Type 0
-AreObeyed R b [] [] last = last ≡ b
-AreObeyed R b [] (answer ∷ answers) last = ⊥
-AreObeyed R b (c ∷ cs) [] last = ⊥
-AreObeyed R b (c ∷ cs) (answer ∷ answers) last = (next : BookState) × IsObeyed R b c (record { answer = answer; state = next }) × AreObeyed R next cs answers last
+abbrev pub AreObeyed : BookState → List Command → List (Result Reply Refusal) → BookState → Type 0
+AreObeyed b [] [] last = last ≡ b
+AreObeyed b [] (answer ∷ answers) last = ⊥
+AreObeyed b (c ∷ cs) [] last = ⊥
+AreObeyed b (c ∷ cs) (answer ∷ answers) last = (next : BookState) × IsObeyed b c (record { answer = answer; state = next }) × AreObeyed next cs answers last

@@ -13,17 +13,17 @@ use Rattle.rd_marks.specs.NameBytes.{MOST_MARKS}
 use Rattle.rd_marks.specs.Stretches.{entries_at, IsWithin, AreNeeded, AreNeededFrom}
 
 -- the entries are those of the run of their events from the start, no more than may be live
-pub record AreEntriesOfRun (R : ℕ) (start : World) (entries : List Entry) : Type 0 where
+pub record AreEntriesOfRun (start : World) (entries : List Entry) : Type 0 where
   pub few : length entries ≤ MOST_STEPS
-  pub ran : IsRunFrom R start entries
+  pub ran : IsRunFrom start entries
 
 -- each name with its entries
 abbrev pub named_lists : List Stretch → List (MarkName × Place) → List (MarkName × List Entry)
 named_lists ss names = map (λ m. (m.0, entries_at ss m.1)) names
 
 -- the entries of each name are those of a run from the start
-abbrev pub AreRuns : ℕ → World → List (MarkName × List Entry) → Type 0
-AreRuns R start lists = All (λ l. AreEntriesOfRun R start l.1) lists
+abbrev pub AreRuns : World → List (MarkName × List Entry) → Type 0
+AreRuns start lists = All (λ l. AreEntriesOfRun start l.1) lists
 
 -- the places of the names
 abbrev pub places_of : List (MarkName × Place) → List Place

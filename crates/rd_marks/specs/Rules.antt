@@ -1,6 +1,6 @@
 -- What holds of the bookmarks of every book: there are no more than may be, with different names,
 -- and the events of each are those of a run.
-use Rattle.std.specs.Prelude.{◌≤◌, ℕ, List, [], ◌∷◌, map, length, IsOk}
+use Rattle.std.specs.Prelude.{◌≤◌, List, [], ◌∷◌, map, length, IsOk}
 use Rattle.std.specs.List.{IsDistinct}
 use Rattle.rd_step.specs.Prelude.{World, run, MOST_STEPS}
 use Rattle.rd_step.specs.declared.entries.Event.{Event}
@@ -9,21 +9,21 @@ use Rattle.rd_marks.specs.Names.{same_name}
 use Rattle.rd_marks.specs.Books.{Mark, BookState}
 
 -- these events can run from a start: they are no more than may be live, and none is refused
-pub record GoThrough (R : ℕ) (start : World) (events : List Event) : Type 0 where
+pub record GoThrough (start : World) (events : List Event) : Type 0 where
   pub few : length events ≤ MOST_STEPS
-  pub runs : IsOk (run R start events)
+  pub runs : IsOk (run start events)
 
 -- the events of each bookmark can run from the start
-abbrev pub MarksGoThrough : ℕ → World → List Mark → Type 0
-MarksGoThrough R start [] = Unit {0}
-MarksGoThrough R start (m ∷ ms) = GoThrough R start m.events × MarksGoThrough R start ms
+abbrev pub MarksGoThrough : World → List Mark → Type 0
+MarksGoThrough start [] = Unit {0}
+MarksGoThrough start (m ∷ ms) = GoThrough start m.events × MarksGoThrough start ms
 
 -- no two bookmarks have the same name
 abbrev pub HaveDifferentNames : List Mark → Type 0
 HaveDifferentNames ms = IsDistinct same_name (map (λ m. m.name) ms)
 
 -- what holds of the bookmarks of a book
-pub record KeepsRules (R : ℕ) (b : BookState) : Type 0 where
+pub record KeepsRules (b : BookState) : Type 0 where
   pub few : length b.marks ≤ MOST_MARKS
   pub names : HaveDifferentNames b.marks
-  pub through : MarksGoThrough R b.session.start b.marks
+  pub through : MarksGoThrough b.session.start b.marks

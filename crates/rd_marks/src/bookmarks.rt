@@ -134,10 +134,10 @@ impl Bookmarks {
     ) -> Result<(), AllocError>
         requires new { lookup (same_name name) (lists_in self.old) ≡ None }
         requires few { length (lists_in self.old) < MOST_MARKS }
-        requires runs { AreRuns R (state session.now).start (lists_in self.old) }
+        requires runs { AreRuns (state session.now).start (lists_in self.old) }
         requires stands { IsPrefix (events (here_in self.old)) (track session.now) }
         ensures ok { OnOk result (lists_in self.new ≡ lists_in self.old ++ (name, (journal session.now).live) ∷ []) }
-        ensures runs { AreRuns R (state session.now).start (lists_in self.new) }
+        ensures runs { AreRuns (state session.now).start (lists_in self.new) }
         ensures stands { IsPrefix (events (here_in self.new)) (track session.now) }
         ensures succeeds { 0 < spare self.old.names → NeedsNoEntry (marks_of (lists_in self.old)) (state session.now).live → IsOk result }
         ensures unchanged { OnErr result (lists_in self.new ≡ lists_in self.old) }

@@ -36,7 +36,7 @@ pub struct Book<const R: usize> {
     session: Session<R>,
     bookmarks: Bookmarks,
     alloc: Global,
-    ghost runs: { AreRuns R (state session).start (lists_in bookmarks) },
+    ghost runs: { AreRuns (state session).start (lists_in bookmarks) },
     ghost stands: { IsPrefix (events (here_in bookmarks)) (track session) },
 }
 
@@ -88,7 +88,7 @@ impl<const R: usize> Book<R> {
     ///
     /// The refusal of `Session::apply`. Nothing has changed then.
     pub fn apply(&mut self, event: Event) -> Result<EventReply, Refusal>
-        ensures answer { Happened R (book_state self.old) event (record { answer = result_map as_reply result; state = book_state self.new }) }
+        ensures answer { Happened (book_state self.old) event (record { answer = result_map as_reply result; state = book_state self.new }) }
         ensures memory { IfErr result (MayRefuse (session_of self.old) event) }
         ensures start { (book_state self.new).session.start ≡ (book_state self.old).session.start }
         ensures unchanged { OnErr result (book_state self.new ≡ book_state self.old) }
@@ -178,7 +178,7 @@ impl<const R: usize> Book<R> {
     /// `NoMark` if one of the bookmarks is not there; `NoMemory` if memory was refused for the
     /// comparison, which lists of which one begins the other do not ask for.
     pub fn same(&self, one: MarkName, other: MarkName) -> Result<bool, Refusal>
-        ensures { AnswersSame R (book_state self.now).session.start (marked_events (book_state self.now).marks one)
+        ensures { AnswersSame (book_state self.now).session.start (marked_events (book_state self.now).marks one)
             (marked_events (book_state self.now).marks other) result }
     {
         let Some(one) = self.bookmarks.find(&one) else {
@@ -197,7 +197,7 @@ impl<const R: usize> Book<R> {
     /// that can run from the session's start.
     pub fn marks(&self) -> u64
         ensures count { result ≡ length (book_state self.now).marks }
-        ensures rules { KeepsRules R (book_state self.now) }
+        ensures rules { KeepsRules (book_state self.now) }
     {
         self.bookmarks.len() as u64
     }

@@ -10,7 +10,7 @@ use super::Book;
 /// step alone is refused exactly where a later live one depends on it, and the first that does is
 /// named.
 pub fn a_book_is_the_run_of_its_live_events<const R: usize>(book: &Book<R>)
-    ensures { IsRunOfLive R (book_state book.now) (journal (session_of book.now)) }
+    ensures { IsRunOfLive (book_state book.now) (journal (session_of book.now)) }
 {
     let _world = book.session().world();
 }

@@ -20,44 +20,44 @@ still-trans o p r h (inl same) = elim h [ inl e ↦ inl (same ∙ e) | inr e ↦
 still-trans o p r h (inr none) = inr none
 
 -- a call begins itself
-pub begun : (R : ℕ) (w : World) (e : Event) (s : Stepped) (n : ℕ) → step R w e ≡ Ok s → calls_by n s.entry ≡ true
+pub begun : (w : World) (e : Event) (s : Stepped) (n : ℕ) → step w e ≡ Ok s → calls_by n s.entry ≡ true
     → IsIn (called s.entry.event.act) (s.world.actor n)
-begun R w e s n goes h =
-    let t = took R w e s goes in
+begun w e s n goes h =
+    let t = took w e s goes in
     subst (λ (x : Stepped). calls_by n x.entry ≡ true → IsIn (called x.entry.event.act) (x.world.actor n)) t.ends
     (λ k.
     let parts = and_parts (n == e.actor) (is_call e.act) k in
-    subst (IsIn (called e.act)) (sym (cond-true (n == e.actor) (Some (after R t.a e.act t.did.answer).0) (w.actor n) parts.0))
-    (inl (after_call R t.a e.act t.did.answer parts.1))) h
+    subst (IsIn (called e.act)) (sym (cond-true (n == e.actor) (Some (after w.ring t.a e.act t.did.answer).0) (w.actor n) parts.0))
+    (inl (after_call w.ring t.a e.act t.did.answer parts.1))) h
 
 -- a step that is no call by the actor leaves it there
-call_stays : (R : ℕ) (w : World) (e : Event) (s : Stepped) (n : ℕ) (o : Option Op) → step R w e ≡ Ok s → calls_by n s.entry ≡ false
+call_stays : (w : World) (e : Event) (s : Stepped) (n : ℕ) (o : Option Op) → step w e ≡ Ok s → calls_by n s.entry ≡ false
     → IsIn o (w.actor n) → IsIn o (s.world.actor n)
-call_stays R w e s n o goes h was =
-    let t = took R w e s goes in
-    let next : Actor = (after R t.a e.act t.did.answer).0 in
+call_stays w e s n o goes h was =
+    let t = took w e s goes in
+    let next : Actor = (after w.ring t.a e.act t.did.answer).0 in
     subst (λ (x : Stepped). calls_by n x.entry ≡ false → IsIn o (x.world.actor n)) t.ends
     (λ k.
     cond_both (n == e.actor) (Some next) (w.actor n) (IsIn o)
     (λ same.
     let its : w.actor n ≡ Some t.a = ap w.actor (eqb-true n e.actor same) ∙ t.has in
     let no_call : is_call e.act ≡ false = ap (λ (b : Bool). b && is_call e.act) (sym same) ∙ k in
-    still-trans o t.a.op next.op (subst (IsIn o) its was) (after_still R t.a e.act t.did.answer no_call))
+    still-trans o t.a.op next.op (subst (IsIn o) its was) (after_still w.ring t.a e.act t.did.answer no_call))
     (λ other. was)) h
 
 -- the same along a run
-pub call_stays_along : (R : ℕ) (n : ℕ) (o : Option Op) (w v : World) (xs : List Entry) → run R w (events xs) ≡ Ok (record { world = v; entries = xs })
+pub call_stays_along : (n : ℕ) (o : Option Op) (w v : World) (xs : List Entry) → run w (events xs) ≡ Ok (record { world = v; entries = xs })
     → NonePasses (calls_by n) xs → IsIn o (w.actor n) → IsIn o (v.actor n)
-call_stays_along R n o w v [] h none was = grind arith
-call_stays_along R n o w v (x ∷ xs) h none was =
-    let first = beginning R w x xs v h in
-    call_stays_along R n o first.after v xs first.rest none.1
-    (call_stays R w x.event (record { world = first.after; entry = x }) n o first.goes none.0 was)
+call_stays_along n o w v [] h none was = grind arith
+call_stays_along n o w v (x ∷ xs) h none was =
+    let first = beginning w x xs v h in
+    call_stays_along n o first.after v xs first.rest none.1
+    (call_stays w x.event (record { world = first.after; entry = x }) n o first.goes none.0 was)
 
-pub value_stays_along : (R : ℕ) (q : Place) (u : ℕ) (w v : World) (xs : List Entry) → run R w (events xs) ≡ Ok (record { world = v; entries = xs })
+pub value_stays_along : (q : Place) (u : ℕ) (w v : World) (xs : List Entry) → run w (events xs) ≡ Ok (record { world = v; entries = xs })
     → NonePasses (puts_into q) xs → HoldsOnly u w.at q → HoldsOnly u v.at q
-value_stays_along R q u w v [] h none was = grind arith
-value_stays_along R q u w v (x ∷ xs) h none was =
-    let first = beginning R w x xs v h in
-    value_stays_along R q u first.after v xs first.rest none.1
-    (value_stays R w x.event (record { world = first.after; entry = x }) q u first.goes none.0 was)
+value_stays_along q u w v [] h none was = grind arith
+value_stays_along q u w v (x ∷ xs) h none was =
+    let first = beginning w x xs v h in
+    value_stays_along q u first.after v xs first.rest none.1
+    (value_stays w x.event (record { world = first.after; entry = x }) q u first.goes none.0 was)

@@ -114,35 +114,35 @@ taken_apart xs c p k n =
 same_value : (v u : ℕ) (at : Contents) (q : Place) → HoldsOnly v at q → held_at at q ≡ Some u → Some v ≡ Some u
 same_value v u at q h k = grind arith
 
-argument_taken : (R : ℕ) (w v : World) (xs : List Entry) (c p k : ℕ) (a : Apart xs c p k) → IsWellFormed R w
-    → run R w (events xs) ≡ Ok (record { world = v; entries = xs }) → argument a.call.event.act ≡ Some a.value
-argument_taken R w v xs c p k a formed ran =
-    let all = subst (λ (l : List Entry). run R w (events l) ≡ Ok (record { world = v; entries = l })) a.whole ran in
-    let one = middle R w a.before a.call (a.between ++ a.put ∷ (a.behind ++ a.taken ∷ a.later)) v all in
-    let two = middle R one.after a.between a.put (a.behind ++ a.taken ∷ a.later) v one.rest in
-    let three = middle R two.after a.behind a.taken a.later v two.rest in
+argument_taken : (w v : World) (xs : List Entry) (c p k : ℕ) (a : Apart xs c p k) → IsWellFormed w
+    → run w (events xs) ≡ Ok (record { world = v; entries = xs }) → argument a.call.event.act ≡ Some a.value
+argument_taken w v xs c p k a formed ran =
+    let all = subst (λ (l : List Entry). run w (events l) ≡ Ok (record { world = v; entries = l })) a.whole ran in
+    let one = middle w a.before a.call (a.between ++ a.put ∷ (a.behind ++ a.taken ∷ a.later)) v all in
+    let two = middle one.after a.between a.put (a.behind ++ a.taken ∷ a.later) v one.rest in
+    let three = middle two.after a.behind a.taken a.later v two.rest in
     let called_step : Stepped = record { world = one.after; entry = a.call } in
     let put_step : Stepped = record { world = two.after; entry = a.put } in
     let taken_step : Stepped = record { world = three.after; entry = a.taken } in
-    let formed_one = run_keeps R w (events a.before) (record { world = one.before; entries = a.before }) formed one.ran in
-    let formed_after = keeps R one.before a.call.event called_step formed_one one.goes in
-    let formed_two = run_keeps R one.after (events a.between) (record { world = two.before; entries = a.between }) formed_after two.ran in
+    let formed_one = run_keeps w (events a.before) (record { world = one.before; entries = a.before }) formed one.ran in
+    let formed_after = keeps one.before a.call.event called_step formed_one one.goes in
+    let formed_two = run_keeps one.after (events a.between) (record { world = two.before; entries = a.between }) formed_after two.ran in
     let in_call : IsIn (called a.call.event.act) (two.before.actor a.put.event.actor) =
-    call_stays_along R a.put.event.actor (called a.call.event.act) one.after two.before a.between two.ran a.no_call
-    (begun R one.before a.call.event called_step a.put.event.actor one.goes a.calls) in
-    let p = put R two.before a.put.event put_step a.cell formed_two two.goes a.puts in
+    call_stays_along a.put.event.actor (called a.call.event.act) one.after two.before a.between two.ran a.no_call
+    (begun one.before a.call.event called_step a.put.event.actor one.goes a.calls) in
+    let p = put two.before a.put.event put_step a.cell formed_two two.goes a.puts in
     let still : IsStill (called a.call.event.act) p.a.op = subst (IsIn (called a.call.event.act)) p.has in_call in
     let holds : HoldsOnly (value_to_put p.a.op) three.before.at a.cell =
-    value_stays_along R a.cell (value_to_put p.a.op) two.after three.before a.behind three.ran a.no_put p.holds in
+    value_stays_along a.cell (value_to_put p.a.op) two.after three.before a.behind three.ran a.no_put p.holds in
     let found : held_at three.before.at a.cell ≡ Some a.value =
-    taken_held R three.before a.taken.event taken_step a.cell a.value three.goes a.replies a.place in
+    taken_held three.before a.taken.event taken_step a.cell a.value three.goes a.replies a.place in
     argued a.call.event.act p.a.op p.puts still ∙ same_value (value_to_put p.a.op) a.value three.before.at a.cell holds found
 
-pub handed_over : (R : ℕ) (w : World) (es : List Event) (ran : Ran) (c p k : ℕ) → IsWellFormed R w → run R w es ≡ Ok ran
+pub handed_over : (w : World) (es : List Event) (ran : Ran) (c p k : ℕ) → IsWellFormed w → run w es ≡ Ok ran
     → origin_in ran.entries k ≡ Ok (record { call = Some c; put = Some p; take = k }) → IsHandedOver ran.entries c k
-handed_over R w es ran c p k formed goes h =
+handed_over w es ran c p k formed goes h =
     let a = taken_apart ran.entries c p k (named_at ran.entries c p k h) in
-    let all : run R w (events ran.entries) ≡ Ok ran = ap (run R w) (run_events R w es ran goes) ∙ goes in
+    let all : run w (events ran.entries) ≡ Ok ran = ap (run w) (run_events w es ran goes) ∙ goes in
     record {
       call = a.call;
       called = a.call_there;
@@ -150,5 +150,5 @@ handed_over R w es ran c p k formed goes h =
       took = a.taken_there;
       value = a.value;
       replies = a.replies;
-      argued = argument_taken R w ran.world ran.entries c p k a formed all;
+      argued = argument_taken w ran.world ran.entries c p k a formed all;
     }

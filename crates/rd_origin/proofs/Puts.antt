@@ -36,19 +36,19 @@ pub record Put (w : World) (e : Event) (s : Stepped) (q : Place) : Type 0 where
   pub puts : puts_values a.op ≡ true
   pub holds : HoldsOnly (value_to_put a.op) s.world.at q
 
-pub put : (R : ℕ) (w : World) (e : Event) (s : Stepped) (q : Place) → IsWellFormed R w → step R w e ≡ Ok s → puts_into q s.entry ≡ true → Put w e s q
-put R w e s q formed goes h =
-    let t = took R w e s goes in
+pub put : (w : World) (e : Event) (s : Stepped) (q : Place) → IsWellFormed w → step w e ≡ Ok s → puts_into q s.entry ≡ true → Put w e s q
+put w e s q formed goes h =
+    let t = took w e s goes in
     let puts : puts_by t.a.pc q t.did ≡ true =
-    sym (same_puts R w e t.a t.did (after R t.a e.act t.did.answer) q t.a.pc) ∙ ap (λ (x : Stepped). puts_into q x.entry) t.ends ∙ h in
+    sym (same_puts w e t.a t.did (after w.ring t.a e.act t.did.answer) q t.a.pc) ∙ ap (λ (x : Stepped). puts_into q x.entry) t.ends ∙ h in
     let stands = putter t.a.pc q t.did puts in
-    let fits : record_fits R (is_there w.at) t.a ≡ true = subst (λ (o : Option Actor). actor_fits R (is_there w.at) o ≡ true) t.has (formed.actors e.actor) in
-    let by_access : IfOk (perform R e.actor w.at t.access) (PutsOnly (value_to_put t.a.op) w.at t.a.pc q) =
-    IfOk-at_ok (λ (x : Access). IfOk (perform R e.actor w.at x) (PutsOnly (value_to_put t.a.op) w.at t.a.pc q)) t.needs (act_puts R e.actor w.at q t.a e.act stands) in
+    let fits : record_fits w.ring (is_there w.at) t.a ≡ true = subst (λ (o : Option Actor). actor_fits w.ring (is_there w.at) o ≡ true) t.has (formed.actors e.actor) in
+    let by_access : IfOk (perform w.ring e.actor w.at t.access) (PutsOnly (value_to_put t.a.op) w.at t.a.pc q) =
+    IfOk-at_ok (λ (x : Access). IfOk (perform w.ring e.actor w.at x) (PutsOnly (value_to_put t.a.op) w.at t.a.pc q)) t.needs (act_puts w.ring e.actor w.at q t.a e.act stands) in
     let holds : PutsOnly (value_to_put t.a.op) w.at t.a.pc q t.did = IfOk-at_ok (PutsOnly (value_to_put t.a.op) w.at t.a.pc q) t.does by_access in
     record {
       a = t.a;
       has = t.has;
-      puts = putter_op t.a.pc t.a stands (words_of R (is_there w.at) t.a fits);
+      puts = putter_op t.a.pc t.a stands (words_of w.ring (is_there w.at) t.a fits);
       holds = subst (λ (x : Stepped). HoldsOnly (value_to_put t.a.op) x.world.at q) t.ends (holds puts);
     }

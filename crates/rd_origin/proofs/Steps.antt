@@ -24,9 +24,9 @@ puts_by A2 cell did = is_at did.place cell
 puts_by E12 cell did = is_first_cell did.place cell
 puts_by _ cell did = false
 
-pub same_puts : (R : ℕ) (w : World) (e : Event) (a : Actor) (did : Performed) (next : Actor × Option OpReply) (cell : Place) (pc : Pc)
+pub same_puts : (w : World) (e : Event) (a : Actor) (did : Performed) (next : Actor × Option OpReply) (cell : Place) (pc : Pc)
     → puts_at pc cell (step_outcome w e a did next).entry ≡ puts_by pc cell did
-same_puts R w e a did next cell pc = grind arith
+same_puts w e a did next cell pc = grind arith
 
 -- no access puts nothing
 pub none_puts : (pc : Pc) (cell : Place) → puts_by pc cell no_access ≡ false
@@ -73,12 +73,12 @@ act_leaves v R n at q a Go h = row_leaves v R n at q a a.pc h
 act_leaves v R n at q a (Starve b) h = choice_at_none R n at (LeavesUnless v at a.pc q) (λ e. h) a.pc
 
 -- a step that puts nothing into the cell leaves the value there, or none
-pub value_stays : (R : ℕ) (w : World) (e : Event) (s : Stepped) (q : Place) (v : ℕ) → step R w e ≡ Ok s → puts_into q s.entry ≡ false
+pub value_stays : (w : World) (e : Event) (s : Stepped) (q : Place) (v : ℕ) → step w e ≡ Ok s → puts_into q s.entry ≡ false
     → HoldsOnly v w.at q → HoldsOnly v s.world.at q
-value_stays R w e s q v goes other h =
-    let t = took R w e s goes in
-    let by_access : IfOk (perform R e.actor w.at t.access) (LeavesUnless v w.at t.a.pc q) =
-    IfOk-at_ok (λ (x : Access). IfOk (perform R e.actor w.at x) (LeavesUnless v w.at t.a.pc q)) t.needs (act_leaves v R e.actor w.at q t.a e.act h) in
+value_stays w e s q v goes other h =
+    let t = took w e s goes in
+    let by_access : IfOk (perform w.ring e.actor w.at t.access) (LeavesUnless v w.at t.a.pc q) =
+    IfOk-at_ok (λ (x : Access). IfOk (perform w.ring e.actor w.at x) (LeavesUnless v w.at t.a.pc q)) t.needs (act_leaves v w.ring e.actor w.at q t.a e.act h) in
     let leaves : LeavesUnless v w.at t.a.pc q t.did = IfOk-at_ok (LeavesUnless v w.at t.a.pc q) t.does by_access in
     subst (λ (x : Stepped). puts_into q x.entry ≡ false → HoldsOnly v x.world.at q) t.ends
-    (λ k. leaves (sym (same_puts R w e t.a t.did (after R t.a e.act t.did.answer) q t.a.pc) ∙ k)) other
+    (λ k. leaves (sym (same_puts w e t.a t.did (after w.ring t.a e.act t.did.answer) q t.a.pc) ∙ k)) other

@@ -17,13 +17,13 @@ taker_takes : (R n : ℕ) (at : Contents) (a : Actor) (cell : Place) (u : ℕ) (
 taker_takes R n at a cell u pc h = grind arith
 
 -- the step of an actor that replies this value took it from its place
-pub taken_held : (R : ℕ) (w : World) (e : Event) (s : Stepped) (cell : Place) (u : ℕ) → step R w e ≡ Ok s
+pub taken_held : (w : World) (e : Event) (s : Stepped) (cell : Place) (u : ℕ) → step w e ≡ Ok s
     → s.entry.reply ≡ Some (Dequeued u) → s.entry.place ≡ Some cell → held_at w.at cell ≡ Some u
-taken_held R w e s cell u goes replies place =
-    let t = took R w e s goes in
-    let reply : (after R t.a e.act t.did.answer).1 ≡ Some (Dequeued u) = ap (λ (x : Stepped). x.entry.reply) t.ends ∙ replies in
+taken_held w e s cell u goes replies place =
+    let t = took w e s goes in
+    let reply : (after w.ring t.a e.act t.did.answer).1 ≡ Some (Dequeued u) = ap (λ (x : Stepped). x.entry.reply) t.ends ∙ replies in
     let at_place : t.did.place ≡ Some cell = ap (λ (x : Stepped). x.entry.place) t.ends ∙ place in
-    by_act R e.actor w.at t.a e.act cell u t.access t.did t.needs t.does reply at_place
+    by_act w.ring e.actor w.at t.a e.act cell u t.access t.did t.needs t.does reply at_place
   where
     by_row : (R n : ℕ) (at : Contents) (a : Actor) (pc : Pc) (cell : Place) (u : ℕ) (x : Access) (did : Performed) → need_at R pc a ≡ Ok x
         → perform R n at x ≡ Ok did → (after_at R pc a did.answer).1 ≡ Some (Dequeued u) → did.place ≡ Some cell → HandsOut pc (after_at R pc a did.answer)

@@ -11,7 +11,7 @@ ghost use Rattle.rd_origin.specs.Laws.{IsHandedOver};
 /// What is taken is what was put: in a run from any well-formed start, if both the call and the put
 /// of a taken value were made in the run, the value is the argument of the call.
 pub fn what_is_taken_is_the_calls_argument()
-    ensures { (R : ℕ) (w : World) (es : List Event) (ran : Ran) (c p k : ℕ) → IsWellFormed R w → run R w es ≡ Ok ran
+    ensures { (w : World) (es : List Event) (ran : Ran) (c p k : ℕ) → IsWellFormed w → run w es ≡ Ok ran
         → origin_in ran.entries k ≡ Ok (record { call = Some c; put = Some p; take = k }) → IsHandedOver ran.entries c k }
 {}
 

@@ -14,17 +14,17 @@ fault_passed_up P fault (Ok x) is p = absurd is
 fault_passed_up P fault (Err e) is p = subst (λ x. P (Err x)) (sym is) p
 
 -- a run that came to its end leaves a writer that works
-ran_with_writer : (R : ℕ) (before after : BookState) (d : Devices) (n : ℕ) → RanToEnd R before after d n → RanToEnd R before after (record d { out_failed = false }) n
-ran_with_writer R before after d n ran = subst (λ failed. RanToEnd R before after (record d { out_failed = failed }) n) ran.out_works ran
+ran_with_writer : (before after : BookState) (d : Devices) (n : ℕ) → RanToEnd before after d n → RanToEnd before after (record d { out_failed = false }) n
+ran_with_writer before after d n ran = subst (λ failed. RanToEnd before after (record d { out_failed = failed }) n) ran.out_works ran
 
 -- a run that came to its end over the fresh world, and what became of its trace
 pub ran_to_trace : (R R' actors : ℕ) (traced : Bool) (d : Devices) (s after : BookState) (reported : Option (List ℕ)) (failed : Bool) (n : ℕ) (written : Result (Unit {0}) WriteTraceFault)
-    → R' ≡ R → s ≡ fresh_state R actors → RanToEnd R s after (record d { out_after = reported; out_failed = failed }) n
-    → WritesIf traced R' after reported d.out_after d.out_failed written → RanToTrace R actors traced d n written
+    → R' ≡ R → s ≡ fresh_state R actors → RanToEnd s after (record d { out_after = reported; out_failed = failed }) n
+    → WritesIf traced after reported d.out_after d.out_failed written → RanToTrace R actors traced d n written
 ran_to_trace R R' actors traced d s after reported failed n written ring state ran trace = record {
   after = after;
   reported = reported;
-  ran = ran_with_writer R (fresh_state R actors) after (record d { out_after = reported; out_failed = failed }) n
-      (subst (λ b. RanToEnd R b after (record d { out_after = reported; out_failed = failed }) n) state ran);
-  trace = subst (λ k. WritesIf traced k after reported d.out_after d.out_failed written) ring trace;
+  ran = ran_with_writer (fresh_state R actors) after (record d { out_after = reported; out_failed = failed }) n
+      (subst (λ b. RanToEnd b after (record d { out_after = reported; out_failed = failed }) n) state ran);
+  trace = subst (λ k. WritesIf traced after reported d.out_after d.out_failed written) ring trace;
 }

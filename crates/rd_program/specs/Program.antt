@@ -8,7 +8,7 @@ use Rattle.rd_script.specs.Script.{Devices, RanToEnd, RunsScript}
 use Rattle.rd_trace.specs.declared.faults.WriteTraceFault.{WriteTraceFault}
 use Rattle.rd_trace.specs.declared.any_book.AnyBook.{AnyBook}
 use Rattle.rd_trace.specs.Writing.{WritesTrace, is_write_fault}
-use Rattle.rd_trace.specs.Loading.{LoadsTrace, any_ring, any_state, fresh_state}
+use Rattle.rd_trace.specs.Loading.{LoadsTrace, any_state, fresh_state}
 use Rattle.rd_program.specs.declared.faults.ProgramFault.{ProgramFault}
 use Rattle.rd_program.specs.declared.faults.ProgramFault.TheVariants.{NoMemory, Read, Script, Load, Trace}
 
@@ -24,14 +24,14 @@ pub record TouchesNothing (d : Devices) : Type 0 where
   pub out_works : d.out_failed ≡ false
 
 -- what a script's run over a book in this state did, whatever state it left
-abbrev pub RunsOver : ℕ → BookState → Devices → Result ℕ ScriptFault → Type 0
-RunsOver R before d result = (after : BookState) × RunsScript R before after d result
+abbrev pub RunsOver : BookState → Devices → Result ℕ ScriptFault → Type 0
+RunsOver before d result = (after : BookState) × RunsScript before after d result
 
 -- what became of the trace of a book in this state, if it was asked for: it was written, as far as
 -- the result states; else nothing was written
-abbrev pub WritesIf : Bool → ℕ → BookState → Option (List ℕ) → Option (List ℕ) → Bool → Result (Unit {0}) WriteTraceFault → Type 0
-WritesIf true R b old new failed result = WritesTrace R b old new result × (failed ≡ is_write_fault result)
-WritesIf false R b old new failed result = (result ≡ Ok tt) × (new ≡ old) × (failed ≡ false)
+abbrev pub WritesIf : Bool → BookState → Option (List ℕ) → Option (List ℕ) → Bool → Result (Unit {0}) WriteTraceFault → Type 0
+WritesIf true b old new failed result = WritesTrace b old new result × (failed ≡ is_write_fault result)
+WritesIf false b old new failed result = (result ≡ Ok tt) × (new ≡ old) × (failed ≡ false)
 
 -- a script of n lines ran to its end over the fresh world, its report was written, and this became
 -- of the trace of its run
@@ -39,15 +39,15 @@ pub record RanToTrace (R actors : ℕ) (traced : Bool) (d : Devices) (n : ℕ) (
   pub after : BookState
   -- what the writer had when the report was whole
   pub reported : Option (List ℕ)
-  pub ran : RanToEnd R (fresh_state R actors) after (record d { out_after = reported; out_failed = false }) n
-  pub trace : WritesIf traced R after reported d.out_after d.out_failed written
+  pub ran : RanToEnd (fresh_state R actors) after (record d { out_after = reported; out_failed = false }) n
+  pub trace : WritesIf traced after reported d.out_after d.out_failed written
 
 -- what `run` did, by its result: it ran a script over the fresh world, and, if that came to its end
 -- and a trace was asked for, wrote the trace after the report
 abbrev pub PlaysScript : ℕ → ℕ → Bool → Devices → Result ℕ ProgramFault → Type 0
 PlaysScript R actors traced d (Ok n) = RanToTrace R actors traced d n (Ok tt)
 PlaysScript R actors traced d (Err NoMemory) = TouchesNothing d
-PlaysScript R actors traced d (Err (Script fault)) = RunsOver R (fresh_state R actors) d (Err fault)
+PlaysScript R actors traced d (Err (Script fault)) = RunsOver (fresh_state R actors) d (Err fault)
 PlaysScript R actors traced d (Err (Trace fault)) = (n : ℕ) × RanToTrace R actors traced d n (Err fault)
 PlaysScript R actors traced d (Err _) = ⊥
 
@@ -55,7 +55,7 @@ PlaysScript R actors traced d (Err _) = ⊥
 pub record RunsOverTrace (text : List ℕ) (d : Devices) (result : Result ℕ ScriptFault) : Type 0 where
   pub book : AnyBook
   pub loads : LoadsTrace text (Ok book)
-  pub runs : RunsOver (any_ring book) (any_state book) d result
+  pub runs : RunsOver (any_state book) d result
 
 -- what `load` did with the text of a file, by its result: neither device is used unless the text is
 -- loaded as a book

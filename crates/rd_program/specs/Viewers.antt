@@ -15,6 +15,6 @@ abbrev pub view_outcome : Result History ViewFault → Result ℕ ProgramFault
 view_outcome viewed = result_map_both (λ history. length (entries history)) View viewed
 
 -- what became of a view of these scripts over a book in this state, by the program's outcome
-abbrev pub ViewsOver : ℕ → BookState → List (Vec ℕ Global) → Option (List ℕ) → Option (List ℕ) → Bool → Result ℕ ProgramFault → Type 0
-ViewsOver R opened scripts old new failed result =
-    (viewed : Result History ViewFault) × (result ≡ view_outcome viewed) × ViewsScripts R opened scripts old new failed viewed
+abbrev pub ViewsOver : BookState → List (Vec ℕ Global) → Option (List ℕ) → Option (List ℕ) → Bool → Result ℕ ProgramFault → Type 0
+ViewsOver opened scripts old new failed result =
+    (viewed : Result History ViewFault) × (result ≡ view_outcome viewed) × ViewsScripts opened scripts old new failed viewed

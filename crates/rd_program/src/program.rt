@@ -68,7 +68,7 @@ fn write_if<K: Sink>(
     trace: bool,
 ) -> Result<(), WriteTraceFault>
     requires { K.has_failed writer.old ≡ false }
-    ensures { WritesIf trace (any_ring book.now) (any_state book.now)
+    ensures { WritesIf trace (any_state book.now)
         (K.contents writer.old) (K.contents writer.new) (K.has_failed writer.new) result }
 {
     if trace {

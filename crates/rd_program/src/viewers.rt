@@ -33,7 +33,7 @@ pub fn view<R: Threads + Wait + Sync, K: Sink>(
     requires some_scripts { 1 ≤ length scripts.now }
     requires few_scripts { length scripts.now ≤ MOST_VIEWERS }
     requires writer_works { K.has_failed writer.old ≡ false }
-    ensures views { ViewsOver (ring_length setup.ring) (fresh_state (ring_length setup.ring) setup.actors) scripts.now
+    ensures views { ViewsOver (fresh_state (ring_length setup.ring) setup.actors) scripts.now
         (K.contents writer.old) (K.contents writer.new) (K.has_failed writer.new) result }
 {
     match AnyBook::fresh(alloc, setup.ring, setup.actors) {
@@ -55,7 +55,7 @@ fn view_over<R: Threads + Wait + Sync, K: Sink, const N: usize>(
     requires some { 1 ≤ length scripts.now }
     requires few { length scripts.now ≤ MOST_VIEWERS }
     requires works { K.has_failed writer.old ≡ false }
-    ensures { ViewsOver N (book_state book.entry) scripts.now
+    ensures { ViewsOver (book_state book.entry) scripts.now
         (K.contents writer.old) (K.contents writer.new) (K.has_failed writer.new) result }
 {
     let history = view_scripts(rt, alloc, scripts, writer, book)?;

@@ -50,12 +50,12 @@ ended-whole : (given : List ℕ) (lines : List (List ℕ)) → Splits given line
 ended-whole given lines s = ap ended_lines_of (sym (append-nil given)) ∙ (s.ended [] ∙ append-nil lines)
 
 -- one line more, with its answer
-HasReport-more : (R : ℕ) (s : BookState) (lines : List (List ℕ)) (report : List ℕ) (mid : BookState) (line : List ℕ) (a : Answered) → HasReport R s lines report mid → AnswersLine R mid line a → HasReport R s (lines ++ line ∷ []) (report ++ text_of a.answer) a.state
-HasReport-more R s [] report mid line a h k = grind (arith, append-nil)
-HasReport-more R s (x ∷ xs) report mid line a h k = grind (arith, append_assoc, HasReport-more R h.0.state xs h.1 mid line a h.4 k)
+HasReport-more : (s : BookState) (lines : List (List ℕ)) (report : List ℕ) (mid : BookState) (line : List ℕ) (a : Answered) → HasReport s lines report mid → AnswersLine mid line a → HasReport s (lines ++ line ∷ []) (report ++ text_of a.answer) a.state
+HasReport-more s [] report mid line a h k = grind (arith, append-nil)
+HasReport-more s (x ∷ xs) report mid line a h k = grind (arith, append_assoc, HasReport-more h.0.state xs h.1 mid line a h.4 k)
 
 -- this many lines were read, obeyed and reported, and both devices work
-pub record IsGoingOn (R : ℕ) (before now : BookState) (in_before in_now : Option (List ℕ)) (in_failed : Bool) (out_before out_now : Option (List ℕ)) (out_failed : Bool) (n : ℕ) : Type 0 where
+pub record IsGoingOn (before now : BookState) (in_before in_now : Option (List ℕ)) (in_failed : Bool) (out_before out_now : Option (List ℕ)) (out_failed : Bool) (n : ℕ) : Type 0 where
   pub in_works : in_failed ≡ false
   pub out_works : out_failed ≡ false
   pub given : List ℕ
@@ -66,12 +66,12 @@ pub record IsGoingOn (R : ℕ) (before now : BookState) (in_before in_now : Opti
   pub enough : n ≤ length given
   pub report : List ℕ
   pub wrote : Appends out_before out_now report
-  pub reports : HasReport R before lines report now
+  pub reports : HasReport before lines report now
   pub start : now.session.start ≡ before.session.start
 
 -- before the first line
-pub starts : (R : ℕ) (s : BookState) (in_now : Option (List ℕ)) (in_failed : Bool) (out_now : Option (List ℕ)) (out_failed : Bool) → in_failed ≡ false → out_failed ≡ false → IsGoingOn R s s in_now in_now in_failed out_now out_now out_failed 0
-starts R s in_now in_failed out_now out_failed in_works out_works = record {
+pub starts : (s : BookState) (in_now : Option (List ℕ)) (in_failed : Bool) (out_now : Option (List ℕ)) (out_failed : Bool) → in_failed ≡ false → out_failed ≡ false → IsGoingOn s s in_now in_now in_failed out_now out_now out_failed 0
+starts s in_now in_failed out_now out_failed in_works out_works = record {
   in_works = in_works;
   out_works = out_works;
   given = [];
@@ -86,7 +86,7 @@ starts R s in_now in_failed out_now out_failed in_works out_works = record {
   start = refl;
 }
 
-module _ (R : ℕ) (before now : BookState) (in_before in_now : Option (List ℕ)) (in_failed : Bool) (out_before out_now : Option (List ℕ)) (out_failed : Bool) (n : ℕ) (g : IsGoingOn R before now in_before in_now in_failed out_before out_now out_failed n) where
+module _ (before now : BookState) (in_before in_now : Option (List ℕ)) (in_failed : Bool) (out_before out_now : Option (List ℕ)) (out_failed : Bool) (n : ℕ) (g : IsGoingOn before now in_before in_now in_failed out_before out_now out_failed n) where
   -- the devices after more calls
   abbrev now_at : Option (List ℕ) → Bool → Option (List ℕ) → Bool → Devices
   now_at in_new in_failed' out_new out_failed' = record {
@@ -99,11 +99,11 @@ module _ (R : ℕ) (before now : BookState) (in_before in_now : Option (List ℕ
   }
 
   -- the end
-  pub ran_to_end : (in_new : Option (List ℕ)) (in_failed' : Bool) → Consumes in_now in_new [] → IsAtEnd in_new → in_failed' ≡ false → RanToEnd R before now (now_at in_new in_failed' out_now out_failed) n
+  pub ran_to_end : (in_new : Option (List ℕ)) (in_failed' : Bool) → Consumes in_now in_new [] → IsAtEnd in_new → in_failed' ≡ false → RanToEnd before now (now_at in_new in_failed' out_now out_failed) n
   ran_to_end in_new in_failed' keeps ended in_works = grind (arith, append-nil, lines-whole)
 
   -- the reader failed
-  pub stopped_at_read : (in_new : Option (List ℕ)) (in_failed' : Bool) → ReadsPart in_now in_new in_failed' → StoppedAtRead R before now (now_at in_new in_failed' out_now out_failed)
+  pub stopped_at_read : (in_new : Option (List ℕ)) (in_failed' : Bool) → ReadsPart in_now in_new in_failed' → StoppedAtRead before now (now_at in_new in_failed' out_now out_failed)
   stopped_at_read in_new in_failed' part =
       let whole : ended_lines_of (g.given ++ part.text) ≡ g.lines = g.splits.ended part.text ∙ (ap (λ ls. g.lines ++ ls) (ended-none part.text part.is_one) ∙ append-nil g.lines) in
       record {
@@ -113,15 +113,15 @@ module _ (R : ℕ) (before now : BookState) (in_before in_now : Option (List ℕ
         cause = elim part.cause [ inl failed ↦ inl failed | inr many ↦ inr (omega (arith, many, length-append g.given part.text)) ];
         report = g.report;
         wrote = g.wrote;
-        reports = subst (λ ls. HasReport R before ls g.report now) (sym whole) g.reports;
+        reports = subst (λ ls. HasReport before ls g.report now) (sym whole) g.reports;
       }
 
   -- 2^64 - 1 lines without an end
-  pub stopped_endless : n ≡ 2 ^ 64 - 1 → StoppedAtRead R before now (now_at in_now in_failed out_now out_failed)
+  pub stopped_endless : n ≡ 2 ^ 64 - 1 → StoppedAtRead before now (now_at in_now in_failed out_now out_failed)
   stopped_endless most = grind (arith, ended-whole)
 
   -- one more line, ended by a line feed, was obeyed and reported
-  pub goes_on : (in_new out_new : Option (List ℕ)) (in_failed' out_failed' : Bool) (line : Line) (read : ReadsLine in_now in_new line (10 ∷ [])) (a : Answered) → AnswersLine R now read.text a → (after : BookState) → a.state ≡ after → Appends out_now out_new (text_of a.answer) → in_failed' ≡ false → out_failed' ≡ false → after.session.start ≡ now.session.start → IsGoingOn R before after in_before in_new in_failed' out_before out_new out_failed' (n + 1)
+  pub goes_on : (in_new out_new : Option (List ℕ)) (in_failed' out_failed' : Bool) (line : Line) (read : ReadsLine in_now in_new line (10 ∷ [])) (a : Answered) → AnswersLine now read.text a → (after : BookState) → a.state ≡ after → Appends out_now out_new (text_of a.answer) → in_failed' ≡ false → out_failed' ≡ false → after.session.start ≡ now.session.start → IsGoingOn before after in_before in_new in_failed' out_before out_new out_failed' (n + 1)
   goes_on in_new out_new in_failed' out_failed' line read a answers after leaves wrote in_works out_works start = record {
     in_works = in_works;
     out_works = out_works;
@@ -133,12 +133,12 @@ module _ (R : ℕ) (before now : BookState) (in_before in_now : Option (List ℕ
     enough = omega (arith, g.enough, length-append g.given (read.text ++ 10 ∷ []), length-append read.text (10 ∷ []));
     report = g.report ++ text_of a.answer;
     wrote = Appends-join out_before out_now out_new g.report (text_of a.answer) g.wrote wrote;
-    reports = subst (λ x. HasReport R before (g.lines ++ read.text ∷ []) (g.report ++ text_of a.answer) x) leaves (HasReport-more R before g.lines g.report now read.text a g.reports answers);
+    reports = subst (λ x. HasReport before (g.lines ++ read.text ∷ []) (g.report ++ text_of a.answer) x) leaves (HasReport-more before g.lines g.report now read.text a g.reports answers);
     start = start ∙ g.start;
   }
 
   -- the last line was obeyed and reported
-  pub ran_to_last : (in_new out_new : Option (List ℕ)) (in_failed' out_failed' : Bool) (line : Line) (r : ReadsLast in_now in_new line) (a : Answered) → AnswersLine R now r.read.text a → (after : BookState) → a.state ≡ after → Appends out_now out_new (text_of a.answer) → in_failed' ≡ false → out_failed' ≡ false → RanToEnd R before after (now_at in_new in_failed' out_new out_failed') (n + 1)
+  pub ran_to_last : (in_new out_new : Option (List ℕ)) (in_failed' out_failed' : Bool) (line : Line) (r : ReadsLast in_now in_new line) (a : Answered) → AnswersLine now r.read.text a → (after : BookState) → a.state ≡ after → Appends out_now out_new (text_of a.answer) → in_failed' ≡ false → out_failed' ≡ false → RanToEnd before after (now_at in_new in_failed' out_new out_failed') (n + 1)
   ran_to_last in_new out_new in_failed' out_failed' line r a answers after leaves wrote in_works out_works =
       let text = r.read.text in
       let all : lines_of (g.given ++ (text ++ [])) ≡ g.lines ++ text ∷ [] = ap (λ t. lines_of (g.given ++ t)) (append-nil text) ∙ (g.splits.all text ∙ ap (λ ls. g.lines ++ ls) (lines-last text r.read.is_one r.some)) in
@@ -152,12 +152,12 @@ module _ (R : ℕ) (before now : BookState) (in_before in_now : Option (List ℕ
         report = g.report ++ text_of a.answer;
         wrote = Appends-join out_before out_now out_new g.report (text_of a.answer) g.wrote wrote;
         reports =
-            subst (λ ls. HasReport R before ls (g.report ++ text_of a.answer) after) (sym all)
-            (subst (λ x. HasReport R before (g.lines ++ text ∷ []) (g.report ++ text_of a.answer) x) leaves (HasReport-more R before g.lines g.report now text a g.reports answers));
+            subst (λ ls. HasReport before ls (g.report ++ text_of a.answer) after) (sym all)
+            (subst (λ x. HasReport before (g.lines ++ text ∷ []) (g.report ++ text_of a.answer) x) leaves (HasReport-more before g.lines g.report now text a g.reports answers));
       }
 
   -- the writer failed at the answer to a line that a line feed ended
-  pub stopped_at_write : (in_new out_new : Option (List ℕ)) (in_failed' out_failed' : Bool) (line : Line) (read : ReadsLine in_now in_new line (10 ∷ [])) (a : Answered) → AnswersLine R now read.text a → (after : BookState) → a.state ≡ after → TakesBeginning out_now out_new (text_of a.answer) → in_failed' ≡ false → out_failed' ≡ true → StoppedAtWrite R before after (now_at in_new in_failed' out_new out_failed')
+  pub stopped_at_write : (in_new out_new : Option (List ℕ)) (in_failed' out_failed' : Bool) (line : Line) (read : ReadsLine in_now in_new line (10 ∷ [])) (a : Answered) → AnswersLine now read.text a → (after : BookState) → a.state ≡ after → TakesBeginning out_now out_new (text_of a.answer) → in_failed' ≡ false → out_failed' ≡ true → StoppedAtWrite before after (now_at in_new in_failed' out_new out_failed')
   stopped_at_write in_new out_new in_failed' out_failed' line read a answers after leaves wrote in_works fails =
       let given = g.given ++ (read.text ++ 10 ∷ []) in
       let lines = g.lines ++ read.text ∷ [] in
@@ -183,7 +183,7 @@ module _ (R : ℕ) (before now : BookState) (in_before in_now : Option (List ℕ
       }
 
   -- the writer failed at the answer to the last line
-  pub stopped_at_last_write : (in_new out_new : Option (List ℕ)) (in_failed' out_failed' : Bool) (line : Line) (r : ReadsLast in_now in_new line) (a : Answered) → AnswersLine R now r.read.text a → (after : BookState) → a.state ≡ after → TakesBeginning out_now out_new (text_of a.answer) → in_failed' ≡ false → out_failed' ≡ true → StoppedAtWrite R before after (now_at in_new in_failed' out_new out_failed')
+  pub stopped_at_last_write : (in_new out_new : Option (List ℕ)) (in_failed' out_failed' : Bool) (line : Line) (r : ReadsLast in_now in_new line) (a : Answered) → AnswersLine now r.read.text a → (after : BookState) → a.state ≡ after → TakesBeginning out_now out_new (text_of a.answer) → in_failed' ≡ false → out_failed' ≡ true → StoppedAtWrite before after (now_at in_new in_failed' out_new out_failed')
   stopped_at_last_write in_new out_new in_failed' out_failed' line r a answers after leaves wrote in_works fails =
       let text = r.read.text in
       record {
@@ -207,5 +207,5 @@ module _ (R : ℕ) (before now : BookState) (in_before in_now : Option (List ℕ
       }
 
 -- a script that ended by a fault, of which the result tells
-pub RunsScript-at_fault : (R : ℕ) (before after : BookState) (d : Devices) (fault : ScriptFault) (r : Result ℕ ScriptFault) → IsErrAnd r (λ e. e ≡ fault) → RunsScript R before after d (Err fault) → RunsScript R before after d r
-RunsScript-at_fault R before after d fault r is runs = subst (λ x. RunsScript R before after d x) (sym (Err-from_error fault r is)) runs
+pub RunsScript-at_fault : (before after : BookState) (d : Devices) (fault : ScriptFault) (r : Result ℕ ScriptFault) → IsErrAnd r (λ e. e ≡ fault) → RunsScript before after d (Err fault) → RunsScript before after d r
+RunsScript-at_fault before after d fault r is runs = subst (λ x. RunsScript before after d x) (sym (Err-from_error fault r is)) runs

@@ -23,13 +23,13 @@ line_answer answer = result_map_both (λ reply. reply) Refused answer
 
 -- a line that spells this command, or has this fault, may be answered so and leave this state; a
 -- fault leaves the state as it is
-abbrev pub Answers : ℕ → BookState → Result Command LineFault → Answered → Type 0
-Answers R s (Err fault) answered = answered ≡ record { answer = Err (Unread fault); state = s }
-Answers R s (Ok command) answered =
-    (answer : Result Reply Refusal) × IsObeyed R s command (record { answer = answer; state = answered.state }) × (answered.answer ≡ line_answer answer)
+abbrev pub Answers : BookState → Result Command LineFault → Answered → Type 0
+Answers s (Err fault) answered = answered ≡ record { answer = Err (Unread fault); state = s }
+Answers s (Ok command) answered =
+    (answer : Result Reply Refusal) × IsObeyed s command (record { answer = answer; state = answered.state }) × (answered.answer ≡ line_answer answer)
 
 -- a line may be answered so, and leave this state
-pub record AnswersLine (R : ℕ) (s : BookState) (line : List ℕ) (answered : Answered) : Type 0 where
+pub record AnswersLine (s : BookState) (line : List ℕ) (answered : Answered) : Type 0 where
   pub said : Result Command LineFault
   pub says : Says line said
-  pub answers : Answers R s said answered
+  pub answers : Answers s said answered

@@ -18,11 +18,11 @@ WritesAnswer old new answer (Err _) = TakesBeginning old new (text_of answer)
 
 -- these lines may be answered by this report, which has the text of each answer, and lead to this
 -- state
-abbrev pub HasReport : ℕ → BookState → List (List ℕ) → List ℕ → BookState → Type 0
-HasReport R s [] report after = (report ≡ []) × (after ≡ s)
-HasReport R s (line ∷ lines) report after =
-    (answered : Answered) × (rest : List ℕ) × AnswersLine R s line answered
-    × (report ≡ text_of answered.answer ++ rest) × HasReport R answered.state lines rest after
+abbrev pub HasReport : BookState → List (List ℕ) → List ℕ → BookState → Type 0
+HasReport s [] report after = (report ≡ []) × (after ≡ s)
+HasReport s (line ∷ lines) report after =
+    (answered : Answered) × (rest : List ℕ) × AnswersLine s line answered
+    × (report ≡ text_of answered.answer ++ rest) × HasReport answered.state lines rest after
 
 -- the bytes that a reader has left and those that a writer has, before a run and after it, and
 -- whether each has failed then
@@ -36,7 +36,7 @@ pub record Devices : Type 0 where
 
 -- the run came to the end: the reader gave n lines and then the end, their report was written, and
 -- neither device failed
-pub record RanToEnd (R : ℕ) (before after : BookState) (d : Devices) (n : ℕ) : Type 0 where
+pub record RanToEnd (before after : BookState) (d : Devices) (n : ℕ) : Type 0 where
   pub in_works : d.in_failed ≡ false
   pub out_works : d.out_failed ≡ false
   pub given : List ℕ
@@ -45,23 +45,23 @@ pub record RanToEnd (R : ℕ) (before after : BookState) (d : Devices) (n : ℕ)
   pub counted : length (lines_of given) ≡ n
   pub report : List ℕ
   pub wrote : Appends d.out_before d.out_after report
-  pub reports : HasReport R before (lines_of given) report after
+  pub reports : HasReport before (lines_of given) report after
 
 -- the reader failed, or gave 2^64 - 1 bytes without an end, and the writer has not failed: the
 -- lines that a line feed ended were obeyed, and their report was written
-pub record StoppedAtRead (R : ℕ) (before after : BookState) (d : Devices) : Type 0 where
+pub record StoppedAtRead (before after : BookState) (d : Devices) : Type 0 where
   pub out_works : d.out_failed ≡ false
   pub given : List ℕ
   pub took : Consumes d.in_before d.in_after given
   pub cause : (d.in_failed ≡ true) ⊎ (2 ^ 64 ≤ length given + 1)
   pub report : List ℕ
   pub wrote : Appends d.out_before d.out_after report
-  pub reports : HasReport R before (ended_lines_of given) report after
+  pub reports : HasReport before (ended_lines_of given) report after
 
 -- the writer failed at the answer to the last line that was read, and the reader has not failed:
 -- all lines were obeyed, the report of the lines before the last was written, and a beginning of
 -- the last one's answer
-pub record StoppedAtWrite (R : ℕ) (before after : BookState) (d : Devices) : Type 0 where
+pub record StoppedAtWrite (before after : BookState) (d : Devices) : Type 0 where
   pub in_works : d.in_failed ≡ false
   pub out_failed : d.out_failed ≡ true
   pub given : List ℕ
@@ -74,10 +74,10 @@ pub record StoppedAtWrite (R : ℕ) (before after : BookState) (d : Devices) : T
   -- the report of the lines before the last
   pub report : List ℕ
   pub reached : BookState
-  pub reports : HasReport R before lines report reached
+  pub reports : HasReport before lines report reached
   -- the last line's answer
   pub answered : Answered
-  pub answers : AnswersLine R reached last answered
+  pub answers : AnswersLine reached last answered
   pub leaves : answered.state ≡ after
   -- the beginning of its text
   pub part : List ℕ
@@ -85,7 +85,7 @@ pub record StoppedAtWrite (R : ℕ) (before after : BookState) (d : Devices) : T
   pub wrote : Appends d.out_before d.out_after (report ++ part)
 
 -- what a run of a script did, by its result
-abbrev pub RunsScript : ℕ → BookState → BookState → Devices → Result ℕ ScriptFault → Type 0
-RunsScript R before after d (Ok n) = RanToEnd R before after d n
-RunsScript R before after d (Err Read) = StoppedAtRead R before after d
-RunsScript R before after d (Err Write) = StoppedAtWrite R before after d
+abbrev pub RunsScript : BookState → BookState → Devices → Result ℕ ScriptFault → Type 0
+RunsScript before after d (Ok n) = RanToEnd before after d n
+RunsScript before after d (Err Read) = StoppedAtRead before after d
+RunsScript before after d (Err Write) = StoppedAtWrite before after d

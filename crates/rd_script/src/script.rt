@@ -37,7 +37,7 @@ pub fn run<S: Source, K: Sink, const R: usize>(
 ) -> Result<u64, ScriptFault>
     requires reader_works { S.has_failed reader.old ≡ false }
     requires writer_works { K.has_failed writer.old ≡ false }
-    ensures runs { RunsScript R (book_state book.old) (book_state book.new) (record {
+    ensures runs { RunsScript (book_state book.old) (book_state book.new) (record {
       in_before = S.bytes reader.old;
       in_after = S.bytes reader.new;
       in_failed = S.has_failed reader.new;
@@ -71,7 +71,7 @@ fn do_line<K: Sink, const R: usize>(
 ) -> Result<(), WriteFault>
     requires { K.has_failed writer.old ≡ false }
     ensures does { (text : List ℕ) → Holds line.now text → (answered : Answered)
-        × AnswersLine R (book_state book.old) text answered × (answered.state ≡ book_state book.new)
+        × AnswersLine (book_state book.old) text answered × (answered.state ≡ book_state book.new)
         × WritesAnswer (K.contents writer.old) (K.contents writer.new) answered.answer result }
     ensures start { (book_state book.new).session.start ≡ (book_state book.old).session.start }
     ensures works { OnOk result (K.has_failed writer.new ≡ false) }
@@ -84,7 +84,7 @@ fn do_line<K: Sink, const R: usize>(
 /// Obeys a line, and makes the text the line of its answer.
 fn answer_line<const R: usize>(book: &mut Book<R>, line: &Line, text: &mut Text)
     ensures answers { (said : List ℕ) → Holds line.now said → (answered : Answered)
-        × AnswersLine R (book_state book.old) said answered × (answered.state ≡ book_state book.new)
+        × AnswersLine (book_state book.old) said answered × (answered.state ≡ book_state book.new)
         × (text.new.items ≡ text_of answered.answer) }
     ensures start { (book_state book.new).session.start ≡ (book_state book.old).session.start }
 {
@@ -99,7 +99,7 @@ fn answer_line<const R: usize>(book: &mut Book<R>, line: &Line, text: &mut Text)
 
 /// Makes an event happen, and makes the text the line of its answer.
 fn answer_event<const R: usize>(book: &mut Book<R>, event: Event, text: &mut Text)
-    ensures answers { (answer : Result Reply Refusal) × Happened R (book_state book.old) event (record { answer = answer; state = book_state book.new })
+    ensures answers { (answer : Result Reply Refusal) × Happened (book_state book.old) event (record { answer = answer; state = book_state book.new })
         × (text.new.items ≡ text_of (line_answer answer)) }
     ensures start { (book_state book.new).session.start ≡ (book_state book.old).session.start }
 {
@@ -111,7 +111,7 @@ fn answer_event<const R: usize>(book: &mut Book<R>, event: Event, text: &mut Tex
 
 /// Obeys a command, and makes the text the line of its answer.
 fn answer_command<const R: usize>(book: &mut Book<R>, command: Command, text: &mut Text)
-    ensures answers { (answer : Result Reply Refusal) × IsObeyed R (book_state book.old) command (record { answer = answer; state = book_state book.new })
+    ensures answers { (answer : Result Reply Refusal) × IsObeyed (book_state book.old) command (record { answer = answer; state = book_state book.new })
         × (text.new.items ≡ text_of (line_answer answer)) }
     ensures start { (book_state book.new).session.start ≡ (book_state book.old).session.start }
 {

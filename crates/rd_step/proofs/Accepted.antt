@@ -61,10 +61,10 @@ few_segments {R} p made m list e =
 
 -- What is there fits
 
-segments_made : {R : ℕ} (p : Parts R) → IsWellFormed R (world_of_parts p) → AreMade (is_actor (numbered p.actors.items)) (has p)
+segments_made : {R : ℕ} (p : Parts R) → IsWellFormed (world_of_parts p) → AreMade (is_actor (numbered p.actors.items)) (has p)
 segments_made p formed = subst (AreMade (is_actor (numbered p.actors.items))) (presence p) formed.made
 
-contents_fit : (R : ℕ) (p : Parts R) → IsWellFormed R (world_of_parts p) → (q : Place) → place_fits R (has p) q ((world_of_parts p).at q) ≡ true
+contents_fit : (R : ℕ) (p : Parts R) → IsWellFormed (world_of_parts p) → (q : Place) → place_fits R (has p) q ((world_of_parts p).at q) ≡ true
 contents_fit R p formed q =
     subst (λ (there : Presence). place_fits R there q ((world_of_parts p).at q) ≡ true) (presence p) (formed.contents q)
 
@@ -73,20 +73,20 @@ part_fits : (R : ℕ) (p : Parts R) (s : SegName) (x : SegmentParts R) (q : Plac
     → place_fits R (has p) q (part_of_parts (by_name p.segments.items s) q) ≡ true → place_fits R (has p) q (part_from x q) ≡ true
 part_fits R p s x q e h = subst (λ (o : Option (SegmentParts R)). place_fits R (has p) q (part_of_parts o q) ≡ true) e h
 
-counters_within : (R : ℕ) (p : Parts R) → IsWellFormed R (world_of_parts p) → (s : SegName) (x : SegmentParts R) → by_name p.segments.items s ≡ Some x
+counters_within : (R : ℕ) (p : Parts R) → IsWellFormed (world_of_parts p) → (s : SegName) (x : SegmentParts R) → by_name p.segments.items s ≡ Some x
     → counters_fit x ≡ true
 counters_within R p formed s x e =
     and_from (nat_le x.head COUNTER_END) (nat_le x.tail COUNTER_END)
     (part_fits R p s x (Head s) e (contents_fit R p formed (Head s)))
     (part_fits R p s x (Tail s) e (contents_fit R p formed (Tail s)))
 
-cell_within : (R : ℕ) (p : Parts R) → IsWellFormed R (world_of_parts p) → (s : SegName) (x : SegmentParts R) → by_name p.segments.items s ≡ Some x
+cell_within : (R : ℕ) (p : Parts R) → IsWellFormed (world_of_parts p) → (s : SegName) (x : SegmentParts R) → by_name p.segments.items s ≡ Some x
     → (i : ℕ) (c : Cell) → slice_get x.cells i ≡ Some c → nat_le c.idx (COUNTER_END + R) ≡ true
 cell_within R p formed s x e i c at =
     subst (λ (o : Option Cell). place_fits R (has p) (IdxAt s i) (option_map (λ x. IdxIs x.safe x.idx) o) ≡ true) at
     (part_fits R p s x (IdxAt s i) e (contents_fit R p formed (IdxAt s i)))
 
-indexes_within : (R : ℕ) (p : Parts R) → IsWellFormed R (world_of_parts p) → (s : SegName) (x : SegmentParts R) → by_name p.segments.items s ≡ Some x
+indexes_within : (R : ℕ) (p : Parts R) → IsWellFormed (world_of_parts p) → (s : SegName) (x : SegmentParts R) → by_name p.segments.items s ≡ Some x
     → indexes_fit (COUNTER_END + R) x ≡ true
 indexes_within R p formed s x e = all_from (λ c. nat_le c.idx (COUNTER_END + R)) x.cells (cell_within R p formed s x e)
 
@@ -96,7 +96,7 @@ record ActorFits (R : ℕ) (there : Presence) (a : Actor) : Type 0 where
   pub numbers : numbers_fit R a ≡ true
   pub words : words_fit a ≡ true
 
-actor_within : (R : ℕ) (p : Parts R) → IsWellFormed R (world_of_parts p) → (n : ℕ) (a : Actor) → slice_get p.actors.items n ≡ Some a → ActorFits R (has p) a
+actor_within : (R : ℕ) (p : Parts R) → IsWellFormed (world_of_parts p) → (n : ℕ) (a : Actor) → slice_get p.actors.items n ≡ Some a → ActorFits R (has p) a
 actor_within R p formed n a e =
     let here = subst (λ (there : Presence). actor_fits R there (slice_get p.actors.items n) ≡ true) (presence p) (formed.actors (suc n)) in
     let fits : record_fits R (has p) a ≡ true = subst (λ (o : Option Actor). actor_fits R (has p) o ≡ true) e here in
@@ -104,7 +104,7 @@ actor_within R p formed n a e =
     let first = and_parts (names_fit (has p) a) (numbers_fit R a) both.0 in
     record { names = first.0; numbers = first.1; words = both.1 }
 
-pub accepted : (R : ℕ) (p : Parts R) → length p.segments.items ≡ suc (length p.actors.items) → IsWellFormed R (world_of_parts p) → first_flaw p ≡ None
+pub accepted : (R : ℕ) (p : Parts R) → length p.segments.items ≡ suc (length p.actors.items) → IsWellFormed (world_of_parts p) → first_flaw p ≡ None
 accepted R p lists formed =
     let made = segments_made p formed in
     let fits = contents_fit R p formed in
@@ -127,5 +127,5 @@ accepted R p lists formed =
     })
 
 -- the two directions
-pub exactly : (R : ℕ) (p : Parts R) → (first_flaw p ≡ None) ↔ ((length p.segments.items ≡ suc (length p.actors.items)) × IsWellFormed R (world_of_parts p))
+pub exactly : (R : ℕ) (p : Parts R) → (first_flaw p ≡ None) ↔ ((length p.segments.items ≡ suc (length p.actors.items)) × IsWellFormed (world_of_parts p))
 exactly R p = (λ none. (lists_right p none, assembled R p none), λ both. accepted R p both.0 both.1)

@@ -160,7 +160,7 @@ one_fits R p n (Some a) f e =
 actors_fit : (R : ℕ) (p : Parts R) → NoFlaw p → (n : ℕ) → actor_fits R (has p) (numbered p.actors.items n) ≡ true
 actors_fit R p f n = grind (arith, one_fits, slice_get)
 
-pub assembled : (R : ℕ) (p : Parts R) → first_flaw p ≡ None → IsWellFormed R (world_of_parts p)
+pub assembled : (R : ℕ) (p : Parts R) → first_flaw p ≡ None → IsWellFormed (world_of_parts p)
 assembled R p h =
     let f = no_flaw p h in
     let same : has p ≡ is_there (world_of_parts p).at = sym (presence p) in
@@ -179,4 +179,4 @@ lists_right p h = eqb-true (length p.segments.items) (suc (length p.actors.items
 -- a space that has what the parts have, with their actors, is their world
 pub parts_make : {R : ℕ} (p : Parts R) (space : Space R) → contents space ≡ contents_of_parts p.segments.items p.qhead p.qtail p.array
     → world_of_fields space p.actors.items ≡ world_of_parts p
-parts_make p space same = λ i. record { at = same i; actor = numbered p.actors.items }
+parts_make {R} p space same = λ i. record { ring = R; at = same i; actor = numbered p.actors.items }

@@ -10,48 +10,48 @@ with_actor-swap : (m n : ℕ) (a b : Actor) (actors : ℕ → Option Actor) → 
 with_actor-swap m n a b actors ne = grind arith
 
 -- the law, for two steps taken apart
-swapped : (R : ℕ) (w : World) (e f : Event) (a b : Actor) (x y : Access) (d k : Performed)
-    → w.actor e.actor ≡ Some a → need R a e.act ≡ Ok x → perform R e.actor w.at x ≡ Ok d
-    → (step_outcome w e a d (after R a e.act d.answer)).world.actor f.actor ≡ Some b → need R b f.act ≡ Ok y
-    → perform R f.actor (contents_after d w.at) y ≡ Ok k → e.actor ≢ f.actor → interferes d k ≡ false
-    → let v = step_outcome w e a d (after R a e.act d.answer) in
-    CommutingSquare R w e f v (step_outcome v.world f b k (after R b f.act k.answer))
-swapped R w e f a b x y d k has_a needs_a does_a has_b needs_b does_b ne free =
-    let na = after R a e.act d.answer in
-    let nb = after R b f.act k.answer in
+swapped : (w : World) (e f : Event) (a b : Actor) (x y : Access) (d k : Performed)
+    → w.actor e.actor ≡ Some a → need w.ring a e.act ≡ Ok x → perform w.ring e.actor w.at x ≡ Ok d
+    → (step_outcome w e a d (after w.ring a e.act d.answer)).world.actor f.actor ≡ Some b → need w.ring b f.act ≡ Ok y
+    → perform w.ring f.actor (contents_after d w.at) y ≡ Ok k → e.actor ≢ f.actor → interferes d k ≡ false
+    → let v = step_outcome w e a d (after w.ring a e.act d.answer) in
+    CommutingSquare w e f v (step_outcome v.world f b k (after w.ring b f.act k.answer))
+swapped w e f a b x y d k has_a needs_a does_a has_b needs_b does_b ne free =
+    let na = after w.ring a e.act d.answer in
+    let nb = after w.ring b f.act k.answer in
     let ne' : f.actor ≢ e.actor = λ h. ne (sym h) in
     let had_b : w.actor f.actor ≡ Some b = sym (with_actor-other e.actor na.0 w.actor f.actor ne') ∙ has_b in
-    let did_b : perform R f.actor w.at y ≡ Ok k = sym (perform_around R e.actor f.actor w.at (contents_after d w.at) x y d k ne does_a does_b free) ∙ does_b in
+    let did_b : perform w.ring f.actor w.at y ≡ Ok k = sym (perform_around w.ring e.actor f.actor w.at (contents_after d w.at) x y d k ne does_a does_b free) ∙ does_b in
     let has_a' : with_actor f.actor nb.0 w.actor e.actor ≡ Some a = with_actor-other f.actor nb.0 w.actor e.actor ne ∙ has_a in
-    let did_a : perform R e.actor (contents_after k w.at) x ≡ Ok d = perform_around R f.actor e.actor w.at w.at y x k d ne' did_b does_a (interferes-sym d k free) ∙ does_a in
+    let did_a : perform w.ring e.actor (contents_after k w.at) x ≡ Ok d = perform_around w.ring f.actor e.actor w.at w.at y x k d ne' did_b does_a (interferes-sym d k free) ∙ does_a in
     let v' = step_outcome w f b k nb in
     let u' = step_outcome v'.world e a d na in
     let contents : contents_after d (contents_after k w.at) ≡ contents_after k (contents_after d w.at) = grind (arith, after_swap) in
     let actors = with_actor-swap e.actor f.actor na.0 nb.0 w.actor ne in
     record {
       first = v';
-      goes_first = step_of R w f b y k had_b needs_b did_b;
+      goes_first = step_of w f b y k had_b needs_b did_b;
       same_entry = refl;
       second = u';
-      goes_second = step_of R v'.world e a x d has_a' needs_a did_a;
+      goes_second = step_of v'.world e a x d has_a' needs_a did_a;
       entry_unchanged = refl;
-      same_world = λ i. record { at = contents i; actor = actors i };
+      same_world = λ i. record { ring = w.ring; at = contents i; actor = actors i };
     }
 
 -- a step that does not depend on the one before it may go first
-pub commutes : (R : ℕ) (w : World) (e f : Event) (v u : Stepped) → step R w e ≡ Ok v → step R v.world f ≡ Ok u
-    → depends v.entry u.entry ≡ false → CommutingSquare R w e f v u
-commutes R w e f v u h k free =
-    let tv = took R w e v h in
-    let v' = step_outcome w e tv.a tv.did (after R tv.a e.act tv.did.answer) in
-    subst (λ (s : Stepped). Took R s.world f u → depends s.entry u.entry ≡ false → CommutingSquare R w e f s u) tv.ends
+pub commutes : (w : World) (e f : Event) (v u : Stepped) → step w e ≡ Ok v → step v.world f ≡ Ok u
+    → depends v.entry u.entry ≡ false → CommutingSquare w e f v u
+commutes w e f v u h k free =
+    let tv = took w e v h in
+    let v' = step_outcome w e tv.a tv.did (after w.ring tv.a e.act tv.did.answer) in
+    subst (λ (s : Stepped). Took s.world f u → depends s.entry u.entry ≡ false → CommutingSquare w e f s u) tv.ends
     (λ tu free'.
-    let u' = step_outcome v'.world f tu.a tu.did (after R tu.a f.act tu.did.answer) in
-    subst (λ (t : Stepped). depends v'.entry t.entry ≡ false → CommutingSquare R w e f v' t) tu.ends
+    let u' = step_outcome v'.world f tu.a tu.did (after w.ring tu.a f.act tu.did.answer) in
+    subst (λ (t : Stepped). depends v'.entry t.entry ≡ false → CommutingSquare w e f v' t) tu.ends
     (λ free''.
     let parts = or_parts (e.actor == f.actor) (interferes tv.did tu.did) free'' in
-    swapped R w e f tv.a tu.a tv.access tu.access tv.did tu.did tv.has tv.needs tv.does tu.has tu.needs tu.does
+    swapped w e f tv.a tu.a tv.access tu.access tv.did tu.did tv.has tv.needs tv.does tu.has tu.needs tu.does
     (eqb-false e.actor f.actor parts.0) parts.1)
     free')
-    (took R v.world f u k)
+    (took v.world f u k)
     free

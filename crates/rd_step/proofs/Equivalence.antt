@@ -1,6 +1,6 @@
 -- A step that depends on no earlier one may go first in its run, and equivalent lists of events
 -- reach one world.
-use Rattle.std.proofs.Common.{◌≡◌, ℕ, false, refl, sym, ◌∙◌, ap, subst, List, [], ◌∷◌, ◌++◌, Result, Ok, arith}
+use Rattle.std.proofs.Common.{◌≡◌, false, refl, sym, ◌∙◌, ap, subst, List, [], ◌∷◌, ◌++◌, Result, Ok, arith}
 use Rattle.rd_step.proofs.Prelude.{Refusal, World, Event, Entry, Stepped, step, Ran, run, events, depends, IsFree}
 use Rattle.std.specs.Prelude.{IsPermutation}
 use Rattle.std.proofs.lemmas.List.Sorted.{IsPermutation-sym, IsPermutation-cons, IsPermutation-trans, IsPermutation-middle}
@@ -28,58 +28,58 @@ as_stepped-same s u h = cc
 
 -- e steps from w with this entry, and the others run on from there to the last world, with their
 -- entries
-pub record GoesFirst (R : ℕ) (w : World) (e : Event) (x : Entry) (others : List Event) (rest : Ran) : Type 0 where
+pub record GoesFirst (w : World) (e : Event) (x : Entry) (others : List Event) (rest : Ran) : Type 0 where
   pub after : World
-  pub goes : step R w e ≡ Ok (record { world = after; entry = x })
-  pub runs : run R after others ≡ Ok rest
+  pub goes : step w e ≡ Ok (record { world = after; entry = x })
+  pub runs : run after others ≡ Ok rest
 
-pub goes_first : (R : ℕ) (w : World) (e : Event) (earlier later : List Event) (r : Ran) (s : Stepped) (q : Ran)
-    → run R w earlier ≡ Ok r → step R r.world e ≡ Ok s → IsFree s.entry r.entries → run R s.world later ≡ Ok q
-    → GoesFirst R w e s.entry (earlier ++ later) (record { world = q.world; entries = r.entries ++ q.entries })
-goes_first R w e [] later r s q h k free l = grind arith
-goes_first R w e (f ∷ fs) later r s q h k free l =
-    let ran = ran_on R w f fs r h in
-    let goes : step R ran.rest.world e ≡ Ok s = ap (λ (y : Ran). step R y.world e) ran.joins ∙ k in
+pub goes_first : (w : World) (e : Event) (earlier later : List Event) (r : Ran) (s : Stepped) (q : Ran)
+    → run w earlier ≡ Ok r → step r.world e ≡ Ok s → IsFree s.entry r.entries → run s.world later ≡ Ok q
+    → GoesFirst w e s.entry (earlier ++ later) (record { world = q.world; entries = r.entries ++ q.entries })
+goes_first w e [] later r s q h k free l = grind arith
+goes_first w e (f ∷ fs) later r s q h k free l =
+    let ran = ran_on w f fs r h in
+    let goes : step ran.rest.world e ≡ Ok s = ap (λ (y : Ran). step y.world e) ran.joins ∙ k in
     let parts : IsFree s.entry (ran.one.entry ∷ ran.rest.entries) = subst (λ (y : Ran). IsFree s.entry y.entries) (sym ran.joins) free in
-    let first = goes_first R ran.one.world e fs later ran.rest s q ran.goes_on goes parts.1 l in
+    let first = goes_first ran.one.world e fs later ran.rest s q ran.goes_on goes parts.1 l in
     let independent : depends ran.one.entry s.entry ≡ false = symmetric ran.one.entry s.entry ∙ parts.0 in
-    let sw = commutes R w f e ran.one (record { world = first.after; entry = s.entry }) ran.goes first.goes independent in
+    let sw = commutes w f e ran.one (record { world = first.after; entry = s.entry }) ran.goes first.goes independent in
     let rest : Ran = record { world = q.world; entries = ran.rest.entries ++ q.entries } in
-    let runs : run R sw.second.world (fs ++ later) ≡ Ok rest = ap (λ (v : World). run R v (fs ++ later)) sw.same_world ∙ first.runs in
+    let runs : run sw.second.world (fs ++ later) ≡ Ok rest = ap (λ (v : World). run v (fs ++ later)) sw.same_world ∙ first.runs in
     record {
       after = sw.first.world;
       goes = sw.goes_first ∙ (λ i. Ok (record { world = sw.first.world; entry = sw.same_entry i }));
       runs =
-          run-cons R sw.first.world f (fs ++ later) sw.second rest sw.goes_second runs
+          run-cons sw.first.world f (fs ++ later) sw.second rest sw.goes_second runs
           ∙ (λ i. Ok (record { world = q.world; entries = sw.entry_unchanged i ∷ (ran.rest.entries ++ q.entries) }))
           ∙ ap (λ (y : Ran). Ok (record { world = q.world; entries = y.entries ++ q.entries })) ran.joins;
     }
 
 -- the entries of a run are of its events
-pub run_events : (R : ℕ) (w : World) (es : List Event) (r : Ran) → run R w es ≡ Ok r → events r.entries ≡ es
-run_events R w [] r h = let p : record { world = w; entries = [] } ≡ r = cc in ap (λ (y : Ran). events y.entries) (sym p)
-run_events R w (e ∷ es) r h =
-    let ran = ran_on R w e es r h in
-    let t = took R w e ran.one ran.goes in
+pub run_events : (w : World) (es : List Event) (r : Ran) → run w es ≡ Ok r → events r.entries ≡ es
+run_events w [] r h = let p : record { world = w; entries = [] } ≡ r = cc in ap (λ (y : Ran). events y.entries) (sym p)
+run_events w (e ∷ es) r h =
+    let ran = ran_on w e es r h in
+    let t = took w e ran.one ran.goes in
     let first : ran.one.entry.event ≡ e = ap (λ (s : Stepped). s.entry.event) (sym t.ends) in
-    let rest = run_events R ran.one.world es ran.rest ran.goes_on in
+    let rest = run_events ran.one.world es ran.rest ran.goes_on in
     ap (λ (y : Ran). events y.entries) (sym ran.joins) ∙ (λ i. first i ∷ rest i)
 
 -- A run taken apart at one of its steps
 
-pub record RanThrough (R : ℕ) (w : World) (earlier : List Event) (e : Event) (later : List Event) (q : Ran) : Type 0 where
+pub record RanThrough (w : World) (earlier : List Event) (e : Event) (later : List Event) (q : Ran) : Type 0 where
   pub before : Ran
-  pub runs : run R w earlier ≡ Ok before
+  pub runs : run w earlier ≡ Ok before
   pub one : Stepped
-  pub goes : step R before.world e ≡ Ok one
+  pub goes : step before.world e ≡ Ok one
   pub rest : Ran
-  pub goes_on : run R one.world later ≡ Ok rest
+  pub goes_on : run one.world later ≡ Ok rest
   pub joins : record { world = rest.world; entries = before.entries ++ one.entry ∷ rest.entries } ≡ q
 
-pub ran_through : (R : ℕ) (w : World) (earlier : List Event) (e : Event) (later : List Event) (q : Ran) → run R w (earlier ++ e ∷ later) ≡ Ok q
-    → RanThrough R w earlier e later q
-ran_through R w [] e later q h =
-    let ran = ran_on R w e later q h in
+pub ran_through : (w : World) (earlier : List Event) (e : Event) (later : List Event) (q : Ran) → run w (earlier ++ e ∷ later) ≡ Ok q
+    → RanThrough w earlier e later q
+ran_through w [] e later q h =
+    let ran = ran_on w e later q h in
     record {
       before = record { world = w; entries = [] };
       runs = refl;
@@ -89,12 +89,12 @@ ran_through R w [] e later q h =
       goes_on = ran.goes_on;
       joins = ran.joins;
     }
-ran_through R w (f ∷ fs) e later q h =
-    let ran = ran_on R w f (fs ++ e ∷ later) q h in
-    let t = ran_through R ran.one.world fs e later ran.rest ran.goes_on in
+ran_through w (f ∷ fs) e later q h =
+    let ran = ran_on w f (fs ++ e ∷ later) q h in
+    let t = ran_through ran.one.world fs e later ran.rest ran.goes_on in
     record {
       before = record { world = t.before.world; entries = ran.one.entry ∷ t.before.entries };
-      runs = run-cons R w f fs ran.one t.before ran.goes t.runs;
+      runs = run-cons w f fs ran.one t.before ran.goes t.runs;
       one = t.one;
       goes = t.goes;
       rest = t.rest;
@@ -106,7 +106,7 @@ ran_through R w (f ∷ fs) e later q h =
 
 -- a list that may begin with e, in its run: e's entry, which depends on none of those before it,
 -- and the run of the others after e
-pub record StandsIn (R : ℕ) (w : World) (e : Event) (earlier later : List Event) (q : Ran) : Type 0 where
+pub record StandsIn (w : World) (e : Event) (earlier later : List Event) (q : Ran) : Type 0 where
   pub x : Entry
   pub of_event : x.event ≡ e
   pub before : List Entry
@@ -115,41 +115,41 @@ pub record StandsIn (R : ℕ) (w : World) (e : Event) (earlier later : List Even
   pub before_events : events before ≡ earlier
   pub behind_events : events behind ≡ later
   pub free : IsFree x before
-  pub first : GoesFirst R w e x (earlier ++ later) (record { world = q.world; entries = before ++ behind })
+  pub first : GoesFirst w e x (earlier ++ later) (record { world = q.world; entries = before ++ behind })
 
-stands_through : (R : ℕ) (w : World) (e : Event) (earlier later : List Event) (q : Ran) (t : RanThrough R w earlier e later q)
-    → IsFree t.one.entry t.before.entries → StandsIn R w e earlier later q
-stands_through R w e earlier later q t free = grind (arith, took, goes_first, run_events)
+stands_through : (w : World) (e : Event) (earlier later : List Event) (q : Ran) (t : RanThrough w earlier e later q)
+    → IsFree t.one.entry t.before.entries → StandsIn w e earlier later q
+stands_through w e earlier later q t free = grind (arith, took, goes_first, run_events)
 
-pub stands_in : (R : ℕ) (w : World) (e : Event) (earlier later : List Event) (q : Ran) → run R w (earlier ++ e ∷ later) ≡ Ok q
-    → IsIndependentOf R w e earlier → StandsIn R w e earlier later q
-stands_in R w e earlier later q h alone =
-    let t = ran_through R w earlier e later q h in
+pub stands_in : (w : World) (e : Event) (earlier later : List Event) (q : Ran) → run w (earlier ++ e ∷ later) ≡ Ok q
+    → IsIndependentOf w e earlier → StandsIn w e earlier later q
+stands_in w e earlier later q h alone =
+    let t = ran_through w earlier e later q h in
     let same : alone.ran ≡ t.before = as_ran-same _ _ (sym alone.runs ∙ t.runs) in
-    let goes : step R t.before.world e ≡ Ok alone.stepped = ap (λ (y : Ran). step R y.world e) (sym same) ∙ alone.goes in
+    let goes : step t.before.world e ≡ Ok alone.stepped = ap (λ (y : Ran). step y.world e) (sym same) ∙ alone.goes in
     let one : alone.stepped ≡ t.one = as_stepped-same _ _ (sym goes ∙ t.goes) in
-    stands_through R w e earlier later q t
+    stands_through w e earlier later q t
     (subst (λ (s : Stepped). IsFree s.entry t.before.entries) one
     (subst (λ (y : Ran). IsFree alone.stepped.entry y.entries) same alone.free))
 
 -- Equivalent lists
 
-both_empty : (R : ℕ) (w : World) (r q : Ran) → run R w [] ≡ Ok r → run R w [] ≡ Ok q → ReachesTheSame r q
-both_empty R w r q h k = grind arith
+both_empty : (w : World) (r q : Ran) → run w [] ≡ Ok r → run w [] ≡ Ok q → ReachesTheSame r q
+both_empty w r q h k = grind arith
 
 -- equivalent lists reach one world, with the same entries in some order
-pub reach_the_same : (R : ℕ) (w : World) (es fs : List Event) (r q : Ran) → run R w es ≡ Ok r → run R w fs ≡ Ok q
-    → IsEquivalent R w es fs → ReachesTheSame r q
-reach_the_same R w [] fs r q h k same = both_empty R w r q h (ap (run R w) (sym same) ∙ k)
-reach_the_same R w (e ∷ es) fs r q h k same =
-    let ran = ran_on R w e es r h in
-    let s = stands_in R w e same.earlier same.later q (ap (run R w) (sym same.stands) ∙ k) same.independent in
+pub reach_the_same : (w : World) (es fs : List Event) (r q : Ran) → run w es ≡ Ok r → run w fs ≡ Ok q
+    → IsEquivalent w es fs → ReachesTheSame r q
+reach_the_same w [] fs r q h k same = both_empty w r q h (ap (run w) (sym same) ∙ k)
+reach_the_same w (e ∷ es) fs r q h k same =
+    let ran = ran_on w e es r h in
+    let s = stands_in w e same.earlier same.later q (ap (run w) (sym same.stands) ∙ k) same.independent in
     let one : record { world = s.first.after; entry = s.x } ≡ ran.one = as_stepped-same _ _ (sym s.first.goes ∙ ran.goes) in
     let its : same.stepped ≡ ran.one = as_stepped-same _ _ (sym same.goes ∙ ran.goes) in
     let others : Ran = record { world = q.world; entries = s.before ++ s.behind } in
-    let runs : run R ran.one.world (same.earlier ++ same.later) ≡ Ok others = grind arith in
-    let rest = reach_the_same R ran.one.world es (same.earlier ++ same.later) ran.rest others ran.goes_on runs
-    (subst (λ (y : Stepped). IsEquivalent R y.world es (same.earlier ++ same.later)) its same.rest) in
+    let runs : run ran.one.world (same.earlier ++ same.later) ≡ Ok others = grind arith in
+    let rest = reach_the_same ran.one.world es (same.earlier ++ same.later) ran.rest others ran.goes_on runs
+    (subst (λ (y : Stepped). IsEquivalent y.world es (same.earlier ++ same.later)) its same.rest) in
     let moved : IsPermutation (s.x ∷ (s.before ++ s.behind)) (s.before ++ s.x ∷ s.behind) =
     IsPermutation-sym _ _ (IsPermutation-middle s.before s.x s.behind) in
     let entries : ran.one.entry ∷ ran.rest.entries ≡ r.entries = ap (λ (y : Ran). y.entries) ran.joins in
@@ -163,10 +163,10 @@ reach_the_same R w (e ∷ es) fs r q h k same =
     }
 
 -- a list that runs is equivalent to itself
-pub reflexive : (R : ℕ) (w : World) (es : List Event) (r : Ran) → run R w es ≡ Ok r → IsEquivalent R w es es
-reflexive R w [] r h = refl
-reflexive R w (e ∷ es) r h =
-    let ran = ran_on R w e es r h in
+pub reflexive : (w : World) (es : List Event) (r : Ran) → run w es ≡ Ok r → IsEquivalent w es es
+reflexive w [] r h = refl
+reflexive w (e ∷ es) r h =
+    let ran = ran_on w e es r h in
     record {
       earlier = [];
       later = es;
@@ -174,14 +174,14 @@ reflexive R w (e ∷ es) r h =
       independent = record { ran = record { world = w; entries = [] }; runs = refl; stepped = ran.one; goes = ran.goes; free = tt };
       stepped = ran.one;
       goes = ran.goes;
-      rest = reflexive R ran.one.world es ran.rest ran.goes_on;
+      rest = reflexive ran.one.world es ran.rest ran.goes_on;
     }
 
 -- two neighbours that do not depend on each other may change places
-pub neighbours_swapped : (R : ℕ) (w : World) (e f : Event) (es : List Event) (s u : Stepped) (r : Ran) → step R w e ≡ Ok s
-    → step R s.world f ≡ Ok u → depends s.entry u.entry ≡ false → run R u.world es ≡ Ok r → IsEquivalent R w (e ∷ f ∷ es) (f ∷ e ∷ es)
-neighbours_swapped R w e f es s u r h k free l =
-    let sw = commutes R w e f s u h k free in
+pub neighbours_swapped : (w : World) (e f : Event) (es : List Event) (s u : Stepped) (r : Ran) → step w e ≡ Ok s
+    → step s.world f ≡ Ok u → depends s.entry u.entry ≡ false → run u.world es ≡ Ok r → IsEquivalent w (e ∷ f ∷ es) (f ∷ e ∷ es)
+neighbours_swapped w e f es s u r h k free l =
+    let sw = commutes w e f s u h k free in
     let apart : depends sw.second.entry sw.first.entry ≡ false = (λ i. depends (sw.entry_unchanged i) (sw.same_entry i)) ∙ free in
     record {
       earlier = f ∷ [];
@@ -189,12 +189,12 @@ neighbours_swapped R w e f es s u r h k free l =
       stands = refl;
       independent = record {
         ran = record { world = sw.first.world; entries = sw.first.entry ∷ [] };
-        runs = run-cons R w f [] sw.first (record { world = sw.first.world; entries = [] }) sw.goes_first refl;
+        runs = run-cons w f [] sw.first (record { world = sw.first.world; entries = [] }) sw.goes_first refl;
         stepped = sw.second;
         goes = sw.goes_second;
         free = (apart, tt);
       };
       stepped = s;
       goes = h;
-      rest = reflexive R s.world (f ∷ es) (record { world = r.world; entries = u.entry ∷ r.entries }) (run-cons R s.world f es u r k l);
+      rest = reflexive s.world (f ∷ es) (record { world = r.world; entries = u.entry ∷ r.entries }) (run-cons s.world f es u r k l);
     }

@@ -10,9 +10,9 @@ pub some_there : (o : Option Content) → is_some o ≡ true → (c : Content) �
 some_there o h = grind arith
 
 -- a cell is no place of the map
-pub bare_cell : (R : ℕ) (w : World) → IsWellFormed R w → (q : Place) → is_cell_at q ≡ true → w.at q ≡ None
-bare_cell R w formed (CellAt s i) h = nothing_there (w.at (CellAt s i)) (formed.places (CellAt s i))
-bare_cell R w formed _ h = cc
+pub bare_cell : (w : World) → IsWellFormed w → (q : Place) → is_cell_at q ≡ true → w.at q ≡ None
+bare_cell w formed (CellAt s i) h = nothing_there (w.at (CellAt s i)) (formed.places (CellAt s i))
+bare_cell w formed _ h = cc
 
 -- What fits a place
 
@@ -57,30 +57,30 @@ cell_there R there at s i fits h k =
     (CellIs (record { safe = x.0; idx = x.1; val = v.0 }), ap₂ cell_of_halves v.1 x.2)
 
 -- an operation at a place that is there works on something
-pub record HasOperand (R : ℕ) (w : World) (p : Place) : Type 0 where
+pub record HasOperand (w : World) (p : Place) : Type 0 where
   pub content : Content
   pub found : operand w.at p ≡ Some content
-  pub fits : content_fits R (is_there w.at) p content ≡ true
+  pub fits : content_fits w.ring (is_there w.at) p content ≡ true
 
-operand_of : (R : ℕ) (w : World) (p : Place) → IsWellFormed R w → (c : Content) × (operand w.at p ≡ Some c) → HasOperand R w p
-operand_of R w p formed found = record {
+operand_of : (w : World) (p : Place) → IsWellFormed w → (c : Content) × (operand w.at p ≡ Some c) → HasOperand w p
+operand_of w p formed found = record {
   content = found.0;
   found = found.1;
-  fits = operand_fits R (is_there w.at) w.at p found.0 formed.contents found.1;
+  fits = operand_fits w.ring (is_there w.at) w.at p found.0 formed.contents found.1;
 }
 
-pub has_operand : (R : ℕ) (w : World) (p : Place) → IsWellFormed R w → has_place R (is_there w.at) p ≡ true → HasOperand R w p
-has_operand R w (CellAt s i) formed h =
-    operand_of R w (CellAt s i) formed
-    (cell_there R (is_there w.at) w.at s i formed.contents (formed.places (ValAt s i) ∙ h) (formed.places (IdxAt s i) ∙ h))
-has_operand R w (WholeOf s) formed h = cc
-has_operand R w QHead formed h = operand_of R w QHead formed (some_there (w.at QHead) (formed.places QHead ∙ h))
-has_operand R w QTail formed h = operand_of R w QTail formed (some_there (w.at QTail) (formed.places QTail ∙ h))
-has_operand R w (Head s) formed h = operand_of R w (Head s) formed (some_there (w.at (Head s)) (formed.places (Head s) ∙ h))
-has_operand R w (Tail s) formed h = operand_of R w (Tail s) formed (some_there (w.at (Tail s)) (formed.places (Tail s) ∙ h))
-has_operand R w (Next s) formed h = operand_of R w (Next s) formed (some_there (w.at (Next s)) (formed.places (Next s) ∙ h))
-has_operand R w (ValAt s i) formed h = operand_of R w (ValAt s i) formed (some_there (w.at (ValAt s i)) (formed.places (ValAt s i) ∙ h))
-has_operand R w (IdxAt s i) formed h = operand_of R w (IdxAt s i) formed (some_there (w.at (IdxAt s i)) (formed.places (IdxAt s i) ∙ h))
-has_operand R w ArrHead formed h = operand_of R w ArrHead formed (some_there (w.at ArrHead) (formed.places ArrHead ∙ h))
-has_operand R w ArrTail formed h = operand_of R w ArrTail formed (some_there (w.at ArrTail) (formed.places ArrTail ∙ h))
-has_operand R w (ArrCell i) formed h = operand_of R w (ArrCell i) formed (some_there (w.at (ArrCell i)) (formed.places (ArrCell i) ∙ h))
+pub has_operand : (w : World) (p : Place) → IsWellFormed w → has_place w.ring (is_there w.at) p ≡ true → HasOperand w p
+has_operand w (CellAt s i) formed h =
+    operand_of w (CellAt s i) formed
+    (cell_there w.ring (is_there w.at) w.at s i formed.contents (formed.places (ValAt s i) ∙ h) (formed.places (IdxAt s i) ∙ h))
+has_operand w (WholeOf s) formed h = cc
+has_operand w QHead formed h = operand_of w QHead formed (some_there (w.at QHead) (formed.places QHead ∙ h))
+has_operand w QTail formed h = operand_of w QTail formed (some_there (w.at QTail) (formed.places QTail ∙ h))
+has_operand w (Head s) formed h = operand_of w (Head s) formed (some_there (w.at (Head s)) (formed.places (Head s) ∙ h))
+has_operand w (Tail s) formed h = operand_of w (Tail s) formed (some_there (w.at (Tail s)) (formed.places (Tail s) ∙ h))
+has_operand w (Next s) formed h = operand_of w (Next s) formed (some_there (w.at (Next s)) (formed.places (Next s) ∙ h))
+has_operand w (ValAt s i) formed h = operand_of w (ValAt s i) formed (some_there (w.at (ValAt s i)) (formed.places (ValAt s i) ∙ h))
+has_operand w (IdxAt s i) formed h = operand_of w (IdxAt s i) formed (some_there (w.at (IdxAt s i)) (formed.places (IdxAt s i) ∙ h))
+has_operand w ArrHead formed h = operand_of w ArrHead formed (some_there (w.at ArrHead) (formed.places ArrHead ∙ h))
+has_operand w ArrTail formed h = operand_of w ArrTail formed (some_there (w.at ArrTail) (formed.places ArrTail ∙ h))
+has_operand w (ArrCell i) formed h = operand_of w (ArrCell i) formed (some_there (w.at (ArrCell i)) (formed.places (ArrCell i) ∙ h))

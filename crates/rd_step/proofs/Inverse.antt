@@ -52,48 +52,48 @@ number_made-absent at m h = number_made_from-absent MOST_SEGMENTS at m 0 h
 pub absent_place : (R : ℕ) (there : Presence) (s : SegName) (q : Place) → there s ≡ false → is_of s q ≡ true → belongs R there q ≡ false
 absent_place R there s q h e = grind arith
 
-back-make : (R actor n x : ℕ) (w : World) → IsWellFormed R w → (n < MOST_SEGMENTS → is_there w.at (record { maker = actor; n = n }) ≡ false)
-    → IfOk (make R (record { maker = actor; n = n }) x) (PutsBack w.at)
-back-make R actor n x w formed absent =
+back-make : (actor n x : ℕ) (w : World) → IsWellFormed w → (n < MOST_SEGMENTS → is_there w.at (record { maker = actor; n = n }) ≡ false)
+    → IfOk (make w.ring (record { maker = actor; n = n }) x) (PutsBack w.at)
+back-make actor n x w formed absent =
     let s : SegName = record { maker = actor; n = n } in
     cond_both (nat_lt n MOST_SEGMENTS) _ _ (λ (r : Result Performed Refusal). IfOk r (PutsBack w.at))
     (λ below q.
-    cond_both (is_of s q) None (after_write (WholeOf s) (holding R x) w.at q) (λ (o : Option Content). o ≡ w.at q)
-    (λ e. sym (nothing_there (w.at q) (formed.places q ∙ absent_place R (is_there w.at) s q (absent (ltb-true n MOST_SEGMENTS below)) e)))
-    (λ e. cond-false (is_of s q) (holding R x q) (w.at q) e))
+    cond_both (is_of s q) None (after_write (WholeOf s) (holding w.ring x) w.at q) (λ (o : Option Content). o ≡ w.at q)
+    (λ e. sym (nothing_there (w.at q) (formed.places q ∙ absent_place w.ring (is_there w.at) s q (absent (ltb-true n MOST_SEGMENTS below)) e)))
+    (λ e. cond-false (is_of s q) (holding w.ring x q) (w.at q) e))
     (λ e. tt)
 
-back-perform : (R actor : ℕ) (w : World) (x : Access) → IsWellFormed R w → IfOk (perform R actor w.at x) (PutsBack w.at)
-back-perform R actor w NoPlace formed = λ q. refl
-back-perform R actor w (At p op) formed = back-operate p op (operand w.at p) w.at (bare_cell R w formed) refl
-back-perform R actor w (Make x) formed = back-make R actor (number_made w.at actor) x w formed (number_made-absent w.at actor)
+back-perform : (actor : ℕ) (w : World) (x : Access) → IsWellFormed w → IfOk (perform w.ring actor w.at x) (PutsBack w.at)
+back-perform actor w NoPlace formed = λ q. refl
+back-perform actor w (At p op) formed = back-operate p op (operand w.at p) w.at (bare_cell w formed) refl
+back-perform actor w (Make x) formed = back-make actor (number_made w.at actor) x w formed (number_made-absent w.at actor)
 
 -- the actors with one's old record put back are those from before
 actor_back : (n : ℕ) (a b : Actor) (actors : ℕ → Option Actor) → actors n ≡ Some a → with_actor n a (with_actor n b actors) ≡ actors
 actor_back n a b actors has = grind arith
 
 -- the words that an entry keeps give back the world before its step
-pub undoes : (R : ℕ) (w : World) (e : Event) (s : Stepped) → IsWellFormed R w → step R w e ≡ Ok s → unstep s.world s.entry ≡ w
-undoes R w e s formed h =
-    let t = took R w e s h in
-    let contents : PutsBack w.at t.did = IfOk-at_ok (PutsBack w.at) t.does (back-perform R e.actor w t.access formed) in
-    let next = after R t.a e.act t.did.answer in
+pub undoes : (w : World) (e : Event) (s : Stepped) → IsWellFormed w → step w e ≡ Ok s → unstep s.world s.entry ≡ w
+undoes w e s formed h =
+    let t = took w e s h in
+    let contents : PutsBack w.at t.did = IfOk-at_ok (PutsBack w.at) t.does (back-perform e.actor w t.access formed) in
+    let next = after w.ring t.a e.act t.did.answer in
     let all = fun_ext contents in
     let actors = actor_back e.actor t.a next.0 w.actor t.has in
-    subst (λ (x : Stepped). unstep x.world x.entry ≡ w) t.ends (λ i. record { at = all i; actor = actors i })
+    subst (λ (x : Stepped). unstep x.world x.entry ≡ w) t.ends (λ i. record { ring = w.ring; at = all i; actor = actors i })
 
 -- a run of at least one step, taken apart
-pub record RanOn (R : ℕ) (w : World) (e : Event) (es : List Event) (r : Ran) : Type 0 where
+pub record RanOn (w : World) (e : Event) (es : List Event) (r : Ran) : Type 0 where
   pub one : Stepped
-  pub goes : step R w e ≡ Ok one
+  pub goes : step w e ≡ Ok one
   pub rest : Ran
-  pub goes_on : run R one.world es ≡ Ok rest
+  pub goes_on : run one.world es ≡ Ok rest
   pub joins : record { world = rest.world; entries = one.entry ∷ rest.entries } ≡ r
 
-pub ran_on : (R : ℕ) (w : World) (e : Event) (es : List Event) (r : Ran) → run R w (e ∷ es) ≡ Ok r → RanOn R w e es r
-ran_on R w e es r h = grind arith
+pub ran_on : (w : World) (e : Event) (es : List Event) (r : Ran) → run w (e ∷ es) ≡ Ok r → RanOn w e es r
+ran_on w e es r h = grind arith
 
 -- a step and a run after it make a run
-pub run-cons : (R : ℕ) (w : World) (e : Event) (es : List Event) (s : Stepped) (r : Ran) → step R w e ≡ Ok s → run R s.world es ≡ Ok r
-    → run R w (e ∷ es) ≡ Ok (record { world = r.world; entries = s.entry ∷ r.entries })
-run-cons R w e es s r h k = grind arith
+pub run-cons : (w : World) (e : Event) (es : List Event) (s : Stepped) (r : Ran) → step w e ≡ Ok s → run s.world es ≡ Ok r
+    → run w (e ∷ es) ≡ Ok (record { world = r.world; entries = s.entry ∷ r.entries })
+run-cons w e es s r h k = grind arith

@@ -36,33 +36,33 @@ effect_left_fits R there at p c f q fits was = by f.writes fits
 
 -- a step that makes no segment keeps the world well-formed, if what it writes and the actor's next
 -- record fit
-keeps_by : (R : ℕ) (w : World) (n : ℕ) (a next : Actor) (p : Place) (c : Content) (f : Effect)
-    → IsWellFormed R w → w.actor n ≡ Some a → operand w.at p ≡ Some c
-    → IfSome f.writes (λ d. content_fits R (is_there w.at) p d ≡ true) → record_fits R (is_there w.at) next ≡ true
-    → IsWellFormed R (record { at = contents_after (effect_at p c f) w.at; actor = with_actor n next w.actor })
-keeps_by R w n a next p c f formed has there_is fits next_fits =
+keeps_by : (w : World) (n : ℕ) (a next : Actor) (p : Place) (c : Content) (f : Effect)
+    → IsWellFormed w → w.actor n ≡ Some a → operand w.at p ≡ Some c
+    → IfSome f.writes (λ d. content_fits w.ring (is_there w.at) p d ≡ true) → record_fits w.ring (is_there w.at) next ≡ true
+    → IsWellFormed (record { ring = w.ring; at = contents_after (effect_at p c f) w.at; actor = with_actor n next w.actor })
+keeps_by w n a next p c f formed has there_is fits next_fits =
     let at' : Contents = contents_after (effect_at p c f) w.at in
-    let here : content_fits R (is_there w.at) p c ≡ true = operand_fits R (is_there w.at) w.at p c formed.contents there_is in
+    let here : content_fits w.ring (is_there w.at) p c ≡ true = operand_fits w.ring (is_there w.at) w.at p c formed.contents there_is in
     let some : (q : Place) → is_some (at' q) ≡ is_some (w.at q) =
-    λ q. after-is_some p c f w.at q there_is (bare_cell R w formed q) (same_kinds R (is_there w.at) p c f.writes q here fits) in
+    λ q. after-is_some p c f w.at q there_is (bare_cell w formed q) (same_kinds w.ring (is_there w.at) p c f.writes q here fits) in
     let presence : is_there w.at ≡ is_there at' = sym (fun_ext (λ (s : SegName). some (Head s))) in
     let actors : is_actor w.actor ≡ is_actor (with_actor n next w.actor) = sym (is_actor-same n a next w.actor has) in
-    let each_actor : (m : ℕ) → actor_fits R (is_there w.at) (with_actor n next w.actor m) ≡ true =
-    λ m. cond_both (m == n) (Some next) (w.actor m) (λ (o : Option Actor). actor_fits R (is_there w.at) o ≡ true) (λ e. next_fits) (λ e. formed.actors m) in
+    let each_actor : (m : ℕ) → actor_fits w.ring (is_there w.at) (with_actor n next w.actor m) ≡ true =
+    λ m. cond_both (m == n) (Some next) (w.actor m) (λ (o : Option Actor). actor_fits w.ring (is_there w.at) o ≡ true) (λ e. next_fits) (λ e. formed.actors m) in
     record {
       numbered = subst IsNumbered actors formed.numbered;
       made = subst₂ AreMade actors presence formed.made;
-      places = λ q. some q ∙ formed.places q ∙ ap (λ (there : Presence). belongs R there q) presence;
+      places = λ q. some q ∙ formed.places q ∙ ap (λ (there : Presence). belongs w.ring there q) presence;
       contents = λ q.
-          subst (λ (there : Presence). place_fits R there q (at' q) ≡ true) presence
-          (effect_left_fits R (is_there w.at) w.at p c f q fits (formed.contents q));
-      actors = λ m. subst (λ (there : Presence). actor_fits R there (with_actor n next w.actor m) ≡ true) presence (each_actor m);
+          subst (λ (there : Presence). place_fits w.ring there q (at' q) ≡ true) presence
+          (effect_left_fits w.ring (is_there w.at) w.at p c f q fits (formed.contents q));
+      actors = λ m. subst (λ (there : Presence). actor_fits w.ring there (with_actor n next w.actor m) ≡ true) presence (each_actor m);
     }
 
 -- the same if only the actor goes on
-keeps_actor : (R : ℕ) (w : World) (n : ℕ) (a next : Actor) → IsWellFormed R w → w.actor n ≡ Some a
-    → record_fits R (is_there w.at) next ≡ true → IsWellFormed R (record { at = w.at; actor = with_actor n next w.actor })
-keeps_actor R w n a next formed has next_fits =
+keeps_actor : (w : World) (n : ℕ) (a next : Actor) → IsWellFormed w → w.actor n ≡ Some a
+    → record_fits w.ring (is_there w.at) next ≡ true → IsWellFormed (record { ring = w.ring; at = w.at; actor = with_actor n next w.actor })
+keeps_actor w n a next formed has next_fits =
     let actors : is_actor w.actor ≡ is_actor (with_actor n next w.actor) = sym (is_actor-same n a next w.actor has) in
     record {
       numbered = subst IsNumbered actors formed.numbered;
@@ -70,82 +70,82 @@ keeps_actor R w n a next formed has next_fits =
       places = formed.places;
       contents = formed.contents;
       actors = λ m.
-          cond_both (m == n) (Some next) (w.actor m) (λ (o : Option Actor). actor_fits R (is_there w.at) o ≡ true)
+          cond_both (m == n) (Some next) (w.actor m) (λ (o : Option Actor). actor_fits w.ring (is_there w.at) o ≡ true)
           (λ e. next_fits) (λ e. formed.actors m);
     }
 
 -- the same if it makes its next segment
-keeps_made : (R : ℕ) (w : World) (n x : ℕ) (a next : Actor) → IsWellFormed R w → w.actor n ≡ Some a → nat_lt (number_made w.at n) MOST_SEGMENTS ≡ true
-    → record_fits R (is_there (laid R (record { maker = n; n = number_made w.at n }) x w.at)) next ≡ true
-    → IsWellFormed R (record { at = laid R (record { maker = n; n = number_made w.at n }) x w.at; actor = with_actor n next w.actor })
-keeps_made R w n x a next formed has below next_fits =
+keeps_made : (w : World) (n x : ℕ) (a next : Actor) → IsWellFormed w → w.actor n ≡ Some a → nat_lt (number_made w.at n) MOST_SEGMENTS ≡ true
+    → record_fits w.ring (is_there (laid w.ring (record { maker = n; n = number_made w.at n }) x w.at)) next ≡ true
+    → IsWellFormed (record { ring = w.ring; at = laid w.ring (record { maker = n; n = number_made w.at n }) x w.at; actor = with_actor n next w.actor })
+keeps_made w n x a next formed has below next_fits =
     let s : SegName = record { maker = n; n = number_made w.at n } in
-    let at' : Contents = laid R s x w.at in
+    let at' : Contents = laid w.ring s x w.at in
     let actors : is_actor w.actor ≡ is_actor (with_actor n next w.actor) = sym (is_actor-same n a next w.actor has) in
     let maker = maker_is (is_actor w.actor) n (number_made w.at n) formed.numbered.from_one (ap is_some has) below in
     record {
       numbered = subst IsNumbered actors formed.numbered;
       made =
           subst (λ (f : ℕ → Bool). AreMade f (is_there at')) actors
-          (laid_made R s x w.at (is_actor w.actor) maker (made-below w.at n) formed.made);
-      places = laid_places R s x w.at formed.places;
-      contents = laid_fits R s x w.at formed.contents;
+          (laid_made w.ring s x w.at (is_actor w.actor) maker (made-below w.at n) formed.made);
+      places = laid_places w.ring s x w.at formed.places;
+      contents = laid_fits w.ring s x w.at formed.contents;
       actors = λ m.
-          cond_both (m == n) (Some next) (w.actor m) (λ (o : Option Actor). actor_fits R (is_there at') o ≡ true) (λ e. next_fits)
-          (λ e. actor_grows R (is_there w.at) (is_there at') (w.actor m) (laid_grows R s x w.at) (formed.actors m));
+          cond_both (m == n) (Some next) (w.actor m) (λ (o : Option Actor). actor_fits w.ring (is_there at') o ≡ true) (λ e. next_fits)
+          (λ e. actor_grows w.ring (is_there w.at) (is_there at') (w.actor m) (laid_grows w.ring s x w.at) (formed.actors m));
     }
 
 -- What an actor's access does, and how it goes on, keeps the world well-formed
 
 -- the world after what the access of e's actor did is well-formed
-abbrev Keeps : ℕ → World → Event → Actor → Performed → Type 0
-Keeps R w e a did = IsWellFormed R (step_outcome w e a did (after R a e.act did.answer)).world
+abbrev Keeps : World → Event → Actor → Performed → Type 0
+Keeps w e a did = IsWellFormed (step_outcome w e a did (after w.ring a e.act did.answer)).world
 
-keeps_done : (R : ℕ) (w : World) (e : Event) (a : Actor) (p : Place) (op : Operation) (c : Content) (r : Result Effect Refusal)
-    → IsWellFormed R w → w.actor e.actor ≡ Some a → need R a e.act ≡ Ok (At p op) → record_fits R (is_there w.at) a ≡ true → operand w.at p ≡ Some c
-    → IfOk r (EffectFits R (is_there w.at) p op) → IfOk (result_map (effect_at p c) r) (Keeps R w e a)
-keeps_done R w e a p op c (Err refusal) formed has needs fits found good = tt
-keeps_done R w e a p op c (Ok f) formed has needs fits found good =
-    keeps_by R w e.actor a (after R a e.act f.answer).0 p c f formed has found good.0
-    (after_fits R (is_there w.at) a e.act (At p op) f.answer formed.made.rooted needs good.1 good.2 fits)
+keeps_done : (w : World) (e : Event) (a : Actor) (p : Place) (op : Operation) (c : Content) (r : Result Effect Refusal)
+    → IsWellFormed w → w.actor e.actor ≡ Some a → need w.ring a e.act ≡ Ok (At p op) → record_fits w.ring (is_there w.at) a ≡ true → operand w.at p ≡ Some c
+    → IfOk r (EffectFits w.ring (is_there w.at) p op) → IfOk (result_map (effect_at p c) r) (Keeps w e a)
+keeps_done w e a p op c (Err refusal) formed has needs fits found good = tt
+keeps_done w e a p op c (Ok f) formed has needs fits found good =
+    keeps_by w e.actor a (after w.ring a e.act f.answer).0 p c f formed has found good.0
+    (after_fits w.ring (is_there w.at) a e.act (At p op) f.answer formed.made.rooted needs good.1 good.2 fits)
 
-keeps_operate : (R : ℕ) (w : World) (e : Event) (a : Actor) (p : Place) (op : Operation) (o : Option Content)
-    → IsWellFormed R w → w.actor e.actor ≡ Some a → need R a e.act ≡ Ok (At p op) → record_fits R (is_there w.at) a ≡ true → operand w.at p ≡ o
-    → op_fits R (is_there w.at) p op ≡ true → IfOk (operate p op o) (Keeps R w e a)
-keeps_operate R w e a p op None formed has needs fits found good = tt
-keeps_operate R w e a p op (Some c) formed has needs fits found good =
-    let here : content_fits R (is_there w.at) p c ≡ true = operand_fits R (is_there w.at) w.at p c formed.contents found in
-    keeps_done R w e a p op c (effect op c) formed has needs fits found (effect_fits R (is_there w.at) p op c good here)
+keeps_operate : (w : World) (e : Event) (a : Actor) (p : Place) (op : Operation) (o : Option Content)
+    → IsWellFormed w → w.actor e.actor ≡ Some a → need w.ring a e.act ≡ Ok (At p op) → record_fits w.ring (is_there w.at) a ≡ true → operand w.at p ≡ o
+    → op_fits w.ring (is_there w.at) p op ≡ true → IfOk (operate p op o) (Keeps w e a)
+keeps_operate w e a p op None formed has needs fits found good = tt
+keeps_operate w e a p op (Some c) formed has needs fits found good =
+    let here : content_fits w.ring (is_there w.at) p c ≡ true = operand_fits w.ring (is_there w.at) w.at p c formed.contents found in
+    keeps_done w e a p op c (effect op c) formed has needs fits found (effect_fits w.ring (is_there w.at) p op c good here)
 
-keeps_make : (R : ℕ) (w : World) (e : Event) (a : Actor) (v : ℕ) → IsWellFormed R w → w.actor e.actor ≡ Some a
-    → need R a e.act ≡ Ok (Make v) → record_fits R (is_there w.at) a ≡ true
-    → IfOk (make R (record { maker = e.actor; n = number_made w.at e.actor }) v) (Keeps R w e a)
-keeps_make R w e a v formed has needs fits =
+keeps_make : (w : World) (e : Event) (a : Actor) (v : ℕ) → IsWellFormed w → w.actor e.actor ≡ Some a
+    → need w.ring a e.act ≡ Ok (Make v) → record_fits w.ring (is_there w.at) a ≡ true
+    → IfOk (make w.ring (record { maker = e.actor; n = number_made w.at e.actor }) v) (Keeps w e a)
+keeps_make w e a v formed has needs fits =
     let s : SegName = record { maker = e.actor; n = number_made w.at e.actor } in
-    let at' : Contents = laid R s v w.at in
-    let more = laid_grows R s v w.at in
-    cond_both (nat_lt s.n MOST_SEGMENTS) _ _ (λ (r : Result Performed Refusal). IfOk r (Keeps R w e a))
+    let at' : Contents = laid w.ring s v w.at in
+    let more = laid_grows w.ring s v w.at in
+    cond_both (nat_lt s.n MOST_SEGMENTS) _ _ (λ (r : Result Performed Refusal). IfOk r (Keeps w e a))
     (λ below.
-    keeps_made R w e.actor v a (after R a e.act (Made s)).0 formed has below
-    (after_fits R (is_there at') a e.act (Make v) (Made s) (more root formed.made.rooted) needs (laid_new R s v w.at s (is_name-refl s)) refl
-    (record_grows R (is_there w.at) (is_there at') a more fits)))
+    keeps_made w e.actor v a (after w.ring a e.act (Made s)).0 formed has below
+    (after_fits w.ring (is_there at') a e.act (Make v) (Made s) (more root formed.made.rooted) needs (laid_new w.ring s v w.at s (is_name-refl s)) refl
+    (record_grows w.ring (is_there w.at) (is_there at') a more fits)))
     (λ e. tt)
 
-keeps_perform : (R : ℕ) (w : World) (e : Event) (a : Actor) (x : Access) → IsWellFormed R w → w.actor e.actor ≡ Some a
-    → need R a e.act ≡ Ok x → record_fits R (is_there w.at) a ≡ true → access_fits R (is_there w.at) x ≡ true
-    → IfOk (perform R e.actor w.at x) (Keeps R w e a)
-keeps_perform R w e a NoPlace formed has needs fits good =
-    keeps_actor R w e.actor a (after R a e.act Nothing).0 formed has
-    (after_fits R (is_there w.at) a e.act NoPlace Nothing formed.made.rooted needs refl refl fits)
-keeps_perform R w e a (At p op) formed has needs fits good = grind (arith, keeps_operate)
-keeps_perform R w e a (Make v) formed has needs fits good = keeps_make R w e a v formed has needs fits
+keeps_perform : (w : World) (e : Event) (a : Actor) (x : Access) → IsWellFormed w → w.actor e.actor ≡ Some a
+    → need w.ring a e.act ≡ Ok x → record_fits w.ring (is_there w.at) a ≡ true → access_fits w.ring (is_there w.at) x ≡ true
+    → IfOk (perform w.ring e.actor w.at x) (Keeps w e a)
+keeps_perform w e a NoPlace formed has needs fits good =
+    keeps_actor w e.actor a (after w.ring a e.act Nothing).0 formed has
+    (after_fits w.ring (is_there w.at) a e.act NoPlace Nothing formed.made.rooted needs refl refl fits)
+keeps_perform w e a (At p op) formed has needs fits good = grind (arith, keeps_operate)
+keeps_perform w e a (Make v) formed has needs fits good = keeps_make w e a v formed has needs fits
 
 -- a step keeps a world well-formed
-pub keeps : (R : ℕ) (w : World) (e : Event) (s : Stepped) → IsWellFormed R w → step R w e ≡ Ok s → IsWellFormed R s.world
-keeps R w e s formed h =
-    let t = took R w e s h in
+pub keeps : (w : World) (e : Event) (s : Stepped) → IsWellFormed w → step w e ≡ Ok s → IsWellFormed s.world
+keeps w e s formed h =
+    let t = took w e s h in
     let there : Presence = is_there w.at in
-    let fits : record_fits R there t.a ≡ true = subst (λ (o : Option Actor). actor_fits R there o ≡ true) t.has (formed.actors e.actor) in
-    let good : access_fits R there t.access ≡ true = IfOk-at_ok (λ (x : Access). access_fits R there x ≡ true) t.needs (need_fits R there t.a e.act fits) in
-    subst (λ (x : Stepped). IsWellFormed R x.world) t.ends
-    (IfOk-at_ok (Keeps R w e t.a) t.does (keeps_perform R w e t.a t.access formed t.has t.needs fits good))
+    let fits : record_fits w.ring there t.a ≡ true = subst (λ (o : Option Actor). actor_fits w.ring there o ≡ true) t.has (formed.actors e.actor) in
+    let good : access_fits w.ring there t.access ≡ true = IfOk-at_ok (λ (x : Access). access_fits w.ring there x ≡ true) t.needs (need_fits w.ring there t.a e.act fits) in
+    subst (λ (x : Stepped). IsWellFormed x.world) t.ends
+    (IfOk-at_ok (Keeps w e t.a) t.does (keeps_perform w e t.a t.access formed t.has t.needs fits good))

@@ -6,77 +6,79 @@ use Rattle.rd_step.proofs.Progress.{changes_only}
 use Rattle.rd_step.proofs.Steps.{took}
 
 -- the step from w that leaves v and this entry, by the words that the entry keeps
-pub record Leaves (R : ℕ) (w v : World) (x : Entry) : Type 0 where
+pub record Leaves (w v : World) (x : Entry) : Type 0 where
   pub has : w.actor x.event.actor ≡ Some x.old_actor
   pub access : Access
-  pub needs : need R x.old_actor x.event.act ≡ Ok access
+  pub needs : need w.ring x.old_actor x.event.act ≡ Ok access
   pub did : Performed
-  pub does : perform R x.event.actor w.at access ≡ Ok did
+  pub does : perform w.ring x.event.actor w.at access ≡ Ok did
+  pub ring : v.ring ≡ w.ring
   pub places : v.at ≡ contents_after did w.at
-  pub actors : v.actor ≡ with_actor x.event.actor (after R x.old_actor x.event.act x.answer).0 w.actor
+  pub actors : v.actor ≡ with_actor x.event.actor (after w.ring x.old_actor x.event.act x.answer).0 w.actor
 
-pub leaves : (R : ℕ) (w v : World) (x : Entry) → step R w x.event ≡ Ok (record { world = v; entry = x }) → Leaves R w v x
-leaves R w v x h =
-    let t = took R w x.event (record { world = v; entry = x }) h in
+pub leaves : (w v : World) (x : Entry) → step w x.event ≡ Ok (record { world = v; entry = x }) → Leaves w v x
+leaves w v x h =
+    let t = took w x.event (record { world = v; entry = x }) h in
     let words : t.a ≡ x.old_actor = ap (λ (s : Stepped). s.entry.old_actor) t.ends in
     record {
       has = t.has ∙ ap Some words;
       access = t.access;
-      needs = sym (ap (λ (a : Actor). need R a x.event.act) words) ∙ t.needs;
+      needs = sym (ap (λ (a : Actor). need w.ring a x.event.act) words) ∙ t.needs;
       did = t.did;
       does = t.does;
+      ring = sym (ap (λ (s : Stepped). s.world.ring) t.ends);
       places = sym (ap (λ (s : Stepped). s.world.at) t.ends);
-      actors = subst (λ (s : Stepped). s.world.actor ≡ with_actor x.event.actor (after R s.entry.old_actor x.event.act s.entry.answer).0 w.actor) t.ends refl;
+      actors = subst (λ (s : Stepped). s.world.actor ≡ with_actor x.event.actor (after w.ring s.entry.old_actor x.event.act s.entry.answer).0 w.actor) t.ends refl;
     }
 
 -- the entry's access, made again, is refused neither by the model nor for want of room
 pub not_refused : (R : ℕ) (space : Space R) (xs : List Actor) (v : World) (x : Entry) (access : Access) (refusal : Refusal)
-    → step R (world_of_fields space xs) x.event ≡ Ok (record { world = v; entry = x }) → need R x.old_actor x.event.act ≡ Ok access
-    → (IsTrue (makes_segment R (world_of_fields space xs) x.event) → 1 ≤ room space x.event.actor)
+    → step (world_of_fields space xs) x.event ≡ Ok (record { world = v; entry = x }) → need R x.old_actor x.event.act ≡ Ok access
+    → (IsTrue (makes_segment (world_of_fields space xs) x.event) → 1 ≤ room space x.event.actor)
     → IsRefused (perform R x.event.actor (contents space) access) (makes access) (room space x.event.actor) refusal → ⊥
 not_refused R space xs v x access refusal h needs has_room (inl refused) =
-    let l = leaves R (world_of_fields space xs) v x h in
+    let l = leaves (world_of_fields space xs) v x h in
     let same : l.access ≡ access = cc (l.needs, needs) in
     cc (sym (ap (λ (y : Access). perform R x.event.actor (contents space) y) same) ∙ l.does, refused)
 not_refused R space xs v x access refusal h needs has_room (inr lacks) = grind arith
 
 -- the step of the entry leaves these fields, and they are a well-formed world
 pub record IsMadeAgain (R : ℕ) (old new : Space R) (xs ys : List Actor) (x : Entry) : Type 0 where
-  pub goes : step R (world_of_fields old xs) x.event ≡ Ok (record { world = world_of_fields new ys; entry = x })
-  pub formed : IsWellFormed R (world_of_fields new ys)
+  pub goes : step (world_of_fields old xs) x.event ≡ Ok (record { world = world_of_fields new ys; entry = x })
+  pub formed : IsWellFormed (world_of_fields new ys)
 
 made_again : (R : ℕ) (old new : Space R) (xs ys : List Actor) (v : World) (x : Entry) (next : Actor × Option OpReply)
-    → IsWellFormed R (world_of_fields old xs) → step R (world_of_fields old xs) x.event ≡ Ok (record { world = v; entry = x })
+    → IsWellFormed (world_of_fields old xs) → step (world_of_fields old xs) x.event ≡ Ok (record { world = v; entry = x })
     → next ≡ after R x.old_actor x.event.act x.answer → numbered ys ≡ with_actor x.event.actor next.0 (numbered xs)
     → v.at ≡ contents new → IsMadeAgain R old new xs ys x
 made_again R old new xs ys v x next formed h goes_on actors places =
-    let l = leaves R (world_of_fields old xs) v x h in
+    let l = leaves (world_of_fields old xs) v x h in
     let words : v.actor ≡ numbered ys = grind arith in
-    let same : v ≡ world_of_fields new ys = λ i. record { at = places i; actor = words i } in
+    let same : v ≡ world_of_fields new ys = λ i. record { ring = l.ring i; at = places i; actor = words i } in
     record {
       goes = h ∙ ap (λ (w : World). Ok (record { world = w; entry = x })) same;
-      formed = subst (λ (w : World). IsWellFormed R w) same (keeps R (world_of_fields old xs) x.event _ formed h);
+      formed = subst (λ (w : World). IsWellFormed w) same (keeps (world_of_fields old xs) x.event _ formed h);
     }
 
 -- a step that only read is made again by its actor's words alone
 pub read_again : (R : ℕ) (space : Space R) (xs ys : List Actor) (v : World) (x : Entry) (next : Actor × Option OpReply)
-    → IsWellFormed R (world_of_fields space xs) → step R (world_of_fields space xs) x.event ≡ Ok (record { world = v; entry = x })
+    → IsWellFormed (world_of_fields space xs) → step (world_of_fields space xs) x.event ≡ Ok (record { world = v; entry = x })
     → next ≡ after R x.old_actor x.event.act x.answer → numbered ys ≡ with_actor x.event.actor next.0 (numbered xs)
     → is_nothing x.wrote ≡ true → IsMadeAgain R space space xs ys x
 read_again R space xs ys v x next formed h goes_on actors reads =
     made_again R space space xs ys v x next formed h goes_on actors
-    ((changes_only R (world_of_fields space xs) x.event (record { world = v; entry = x }) h).reading reads)
+    ((changes_only (world_of_fields space xs) x.event (record { world = v; entry = x }) h).reading reads)
 
 -- any step is made again by its access, which is not refused, and its actor's words
 pub access_again : (R : ℕ) (old new : Space R) (xs ys : List Actor) (v : World) (x : Entry) (next : Actor × Option OpReply) (access : Access) (r : Result Done Refusal)
-    → IsWellFormed R (world_of_fields old xs) → step R (world_of_fields old xs) x.event ≡ Ok (record { world = v; entry = x })
-    → (IsTrue (makes_segment R (world_of_fields old xs) x.event) → 1 ≤ room old x.event.actor)
+    → IsWellFormed (world_of_fields old xs) → step (world_of_fields old xs) x.event ≡ Ok (record { world = v; entry = x })
+    → (IsTrue (makes_segment (world_of_fields old xs) x.event) → 1 ≤ room old x.event.actor)
     → next ≡ after R x.old_actor x.event.act x.answer → numbered ys ≡ with_actor x.event.actor next.0 (numbered xs)
     → need R x.old_actor x.event.act ≡ Ok access
     → IfOk r (λ done. HasEffect everywhere (perform R x.event.actor (contents old) access) done (contents old) (contents new))
     → IfErr r (λ e. IsRefused (perform R x.event.actor (contents old) access) (makes access) (room old x.event.actor) e) → IsMadeAgain R old new xs ys x
 access_again R old new xs ys v x next access (Ok done) formed h has_room goes_on actors needs accesses refused =
-    let l = leaves R (world_of_fields old xs) v x h in
+    let l = leaves (world_of_fields old xs) v x h in
     let same : l.access ≡ access = cc (l.needs, needs) in
     let does : perform R x.event.actor (contents old) access ≡ Ok l.did = grind arith in
     let did : l.did ≡ accesses.performed = cc (does, accesses.performs) in

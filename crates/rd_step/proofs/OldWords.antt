@@ -13,17 +13,17 @@ notes-operate : (p : Place) (op : Operation) (o : Option Content) (at : Contents
 notes-operate p op o at h = grind arith
 
 -- the whole of a segment takes no operation
-notes-make : (R x : ℕ) (s : SegName) (w : World) → IfOk (make R s x) (NotesOld w.at)
-notes-make R x s w = grind arith
+notes-make : (x : ℕ) (s : SegName) (w : World) → IfOk (make w.ring s x) (NotesOld w.at)
+notes-make x s w = grind arith
 
-notes-perform : (R actor : ℕ) (w : World) (x : Access) → IsWellFormed R w → IfOk (perform R actor w.at x) (NotesOld w.at)
-notes-perform R actor w NoPlace formed = λ p k. cc
-notes-perform R actor w (At p op) formed = notes-operate p op (operand w.at p) w.at refl
-notes-perform R actor w (Make x) formed = notes-make R x (record { maker = actor; n = number_made w.at actor }) w
+notes-perform : (actor : ℕ) (w : World) (x : Access) → IsWellFormed w → IfOk (perform w.ring actor w.at x) (NotesOld w.at)
+notes-perform actor w NoPlace formed = λ p k. cc
+notes-perform actor w (At p op) formed = notes-operate p op (operand w.at p) w.at refl
+notes-perform actor w (Make x) formed = notes-make x (record { maker = actor; n = number_made w.at actor }) w
 
 -- an entry keeps the actor's words and the place's content from before its step
-pub keeps_old_words : (R : ℕ) (w : World) (e : Event) (s : Stepped) → IsWellFormed R w → step R w e ≡ Ok s → KeepsOldWords w s.entry
-keeps_old_words R w e s formed h =
-    let t = took R w e s h in
-    let notes : NotesOld w.at t.did = IfOk-at_ok (NotesOld w.at) t.does (notes-perform R e.actor w t.access formed) in
+pub keeps_old_words : (w : World) (e : Event) (s : Stepped) → IsWellFormed w → step w e ≡ Ok s → KeepsOldWords w s.entry
+keeps_old_words w e s formed h =
+    let t = took w e s h in
+    let notes : NotesOld w.at t.did = IfOk-at_ok (NotesOld w.at) t.does (notes-perform e.actor w t.access formed) in
     subst (λ (x : Stepped). KeepsOldWords w x.entry) t.ends (record { actor = t.has; content = notes })

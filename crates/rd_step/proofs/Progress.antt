@@ -1,6 +1,6 @@
 -- Progress: what an actor of a well-formed world asks for suits what is there, and the answer leads
 -- it to another control point.
-use Rattle.std.proofs.Common.{◌≡◌, ◌≢◌, ℕ, ◌≤◌, Bool, true, false, if◌then◌else◌, nat_lt, nat_le, sym, ◌∙◌, ap, subst, arith, Option, Some, None, is_some, is_none, ok_or, Result, Ok, Err, IfOk}
+use Rattle.std.proofs.Common.{◌≡◌, ◌≢◌, ℕ, ◌≤◌, Bool, true, false, if◌then◌else◌, nat_lt, nat_le, refl, sym, ◌∙◌, ap, subst, arith, Option, Some, None, is_some, is_none, ok_or, Result, Ok, Err, IfOk}
 use Rattle.rd_step.proofs.Prelude.{common_steps, cond_both, and_parts, IfOk-at_ok, fun_ext, MOST_SEGMENTS, Cell, SegName, Place, QHead, QTail, Head, Tail, Next, CellAt, ValAt, IdxAt, Wrote, ArrHead, ArrTail, ArrCell, ArrSlot, Content, Name, Number, TailIs, NextIs, CellIs, ValIs, IdxIs, Slot, Operation, Found, Won, Lost, Nothing, Made, Access, NoPlace, At, Make, Refusal, NoActor, CounterEnd, ArrayEnd, some_covers, is_nothing, written, Contents, is_there, operand, Effect, effect, Performed, operate, make, perform, swaps, adds, effect_at, result_map, after_write-outside, written-covers, ok_or_ok, Act, Enq, Deq, AEnq, ADeq, Go, Starve, Actor, Pc, Idle, E4, E11, Q5, A2, B2, need, need_at, need_call, need_choice, after_take, after_swap_in, after_swap_out, after_at, after, words_fit_at, World, Event, Stepped, step, Presence, content_fits, record_fits, actor_fits, IsWellFormed}
 use Rattle.rd_ring.specs.Prelude.{NoSuchPlace, number_made}
 use Rattle.rd_cell.proofs.ResultLemmas.{and_then_err}
@@ -107,18 +107,18 @@ row_place R there pc a some f w = grind arith
 -- A step
 
 -- what an operation that is asked for at a control point works on
-pub record WorksOn (R : ℕ) (w : World) (pc : Pc) (a : Actor) (p : Place) (op : Operation) : Type 0 where
+pub record WorksOn (w : World) (pc : Pc) (a : Actor) (p : Place) (op : Operation) : Type 0 where
   pub content : Content
   pub found : operand w.at p ≡ Some content
-  pub goes : Goes R pc a (effect op content)
+  pub goes : Goes w.ring pc a (effect op content)
 
-works_on : (R : ℕ) (w : World) (pc : Pc) (a : Actor) (p : Place) (op : Operation) → 1 ≤ R → IsWellFormed R w
-    → PartsFit R (is_there w.at) a → words_fit_at pc a ≡ true → need_at R pc a ≡ Ok (At p op) → WorksOn R w pc a p op
-works_on R w pc a p op some formed parts words needs =
+works_on : (w : World) (pc : Pc) (a : Actor) (p : Place) (op : Operation) → 1 ≤ w.ring → IsWellFormed w
+    → PartsFit w.ring (is_there w.at) a → words_fit_at pc a ≡ true → need_at w.ring pc a ≡ Ok (At p op) → WorksOn w pc a p op
+works_on w pc a p op some formed parts words needs =
     let there = is_there w.at in
-    let place : IsAtPlace R there (At p op) = IfOk-at_ok (IsAtPlace R there) needs (row_place R there pc a some parts words) in
-    let leads : Leads R there pc a (At p op) = IfOk-at_ok (Leads R there pc a) needs (row_leads R there pc a words) in
-    let on = has_operand R w p formed place in
+    let place : IsAtPlace w.ring there (At p op) = IfOk-at_ok (IsAtPlace w.ring there) needs (row_place w.ring there pc a some parts words) in
+    let leads : Leads w.ring there pc a (At p op) = IfOk-at_ok (Leads w.ring there pc a) needs (row_leads w.ring there pc a words) in
+    let on = has_operand w p formed place in
     record { content = on.content; found = on.found; goes = leads on.content on.fits }
 
 -- what an access of an actor leads to: another control point, or a refusal of a step
@@ -133,8 +133,8 @@ make_ends : (R : ℕ) (there : Presence) (a : Actor) (s : SegName) (x : ℕ) →
 make_ends R there a s x h = cond_both (nat_lt s.n MOST_SEGMENTS) _ _ (λ (r : Result Performed Refusal). Ends R a Go r) (λ e. h s) (λ e. tt)
 
 -- a call goes on from idle, and a choice from the control point of choices
-call_ends : (R : ℕ) (pc x : Pc) (y : Access) → need_call pc ≡ Ok y → (Idle ≡ x → ⊥) → x ≢ pc
-call_ends R pc x y h ne = grind arith
+call_ends : (pc x : Pc) (y : Access) → need_call pc ≡ Ok y → (Idle ≡ x → ⊥) → x ≢ pc
+call_ends pc x y h ne = grind arith
 
 choice_ends : (pc : Pc) (b : Bool) (y : Access) → need_choice pc ≡ Ok y → (if b then E11 else E4) ≢ pc
 choice_ends pc b y h = grind arith
@@ -150,52 +150,52 @@ ends_there : (R actor : ℕ) (at : Contents) (a : Actor) (act : Act) (y : Access
     → Ends R a act (perform R actor at y)
 ends_there R actor at a act y e h = subst (λ (x : Access). Ends R a act (perform R actor at x)) (sym e) h
 
-go_ends : (R actor : ℕ) (w : World) (a : Actor) (y : Access) → 1 ≤ R → IsWellFormed R w → record_fits R (is_there w.at) a ≡ true
-    → need_at R a.pc a ≡ Ok y → Ends R a Go (perform R actor w.at y)
-go_ends R actor w a NoPlace some formed fits needs = grind arith
-go_ends R actor w a (At p op) some formed fits needs =
+go_ends : (actor : ℕ) (w : World) (a : Actor) (y : Access) → 1 ≤ w.ring → IsWellFormed w → record_fits w.ring (is_there w.at) a ≡ true
+    → need_at w.ring a.pc a ≡ Ok y → Ends w.ring a Go (perform w.ring actor w.at y)
+go_ends actor w a NoPlace some formed fits needs = grind arith
+go_ends actor w a (At p op) some formed fits needs =
     let there = is_there w.at in
-    let on = works_on R w a.pc a p op some formed (parts_of R there a fits) (words_of R there a fits) needs in
-    subst (λ (o : Option Content). Ends R a Go (operate p op o)) (sym on.found) (goes_ends R a p on.content (effect op on.content) on.goes)
-go_ends R actor w a (Make x) some formed fits needs =
+    let on = works_on w a.pc a p op some formed (parts_of w.ring there a fits) (words_of w.ring there a fits) needs in
+    subst (λ (o : Option Content). Ends w.ring a Go (operate p op o)) (sym on.found) (goes_ends w.ring a p on.content (effect op on.content) on.goes)
+go_ends actor w a (Make x) some formed fits needs =
     let there = is_there w.at in
-    make_ends R there a (record { maker = actor; n = number_made w.at actor }) x
-    (IfOk-at_ok (Leads R there a.pc a) needs (row_leads R there a.pc a (words_of R there a fits)))
+    make_ends w.ring there a (record { maker = actor; n = number_made w.at actor }) x
+    (IfOk-at_ok (Leads w.ring there a.pc a) needs (row_leads w.ring there a.pc a (words_of w.ring there a fits)))
 
-access_ends : (R actor : ℕ) (w : World) (a : Actor) (act : Act) (y : Access) → 1 ≤ R → IsWellFormed R w → record_fits R (is_there w.at) a ≡ true
-    → need R a act ≡ Ok y → Ends R a act (perform R actor w.at y)
-access_ends R actor w a act y some formed fits needs = grind (arith, ends_there, call_place, call_ends, go_ends, choice_place, choice_ends)
+access_ends : (actor : ℕ) (w : World) (a : Actor) (act : Act) (y : Access) → 1 ≤ w.ring → IsWellFormed w → record_fits w.ring (is_there w.at) a ≡ true
+    → need w.ring a act ≡ Ok y → Ends w.ring a act (perform w.ring actor w.at y)
+access_ends actor w a act y some formed fits needs = grind (arith, ends_there, call_place, call_ends, go_ends, choice_place, choice_ends)
 
 -- The laws
 
-fits_here : (R : ℕ) (w : World) (n : ℕ) (a : Actor) → IsWellFormed R w → w.actor n ≡ Some a → record_fits R (is_there w.at) a ≡ true
-fits_here R w n a formed has = subst (λ (o : Option Actor). actor_fits R (is_there w.at) o ≡ true) has (formed.actors n)
+fits_here : (w : World) (n : ℕ) (a : Actor) → IsWellFormed w → w.actor n ≡ Some a → record_fits w.ring (is_there w.at) a ≡ true
+fits_here w n a formed has = subst (λ (o : Option Actor). actor_fits w.ring (is_there w.at) o ≡ true) has (formed.actors n)
 
 need_refused : (R : ℕ) (a : Actor) (act : Act) (refusal : Refusal) → need R a act ≡ Err refusal → IsStepRefusal refusal
 need_refused R a act refusal h = grind arith
 
 -- a step is refused in its cases alone
-pub refused_in_cases : (R : ℕ) (w : World) (e : Event) (refusal : Refusal) → 1 ≤ R → IsWellFormed R w → step R w e ≡ Err refusal → IsStepRefusal refusal
-refused_in_cases R w e refusal some formed h =
+pub refused_in_cases : (w : World) (e : Event) (refusal : Refusal) → 1 ≤ w.ring → IsWellFormed w → step w e ≡ Err refusal → IsStepRefusal refusal
+refused_in_cases w e refusal some formed h =
     and_then_err (ok_or (w.actor e.actor) NoActor) _ refusal h (no_actor (w.actor e.actor)) (λ a there h1.
     let has = ok_or_ok (w.actor e.actor) NoActor a there in
-    and_then_err (need R a e.act) _ refusal h1 (need_refused R a e.act refusal) (λ x needs h2.
-    and_then_err (perform R e.actor w.at x) _ refusal h2
-    (λ does. subst (Ends R a e.act) does (access_ends R e.actor w a e.act x some formed (fits_here R w e.actor a formed has) needs))
+    and_then_err (need w.ring a e.act) _ refusal h1 (need_refused w.ring a e.act refusal) (λ x needs h2.
+    and_then_err (perform w.ring e.actor w.at x) _ refusal h2
+    (λ does. subst (Ends w.ring a e.act) does (access_ends e.actor w a e.act x some formed (fits_here w e.actor a formed has) needs))
     (λ did does h3. cc)))
   where
     no_actor : (o : Option Actor) → ok_or o NoActor ≡ Err refusal → IsStepRefusal refusal
     no_actor o l = grind arith
 
 -- what is asked for suits what is there
-pub suits_content : (R : ℕ) (w : World) (n : ℕ) (a : Actor) (act : Act) (p : Place) (op : Operation) → 1 ≤ R → IsWellFormed R w
-    → w.actor n ≡ Some a → need R a act ≡ Ok (At p op) → SuitsContent w.at p op
-suits_content R w n a act p op some formed has needs = by_act act needs
+pub suits_content : (w : World) (n : ℕ) (a : Actor) (act : Act) (p : Place) (op : Operation) → 1 ≤ w.ring → IsWellFormed w
+    → w.actor n ≡ Some a → need w.ring a act ≡ Ok (At p op) → SuitsContent w.at p op
+suits_content w n a act p op some formed has needs = by_act act needs
   where
     there : Presence
     there = is_there w.at
 
-    suit : (r : Result Effect Refusal) → Goes R a.pc a r → r ≡ Err NoSuchPlace → ⊥
+    suit : (r : Result Effect Refusal) → Goes w.ring a.pc a r → r ≡ Err NoSuchPlace → ⊥
     suit r h k = grind arith
 
     no_call : (pc : Pc) → need_call pc ≡ Ok (At p op) → SuitsContent w.at p op
@@ -204,27 +204,27 @@ suits_content R w n a act p op some formed has needs = by_act act needs
     no_choice : (pc : Pc) → need_choice pc ≡ Ok (At p op) → SuitsContent w.at p op
     no_choice pc h = grind arith
 
-    by_act : (x : Act) → need R a x ≡ Ok (At p op) → SuitsContent w.at p op
+    by_act : (x : Act) → need w.ring a x ≡ Ok (At p op) → SuitsContent w.at p op
     by_act (Enq v) h = no_call a.pc h
     by_act Deq h = no_call a.pc h
     by_act (AEnq v) h = no_call a.pc h
     by_act ADeq h = no_call a.pc h
     by_act (Starve b) h = no_choice a.pc h
     by_act Go h =
-        let fits = fits_here R w n a formed has in
-        let on = works_on R w a.pc a p op some formed (parts_of R (is_there w.at) a fits) (words_of R (is_there w.at) a fits) h in
+        let fits = fits_here w n a formed has in
+        let on = works_on w a.pc a p op some formed (parts_of w.ring (is_there w.at) a fits) (words_of w.ring (is_there w.at) a fits) h in
         record { content = on.content; found = on.found; suits = λ k. suit (effect op on.content) on.goes k }
 
 -- a step leaves its actor at another control point
-pub moves_on : (R : ℕ) (w : World) (e : Event) (s : Stepped) → 1 ≤ R → IsWellFormed R w → step R w e ≡ Ok s → MovesOn e w s.world
-moves_on R w e s some formed h =
-    let t = took R w e s h in
-    let ends : Ends R t.a e.act (Ok t.did) =
-    subst (λ (r : Result Performed Refusal). Ends R t.a e.act r) t.does
-    (access_ends R e.actor w t.a e.act t.access some formed (fits_here R w e.actor t.a formed t.has) t.needs) in
+pub moves_on : (w : World) (e : Event) (s : Stepped) → 1 ≤ w.ring → IsWellFormed w → step w e ≡ Ok s → MovesOn e w s.world
+moves_on w e s some formed h =
+    let t = took w e s h in
+    let ends : Ends w.ring t.a e.act (Ok t.did) =
+    subst (λ (r : Result Performed Refusal). Ends w.ring t.a e.act r) t.does
+    (access_ends e.actor w t.a e.act t.access some formed (fits_here w e.actor t.a formed t.has) t.needs) in
     subst (λ (x : Stepped). MovesOn e w x.world) t.ends
     (λ a b old new same.
-    let next = after R t.a e.act t.did.answer in
+    let next = after w.ring t.a e.act t.did.answer in
     let was : Some t.a ≡ Some a = sym t.has ∙ old in
     let is : Some next.0 ≡ Some b = sym (with_actor-same e.actor next.0 w.actor) ∙ new in
     let was_pc : t.a.pc ≡ a.pc = ap (λ (x : Actor). x.pc) (let k : t.a ≡ a = cc in k) in
@@ -235,13 +235,14 @@ nothing_written : (p : Option Place) (w : Wrote) (q : Place) → is_nothing w �
 nothing_written p w q h = grind arith
 
 -- a step changes one place, the two of one cell, or those of one segment, and one actor
-pub changes_only : (R : ℕ) (w : World) (e : Event) (s : Stepped) → step R w e ≡ Ok s → ChangesOnly e s.entry w s.world
-changes_only R w e s h =
-    let t = took R w e s h in
+pub changes_only : (w : World) (e : Event) (s : Stepped) → step w e ≡ Ok s → ChangesOnly e s.entry w s.world
+changes_only w e s h =
+    let t = took w e s h in
     subst (λ (x : Stepped). ChangesOnly e x.entry w x.world) t.ends
     (record {
+      ring = refl;
       outside = λ q k. after_write-outside (written t.did.place t.did.wrote) t.did.given w.at q k;
       inside = λ q k. written-covers t.did.place t.did.wrote q k;
       reading = λ k. fun_ext (λ q. after_write-outside (written t.did.place t.did.wrote) t.did.given w.at q (nothing_written t.did.place t.did.wrote q k));
-      others = λ n ne. with_actor-other e.actor (after R t.a e.act t.did.answer).0 w.actor n ne;
+      others = λ n ne. with_actor-other e.actor (after w.ring t.a e.act t.did.answer).0 w.actor n ne;
     })

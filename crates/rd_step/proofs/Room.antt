@@ -4,15 +4,15 @@ use Rattle.rd_step.proofs.Prelude.{is_nothing, Performed, room_used, World, Even
 use Rattle.rd_segments.specs.Room.{room_returned}
 
 -- the room that a step uses is what undoing it gives back
-pub room_used_returned : (R : ℕ) (w : World) (e : Event) (s : Stepped) (m : ℕ) → step R w e ≡ Ok s
-    → room_used (makes_segment R w e) e.actor m ≡ room_returned s.entry.place s.entry.old_content m
-room_used_returned R w e s m h = grind arith
+pub room_used_returned : (w : World) (e : Event) (s : Stepped) (m : ℕ) → step w e ≡ Ok s
+    → room_used (makes_segment w e) e.actor m ≡ room_returned s.entry.place s.entry.old_content m
+room_used_returned w e s m h = grind arith
 
 -- an access that did this returns no room if it only read
 abbrev ReturnsNone : ℕ → Performed → Type 0
 ReturnsNone m did = is_nothing did.wrote ≡ true → room_returned did.place did.old m ≡ 0
 
 -- undoing a step that only read gives no room back
-pub read_returns_none : (R : ℕ) (w : World) (e : Event) (s : Stepped) (m : ℕ) → step R w e ≡ Ok s → is_nothing s.entry.wrote ≡ true
+pub read_returns_none : (w : World) (e : Event) (s : Stepped) (m : ℕ) → step w e ≡ Ok s → is_nothing s.entry.wrote ≡ true
     → room_returned s.entry.place s.entry.old_content m ≡ 0
-read_returns_none R w e s m h = grind arith
+read_returns_none w e s m h = grind arith

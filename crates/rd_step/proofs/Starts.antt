@@ -39,7 +39,7 @@ fits_by R each count fits n = grind arith
 
 -- a world with a fresh space and this many actors whose records fit is well-formed
 starts_well : (R : ℕ) (each : ℕ → Actor) (count : ℕ) → 1 ≤ count → count ≤ MOST_ACTORS → ((n : ℕ) → record_fits R (there_first R) (each n) ≡ true)
-    → IsWellFormed R (record { at = fresh_space R; actor = actors_by each count })
+    → IsWellFormed (record { ring = R; at = fresh_space R; actor = actors_by each count })
 starts_well R each count some few fits = grind (arith, common_steps, numbered_by, made_first, places_first, contents_first, fits_by)
 
 idle_fits : (R : ℕ) → record_fits R (there_first R) idle ≡ true
@@ -48,17 +48,17 @@ idle_fits R = and_from _ _ (and_from _ _ refl (and_from _ _ refl (le-leb 0 (COUN
 poised_fits : (R n : ℕ) → record_fits R (there_first R) (poised n) ≡ true
 poised_fits R n = and_from _ _ (and_from _ _ refl (and_from _ _ refl (le-leb 0 (COUNTER_END + R) (omega arith)))) refl
 
-pub fresh_formed : (R count : ℕ) → 1 ≤ count → count ≤ MOST_ACTORS → IsWellFormed R (fresh_world R count)
+pub fresh_formed : (R count : ℕ) → 1 ≤ count → count ≤ MOST_ACTORS → IsWellFormed (fresh_world R count)
 fresh_formed R count some few = starts_well R (λ n. idle) count some few (λ n. idle_fits R)
 
-pub poised_formed : (R count : ℕ) → 1 ≤ count → count ≤ MOST_ACTORS → IsWellFormed R (poised_world R count)
+pub poised_formed : (R count : ℕ) → 1 ≤ count → count ≤ MOST_ACTORS → IsWellFormed (poised_world R count)
 poised_formed R count some few = starts_well R poised count some few (λ n. poised_fits R n)
 
 -- the code's fields make such a world
 pub fields_make : {R : ℕ} (space : Space R) (xs : List Actor) (each : ℕ → Actor) (count : ℕ) → contents space ≡ fresh_space R → length xs ≡ count
     → ((n : ℕ) → n < count → slice_get xs n ≡ Some (each (suc n)))
-    → world_of_fields space xs ≡ record { at = fresh_space R; actor = actors_by each count }
-fields_make space xs each count fresh_segment len all = λ i. record { at = fresh_segment i; actor = list_actors xs each count len all i }
+    → world_of_fields space xs ≡ record { ring = R; at = fresh_space R; actor = actors_by each count }
+fields_make {R} space xs each count fresh_segment len all = λ i. record { ring = R; at = fresh_segment i; actor = list_actors xs each count len all i }
 
 -- ---- when a world is fresh: the space is, and the actors are idle
 

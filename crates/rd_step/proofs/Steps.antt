@@ -3,32 +3,32 @@ use Rattle.std.proofs.Common.{◌≡◌, ℕ, ◌==◌, refl, arith, Option, Som
 use Rattle.rd_step.proofs.Prelude.{cond-true, cond-false, and_then_ok, ok_or_ok, Access, Refusal, NoActor, Performed, perform, Actor, need, after, World, Event, Stepped, with_actor, step_outcome, step}
 
 -- the step of e from w: the actor's record, its access and what that did
-pub record Took (R : ℕ) (w : World) (e : Event) (s : Stepped) : Type 0 where
+pub record Took (w : World) (e : Event) (s : Stepped) : Type 0 where
   pub a : Actor
   pub has : w.actor e.actor ≡ Some a
   pub access : Access
-  pub needs : need R a e.act ≡ Ok access
+  pub needs : need w.ring a e.act ≡ Ok access
   pub did : Performed
-  pub does : perform R e.actor w.at access ≡ Ok did
-  pub ends : step_outcome w e a did (after R a e.act did.answer) ≡ s
+  pub does : perform w.ring e.actor w.at access ≡ Ok did
+  pub ends : step_outcome w e a did (after w.ring a e.act did.answer) ≡ s
 
 -- what a step consists of
-pub took : (R : ℕ) (w : World) (e : Event) (s : Stepped) → step R w e ≡ Ok s → Took R w e s
-took R w e s m =
+pub took : (w : World) (e : Event) (s : Stepped) → step w e ≡ Ok s → Took w e s
+took w e s m =
     and_then_ok (ok_or (w.actor e.actor) NoActor) _ s m (λ a has m1.
-    and_then_ok (need R a e.act) _ s m1 (λ access needs m2.
-    and_then_ok (perform R e.actor w.at access) _ s m2 (λ did does m3.
+    and_then_ok (need w.ring a e.act) _ s m1 (λ access needs m2.
+    and_then_ok (perform w.ring e.actor w.at access) _ s m2 (λ did does m3.
     record { a = a; has = ok_or_ok (w.actor e.actor) NoActor a has; access = access; needs = needs; did = did; does = does; ends = cc })))
 
 -- and back: an actor's record, its access and what that does make a step
-pub step_of : (R : ℕ) (w : World) (e : Event) (a : Actor) (x : Access) (did : Performed) → w.actor e.actor ≡ Some a
-    → need R a e.act ≡ Ok x → perform R e.actor w.at x ≡ Ok did → step R w e ≡ Ok (step_outcome w e a did (after R a e.act did.answer))
-step_of R w e a x did h k l = grind arith
+pub step_of : (w : World) (e : Event) (a : Actor) (x : Access) (did : Performed) → w.actor e.actor ≡ Some a
+    → need w.ring a e.act ≡ Ok x → perform w.ring e.actor w.at x ≡ Ok did → step w e ≡ Ok (step_outcome w e a did (after w.ring a e.act did.answer))
+step_of w e a x did h k l = grind arith
 
 -- an actor that may not go makes a step that is refused
-pub step_not_needed : (R : ℕ) (w : World) (e : Event) (a : Actor) (refusal : Refusal) → w.actor e.actor ≡ Some a
-    → need R a e.act ≡ Err refusal → step R w e ≡ Err refusal
-step_not_needed R w e a refusal h k = grind arith
+pub step_not_needed : (w : World) (e : Event) (a : Actor) (refusal : Refusal) → w.actor e.actor ≡ Some a
+    → need w.ring a e.act ≡ Err refusal → step w e ≡ Err refusal
+step_not_needed w e a refusal h k = grind arith
 
 -- the record of one actor, and those of the others
 pub with_actor-same : (n : ℕ) (a : Actor) (actors : ℕ → Option Actor) → with_actor n a actors n ≡ Some a

@@ -22,18 +22,18 @@ pub world_taken : {R : ℕ} (segments : Vec (PartsOf R) Global) (listed : Vec Ac
     (space : Space R) (actors : List Actor) (h : AreTaken segments listed space actors)
     → qhead ≡ head_name space → qtail ≡ tail_name space → array ≡ array_words space
     → world_of_parts (taken segments listed qhead qtail array h.small) ≡ world_of_fields space actors
-world_taken segments listed qhead qtail array space actors h eh et ea =
+world_taken {R} segments listed qhead qtail array space actors h eh et ea =
     let at : contents_of_parts segments.items qhead qtail array ≡ contents space =
     (λ i. contents_of_parts segments.items (eh i) (et i) (ea i)) ∙ h.same
     in
-    λ i. record { at = at i; actor = numbered (h.actors_are i) }
+    λ i. record { ring = R; at = at i; actor = numbered (h.actors_are i) }
 
 -- so they have no flaw
 pub taken_unflawed : {R : ℕ} (segments : Vec (PartsOf R) Global) (listed : Vec Actor Global) (qhead qtail : SegName) (array : ArrayParts)
     (space : Space R) (actors : List Actor) (h : AreTaken segments listed space actors)
     → qhead ≡ head_name space → qtail ≡ tail_name space → array ≡ array_words space
-    → lists space ≡ suc (length actors) → IsWellFormed R (world_of_fields space actors)
+    → lists space ≡ suc (length actors) → IsWellFormed (world_of_fields space actors)
     → first_flaw (taken segments listed qhead qtail array h.small) ≡ None
 taken_unflawed {R} segments listed qhead qtail array space actors h eh et ea number formed =
     accepted R (taken segments listed qhead qtail array h.small) (h.number ∙ number ∙ ap (λ (xs : List Actor). suc (length xs)) (sym h.actors_are))
-    (subst (λ (w : World). IsWellFormed R w) (sym (world_taken segments listed qhead qtail array space actors h eh et ea)) formed)
+    (subst (λ (w : World). IsWellFormed w) (sym (world_taken segments listed qhead qtail array space actors h eh et ea)) formed)

@@ -81,7 +81,7 @@ actor_within xs len e n = (
 too_many : (xs : List Actor) → ((n : ℕ) → is_some (numbered xs n) ≡ true → n ≤ MOST_ACTORS) → MOST_ACTORS < length xs → ⊥
 too_many xs most many = let bad : suc MOST_ACTORS ≤ MOST_ACTORS = most (suc MOST_ACTORS) (some_at xs MOST_ACTORS many) in absurd (omega arith)
 
-pub few_actors : (R : ℕ) (space : Space R) (xs : List Actor) → IsWellFormed R (world_of_fields space xs) → length xs ≤ MOST_ACTORS
+pub few_actors : (R : ℕ) (space : Space R) (xs : List Actor) → IsWellFormed (world_of_fields space xs) → length xs ≤ MOST_ACTORS
 few_actors R space xs formed = grind (arith, too_many)
 
 -- The step
@@ -98,7 +98,7 @@ some_maker space xs n lists_are h = grind (arith, numbered-within)
 no_such : {R : ℕ} (space : Space R) (xs : List Actor) (n : ℕ) → maker_fits (is_actor (numbered xs)) n MOST_SEGMENTS ≡ true → ⊥
 no_such space xs n h = grind arith
 
-pub few_made : {R : ℕ} (space : Space R) (xs : List Actor) (n : ℕ) → IsWellFormed R (world_of_fields space xs) → making_count space n ≤ MOST_SEGMENTS
+pub few_made : {R : ℕ} (space : Space R) (xs : List Actor) (n : ℕ) → IsWellFormed (world_of_fields space xs) → making_count space n ≤ MOST_SEGMENTS
 few_made space xs n formed =
     elim (cases_lt MOST_SEGMENTS (making_count space n)) [
       | inl many ↦
@@ -110,7 +110,7 @@ access_suited : (R : ℕ) (there : Presence) (x : Access) → access_fits R ther
 access_suited R there x h = grind arith
 
 -- what the need of an actor that is there says of its access
-pub need_suits : (R : ℕ) (space : Space R) (xs : List Actor) (e : Event) (a : Actor) (x : Access) → IsWellFormed R (world_of_fields space xs)
+pub need_suits : (R : ℕ) (space : Space R) (xs : List Actor) (e : Event) (a : Actor) (x : Access) → IsWellFormed (world_of_fields space xs)
     → numbered xs e.actor ≡ Some a → need R a e.act ≡ Ok x → access_suits x ≡ true
 need_suits R space xs e a x formed has needs =
     let there = is_there (contents space) in
@@ -119,7 +119,7 @@ need_suits R space xs e a x formed has needs =
 
 -- what an actor of a well-formed world asks for is representable: its head position has room for
 -- the ring's size behind it, and its words fit its place
-pub representable_here : (R : ℕ) (space : Space R) (xs : List Actor) (e : Event) (a : Actor) → IsWellFormed R (world_of_fields space xs) → R ≤ MOST_CELLS
+pub representable_here : (R : ℕ) (space : Space R) (xs : List Actor) (e : Event) (a : Actor) → IsWellFormed (world_of_fields space xs) → R ≤ MOST_CELLS
     → numbered xs e.actor ≡ Some a → IsRepresentable R a e.act
 representable_here R space xs e a formed small has =
     let there = is_there (contents space) in
@@ -128,21 +128,21 @@ representable_here R space xs e a formed small has =
     representable R a e.act (omega arith) (words_of R there a fits)
 
 -- whether an actor's event makes a segment, by its access
-pub makes_by : (R : ℕ) (w : World) (e : Event) (a : Actor) (x : Access) → w.actor e.actor ≡ Some a → need R a e.act ≡ Ok x
-    → makes_segment R w e ≡ makes x
-makes_by R w e a x has needs = grind arith
+pub makes_by : (w : World) (e : Event) (a : Actor) (x : Access) → w.actor e.actor ≡ Some a → need w.ring a e.act ≡ Ok x
+    → makes_segment w e ≡ makes x
+makes_by w e a x has needs = grind arith
 
 pub step_refuses : (R : ℕ) (space : Space R) (xs : List Actor) (e : Event) (a : Actor) (x : Access) (refusal : Refusal)
     → numbered xs e.actor ≡ Some a → need R a e.act ≡ Ok x
     → IsRefused (perform R e.actor (contents space) x) (makes x) (room space e.actor) refusal
-    → IsRefused (step R (world_of_fields space xs) e) (makes_segment R (world_of_fields space xs) e) (room space e.actor) refusal
+    → IsRefused (step (world_of_fields space xs) e) (makes_segment (world_of_fields space xs) e) (room space e.actor) refusal
 step_refuses R space xs e a x refusal has needs h = grind arith
 
 -- the step that the code makes is the model's
 pub step_goes : (R : ℕ) (old new : Space R) (xs ys : List Actor) (e : Event) (a : Actor) (x : Access) (done : Done) (next : Actor × Option OpReply)
     → numbered xs e.actor ≡ Some a → need R a e.act ≡ Ok x → HasEffect everywhere (perform R e.actor (contents old) x) done (contents old) (contents new)
     → next ≡ after R a e.act done.answer → numbered ys ≡ with_actor e.actor next.0 (numbered xs)
-    → step R (world_of_fields old xs) e ≡ Ok (record {
+    → step (world_of_fields old xs) e ≡ Ok (record {
       world = world_of_fields new ys;
       entry = record { event = e; place = done.place; wrote = done.wrote; answer = done.answer; reply = next.1; old_actor = a; old_content = done.old };
     })
@@ -150,13 +150,13 @@ step_goes R old new xs ys e a x done next has needs accesses goes actors = grind
 
 -- the world after a step, refused or not, is well-formed
 pub still_well_formed : (R : ℕ) (old new : Space R) (xs ys : List Actor) (e : Event) (r : Result Entry Refusal)
-    → IsWellFormed R (world_of_fields old xs)
-    → IfOk r (λ entry. step R (world_of_fields old xs) e ≡ Ok (record { world = world_of_fields new ys; entry = entry }))
-    → OnErr r ((contents new ≡ contents old) × (ys ≡ xs)) → IsWellFormed R (world_of_fields new ys)
-still_well_formed R old new xs ys e (Ok entry) formed ok same = keeps R (world_of_fields old xs) e _ formed ok
+    → IsWellFormed (world_of_fields old xs)
+    → IfOk r (λ entry. step (world_of_fields old xs) e ≡ Ok (record { world = world_of_fields new ys; entry = entry }))
+    → OnErr r ((contents new ≡ contents old) × (ys ≡ xs)) → IsWellFormed (world_of_fields new ys)
+still_well_formed R old new xs ys e (Ok entry) formed ok same = keeps (world_of_fields old xs) e _ formed ok
 still_well_formed R old new xs ys e (Err refusal) formed ok same =
-    subst (λ (w : World). IsWellFormed R w) (λ i. record { at = sym same.0 i; actor = numbered (sym same.1 i) }) formed
+    subst (λ (w : World). IsWellFormed w) (λ i. record { ring = R; at = sym same.0 i; actor = numbered (sym same.1 i) }) formed
 
 -- a world whose space has the same contents is the same
 pub same_world : {R : ℕ} (old new : Space R) (xs : List Actor) → contents new ≡ contents old → world_of_fields new xs ≡ world_of_fields old xs
-same_world old new xs same = λ i. record { at = same i; actor = numbered xs }
+same_world {R} old new xs same = λ i. record { ring = R; at = same i; actor = numbered xs }

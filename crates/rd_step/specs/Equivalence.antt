@@ -1,6 +1,6 @@
 -- Causal equivalence of two lists of events: the lists are one up to the order of independent steps
 -- (Mazurkiewicz traces; for steps that are undone, Danos and Krivine 2004).
-use Rattle.std.specs.Prelude.{◌≡◌, ℕ, List, [], ◌∷◌, ◌++◌, IsPermutation, Ok}
+use Rattle.std.specs.Prelude.{◌≡◌, List, [], ◌∷◌, ◌++◌, IsPermutation, Ok}
 use Rattle.rd_step.specs.World.{World}
 use Rattle.rd_step.specs.declared.entries.Event.{Event}
 use Rattle.rd_step.specs.Step.{Stepped, step}
@@ -9,30 +9,30 @@ use Rattle.rd_step.specs.Dependence.{IsFree}
 
 -- the events run from w, e steps after them, and the entry that e leaves there depends on none of
 -- theirs
-pub record IsIndependentOf (R : ℕ) (w : World) (e : Event) (earlier : List Event) : Type 0 where
+pub record IsIndependentOf (w : World) (e : Event) (earlier : List Event) : Type 0 where
   pub ran : Ran
-  pub runs : run R w earlier ≡ Ok ran
+  pub runs : run w earlier ≡ Ok ran
   pub stepped : Stepped
-  pub goes : step R ran.world e ≡ Ok stepped
+  pub goes : step ran.world e ≡ Ok stepped
   pub free : IsFree stepped.entry ran.entries
 
 -- the list may begin with e: e steps from w and is in the list, where its entry depends on no
 -- earlier one; and `Rest` holds of the world after e and the list without it
-pub record MayBeginWith (R : ℕ) (w : World) (e : Event) (events : List Event) (Rest : World → List Event → Type 0) : Type 0 where
+pub record MayBeginWith (w : World) (e : Event) (events : List Event) (Rest : World → List Event → Type 0) : Type 0 where
   pub earlier : List Event
   pub later : List Event
   pub stands : events ≡ earlier ++ e ∷ later
-  pub independent : IsIndependentOf R w e earlier
+  pub independent : IsIndependentOf w e earlier
   pub stepped : Stepped
-  pub goes : step R w e ≡ Ok stepped
+  pub goes : step w e ≡ Ok stepped
   pub rest : Rest stepped.world (earlier ++ later)
 
 -- two lists of events that run from w are causally equivalent: both are empty, or the second may
 -- begin with the first event of the first, and without that event the rests are equivalent in the
 -- world after it
-abbrev pub IsEquivalent : ℕ → World → List Event → List Event → Type 0
-IsEquivalent R w [] fs = fs ≡ []
-IsEquivalent R w (e ∷ es) fs = MayBeginWith R w e fs (λ v rest. IsEquivalent R v es rest)
+abbrev pub IsEquivalent : World → List Event → List Event → Type 0
+IsEquivalent w [] fs = fs ≡ []
+IsEquivalent w (e ∷ es) fs = MayBeginWith w e fs (λ v rest. IsEquivalent v es rest)
 
 -- two runs reach one world, and their entries are the same in some order
 pub record ReachesTheSame (r q : Ran) : Type 0 where

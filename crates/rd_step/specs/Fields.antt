@@ -10,7 +10,7 @@ use Rattle.rd_step.specs.World.{World}
 
 -- the world of the model that a space and a list of actors make
 abbrev pub world_of_fields : {R : ℕ} → Space R → List Actor → World
-world_of_fields space actors = record { at = contents space; actor = numbered actors }
+world_of_fields {R} space actors = record { ring = R; at = contents space; actor = numbered actors }
 
 -- whether the operation of this access, if it has one, suits its place
 abbrev pub access_suits : Access → Bool

@@ -12,43 +12,43 @@ use Rattle.rd_step.specs.WellFormed.{IsWellFormed}
 
 -- the steps of e and f commute: where e leads from w to v and then f to u, f may go first, each
 -- leaves the same entry, and the two lead to the world of u
-pub record CommutingSquare (R : ℕ) (w : World) (e f : Event) (v u : Stepped) : Type 0 where
+pub record CommutingSquare (w : World) (e f : Event) (v u : Stepped) : Type 0 where
   pub first : Stepped
-  pub goes_first : step R w f ≡ Ok first
+  pub goes_first : step w f ≡ Ok first
   pub same_entry : first.entry ≡ u.entry
   pub second : Stepped
-  pub goes_second : step R first.world e ≡ Ok second
+  pub goes_second : step first.world e ≡ Ok second
   pub entry_unchanged : second.entry ≡ v.entry
   pub same_world : second.world ≡ u.world
 
 -- the step of e can be taken out of a run: where e leads from w to s, the events from there to r,
 -- and none of them depends on e, the events alone leave the same entries, they lead to the world of
 -- r with the old words of e's entry put back, and e may go last, with the same entry
-pub record IsRemovable (R : ℕ) (w : World) (e : Event) (s : Stepped) (es : List Event) (r : Ran) : Type 0 where
-  pub rest : run R w es ≡ Ok (record { world = unstep r.world s.entry; entries = r.entries })
-  pub again : step R (unstep r.world s.entry) e ≡ Ok (record { world = r.world; entry = s.entry })
-  pub well_formed : IsWellFormed R (unstep r.world s.entry)
+pub record IsRemovable (w : World) (e : Event) (s : Stepped) (es : List Event) (r : Ran) : Type 0 where
+  pub rest : run w es ≡ Ok (record { world = unstep r.world s.entry; entries = r.entries })
+  pub again : step (unstep r.world s.entry) e ≡ Ok (record { world = r.world; entry = s.entry })
+  pub well_formed : IsWellFormed (unstep r.world s.entry)
 
 -- the entry x is that of a step in a run that reached this world, and no later step that remains of
 -- that run depends on it
-pub record WasStepped (R : ℕ) (now : World) (x : Entry) : Type 0 where
+pub record WasStepped (now : World) (x : Entry) : Type 0 where
   pub start : World
-  pub well_formed : IsWellFormed R start
+  pub well_formed : IsWellFormed start
   pub event : Event
   pub stepped : Stepped
-  pub goes : step R start event ≡ Ok stepped
+  pub goes : step start event ≡ Ok stepped
   pub its_entry : stepped.entry ≡ x
   pub later : List Event
   pub ran : Ran
-  pub went_on : run R stepped.world later ≡ Ok ran
+  pub went_on : run stepped.world later ≡ Ok ran
   pub here : ran.world ≡ now
   pub free : IsFree x ran.entries
 
 -- the step of x was taken out: the later steps alone lead from the start to the world left, with
 -- their entries, and the step may go last there
-pub record IsTakenOut (R : ℕ) (now left : World) (x : Entry) (was : WasStepped R now x) : Type 0 where
-  pub rest : run R was.start was.later ≡ Ok (record { world = left; entries = was.ran.entries })
-  pub again : step R left was.event ≡ Ok (record { world = now; entry = x })
+pub record IsTakenOut (now left : World) (x : Entry) (was : WasStepped now x) : Type 0 where
+  pub rest : run was.start was.later ≡ Ok (record { world = left; entries = was.ran.entries })
+  pub again : step left was.event ≡ Ok (record { world = now; entry = x })
 
 -- the refusals that a step in a well-formed world may meet; that there is no place, or no content
 -- of the right kind, is not among them
@@ -77,6 +77,7 @@ MovesOn e old new = (a b : Actor) → old.actor e.actor ≡ Some a → new.actor
 -- nothing changed except the places that the entry's step wrote, which its place covers, and the
 -- event's actor
 pub record ChangesOnly (e : Event) (x : Entry) (old new : World) : Type 0 where
+  pub ring : new.ring ≡ old.ring
   pub outside : (q : Place) → some_covers (written x.place x.wrote) q ≡ false → new.at q ≡ old.at q
   pub inside : (q : Place) → some_covers (written x.place x.wrote) q ≡ true → some_covers x.place q ≡ true
   pub reading : is_nothing x.wrote ≡ true → new.at ≡ old.at

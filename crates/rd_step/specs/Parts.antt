@@ -19,7 +19,7 @@ use Rattle.rd_step.specs.WellFormed.{Presence, next_fits, names_fit, numbers_fit
 
 -- the world of the model that these parts describe
 abbrev pub world_of_parts : {R : ℕ} → Parts R → World
-world_of_parts p = record { at = contents_of_parts p.segments.items p.qhead p.qtail p.array; actor = numbered p.actors.items }
+world_of_parts {R} p = record { ring = R; at = contents_of_parts p.segments.items p.qhead p.qtail p.array; actor = numbered p.actors.items }
 
 -- for each name, whether the parts have a segment of that name
 abbrev pub has : {R : ℕ} → Parts R → Presence

@@ -13,12 +13,12 @@ makes (Make x) = true
 makes _ = false
 
 -- the access that the event's actor asks for, or why it may not
-abbrev pub access_of : ℕ → World → Event → Result Access Refusal
-access_of R w e = and_then (ok_or (w.actor e.actor) NoActor) (λ a. need R a e.act)
+abbrev pub access_of : World → Event → Result Access Refusal
+access_of w e = and_then (ok_or (w.actor e.actor) NoActor) (λ a. need w.ring a e.act)
 
 -- whether the event is a step that makes a segment; not if it is refused
-abbrev pub makes_segment : ℕ → World → Event → Bool
-makes_segment R w e = result_unwrap_or (result_map makes (access_of R w e)) false
+abbrev pub makes_segment : World → Event → Bool
+makes_segment w e = result_unwrap_or (result_map makes (access_of w e)) false
 
 -- a step with this outcome makes a segment and is refused by nothing else, but its actor has no
 -- room

@@ -1,5 +1,5 @@
 -- The run of a list of events: one step after another.
-use Rattle.std.specs.Prelude.{◌≡◌, ℕ, List, [], ◌∷◌, map, Result, Ok}
+use Rattle.std.specs.Prelude.{◌≡◌, List, [], ◌∷◌, map, Result, Ok}
 use Rattle.rd_ring.specs.Prelude.{Refusal, and_then, result_map}
 use Rattle.rd_step.specs.World.{World}
 use Rattle.rd_step.specs.declared.entries.Event.{Event}
@@ -17,9 +17,9 @@ preceded_by x r = record { world = r.world; entries = x ∷ r.entries }
 
 -- the run of a list of events from this world, one step after another from the front, or the first
 -- refusal
-abbrev pub run : ℕ → World → List Event → Result Ran Refusal
-run R w [] = Ok (record { world = w; entries = [] })
-run R w (e ∷ es) = and_then (step R w e) (λ s. result_map (preceded_by s.entry) (run R s.world es))
+abbrev pub run : World → List Event → Result Ran Refusal
+run w [] = Ok (record { world = w; entries = [] })
+run w (e ∷ es) = and_then (step w e) (λ s. result_map (preceded_by s.entry) (run s.world es))
 
 -- the events of these entries, in their order
 abbrev pub events : List Entry → List Event
@@ -30,5 +30,5 @@ abbrev pub run_entries : Result Ran Refusal → Result (List Entry) Refusal
 run_entries r = result_map (λ ran. ran.entries) r
 
 -- the entries are those that the run of their events from this world leaves
-abbrev pub IsRunFrom : ℕ → World → List Entry → Type 0
-IsRunFrom R w entries = run_entries (run R w (events entries)) ≡ Ok entries
+abbrev pub IsRunFrom : World → List Entry → Type 0
+IsRunFrom w entries = run_entries (run w (events entries)) ≡ Ok entries

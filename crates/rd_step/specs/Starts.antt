@@ -13,9 +13,9 @@ actors_by each count (suc n) = if nat_lt n count then Some (each (suc n)) else N
 -- the fresh world with rings of R cells and this many actors: the space is fresh, and the actors
 -- are idle
 abbrev pub fresh_world : ℕ → ℕ → World
-fresh_world R count = record { at = fresh_space R; actor = actors_by (λ n. idle) count }
+fresh_world R count = record { ring = R; at = fresh_space R; actor = actors_by (λ n. idle) count }
 
 -- the poised world with rings of R cells and this many actors: the space is fresh, and actor a is
 -- about to draw a position for the value a
 abbrev pub poised_world : ℕ → ℕ → World
-poised_world R count = record { at = fresh_space R; actor = actors_by poised count }
+poised_world R count = record { ring = R; at = fresh_space R; actor = actors_by poised count }

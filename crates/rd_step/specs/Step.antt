@@ -22,7 +22,7 @@ with_actor n a actors m = if m == n then Some a else actors m
 -- with this record and reply
 abbrev pub step_outcome : World → Event → Actor → Performed → Actor × Option OpReply → Stepped
 step_outcome w e a did next = record {
-  world = record { at = contents_after did w.at; actor = with_actor e.actor next.0 w.actor };
+  world = record { ring = w.ring; at = contents_after did w.at; actor = with_actor e.actor next.0 w.actor };
   entry = record {
     event = e;
     place = did.place;
@@ -36,12 +36,12 @@ step_outcome w e a did next = record {
 
 -- the step of an event in a world: the event's actor asks for its one access, which is done at its
 -- one place, and the actor goes on with the answer. All other places and actors stay
-abbrev pub step : ℕ → World → Event → Result Stepped Refusal
-step R w e =
+abbrev pub step : World → Event → Result Stepped Refusal
+step w e =
     and_then (ok_or (w.actor e.actor) NoActor) (λ a.
-    and_then (need R a e.act) (λ access.
-    and_then (perform R e.actor w.at access) (λ did.
-    Ok (step_outcome w e a did (after R a e.act did.answer)))))
+    and_then (need w.ring a e.act) (λ access.
+    and_then (perform w.ring e.actor w.at access) (λ did.
+    Ok (step_outcome w e a did (after w.ring a e.act did.answer)))))
 
 -- the segment is there, an actor made it, and it is the last one that this actor made
 pub record IsLast (at : Contents) (s : SegName) : Type 0 where
@@ -59,7 +59,7 @@ CanPutBack at _ _ = ⊥
 
 -- the world with this record given to the actor, and this content, or none, put back at the place
 abbrev pub revert : World → ℕ → Actor → Option Place → Option Content → World
-revert w n a place content = record { at = restore place content w.at; actor = with_actor n a w.actor }
+revert w n a place content = record { ring = w.ring; at = restore place content w.at; actor = with_actor n a w.actor }
 
 -- the world with the old words of an entry put back: those of its actor and of its place
 abbrev pub unstep : World → Entry → World

@@ -97,11 +97,11 @@ abbrev pub is_actor : (ℕ → Option Actor) → ℕ → Bool
 is_actor actors n = is_some (actors n)
 
 -- a world of rings of R cells is well-formed
-pub record IsWellFormed (R : ℕ) (w : World) : Type 0 where
+pub record IsWellFormed (w : World) : Type 0 where
   pub numbered : IsNumbered (is_actor w.actor)
   pub made : AreMade (is_actor w.actor) (is_there w.at)
   -- exactly the places that belong to the world are there
-  pub places : (p : Place) → is_some (w.at p) ≡ belongs R (is_there w.at) p
+  pub places : (p : Place) → is_some (w.at p) ≡ belongs w.ring (is_there w.at) p
   -- the content of each place and the record of each actor fit
-  pub contents : (p : Place) → IsTrue (place_fits R (is_there w.at) p (w.at p))
-  pub actors : (n : ℕ) → IsTrue (actor_fits R (is_there w.at) (w.actor n))
+  pub contents : (p : Place) → IsTrue (place_fits w.ring (is_there w.at) p (w.at p))
+  pub actors : (n : ℕ) → IsTrue (actor_fits w.ring (is_there w.at) (w.actor n))

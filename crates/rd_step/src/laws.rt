@@ -21,76 +21,81 @@ ghost use Rattle.rd_step.specs.Laws.{CommutingSquare, IsRemovable, IsStepRefusal
 /// same world after both. It rests on the shape of the step alone (one actor, one place), and on no
 /// row of the table.
 pub fn independent_steps_commute()
-    ensures { (R : ℕ) (w : Model) (e f : Event) (v u : Stepped) → step R w e ≡ Ok v → step R v.world f ≡ Ok u
-        → depends v.entry u.entry ≡ false → CommutingSquare R w e f v u }
+    ensures { (w : Model) (e f : Event) (v u : Stepped) → step w e ≡ Ok v → step v.world f ≡ Ok u
+        → depends v.entry u.entry ≡ false → CommutingSquare w e f v u }
 {}
 
 /// The words that a step's entry keeps give back the whole world from before the step.
 pub fn entries_undo_their_steps()
-    ensures { (R : ℕ) (w : Model) (e : Event) (s : Stepped) → IsWellFormed R w → step R w e ≡ Ok s
+    ensures { (w : Model) (e : Event) (s : Stepped) → IsWellFormed w → step w e ≡ Ok s
         → unstep s.world s.entry ≡ w }
 {}
 
 /// A step's entry keeps the words of its actor and the content of its place from before the step.
 pub fn entries_keep_the_words_from_before()
-    ensures { (R : ℕ) (w : Model) (e : Event) (s : Stepped) → IsWellFormed R w → step R w e ≡ Ok s → KeepsOldWords w s.entry }
+    ensures { (w : Model) (e : Event) (s : Stepped) → IsWellFormed w → step w e ≡ Ok s → KeepsOldWords w s.entry }
 {}
 
 /// A step on which no later one depends may be taken out of a run, and may go last.
 pub fn a_free_step_may_be_taken_out()
-    ensures { (R : ℕ) (w : Model) (e : Event) (s : Stepped) (es : List Event) (r : Ran) → IsWellFormed R w
-        → step R w e ≡ Ok s → run R s.world es ≡ Ok r → IsFree s.entry r.entries → IsRemovable R w e s es r }
+    ensures { (w : Model) (e : Event) (s : Stepped) (es : List Event) (r : Ran) → IsWellFormed w
+        → step w e ≡ Ok s → run s.world es ≡ Ok r → IsFree s.entry r.entries → IsRemovable w e s es r }
 {}
 
 /// Lists of events that are causally equivalent reach one world, and leave the same entries in some
 /// order.
 pub fn equivalent_schedules_reach_one_world()
-    ensures { (R : ℕ) (w : Model) (es fs : List Event) (r q : Ran) → run R w es ≡ Ok r → run R w fs ≡ Ok q → IsEquivalent R w es fs
+    ensures { (w : Model) (es fs : List Event) (r q : Ran) → run w es ≡ Ok r → run w fs ≡ Ok q → IsEquivalent w es fs
         → ReachesTheSame r q }
 {}
 
 /// A list of events that runs is causally equivalent to itself.
 pub fn equivalence_is_reflexive()
-    ensures { (R : ℕ) (w : Model) (es : List Event) (r : Ran) → run R w es ≡ Ok r → IsEquivalent R w es es }
+    ensures { (w : Model) (es : List Event) (r : Ran) → run w es ≡ Ok r → IsEquivalent w es es }
 {}
 
 /// Two neighbours that do not depend on each other may change places: the lists are causally
 /// equivalent.
 pub fn independent_neighbours_swapped_are_equivalent()
-    ensures { (R : ℕ) (w : Model) (e f : Event) (es : List Event) (v u : Stepped) (r : Ran) → step R w e ≡ Ok v
-        → step R v.world f ≡ Ok u → depends v.entry u.entry ≡ false → run R u.world es ≡ Ok r
-        → IsEquivalent R w (e ∷ f ∷ es) (f ∷ e ∷ es) }
+    ensures { (w : Model) (e f : Event) (es : List Event) (v u : Stepped) (r : Ran) → step w e ≡ Ok v
+        → step v.world f ≡ Ok u → depends v.entry u.entry ≡ false → run u.world es ≡ Ok r
+        → IsEquivalent w (e ∷ f ∷ es) (f ∷ e ∷ es) }
 {}
 
 /// A step keeps a world well-formed.
 pub fn steps_keep_worlds_well_formed()
-    ensures { (R : ℕ) (w : Model) (e : Event) (s : Stepped) → IsWellFormed R w → step R w e ≡ Ok s
-        → IsWellFormed R s.world }
+    ensures { (w : Model) (e : Event) (s : Stepped) → IsWellFormed w → step w e ≡ Ok s
+        → IsWellFormed s.world }
+{}
+
+/// A run keeps the size of the rings.
+pub fn runs_keep_the_ring()
+    ensures { (w : Model) (es : List Event) (r : Ran) → run w es ≡ Ok r → r.world.ring ≡ w.ring }
 {}
 
 /// A step in a well-formed world is refused only because there is no such actor, because the
 /// actor's control point does not take the act, or at the end of a counter, of the array or of a
 /// maker's segments. It is never refused because a place is not there.
 pub fn steps_are_refused_in_their_cases_alone()
-    ensures { (R : ℕ) (w : Model) (e : Event) (refusal : Refusal) → 1 ≤ R → IsWellFormed R w → step R w e ≡ Err refusal → IsStepRefusal refusal }
+    ensures { (w : Model) (e : Event) (refusal : Refusal) → 1 ≤ w.ring → IsWellFormed w → step w e ≡ Err refusal → IsStepRefusal refusal }
 {}
 
 /// Each operation that an actor of a well-formed world asks for suits the content of its place.
 pub fn operations_suit_their_contents()
-    ensures { (R : ℕ) (w : Model) (n : ℕ) (a : Actor) (act : Act) (p : Place) (op : Operation) → 1 ≤ R → IsWellFormed R w
-        → w.actor n ≡ Some a → need R a act ≡ Ok (At p op) → SuitsContent w.at p op }
+    ensures { (w : Model) (n : ℕ) (a : Actor) (act : Act) (p : Place) (op : Operation) → 1 ≤ w.ring → IsWellFormed w
+        → w.actor n ≡ Some a → need w.ring a act ≡ Ok (At p op) → SuitsContent w.at p op }
 {}
 
 /// A step leaves its actor at another control point: the table has a row for each answer that
 /// comes, and no row leads to itself.
 pub fn steps_move_their_actors()
-    ensures { (R : ℕ) (w : Model) (e : Event) (s : Stepped) → 1 ≤ R → IsWellFormed R w → step R w e ≡ Ok s → MovesOn e w s.world }
+    ensures { (w : Model) (e : Event) (s : Stepped) → 1 ≤ w.ring → IsWellFormed w → step w e ≡ Ok s → MovesOn e w s.world }
 {}
 
 /// A step changes nothing except what its entry's place covers and its event's actor, and no place
 /// at all if it only read.
 pub fn steps_change_one_place_and_one_actor()
-    ensures { (R : ℕ) (w : Model) (e : Event) (s : Stepped) → step R w e ≡ Ok s → ChangesOnly e s.entry w s.world }
+    ensures { (w : Model) (e : Event) (s : Stepped) → step w e ≡ Ok s → ChangesOnly e s.entry w s.world }
 {}
 
 /// Parts have no flaw exactly if there is a list of segments for each maker from 0 to the number of
@@ -98,5 +103,5 @@ pub fn steps_change_one_place_and_one_actor()
 /// world, and accepts no other.
 pub fn parts_have_no_flaw_exactly_where_their_world_is_well_formed()
     ensures { (R : ℕ) (p : Parts R) → (first_flaw p ≡ None)
-        ↔ ((length p.segments.items ≡ suc (length p.actors.items)) × IsWellFormed R (world_of_parts p)) }
+        ↔ ((length p.segments.items ≡ suc (length p.actors.items)) × IsWellFormed (world_of_parts p)) }
 {}

@@ -28,7 +28,7 @@ pub struct World<const R: usize> {
     ghost positive: { 1 ≤ R },
     ghost small: { R ≤ MOST_CELLS },
     ghost makers: { lists space ≡ suc (length actors.items) },
-    ghost well_formed: { IsWellFormed R (world_of_fields space actors.items) },
+    ghost well_formed: { IsWellFormed (world_of_fields space actors.items) },
 }
 
 /// Written out and not derived, so that a proof of a function in which a world ends has one step
@@ -206,11 +206,11 @@ impl<const R: usize> World<R> {
     /// actor that has made 65,535 segments; `NoMemory` if memory was refused for a making that
     /// nothing else refuses. The world is then as before.
     pub fn step(&mut self, event: Event) -> Result<Entry, Refusal>
-        ensures ok { IfOk result (λ entry. step R (model self.old) event ≡ Ok (record { world = model self.new; entry = entry })) }
-        ensures err { IfErr result (λ refusal. IsRefused (step R (model self.old) event) (makes_segment R (model self.old) event) (room self.old event.actor) refusal) }
+        ensures ok { IfOk result (λ entry. step (model self.old) event ≡ Ok (record { world = model self.new; entry = entry })) }
+        ensures err { IfErr result (λ refusal. IsRefused (step (model self.old) event) (makes_segment (model self.old) event) (room self.old event.actor) refusal) }
         ensures unchanged { OnErr result (model self.new ≡ model self.old) }
-        ensures room { (m : ℕ) → room self.old m ≤ room self.new m + room_used (makes_segment R (model self.old) event) event.actor m }
-        ensures others { (m : ℕ) → (IsTrue (makes_segment R (model self.old) event) → m ≢ event.actor) → room self.new m ≡ room self.old m }
+        ensures room { (m : ℕ) → room self.old m ≤ room self.new m + room_used (makes_segment (model self.old) event) event.actor m }
+        ensures others { (m : ℕ) → (IsTrue (makes_segment (model self.old) event) → m ≢ event.actor) → room self.new m ≡ room self.old m }
         ensures ended { result ≡ Err Refusal.SegmentsEnd → (m : ℕ) → room self.new m ≡ room self.old m }
         ensures kept { OnErr result ((m : ℕ) → room self.old m ≤ room self.new m) }
         ensures lists { list_capacity self.new ≡ list_capacity self.old }
@@ -240,11 +240,11 @@ impl<const R: usize> World<R> {
     /// the entry keeps. No entry is written. A making isn't refused, since its maker must have
     /// room.
     pub fn step_again(&mut self, entry: &Entry)
-        requires goes { (after : Model) × (step R (model self.old) entry.now.event ≡ Ok (record { world = after; entry = entry.now })) }
-        requires room { IsTrue (makes_segment R (model self.old) entry.now.event) → 1 ≤ room self.old entry.now.event.actor }
-        ensures done { step R (model self.old) entry.now.event ≡ Ok (record { world = model self.new; entry = entry.now }) }
-        ensures room { (m : ℕ) → room self.old m ≤ room self.new m + room_used (makes_segment R (model self.old) entry.now.event) entry.now.event.actor m }
-        ensures others { (m : ℕ) → (IsTrue (makes_segment R (model self.old) entry.now.event) → m ≢ entry.now.event.actor) → room self.new m ≡ room self.old m }
+        requires goes { (after : Model) × (step (model self.old) entry.now.event ≡ Ok (record { world = after; entry = entry.now })) }
+        requires room { IsTrue (makes_segment (model self.old) entry.now.event) → 1 ≤ room self.old entry.now.event.actor }
+        ensures done { step (model self.old) entry.now.event ≡ Ok (record { world = model self.new; entry = entry.now }) }
+        ensures room { (m : ℕ) → room self.old m ≤ room self.new m + room_used (makes_segment (model self.old) entry.now.event) entry.now.event.actor m }
+        ensures others { (m : ℕ) → (IsTrue (makes_segment (model self.old) entry.now.event) → m ≢ entry.now.event.actor) → room self.new m ≡ room self.old m }
         ensures lists { list_capacity self.new ≡ list_capacity self.old }
         ensures actors { actor_capacity self.new ≡ actor_capacity self.old }
     {
@@ -273,7 +273,7 @@ impl<const R: usize> World<R> {
     )
         requires actor_there { IsSome ((model self.old).actor actor) }
         requires place_there { CanPutBack (model self.old).at place content }
-        requires well_formed { IsWellFormed R (revert (model self.old) actor words place content) }
+        requires well_formed { IsWellFormed (revert (model self.old) actor words place content) }
         ensures done { model self.new ≡ revert (model self.old) actor words place content }
         ensures room { (m : ℕ) → room self.new m ≡ room self.old m + room_returned place content m }
         ensures lists { list_capacity self.new ≡ list_capacity self.old }

@@ -177,6 +177,7 @@ module _ (R : ℕ) (d : Data) (p q : Parts R) (h : IsParts d p) (k : IsParts d q
 
   one_world : world_of_parts p ≡ world_of_parts q
   one_world = λ i. record {
+    ring = R;
     at = contents_by (segments_by (λ n. part_of_parts (names_same n i))) (qhead_same i) (qtail_same i) (array_same i);
     actor = numbered (actors_same i);
   }
@@ -268,10 +269,10 @@ pub one_trace : (text : List ℕ) (R Q : ℕ) (t : Trace R) (u : Trace Q) → Is
 one_trace text R Q t u h k = let p = same_trace text R Q t u h k in (p.0, (λ i. (p.1 i).flaw), same_book R Q t u p.1)
 
 -- the events that are seen of each bookmark can run from the start
-abbrev pub SeenGoThrough : ℕ → World → List (List ℕ × List Event) → Type 0
-SeenGoThrough R start [] = Unit {0}
-SeenGoThrough R start (m ∷ ms) = GoThrough R start m.1 × SeenGoThrough R start ms
+abbrev pub SeenGoThrough : World → List (List ℕ × List Event) → Type 0
+SeenGoThrough start [] = Unit {0}
+SeenGoThrough start (m ∷ ms) = GoThrough start m.1 × SeenGoThrough start ms
 
-pub seen_go : (R : ℕ) (start : World) (ms : List Mark) → MarksGoThrough R start ms → SeenGoThrough R start (map seen_mark ms)
-seen_go R start [] h = tt
-seen_go R start (m ∷ ms) h = (h.0, seen_go R start ms h.1)
+pub seen_go : (start : World) (ms : List Mark) → MarksGoThrough start ms → SeenGoThrough start (map seen_mark ms)
+seen_go start [] h = tt
+seen_go start (m ∷ ms) h = (h.0, seen_go start ms h.1)

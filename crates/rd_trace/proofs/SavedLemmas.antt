@@ -34,25 +34,25 @@ went : (o : Result Ran Refusal) (xs : List Entry) → run_entries o ≡ Ok xs �
 went o xs h = grind arith
 
 -- the live events of a journal and then its undone ones go through
-pub goes_through : (R : ℕ) (j : Journal) → IsRun R j → length j.live + length j.undone ≤ MOST_STEPS
-    → GoThrough R (state_of j).start ((state_of j).live ++ (state_of j).undone)
-goes_through R j runs few =
+pub goes_through : (j : Journal) → IsRun j → length j.live + length j.undone ≤ MOST_STEPS
+    → GoThrough (state_of j).start ((state_of j).live ++ (state_of j).undone)
+goes_through j runs few =
     let joined : events (j.live ++ j.undone) ≡ events j.live ++ events j.undone = map-append (λ (x : Entry). x.event) j.live j.undone in
     record {
       few = omega (arith, few, length-append (events j.live) (events j.undone), length-map j.live (λ (x : Entry). x.event), length-map j.undone (λ (x : Entry). x.event));
       runs =
-          subst (λ (es : List Event). IsOk (run R (start_of j) es)) joined
-          (went (run R (start_of j) (events (j.live ++ j.undone))) (j.live ++ j.undone) (one_run R j runs));
+          subst (λ (es : List Event). IsOk (run (start_of j) es)) joined
+          (went (run (start_of j) (events (j.live ++ j.undone))) (j.live ++ j.undone) (one_run j runs));
     }
 
 -- a value is a trace of version 2 of this state, whose start has no flaw
-abbrev pub SpellsBook : ℕ → BookState → Data → Type 0
-SpellsBook R b d = (t : Trace R) × IsSecondTrace d t × (start_flaw t.start ≡ None) × (loaded_state t ≡ b)
+abbrev pub SpellsBook : BookState → Data → Type 0
+SpellsBook b d = (t : Trace b.session.start.ring) × IsSecondTrace d t × (start_flaw t.start ≡ None) × (loaded_state t ≡ b)
 
 -- the value that a book is written as spells it, if the values of its members do
-pub book_spelled : (R : ℕ) (b : BookState) (start : Data) → SpellsWorld R b.session.start start → SpellEach (Gives event_of) (items_by event_data b.session.live) b.session.live
-    → SpellEach (Gives event_of) (items_by event_data b.session.undone) b.session.undone → AreMarks (items_by mark_data b.marks) b.marks → SpellsBook R b (book_data R start b)
-book_spelled R b start h live undone marks = (
+pub book_spelled : (b : BookState) (start : Data) → SpellsWorld b.session.start start → SpellEach (Gives event_of) (items_by event_data b.session.live) b.session.live
+    → SpellEach (Gives event_of) (items_by event_data b.session.undone) b.session.undone → AreMarks (items_by mark_data b.marks) b.marks → SpellsBook b (book_data start b)
+book_spelled b start h live undone marks = (
   record { start = h.0; marks = b.marks; live = b.session.live; undone = b.session.undone },
   record {
     members = refl;

@@ -37,16 +37,16 @@ module _ (R : ℕ) (w : World) where
     fresh_by : w ≡ fresh_world R n
     fresh_by = e ∙ ap (fresh_world R) same
 
-    pub starts_fresh : 1 ≤ n → n ≤ MOST_ACTORS → IsStartData R w d
+    pub starts_fresh : 1 ≤ n → n ≤ MOST_ACTORS → IsStartData w d
     starts_fresh some few = inl (n, fresh_by, some, few, is)
 
-    pub spells_fresh : 1 ≤ n → n ≤ MOST_ACTORS → SpellsWorld R w d
+    pub spells_fresh : 1 ≤ n → n ≤ MOST_ACTORS → SpellsWorld w d
     spells_fresh some few = (Fresh n, subst (λ x. IsFreshStart x n) (sym is) (fresh_spelled n some few), refl, sym fresh_by)
 
   -- and another one as its parts
   module _ (p : Parts R) (parts : world_of_parts p ≡ w) (flawless : first_flaw p ≡ None) (d : Data) (is : d ≡ parts_data p) where
-    pub starts_parts : ((count : ℕ) × (w ≡ fresh_world R count) → ⊥) → IsStartData R w d
+    pub starts_parts : ((count : ℕ) × (w ≡ fresh_world R count) → ⊥) → IsStartData w d
     starts_parts other = inr ((λ count e. other (count, e)), p, flawless, parts, is)
 
-    pub spells_parts : IsParts (parts_data p) p → SpellsWorld R w d
+    pub spells_parts : IsParts (parts_data p) p → SpellsWorld w d
     spells_parts h = (OfParts p, subst (λ x. IsParts x p) (sym is) h, flawless, parts)

@@ -111,9 +111,9 @@ parts_plain p =
 fresh_plain : (count : ℕ) → IsPlain 6 (fresh_data count)
 fresh_plain count = object_plain 5 (with_member 5 (number_plain 5 count) (no_member 5))
 
-start_plain : (R : ℕ) (w : World) (d : Data) → IsStartData R w d → IsPlain 6 d
-start_plain R w d (inl (count, is_fresh, some, few, same)) = subst (IsPlain 6) (sym same) (fresh_plain count)
-start_plain R w d (inr (no_fresh, p, flawless, is_world, same)) = subst (IsPlain 6) (sym same) (parts_plain p)
+start_plain : (w : World) (d : Data) → IsStartData w d → IsPlain 6 d
+start_plain w d (inl (count, is_fresh, some, few, same)) = subst (IsPlain 6) (sym same) (fresh_plain count)
+start_plain w d (inr (no_fresh, p, flawless, is_world, same)) = subst (IsPlain 6) (sym same) (parts_plain p)
 
 -- ---- bookmarks, and the book
 
@@ -122,19 +122,19 @@ mark_plain n m =
     let k = suc (suc n) in
     object_plain k (with_member k (array_plain (suc n) (events_plain n m.events)) (with_member k (string_plain k (bytes_of m.name)) (no_member k)))
 
-book_plain : (R : ℕ) (start : Data) (b : BookState) → IsPlain 6 start → IsPlain 7 (book_data R start b)
-book_plain R start b h =
+book_plain : (start : Data) (b : BookState) → IsPlain 6 start → IsPlain 7 (book_data start b)
+book_plain start b h =
     let undone = with_member 6 (array_plain 5 (events_plain 4 b.session.undone)) (with_member 6 (number_plain 6 2) (no_member 6)) in
-    let ring = with_member 6 (number_plain 6 R) (with_member 6 h undone) in
+    let ring = with_member 6 (number_plain 6 b.session.start.ring) (with_member 6 h undone) in
     object_plain 6 (with_member 6 (array_plain 5 (events_plain 4 b.session.live)) (with_member 6 (array_plain 5 (each_plain 5 mark_data (mark_plain 2) b.marks)) ring))
 
 -- no number of a start's value is a float, and it is no deeper than what is read
-pub whole_start : (R : ℕ) (w : World) (d : Data) → IsStartData R w d → has_float d ≡ false
-whole_start R w d h = (start_plain R w d h).whole
+pub whole_start : (w : World) (d : Data) → IsStartData w d → has_float d ≡ false
+whole_start w d h = (start_plain w d h).whole
 
-pub shallow_start : (R : ℕ) (w : World) (d : Data) → IsStartData R w d → depth d ≤ max_depth
-shallow_start R w d h = let k = (start_plain R w d h).shallow in omega (arith, k)
+pub shallow_start : (w : World) (d : Data) → IsStartData w d → depth d ≤ max_depth
+shallow_start w d h = let k = (start_plain w d h).shallow in omega (arith, k)
 
 -- nor is that of a book deeper
-pub shallow_book : (R : ℕ) (start : Data) (b : BookState) → IsStartData R b.session.start start → depth (book_data R start b) ≤ max_depth
-shallow_book R start b h = let k = (book_plain R start b (start_plain R b.session.start start h)).shallow in omega (arith, k)
+pub shallow_book : (start : Data) (b : BookState) → IsStartData b.session.start start → depth (book_data start b) ≤ max_depth
+shallow_book start b h = let k = (book_plain start b (start_plain b.session.start start h)).shallow in omega (arith, k)

@@ -6,11 +6,11 @@ use Rattle.rd_trace.proofs.WholeLemmas.{whole_start, shallow_start, shallow_book
 use Rattle.rd_trace.proofs.TextLemmas.{each_spelled, list_back, whole_text, book_text, book_back, read_line, back_of_text}
 
 -- the text of the value of a start was appended
-pub start_appended : (R : ℕ) (w : World) (start : Data) (bytes old new : List ℕ) → IsStartData R w start → SpellsWorld R w start → (has_float start ≡ false → bytes ≡ compact_text start)
-    → IsInOrder bytes start → (depth start ≤ max_depth → read bytes ≡ Some start) → new ≡ old ++ bytes → IsStartAppended R w old new
-start_appended R w start bytes old new is_start spelled text order reads appended =
-    let none = whole_start R w start is_start in
-    let shallow = shallow_start R w start is_start in
+pub start_appended : (w : World) (start : Data) (bytes old new : List ℕ) → IsStartData w start → SpellsWorld w start → (has_float start ≡ false → bytes ≡ compact_text start)
+    → IsInOrder bytes start → (depth start ≤ max_depth → read bytes ≡ Some start) → new ≡ old ++ bytes → IsStartAppended w old new
+start_appended w start bytes old new is_start spelled text order reads appended =
+    let none = whole_start w start is_start in
+    let shallow = shallow_start w start is_start in
     record {
       start = start;
       is_start = is_start;
@@ -20,37 +20,37 @@ start_appended R w start bytes old new is_start spelled text order reads appende
     }
 
 -- what is known of the values of a book's parts
-pub record AreItsParts (R : ℕ) (b : BookState) (start : Data) : Type 0 where
-  pub is_start : IsStartData R b.session.start start
-  pub spells_start : SpellsWorld R b.session.start start
+pub record AreItsParts (b : BookState) (start : Data) : Type 0 where
+  pub is_start : IsStartData b.session.start start
+  pub spells_start : SpellsWorld b.session.start start
   pub start_back : IsReadBack start
   pub live : SpellEach (IsKept (Gives event_of)) (items_by event_data b.session.live) b.session.live
   pub marks : SpellEach (IsKept IsMark) (items_by mark_data b.marks) b.marks
   pub undone : SpellEach (IsKept (Gives event_of)) (items_by event_data b.session.undone) b.session.undone
-  pub rules : KeepsRules R b
-  pub through : GoThrough R b.session.start (b.session.live ++ b.session.undone)
+  pub rules : KeepsRules b
+  pub through : GoThrough b.session.start (b.session.live ++ b.session.undone)
 
 -- the texts of its parts, put together, are the text of a book
-pub text_of_book : (R : ℕ) (b : BookState) (start : Data) (text : List ℕ) → R < 2 ^ 64 → AreItsParts R b start
-    → text ≡ whole_text (items_by event_data b.session.live) (items_by mark_data b.marks) R start (items_by event_data b.session.undone) → IsUtf8 text → IsTextOf R b text
-text_of_book R b start text fits parts is utf8 =
+pub text_of_book : (b : BookState) (start : Data) (text : List ℕ) → b.session.start.ring < 2 ^ 64 → AreItsParts b start
+    → text ≡ whole_text (items_by event_data b.session.live) (items_by mark_data b.marks) b.session.start.ring start (items_by event_data b.session.undone) → IsUtf8 text → IsTextOf b text
+text_of_book b start text fits parts is utf8 =
     let live = items_by event_data b.session.live in
     let marks = items_by mark_data b.marks in
     let undone = items_by event_data b.session.undone in
-    let written = is ∙ sym (book_text live marks undone R start) in
+    let written = is ∙ sym (book_text live marks undone b.session.start.ring start) in
     let back =
-    book_back live marks undone R start fits (list_back (Gives event_of) live b.session.live parts.live) (list_back IsMark marks b.marks parts.marks) parts.start_back
+    book_back live marks undone b.session.start.ring start fits (list_back (Gives event_of) live b.session.live parts.live) (list_back IsMark marks b.marks parts.marks) parts.start_back
     (list_back (Gives event_of) undone b.session.undone parts.undone) in
     let spelled =
-    book_spelled R b start parts.spells_start (each_spelled (Gives event_of) live b.session.live parts.live) (each_spelled (Gives event_of) undone b.session.undone parts.undone)
+    book_spelled b start parts.spells_start (each_spelled (Gives event_of) live b.session.live parts.live) (each_spelled (Gives event_of) undone b.session.undone parts.undone)
     (record { each = each_spelled IsMark marks b.marks parts.marks; names = parts.rules.names; few = parts.rules.few }) in
     let back_to = sym spelled.3 in
     let playable : IsPlayable spelled.0 = record {
-      marks = record { flawless = spelled.2; marks = subst (λ s. MarksGoThrough R s.session.start s.marks) back_to parts.rules.through };
-      through = subst (λ s. GoThrough R s.session.start (s.session.live ++ s.session.undone)) back_to parts.through;
+      marks = record { flawless = spelled.2; marks = subst (λ s. MarksGoThrough s.session.start s.marks) back_to parts.rules.through };
+      through = subst (λ s. GoThrough s.session.start (s.session.live ++ s.session.undone)) back_to parts.through;
     } in
-    let reads = ap read written ∙ read_line (book_data R start b) (shallow_book R start b parts.is_start) back in
+    let reads = ap read written ∙ read_line (book_data start b) (shallow_book start b parts.is_start) back in
     record {
       written = (start, parts.is_start, written);
-      loads = λ ring. (spelled.0, (utf8, book_data R start b, reads, (ring, inr spelled.1)), playable, spelled.3);
+      loads = λ ring. (spelled.0, (utf8, book_data start b, reads, (ring, inr spelled.1)), playable, spelled.3);
     }

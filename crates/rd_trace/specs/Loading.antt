@@ -36,20 +36,20 @@ abbrev pub fresh_state : ℕ → ℕ → BookState
 fresh_state R actors = record { session = record { start = fresh_world R actors; live = []; undone = [] }; marks = [] }
 
 -- the book is in this state, over rings of this many cells
-abbrev pub IsBookIn : ℕ → BookState → AnyBook → Type 0
-IsBookIn R b book = (any_ring book ≡ R) × (any_state book ≡ b)
+abbrev pub IsBookIn : BookState → AnyBook → Type 0
+IsBookIn b book = (any_ring book ≡ b.session.start.ring) × (any_state book ≡ b)
 
 -- the start of a trace is a well-formed world, and the events of each of its bookmarks can run from
 -- it
 pub record HasMarks {R : ℕ} (t : Trace R) : Type 0 where
   pub flawless : start_flaw t.start ≡ None
-  pub marks : MarksGoThrough R (start_world t.start) t.marks
+  pub marks : MarksGoThrough (start_world t.start) t.marks
 
 -- the start of a trace is well-formed, and from it the events of each bookmark can run, and so can
 -- the live events with the undone ones after them
 pub record IsPlayable {R : ℕ} (t : Trace R) : Type 0 where
   pub marks : HasMarks t
-  pub through : GoThrough R (start_world t.start) (t.live ++ t.undone)
+  pub through : GoThrough (start_world t.start) (t.live ++ t.undone)
 
 -- the result of replaying a trace: its book; or, in this order, the first flaw of its start, the
 -- first event that is refused of the first bookmark that has one, or the first of its live and
@@ -59,14 +59,14 @@ Replays IsBook t (Ok book) = IsPlayable t × IsBook book
 Replays IsBook t (Err NoMemory) = Unit {0}
 Replays IsBook t (Err BadTrace) = ⊥
 Replays IsBook t (Err (Flawed flaw)) = start_flaw t.start ≡ Some flaw
-Replays {R} IsBook t (Err (TraceMark m n cause)) = (start_flaw t.start ≡ None) × IsMarkRefusedAt R (start_world t.start) t.marks m n cause
-Replays {R} IsBook t (Err (TraceStep n cause)) = HasMarks t × IsRefusedAt R (start_world t.start) (t.live ++ t.undone) n cause
+Replays IsBook t (Err (TraceMark m n cause)) = (start_flaw t.start ≡ None) × IsMarkRefusedAt (start_world t.start) t.marks m n cause
+Replays IsBook t (Err (TraceStep n cause)) = HasMarks t × IsRefusedAt (start_world t.start) (t.live ++ t.undone) n cause
 
 -- the result of loading a text: that of replaying the trace that it is, or BadTrace if it is none
 abbrev pub LoadsTrace : List ℕ → Result AnyBook LoadTraceFault → Type 0
 LoadsTrace text (Err NoMemory) = Unit {0}
 LoadsTrace text (Err BadTrace) = (R : ℕ) (t : Trace R) → IsTraceText text t → ⊥
-LoadsTrace text result = (R : ℕ) × (t : Trace R) × IsTraceText text t × Replays (IsBookIn R (loaded_state t)) t result
+LoadsTrace text result = (R : ℕ) × (t : Trace R) × IsTraceText text t × Replays (IsBookIn (loaded_state t)) t result
 
 -- two results of loading are the same: the same book over the same rings, or the same fault
 abbrev pub IsSameAnswer : Result AnyBook LoadTraceFault → Result AnyBook LoadTraceFault → Type 0
@@ -77,11 +77,11 @@ IsSameAnswer (Err one) (Err other) = one ≡ other
 
 -- a text can be loaded as a book in this state: it is a trace of the state, whose start has no flaw
 -- and all of whose events can run
-abbrev pub IsLoadable : ℕ → BookState → List ℕ → Type 0
-IsLoadable R b text = (t : Trace R) × IsTraceText text t × IsPlayable t × (loaded_state t ≡ b)
+abbrev pub IsLoadable : BookState → List ℕ → Type 0
+IsLoadable b text = (t : Trace b.session.start.ring) × IsTraceText text t × IsPlayable t × (loaded_state t ≡ b)
 
 -- the result of loading the text as which a book in this state was written: the same book, unless
 -- memory was refused
-abbrev pub LoadsAgain : ℕ → BookState → Result AnyBook LoadTraceFault → Type 0
-LoadsAgain R b (Ok book) = (any_ring book ≡ R) × IsSameBook (any_state book) b
-LoadsAgain R b (Err fault) = fault ≡ NoMemory
+abbrev pub LoadsAgain : BookState → Result AnyBook LoadTraceFault → Type 0
+LoadsAgain b (Ok book) = (any_ring book ≡ b.session.start.ring) × IsSameBook (any_state book) b
+LoadsAgain b (Err fault) = fault ≡ NoMemory

@@ -96,10 +96,10 @@ book_object events marks cells start undone = object (
     (member (codes "version") (number (unsigned 2)) no_members))))))
 
 -- the value as which a book is written, where its start is written as this value
-abbrev pub book_data : ℕ → Data → BookState → Data
-book_data R start b = book_object (items_by event_data b.session.live) (items_by mark_data b.marks) R start (items_by event_data b.session.undone)
+abbrev pub book_data : Data → BookState → Data
+book_data start b = book_object (items_by event_data b.session.live) (items_by mark_data b.marks) b.session.start.ring start (items_by event_data b.session.undone)
 
 -- a text is one as which a book is written: JSON without spaces, its keys in alphabetical order,
 -- and a line feed
-abbrev pub IsWrittenAs : ℕ → BookState → List ℕ → Type 0
-IsWrittenAs R b text = (start : Data) × IsStartData R b.session.start start × (text ≡ compact_text (book_data R start b) ++ 10 ∷ [])
+abbrev pub IsWrittenAs : BookState → List ℕ → Type 0
+IsWrittenAs b text = (start : Data) × IsStartData b.session.start start × (text ≡ compact_text (book_data start b) ++ 10 ∷ [])

@@ -64,8 +64,8 @@ start_flaw (Fresh count) = None
 start_flaw (OfParts p) = first_flaw p
 
 -- a value spells a start that has no flaw, and whose world is this one
-abbrev pub SpellsWorld : ℕ → World → Data → Type 0
-SpellsWorld R w d = (start : Start R) × IsStart d start × (start_flaw start ≡ None) × (start_world start ≡ w)
+abbrev pub SpellsWorld : World → Data → Type 0
+SpellsWorld w d = (start : Start w.ring) × IsStart d start × (start_flaw start ≡ None) × (start_world start ≡ w)
 
 -- the value as which a fresh start is written
 abbrev pub fresh_data : ℕ → Data
@@ -86,7 +86,7 @@ parts_data p = parts_object (items_by actor_data p.actors.items) (array_data p.a
 
 -- the value as which a start is written: as a fresh one exactly if it is the fresh world, and else
 -- as parts of the world that have no flaw
-abbrev pub IsStartData : ℕ → World → Data → Type 0
-IsStartData R w d =
-    ((count : ℕ) × (w ≡ fresh_world R count) × (1 ≤ count) × (count ≤ MOST_ACTORS) × (d ≡ fresh_data count))
-    ⊎ (((count : ℕ) → w ≡ fresh_world R count → ⊥) × (p : Parts R) × (first_flaw p ≡ None) × (world_of_parts p ≡ w) × (d ≡ parts_data p))
+abbrev pub IsStartData : World → Data → Type 0
+IsStartData w d =
+    ((count : ℕ) × (w ≡ fresh_world w.ring count) × (1 ≤ count) × (count ≤ MOST_ACTORS) × (d ≡ fresh_data count))
+    ⊎ (((count : ℕ) → w ≡ fresh_world w.ring count → ⊥) × (p : Parts w.ring) × (first_flaw p ≡ None) × (world_of_parts p ≡ w) × (d ≡ parts_data p))

@@ -35,19 +35,19 @@ IsAt old live new = new ≡ with_session old (session_at old.session.start live)
 
 -- an event was refused: for memory, or else it is the first of these events that is refused from
 -- the start
-abbrev pub RefusesOne : ℕ → World → List Event → RefusedEvent → Type 0
-RefusesOne R start events refused = (refused.cause ≡ NoMemoryRefused) ⊎ ((refused.cause ≢ NoMemoryRefused) × IsRefusedAt R start events refused.step refused.cause)
+abbrev pub RefusesOne : World → List Event → RefusedEvent → Type 0
+RefusesOne start events refused = (refused.cause ≡ NoMemoryRefused) ⊎ ((refused.cause ≢ NoMemoryRefused) × IsRefusedAt start events refused.step refused.cause)
 
 -- just these events were made live, or one was refused
-abbrev pub GoesTo : ℕ → BookState → List Event → BookState → Result (Unit {0}) RefusedEvent → Type 0
-GoesTo R old events new (Ok _) = IsAt old events new × GoThrough R old.session.start events
-GoesTo R old events new (Err refused) = RefusesOne R old.session.start events refused
+abbrev pub GoesTo : BookState → List Event → BookState → Result (Unit {0}) RefusedEvent → Type 0
+GoesTo old events new (Ok _) = IsAt old events new × GoThrough old.session.start events
+GoesTo old events new (Err refused) = RefusesOne old.session.start events refused
 
 -- just these events were made live, and just those undone, or one was refused
-abbrev pub MakesLive : ℕ → BookState → List Event → List Event → BookState → Result (Unit {0}) RefusedEvent → Type 0
-MakesLive R old live undone new (Ok _) =
-    (new ≡ with_session old (record { start = old.session.start; live = live; undone = undone })) × GoThrough R old.session.start (live ++ undone)
-MakesLive R old live undone new (Err refused) = RefusesOne R old.session.start (live ++ undone) refused
+abbrev pub MakesLive : BookState → List Event → List Event → BookState → Result (Unit {0}) RefusedEvent → Type 0
+MakesLive old live undone new (Ok _) =
+    (new ≡ with_session old (record { start = old.session.start; live = live; undone = undone })) × GoThrough old.session.start (live ++ undone)
+MakesLive old live undone new (Err refused) = RefusesOne old.session.start (live ++ undone) refused
 
 -- the result of loading a value: that of replaying the trace that it spells, or BadTrace if it
 -- spells none
@@ -57,13 +57,13 @@ LoadsValue {R} d (Err BadTrace) = (t : Trace R) → IsEither d t → ⊥
 LoadsValue {R} d result = (t : Trace R) × IsEither d t × Replays (λ (book : Book R). book_state book ≡ loaded_state t) t result
 
 -- these bookmarks were set, each at its events, or an event of one was refused
-abbrev pub SetsMarks : ℕ → BookState → List Mark → BookState → Result (Unit {0}) LoadTraceFault → Type 0
-SetsMarks R old marks new (Ok _) = (new.marks ≡ marks) × (new.session.start ≡ old.session.start) × MarksGoThrough R old.session.start marks
-SetsMarks R old marks new (Err NoMemory) = Unit {0}
-SetsMarks R old marks new (Err (TraceMark m n cause)) = IsMarkRefusedAt R old.session.start marks m n cause
-SetsMarks R old marks new (Err BadTrace) = ⊥
-SetsMarks R old marks new (Err (Flawed flaw)) = ⊥
-SetsMarks R old marks new (Err (TraceStep n cause)) = ⊥
+abbrev pub SetsMarks : BookState → List Mark → BookState → Result (Unit {0}) LoadTraceFault → Type 0
+SetsMarks old marks new (Ok _) = (new.marks ≡ marks) × (new.session.start ≡ old.session.start) × MarksGoThrough old.session.start marks
+SetsMarks old marks new (Err NoMemory) = Unit {0}
+SetsMarks old marks new (Err (TraceMark m n cause)) = IsMarkRefusedAt old.session.start marks m n cause
+SetsMarks old marks new (Err BadTrace) = ⊥
+SetsMarks old marks new (Err (Flawed flaw)) = ⊥
+SetsMarks old marks new (Err (TraceStep n cause)) = ⊥
 
 -- the fault to which a refused event of the live or undone ones leads
 abbrev pub IsFaultOfStep : RefusedEvent → LoadTraceFault → Type 0

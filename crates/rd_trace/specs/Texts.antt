@@ -36,9 +36,9 @@ pub record IsMarkAppended (m : Mark) (old new : List ℕ) : Type 0 where
   pub kept : IsKept IsMark (mark_data m) m
 
 -- the text of a value as which the start in this world is written was appended to a text
-pub record IsStartAppended (R : ℕ) (w : World) (old new : List ℕ) : Type 0 where
+pub record IsStartAppended (w : World) (old new : List ℕ) : Type 0 where
   pub start : Data
-  pub is_start : IsStartData R w start
-  pub spelled : SpellsWorld R w start
+  pub is_start : IsStartData w start
+  pub spelled : SpellsWorld w start
   pub back : IsReadBack start
   pub text : new ≡ old ++ compact_text start

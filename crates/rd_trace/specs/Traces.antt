@@ -23,22 +23,22 @@ abbrev pub session_at : World → List Event → State
 session_at start live = record { start = start; live = live; undone = [] }
 
 -- the n-th of these events is the first that is refused, with this cause: those before it can run
-pub record IsRefusedAt (R : ℕ) (start : World) (events : List Event) (n : ℕ) (cause : Refusal) : Type 0 where
+pub record IsRefusedAt (start : World) (events : List Event) (n : ℕ) (cause : Refusal) : Type 0 where
   pub before : List Event
   pub event : Event
   pub later : List Event
   pub all : events ≡ before ++ event ∷ later
   pub number : n ≡ length before + 1
-  pub through : GoThrough R start before
-  pub refused : apply R (session_at start before) event ≡ Err cause
+  pub through : GoThrough start before
+  pub refused : apply (session_at start before) event ≡ Err cause
 
 -- the m-th bookmark is the first of which an event is refused, and its n-th event is the first such
 -- one, with this cause
-pub record IsMarkRefusedAt (R : ℕ) (start : World) (marks : List Mark) (m n : ℕ) (cause : Refusal) : Type 0 where
+pub record IsMarkRefusedAt (start : World) (marks : List Mark) (m n : ℕ) (cause : Refusal) : Type 0 where
   pub before : List Mark
   pub mark : Mark
   pub later : List Mark
   pub all : marks ≡ before ++ mark ∷ later
   pub number : m ≡ length before + 1
-  pub through : MarksGoThrough R start before
-  pub refused : IsRefusedAt R start mark.events n cause
+  pub through : MarksGoThrough start before
+  pub refused : IsRefusedAt start mark.events n cause

@@ -11,16 +11,16 @@ use Rattle.rd_trace.specs.declared.faults.WriteTraceFault.TheVariants.{NoMemory,
 
 -- a text is one as which a book in this state is written; over a ring that a trace may have it can
 -- be loaded, and gives the same book
-pub record IsTextOf (R : ℕ) (b : BookState) (text : List ℕ) : Type 0 where
-  pub written : IsWrittenAs R b text
-  pub loads : IsTraceRing R → IsLoadable R b text
+pub record IsTextOf (b : BookState) (text : List ℕ) : Type 0 where
+  pub written : IsWrittenAs b text
+  pub loads : IsTraceRing b.session.start.ring → IsLoadable b text
 
 -- what a sink took of the text of a book, by the result of writing it: all of it; nothing if memory
 -- was refused; a beginning if the sink failed
-abbrev pub WritesTrace : ℕ → BookState → Option (List ℕ) → Option (List ℕ) → Result (Unit {0}) WriteTraceFault → Type 0
-WritesTrace R b old new (Ok _) = (text : List ℕ) × IsTextOf R b text × Appends old new text
-WritesTrace R b old new (Err NoMemory) = Keeps old new
-WritesTrace R b old new (Err Write) = (text : List ℕ) × IsTextOf R b text × TakesBeginning old new text
+abbrev pub WritesTrace : BookState → Option (List ℕ) → Option (List ℕ) → Result (Unit {0}) WriteTraceFault → Type 0
+WritesTrace b old new (Ok _) = (text : List ℕ) × IsTextOf b text × Appends old new text
+WritesTrace b old new (Err NoMemory) = Keeps old new
+WritesTrace b old new (Err Write) = (text : List ℕ) × IsTextOf b text × TakesBeginning old new text
 
 -- whether a result of writing a trace is that the sink failed
 abbrev pub is_write_fault : Result (Unit {0}) WriteTraceFault → Bool

@@ -35,7 +35,7 @@ impl AnyBook {
     pub fn fresh(alloc: Global, ring: Ring, actors: u8) -> Result<AnyBook, AllocError>
         requires some { 1 ≤ actors }
         requires few { actors ≤ MOST_ACTORS }
-        ensures { IfOk result (IsBookIn (ring_length ring) (fresh_state (ring_length ring) actors)) }
+        ensures { IfOk result (IsBookIn (fresh_state (ring_length ring) actors)) }
     {
         match ring {
             Ring::Two => Ok(AnyBook::Two(fresh_book(alloc, actors)?)),
@@ -56,7 +56,7 @@ impl AnyBook {
     ) -> Result<u64, ScriptFault>
         requires reader_works { S.has_failed reader.old ≡ false }
         requires writer_works { K.has_failed writer.old ≡ false }
-        ensures runs { RunsScript (any_ring self.old) (any_state self.old) (any_state self.new)
+        ensures runs { RunsScript (any_state self.old) (any_state self.new)
             (devices S.Source K.Sink reader.old reader.new writer.old writer.new) result }
         ensures ring { any_ring self.new ≡ any_ring self.old }
         ensures start { (any_state self.new).session.start ≡ (any_state self.old).session.start }
@@ -76,7 +76,7 @@ impl AnyBook {
     /// beginning of the text.
     pub fn write_trace<K: Sink>(&self, alloc: Global, writer: &mut K) -> Result<(), WriteTraceFault>
         requires { K.has_failed writer.old ≡ false }
-        ensures writes { WritesTrace (any_ring self.now) (any_state self.now) (K.contents writer.old) (K.contents writer.new) result }
+        ensures writes { WritesTrace (any_state self.now) (K.contents writer.old) (K.contents writer.new) result }
         ensures failed { K.has_failed writer.new ≡ is_write_fault result }
     {
         match self {

@@ -100,7 +100,7 @@ pub fn put_marks<const R: usize>(
     book: &Book<R>,
 ) -> Result<(), AllocError>
     ensures marks { OnOk result (AreAppended IsMark mark_data (book_state book.now).marks (string_bytes text.old) (string_bytes text.new)) }
-    ensures rules { KeepsRules R (book_state book.now) }
+    ensures rules { KeepsRules (book_state book.now) }
 {
     let count = book.marks();
     for i in 0..count {

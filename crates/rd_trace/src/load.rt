@@ -1,7 +1,7 @@
 //! Loading a trace: a text is read whole, its value is dropped, and then the session that it spells
 //! is made to happen.
 
-ghost use Rattle.std.specs.Prelude.{◌≡◌, ◌≤◌, ℕ, Some, codes};
+ghost use Rattle.std.specs.Prelude.{◌≡◌, ◌≤◌, Some, codes};
 ghost use Rattle.serde_json.specs.View.{view};
 ghost use Rattle.rd_step.specs.Prelude.{MOST_CELLS};
 ghost use Rattle.rd_marks.specs.Books.{BookState};
@@ -36,7 +36,7 @@ use std::alloc::Global;
 /// at any point.
 pub fn load_trace(alloc: Global, text: &[u8]) -> Result<AnyBook, LoadTraceFault>
     ensures loads { LoadsTrace text.now result }
-    ensures again { (R : ℕ) (b : BookState) → IsTraceRing R → IsTextOf R b text.now → LoadsAgain R b result }
+    ensures again { (b : BookState) → IsTraceRing b.session.start.ring → IsTextOf b text.now → LoadsAgain b result }
 {
     loaded(alloc, text)
 }

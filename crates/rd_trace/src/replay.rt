@@ -84,7 +84,7 @@ fn set_marks<const R: usize>(book: &mut Book<R>, marks: &[SavedMark]) -> Result<
     requires names { HaveDifferentNames (map saved_mark marks.now) }
     requires few { length marks.now ≤ MOST_MARKS }
     requires none { (book_state book.old).marks ≡ [] }
-    ensures { SetsMarks R (book_state book.old) (map saved_mark marks.now) (book_state book.new) result }
+    ensures { SetsMarks (book_state book.old) (map saved_mark marks.now) (book_state book.new) result }
 {
     for i in 0..marks.len() {
         if let Err(refused) = go_to(book, &marks[i].events) {
@@ -107,7 +107,7 @@ fn make_live<const R: usize>(
     events: &[Event],
     undone: &[Event],
 ) -> Result<(), RefusedEvent>
-    ensures { MakesLive R (book_state book.old) events.now undone.now (book_state book.new) result }
+    ensures { MakesLive (book_state book.old) events.now undone.now (book_state book.new) result }
 {
     go_to(book, events)?;
     step_all(book, undone)?;
@@ -118,7 +118,7 @@ fn make_live<const R: usize>(
 /// Makes just these events live, with nothing undone, or returns the first event that was refused.
 /// The live events are undone only as far as the two lists differ.
 fn go_to<const R: usize>(book: &mut Book<R>, events: &[Event]) -> Result<(), RefusedEvent>
-    ensures { GoesTo R (book_state book.old) events.now (book_state book.new) result }
+    ensures { GoesTo (book_state book.old) events.now (book_state book.new) result }
 {
     let kept = shared_beginning(book.session(), events);
     book.keep_first(kept as u64);
@@ -127,7 +127,7 @@ fn go_to<const R: usize>(book: &mut Book<R>, events: &[Event]) -> Result<(), Ref
 
 /// Returns how many live events of a session a list begins with.
 fn shared_beginning<const R: usize>(session: &Session<R>, events: &[Event]) -> usize
-    ensures through { GoThrough R (state session.now).start (state session.now).live }
+    ensures through { GoThrough (state session.now).start (state session.now).live }
     ensures live { result ≤ length (state session.now).live }
     ensures within { result ≤ length events.now }
     ensures same { take result (state session.now).live ≡ take result events.now }
@@ -150,9 +150,9 @@ fn is_same(event: &Event, other: &Event) -> bool
 
 /// Makes events happen in order, where none is undone, or returns the first one that was refused.
 fn step_all<const R: usize>(book: &mut Book<R>, events: &[Event]) -> Result<(), RefusedEvent>
-    requires through { GoThrough R (book_state book.old).session.start (book_state book.old).session.live }
+    requires through { GoThrough (book_state book.old).session.start (book_state book.old).session.live }
     requires none { (book_state book.old).session.undone ≡ [] }
-    ensures { GoesTo R (book_state book.old) ((book_state book.old).session.live ++ events.now) (book_state book.new) result }
+    ensures { GoesTo (book_state book.old) ((book_state book.old).session.live ++ events.now) (book_state book.new) result }
 {
     for event in events {
         if let Err(cause) = book.apply(*event) {

@@ -144,7 +144,7 @@ fn second_session_in<const R: usize>(
 
 /// Returns the text of a book's session and bookmarks, of version 2, with a line feed after it.
 pub fn text_of<const R: usize>(alloc: Global, book: &Book<R>) -> Result<String, AllocError>
-    ensures { IfOk result (λ text. IsUtf8 (string_bytes text) → IsTextOf R (book_state book.now) (string_bytes text)) }
+    ensures { IfOk result (λ text. IsUtf8 (string_bytes text) → IsTextOf (book_state book.now) (string_bytes text)) }
 {
     let session = book.session();
     events_go_through(session);
@@ -166,15 +166,15 @@ pub fn text_of<const R: usize>(alloc: Global, book: &Book<R>) -> Result<String, 
 /// The live events of a session, and then its undone ones, can run from its start: this law follows
 /// from the contract of the session's world.
 fn events_go_through<const R: usize>(session: &Session<R>)
-    ensures { GoThrough R (state session.now).start ((state session.now).live ++ (state session.now).undone) }
+    ensures { GoThrough (state session.now).start ((state session.now).live ++ (state session.now).undone) }
 {
     let _world = session.world();
 }
 
 /// Returns the JSON value of the start of a session.
 fn start_of<const R: usize>(alloc: Global, session: &Session<R>) -> Result<Value, AllocError>
-    ensures value { IfOk result (λ value. IsStartData R (state session.now).start (view value)) }
-    ensures spelled { IfOk result (λ value. SpellsWorld R (state session.now).start (view value)) }
+    ensures value { IfOk result (λ value. IsStartData (state session.now).start (view value)) }
+    ensures spelled { IfOk result (λ value. SpellsWorld (state session.now).start (view value)) }
 {
     let Ok(world) = session.start_world(alloc) else {
         return Err(AllocError);
@@ -188,7 +188,7 @@ fn put_start<const R: usize>(
     text: &mut String,
     session: &Session<R>,
 ) -> Result<(), AllocError>
-    ensures { OnOk result (IsStartAppended R (state session.now).start (string_bytes text.old) (string_bytes text.new)) }
+    ensures { OnOk result (IsStartAppended (state session.now).start (string_bytes text.old) (string_bytes text.new)) }
 {
     let start = start_of(alloc, session)?;
     let written = start.to_string(alloc)?;

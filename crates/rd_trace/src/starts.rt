@@ -120,8 +120,8 @@ fn name_at(value: &Value, key: &str) -> Option<SegName>
 /// Returns the value of a start in this world: as the fresh one if the world is that, else as its
 /// parts.
 pub fn start_value<const R: usize>(alloc: Global, world: &World<R>) -> Result<Value, AllocError>
-    ensures value { IfOk result (λ value. IsStartData R (model world.now) (view value)) }
-    ensures spelled { IfOk result (λ value. SpellsWorld R (model world.now) (view value)) }
+    ensures value { IfOk result (λ value. IsStartData (model world.now) (view value)) }
+    ensures spelled { IfOk result (λ value. SpellsWorld (model world.now) (view value)) }
 {
     if world.is_fresh() {
         return fresh_value(alloc, u64::from(world.actors()));

@@ -62,14 +62,14 @@ abbrev pub StaysEnded : List Answer → Type 0
 StaysEnded [] = Unit {0}
 StaysEnded (answer ∷ answers) = (answer ≡ Err TicketsEnded → AllByRecursion (λ later. later ≡ Err TicketsEnded) answers) × StaysEnded answers
 
-module _ (R : ℕ) (opened : BookState) (history : List (ℕ × Call)) where
+module _ (opened : BookState) (history : List (ℕ × Call)) where
   -- the viewer of this number asked these commands, one after another, and got these answers, none
   -- of which is `Busy`. The history goes on from what it has seen then by calls of others alone, and
   -- its calls there, in order, are just those that were recorded. Once the tickets have ended, they
   -- have ended for each later command.
   pub record WasAnswered (viewer : ℕ) (commands : List Command) (answers : List Answer) : Type 0 where
     pub seen : List (ℕ × Call)
-    pub chain : IsChain (IsSeen R opened viewer) [] commands answers seen
+    pub chain : IsChain (IsSeen opened viewer) [] commands answers seen
     pub continues : Continues viewer seen history
     pub calls : map (λ e. e.1) (named viewer 1 history) ≡ calls_of commands answers
     pub waits : AllByRecursion (λ answer. IfErr answer IsNotBusy) answers
@@ -87,11 +87,11 @@ module _ (R : ℕ) (opened : BookState) (history : List (ℕ × Call)) where
   AreAnswered viewer [] (answered ∷ more) = ⊥
   AreAnswered viewer (said ∷ others) [] = ⊥
 
-module _ (R : ℕ) (opened : BookState) where
+module _ (opened : BookState) where
   -- the history is legal from the book that was opened, each of its entries names one of the
   -- viewers of these lines, and the viewers got these answers
   abbrev pub IsViewed : List (Vec (Result Command LineFault) Global) → List (Option (Vec Answer Global)) → List (ℕ × Call) → Type 0
-  IsViewed said answered history = IsLegal R opened history × NamesUpTo (length said) history × AreAnswered R opened history 1 said answered
+  IsViewed said answered history = IsLegal opened history × NamesUpTo (length said) history × AreAnswered opened history 1 said answered
 
   -- a view of these scripts with this history: the commands and faults of their lines, and the
   -- answers to the viewers

@@ -40,7 +40,7 @@ pub fn view_scripts<R: Threads + Wait + Sync, K: Sink, const N: usize>(
     requires some { 1 ≤ length scripts.now }
     requires few { length scripts.now ≤ MOST_VIEWERS }
     requires works { K.has_failed writer.old ≡ false }
-    ensures views { ViewsScripts N (book_state book.entry) scripts.now
+    ensures views { ViewsScripts (book_state book.entry) scripts.now
         (K.contents writer.old) (K.contents writer.new) (K.has_failed writer.new) result }
 {
     let said = lines_of_all(alloc, scripts)?;
@@ -74,7 +74,7 @@ fn run_over_desk<R: Threads + Wait + Sync, const N: usize>(
 ) -> Result<(ViewerAnswers, History), ViewFault>
     requires some { 1 ≤ length said.now }
     requires few { length said.now ≤ MOST_VIEWERS }
-    ensures ok { IfOk result (λ done. IsViewed N (book_state book.entry) said.now done.0.items (entries done.1)) }
+    ensures ok { IfOk result (λ done. IsViewed (book_state book.entry) said.now done.0.items (entries done.1)) }
     ensures err { IfErr result IsUnviewed }
 {
     let Ok((desk, passes)) = Desk::open(alloc, book, said.len() as u64) else {

@@ -38,7 +38,7 @@ impl<const R: usize> Session<R> {
     /// The entries of the live steps, in their order. They are those of a run from the start.
     pub fn live(&self) -> LiveEntries<'_>
         ensures entries { result ≡ (journal self.now).live }
-        ensures run { IsRunFrom R (state self.now).start result }
+        ensures run { IsRunFrom (state self.now).start result }
         ensures events { events result ≡ (state self.now).live }
         ensures few { length result ≤ MOST_STEPS }
     {
@@ -52,8 +52,8 @@ impl<const R: usize> Session<R> {
     /// `NoSuchStep`, with the number of live steps, if `k` is not from 1 to it.
     pub fn entry(&self, k: u64) -> Result<Entry, Refusal>
         ensures found { result ≡ entry_of (journal self.now) k }
-        ensures step { IfOk result (λ entry. IsStepAfter R (k - 1) (journal self.now) entry) }
-        ensures runs { IsRun R (journal self.now) }
+        ensures step { IfOk result (λ entry. IsStepAfter (k - 1) (journal self.now) entry) }
+        ensures runs { IsRun (journal self.now) }
     {
         let len = self.len();
         if k == 0 || k > len {
@@ -120,8 +120,8 @@ impl<const R: usize> Session<R> {
     /// Returns the session's world, to which the live events run from its start.
     pub fn world(&self) -> &World<R>
         ensures value { model result.now ≡ (journal self.now).world }
-        ensures run { run_of R (state self.now) ≡ Ok (record { world = model result.now; entries = (journal self.now).live }) }
-        ensures runs { IsRun R (journal self.now) }
+        ensures run { run_of (state self.now) ≡ Ok (record { world = model result.now; entries = (journal self.now).live }) }
+        ensures runs { IsRun (journal self.now) }
         ensures few { length (journal self.now).live + length (journal self.now).undone ≤ MOST_STEPS }
     {
         &self.world

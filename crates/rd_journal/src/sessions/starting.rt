@@ -15,8 +15,8 @@ use rd_step::World;
 /// room of their makings back, and takes no memory.
 pub(super) fn undo_behind<const R: usize>(world: &mut World<R>, steps: &LiveEntries, n: usize)
     requires within { n ≤ length steps.now }
-    requires leads { (start : Model) × LeadsTo R start (model world.old) steps.now }
-    ensures leads { (start : Model) → LeadsTo R start (model world.old) steps.now → LeadsTo R start (model world.new) (take n steps.now) }
+    requires leads { (start : Model) × LeadsTo start (model world.old) steps.now }
+    ensures leads { (start : Model) → LeadsTo start (model world.old) steps.now → LeadsTo start (model world.new) (take n steps.now) }
     ensures room { (m : ℕ) → room world.old m + room_returned_by (drop n steps.now) m ≤ room world.new m }
 {
     for last in (n..steps.len()).rev() {
@@ -27,9 +27,9 @@ pub(super) fn undo_behind<const R: usize>(world: &mut World<R>, steps: &LiveEntr
 /// Makes the steps of a run from the world again, one after another. There is room for their
 /// makings, and that for others stays.
 pub(super) fn step_all<const R: usize>(world: &mut World<R>, steps: &LiveEntries)
-    requires runs { IsRunFrom R (model world.old) steps.now }
+    requires runs { IsRunFrom (model world.old) steps.now }
     requires room { HasRoom steps.now (room world.old) }
-    ensures ran { run R (model world.old) (events steps.now) ≡ Ok (record { world = model world.new; entries = steps.now }) }
+    ensures ran { run (model world.old) (events steps.now) ≡ Ok (record { world = model world.new; entries = steps.now }) }
     ensures room { (rest : List SomeEntry) → HasRoom (steps.now ++ rest) (room world.old) → HasRoom rest (room world.new) }
 {
     for next in 0..steps.len() {

@@ -60,7 +60,7 @@ impl<const R: usize> Session<R> {
     pub(super) fn exchange(&mut self, n: usize, given: &[Entry]) -> Result<(), Refusal>
         requires within { n ≤ length (journal self.old).live }
         requires few { n + length given.now ≤ MOST_STEPS }
-        requires run { IsRunFrom R (start_of (journal self.old)) (take n (journal self.old).live ++ given.now) }
+        requires run { IsRunFrom (start_of (journal self.old)) (take n (journal self.old).live ++ given.now) }
         requires capacity { n + length given.now ≤ capacity self.old }
         requires makings { HasRoomForAll (journal self.old).world given.now (room_without (drop n (journal self.old).live) (room self.old)) }
         ensures entries { OnOk result (IsSwitched n given.now (journal self.old) (journal self.new)) }

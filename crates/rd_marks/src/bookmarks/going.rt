@@ -31,7 +31,7 @@ impl Bookmarks {
         place: Place,
     ) -> Result<(), Refusal>
         requires within { IsPlaceIn self.old place }
-        requires run { AreEntriesOfRun R (state session.old).start (entries_in self.old place) }
+        requires run { AreEntriesOfRun (state session.old).start (entries_in self.old place) }
         requires stands { IsPrefix (events (here_in self.old)) (track session.old) }
         ensures ok { OnOk result (state session.new
             ≡ record { start = (state session.old).start; live = events (entries_in self.old place); undone = [] }) }
@@ -70,7 +70,7 @@ fn exchange<const R: usize>(
 ) -> Result<(), Refusal>
     requires here { IsWithin stretches.now.list.items here }
     requires within { IsWithin stretches.now.list.items place }
-    requires run { AreEntriesOfRun R (state session.old).start (entries_at stretches.now.list.items place) }
+    requires run { AreEntriesOfRun (state session.old).start (entries_at stretches.now.list.items place) }
     requires stands { IsPrefix (events (entries_at stretches.now.list.items here)) (track session.old) }
     ensures ok { OnOk result (state session.new
         ≡ record { start = (state session.old).start; live = events (entries_at stretches.now.list.items place); undone = [] }) }

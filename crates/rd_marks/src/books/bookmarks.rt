@@ -53,7 +53,7 @@ impl<const R: usize> Book<R> {
 
     /// Returns whether the steps of two bookmarks are causally equivalent.
     pub(super) fn answer_same(&self, one: MarkName, other: MarkName) -> Result<Reply, Refusal>
-        ensures { IsCompared R (book_state self.now) one other result }
+        ensures { IsCompared (book_state self.now) one other result }
     {
         Ok(Reply::Same(self.same(one, other)?))
     }

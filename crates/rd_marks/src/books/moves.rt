@@ -21,7 +21,7 @@ impl<const R: usize> Book<R> {
 
     /// Undoes the live step of this number alone. Returns how many steps are live and undone then.
     pub(super) fn answer_undo_at(&mut self, k: u64) -> Result<Reply, Refusal>
-        ensures { record { answer = result; state = book_state self.new } ≡ move_answer (book_state self.old) (undo_at R (book_state self.old).session k) }
+        ensures { record { answer = result; state = book_state self.new } ≡ move_answer (book_state self.old) (undo_at (book_state self.old).session k) }
     {
         self.session.undo_at(k)?;
         self.bookmarks.cut_here(k.saturating_sub(1) as usize);
@@ -31,7 +31,7 @@ impl<const R: usize> Book<R> {
     /// Undoes the live step of this number and just the later ones that depend on it. Returns how
     /// many steps are live and undone then.
     pub(super) fn answer_roll(&mut self, k: u64) -> Result<Reply, Refusal>
-        ensures { record { answer = result; state = book_state self.new } ≡ move_answer (book_state self.old) (roll R (book_state self.old).session k) }
+        ensures { record { answer = result; state = book_state self.new } ≡ move_answer (book_state self.old) (roll (book_state self.old).session k) }
     {
         self.session.roll(k)?;
         self.bookmarks.cut_here(k.saturating_sub(1) as usize);

@@ -26,7 +26,7 @@ impl<const R: usize> Book<R> {
     /// The refusal of the call of a book or of its session that the command is. Nothing has changed
     /// then.
     pub fn obey(&mut self, command: Command) -> Result<Reply, Refusal>
-        ensures answer { IsObeyed R (book_state self.old) command (record { answer = result; state = book_state self.new }) }
+        ensures answer { IsObeyed (book_state self.old) command (record { answer = result; state = book_state self.new }) }
         ensures succeeds { NeedsNoMemory (book_state self.old) (name_room self.old) command → IsOk result }
         ensures memory { IfErr result (λ refusal. (event : Happening) → as_event command ≡ Some event → MayRefuse (session_of self.old) event refusal) }
         ensures room { ForErr result (MayRefuseAsGoing self.old command) }
@@ -51,7 +51,7 @@ impl<const R: usize> Book<R> {
         alloc: Global,
         commands: &[Command],
     ) -> Result<Vec<Result<Reply, Refusal>>, Refusal>
-        ensures headline { IfOk result (λ answers. Headline R (book_state self.old) commands.now answers.items (book_state self.new) (journal (session_of self.new))) }
+        ensures headline { IfOk result (λ answers. Headline (book_state self.old) commands.now answers.items (book_state self.new) (journal (session_of self.new))) }
         ensures err { IfErr result (λ refusal. refusal ≡ Refusal.NoMemory) }
         ensures succeeds { commands.now ≡ [] → IsOk result }
         ensures start { (book_state self.new).session.start ≡ (book_state self.old).session.start }
@@ -70,7 +70,7 @@ impl<const R: usize> Book<R> {
 
     /// Makes an event happen, and returns the reply to its command.
     fn answer_event(&mut self, event: Event) -> Result<Reply, Refusal>
-        ensures happens { Happened R (book_state self.old) event (record { answer = result; state = book_state self.new }) }
+        ensures happens { Happened (book_state self.old) event (record { answer = result; state = book_state self.new }) }
         ensures memory { IfErr result (MayRefuse (session_of self.old) event) }
     {
         let EventReply { step, reply } = self.apply(event)?;
@@ -80,7 +80,7 @@ impl<const R: usize> Book<R> {
     /// Obeys a command that is no event, and returns the answer.
     fn answer_to(&mut self, command: Command) -> Result<Reply, Refusal>
         requires no_event { as_event command ≡ None }
-        ensures answer { IsObeyed R (book_state self.old) command (record { answer = result; state = book_state self.new }) }
+        ensures answer { IsObeyed (book_state self.old) command (record { answer = result; state = book_state self.new }) }
         ensures succeeds { NeedsNoMemory (book_state self.old) (name_room self.old) command → IsOk result }
         ensures room { ForErr result (MayRefuseAsGoing self.old command) }
     {

@@ -24,21 +24,21 @@ impl<const R: usize> Book<R> {
 
     /// Where the value came from that the live step of this number took.
     pub(super) fn answer_origin(&self, k: u64) -> Result<Reply, Refusal>
-        ensures { AnswersQuery R (book_state self.now) (command.Origin k) result }
+        ensures { AnswersQuery (book_state self.now) (command.Origin k) result }
     {
         Ok(Reply::Origin(origin(&self.session, k)?))
     }
 
     /// The live step that last wrote a place.
     pub(super) fn answer_writer(&self, place: Place) -> Result<Reply, Refusal>
-        ensures { AnswersQuery R (book_state self.now) (command.Writer place) result }
+        ensures { AnswersQuery (book_state self.now) (command.Writer place) result }
     {
         Ok(Reply::Writer(last_writer(&self.session, place)?))
     }
 
     /// What is at a place in the session's world.
     pub(super) fn answer_show(&self, place: Place) -> Result<Reply, Refusal>
-        ensures { AnswersQuery R (book_state self.now) (command.Show place) result }
+        ensures { AnswersQuery (book_state self.now) (command.Show place) result }
     {
         match self.session.world().content(place) {
             None => Err(Refusal::NoSuchPlace),
@@ -48,7 +48,7 @@ impl<const R: usize> Book<R> {
 
     /// The words of an actor in the session's world.
     pub(super) fn answer_actor(&self, actor: u8) -> Result<Reply, Refusal>
-        ensures { AnswersQuery R (book_state self.now) (command.Actor actor) result }
+        ensures { AnswersQuery (book_state self.now) (command.Actor actor) result }
     {
         match self.session.world().actor(actor) {
             None => Err(Refusal::NoActor),
@@ -58,7 +58,7 @@ impl<const R: usize> Book<R> {
 
     /// The entry of the live step of this number.
     pub(super) fn answer_step(&self, number: u64) -> Result<Reply, Refusal>
-        ensures { AnswersQuery R (book_state self.now) (command.Step number) result }
+        ensures { AnswersQuery (book_state self.now) (command.Step number) result }
     {
         let entry = self.session.entry(number)?;
         Ok(Reply::Step { number, entry })

@@ -9,28 +9,28 @@ use Rattle.rd_inverse.proofs.inverse.unstep.Goals as goal
 pub revert-requires : goal.revert-requires
 revert-requires g c =
     let was = c.requires in
-    (omega (arith, c.args.world.now.small), ((can_undo _ _ _ was).actor_there, (tt, (undone_by_words _ _ _ was (sym c.if-is_nothing.ensures)).formed)))
+    (omega (arith, c.args.world.now.small), ((can_undo _ _ was).actor_there, (tt, (undone_by_words _ _ was (sym c.if-is_nothing.ensures)).formed)))
 
 pub revert-requires-else-is_nothing : goal.revert-requires-else-is_nothing
 revert-requires-else-is_nothing g c =
-    let can = can_undo _ _ _ c.requires in
+    let can = can_undo _ _ c.requires in
     (omega (arith, c.args.world.now.small), (can.actor_there, (can.place_there, can.formed)))
 
 pub returns-then-is_nothing-clause-back : goal.returns-then-is_nothing-clause-back
 returns-then-is_nothing-clause-back g c =
-    c.revert.ensures.done ∙ (undone_by_words _ _ _ c.requires (sym c.if-is_nothing.ensures)).same
+    c.revert.ensures.done ∙ (undone_by_words _ _ c.requires (sym c.if-is_nothing.ensures)).same
 
 pub returns-then-is_nothing-clause-taken_out : goal.returns-then-is_nothing-clause-taken_out
 returns-then-is_nothing-clause-taken_out g c = λ was.
-    subst (λ (w : World). IsTakenOut _ (model c.args.world.now) w c.args.entry.now was) (sym (returns-then-is_nothing-clause-back g c))
-    (taken_out _ (model c.args.world.now) c.args.entry.now was)
+    subst (λ (w : World). IsTakenOut (model c.args.world.now) w c.args.entry.now was) (sym (returns-then-is_nothing-clause-back g c))
+    (taken_out (model c.args.world.now) c.args.entry.now was)
 
 pub returns-then-is_nothing-clause-room : goal.returns-then-is_nothing-clause-room
 returns-then-is_nothing-clause-room g c = λ m.
     c.revert.ensures.room m
-    ∙ ap (λ (n : ℕ). room c.args.world.now m + n) (sym ((undone_by_words _ _ _ c.requires (sym c.if-is_nothing.ensures)).room m))
+    ∙ ap (λ (n : ℕ). room c.args.world.now m + n) (sym ((undone_by_words _ _ c.requires (sym c.if-is_nothing.ensures)).room m))
 
 pub returns-else-is_nothing-clause-taken_out : goal.returns-else-is_nothing-clause-taken_out
 returns-else-is_nothing-clause-taken_out g c = λ was.
-    subst (λ (w : World). IsTakenOut _ (model c.args.world.now) w c.args.entry.now was) (sym c.revert-else-is_nothing.ensures.done)
-    (taken_out _ (model c.args.world.now) c.args.entry.now was)
+    subst (λ (w : World). IsTakenOut (model c.args.world.now) w c.args.entry.now was) (sym c.revert-else-is_nothing.ensures.done)
+    (taken_out (model c.args.world.now) c.args.entry.now was)

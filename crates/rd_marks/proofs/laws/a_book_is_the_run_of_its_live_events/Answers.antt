@@ -8,5 +8,5 @@ use Rattle.rd_marks.proofs.laws.a_book_is_the_run_of_its_live_events.Goals as go
 
 pub returns : goal.returns
 returns g c =
-    let runs = subst (λ (s : Session g.row.R). IsRun g.row.R (journal s)) c.session.ensures.value c.world-world.ensures.runs in
-    run_of_live g.row.R (journal (session_of c.args.book.now)) (book_state c.args.book.now) refl runs
+    let runs = subst (λ (s : Session g.row.R). IsRun (journal s)) c.session.ensures.value c.world-world.ensures.runs in
+    run_of_live (journal (session_of c.args.book.now)) (book_state c.args.book.now) refl runs

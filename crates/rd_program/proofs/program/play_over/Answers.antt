@@ -12,7 +12,7 @@ returns-in_err-lines g c actors first =
     let R = any_ring c.args.book.now in
     let d = devices g.S.Source g.K.Sink c.args.reader.now c.run.new.reader c.args.writer.now c.run.new.writer in
     let fault = c.in_err-lines.field-0.0 in
-    let runs = subst (λ state. RunsScript R state (any_state c.run.new.self) d (Err fault)) first c.in_err-lines.ensures.runs in
+    let runs = subst (λ state. RunsScript state (any_state c.run.new.self) d (Err fault)) first c.in_err-lines.ensures.runs in
     fault_passed_up (λ r. PlaysScript R actors c.args.trace d r) (Script fault) c.from_residual.result c.from_residual.ensures.1 (any_state c.run.new.self, runs)
 
 pub returns-in_err-write_if : goal.returns-in_err-write_if

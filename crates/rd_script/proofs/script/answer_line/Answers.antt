@@ -16,7 +16,7 @@ returns-in-Err-clause-answers g c said held = (
 pub returns-in-Some-clause-answers : goal.returns-in-Some-clause-answers
 returns-in-Some-clause-answers g c said held =
     let done = c.answer_event.ensures.answers in
-    let obeyed = event_obeyed g.row.R (book_state c.args.book.now) c.in-Ok.command c.in-Some.event _ (sym c.as_event.ensures ∙ c.in-Some.is) done.1 in (
+    let obeyed = event_obeyed (book_state c.args.book.now) c.in-Ok.command c.in-Some.event _ (sym c.as_event.ensures ∙ c.in-Some.is) done.1 in (
       record { answer = line_answer done.0; state = book_state c.answer_event.new.book },
       record { said = Ok c.in-Ok.command; says = c.in-Ok.ensures said held; answers = (done.0, obeyed, refl) },
       refl,

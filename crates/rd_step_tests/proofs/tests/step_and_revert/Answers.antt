@@ -14,7 +14,7 @@ use Rattle.rd_step_tests.proofs.tests.step_and_revert.Goals as goal
 
 pub revert-requires : goal.revert-requires
 revert-requires c =
-    let was : WasStepped 4 (model c.step.new.self) c.in_ok-entry.entry = record {
+    let was : WasStepped (model c.step.new.self) c.in_ok-entry.entry = record {
       start = model c.args.world.now;
       well_formed = c.args.world.now.well_formed;
       event = c.args.event;
@@ -27,16 +27,16 @@ revert-requires c =
       here = refl;
       free = tt;
     } in
-    let can = can_undo 4 (model c.step.new.self) c.in_ok-entry.entry was in
+    let can = can_undo (model c.step.new.self) c.in_ok-entry.entry was in
     (omega arith, (can.actor_there, (can.place_there, can.formed)))
 
 -- a step goes again where it was undone
-goes_again : (w v u : World) (e : Event) (x : Entry) → IsWellFormed 4 w → step 4 w e ≡ Ok (record { world = v; entry = x })
-    → u ≡ unstep v x → step 4 u x.event ≡ Ok (record { world = v; entry = x })
+goes_again : (w v u : World) (e : Event) (x : Entry) → IsWellFormed w → step w e ≡ Ok (record { world = v; entry = x })
+    → u ≡ unstep v x → step u x.event ≡ Ok (record { world = v; entry = x })
 goes_again w v u e x formed h back =
     let s : Stepped = record { world = v; entry = x } in
-    let event : e ≡ x.event = ap (λ (y : Stepped). y.entry.event) (took 4 w e s h).ends in
-    subst₂ (λ (start : World) (f : Event). step 4 start f ≡ Ok s) (sym (back ∙ undoes 4 w e s formed h)) event h
+    let event : e ≡ x.event = ap (λ (y : Stepped). y.entry.event) (took w e s h).ends in
+    subst₂ (λ (start : World) (f : Event). step start f ≡ Ok s) (sym (back ∙ undoes w e s formed h)) event h
 
 pub returns-clause-goes : goal.returns-clause-goes
 returns-clause-goes c = (
@@ -52,7 +52,7 @@ returns-clause-room c = λ makes.
     let n : ℕ = x.event.actor in
     let again = goes_again (model c.args.world.now) (model c.step.new.self) u c.args.event x c.args.world.now.well_formed c.in_ok-entry.ensures.ok
     c.revert.ensures.done in
-    let one : room_used (makes_segment 4 u x.event) n n ≡ 1 =
-    cond-true (makes_segment 4 u x.event && (n == n)) 1 0 (and_from (makes_segment 4 u x.event) (n == n) makes (eq-eqb n n refl)) in
-    let back = room_used_returned 4 u x.event (record { world = model c.step.new.self; entry = x }) n again in
+    let one : room_used (makes_segment u x.event) n n ≡ 1 =
+    cond-true (makes_segment u x.event && (n == n)) 1 0 (and_from (makes_segment u x.event) (n == n) makes (eq-eqb n n refl)) in
+    let back = room_used_returned u x.event (record { world = model c.step.new.self; entry = x }) n again in
     omega (arith, one, back, c.revert.ensures.room n)

@@ -13,7 +13,7 @@ returns-in_err-set_marks g c =
     let now = book_state c.set_marks.new.book in
     let start = ap (λ (s : State). s.start) (c.open-book.ensures.session ∙ c.open.ensures.state) ∙ c.in_ok-world.ensures.1 in
     let fault = c.in_err-set_marks.field-0.0 in
-    let set = subst (λ ms. SetsMarks g.row.R old (map saved_mark ms) now (Err fault)) c.deref.ensures.value c.in_err-set_marks.ensures in
+    let set = subst (λ ms. SetsMarks old (map saved_mark ms) now (Err fault)) c.deref.ensures.value c.in_err-set_marks.ensures in
     passed_up (λ r. Replays IsBook t r) c.from_residual-in_err-set_marks.result fault c.from_residual-in_err-set_marks.ensures.1
     (no_marks IsBook t c.in_ok-world.ensures.0 old start now fault set)
 
@@ -24,9 +24,9 @@ returns-in-Err g c =
     let old = book_state c.open-book.result in
     let now = book_state c.set_marks.new.book in
     let start = ap (λ (s : State). s.start) (c.open-book.ensures.session ∙ c.open.ensures.state) ∙ c.in_ok-world.ensures.1 in
-    let set = subst (λ ms. SetsMarks g.row.R old (map saved_mark ms) now (Ok tt)) c.deref.ensures.value c.in_ok-set_marks.ensures in
+    let set = subst (λ ms. SetsMarks old (map saved_mark ms) now (Ok tt)) c.deref.ensures.value c.in_ok-set_marks.ensures in
     let all = ap₂ (λ es fs. es ++ fs) c.deref-2.ensures.value c.deref-3.ensures.value in
-    let why = subst (λ es. RefusesOne g.row.R now.session.start es c.in-Err.refused) all c.in-Err.ensures in
+    let why = subst (λ es. RefusesOne now.session.start es c.in-Err.refused) all c.in-Err.ensures in
     no_steps IsBook t c.in_ok-world.ensures.0 old start now set c.in-Err.refused c.of_step.result why c.of_step.ensures
 
 pub returns : goal.returns

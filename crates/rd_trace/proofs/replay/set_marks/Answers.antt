@@ -4,18 +4,18 @@ use Rattle.rd_trace.proofs.ReplayLemmas.{none_set, one_set, can_mark, mark_refus
 use Rattle.rd_trace.proofs.replay.set_marks.Goals as goal
 
 pub loop-i-init : goal.loop-i-init
-loop-i-init g c = none_set g.row.R (book_state c.args.book.now) c.requires.none
+loop-i-init g c = none_set (book_state c.args.book.now) c.requires.none
 
 pub returns : goal.returns
-returns g c = all_set g.row.R (book_state c.args.book.now) (book_state c.loop-i.book) c.args.marks.now c.loop-i.i (omega arith) c.loop-i.invariant
+returns g c = all_set (book_state c.args.book.now) (book_state c.loop-i.book) c.args.marks.now c.loop-i.i (omega arith) c.loop-i.invariant
 
 pub returns-in-Err : goal.returns-in-Err
 returns-in-Err g c =
     let now = book_state c.loop-i.book in
     let m = c.index-marks-i.result in
     let its = c.deref.ensures.value ∙ ap (λ (x : SavedMark). x.events.items) (sym c.index-marks-i.is) in
-    let why = subst (λ es. RefusesOne g.row.R now.session.start es c.in-Err.refused) its c.in-Err.ensures in
-    mark_refused g.row.R (book_state c.args.book.now) now c.args.marks.now c.loop-i.i m (omega arith) c.index-marks-i.is c.loop-i.invariant (book_state c.go_to.new.book) c.in-Err.refused c.of_mark.result why c.of_mark.ensures
+    let why = subst (λ es. RefusesOne now.session.start es c.in-Err.refused) its c.in-Err.ensures in
+    mark_refused (book_state c.args.book.now) now c.args.marks.now c.loop-i.i m (omega arith) c.index-marks-i.is c.loop-i.invariant (book_state c.go_to.new.book) c.in-Err.refused c.of_mark.result why c.of_mark.ensures
 
 pub unreachable-requires : goal.unreachable-requires
 unreachable-requires g c =
@@ -24,9 +24,9 @@ unreachable-requires g c =
     let refusal = c.in-Err-mark.refusal in
     let m = c.index-marks-i.result in
     let its = c.deref.ensures.value ∙ ap (λ (x : SavedMark). x.events.items) (sym c.index-marks-i.is) in
-    let goes = subst (λ es. GoesTo g.row.R now es mid (Ok tt)) its c.in_default.ensures in
+    let goes = subst (λ es. GoesTo now es mid (Ok tt)) its c.in_default.ensures in
     let named = get_or_default c.args.marks.now c.loop-i.i _ _ c.loop-i-test.true ∙ sym c.index-marks-i.is in
-    can_mark g.row.R (book_state c.args.book.now) now c.args.marks.now c.loop-i.i m c.loop-i-test.true c.index-marks-i.is c.loop-i.invariant mid refusal goes c.requires.names c.requires.few
+    can_mark (book_state c.args.book.now) now c.args.marks.now c.loop-i.i m c.loop-i-test.true c.index-marks-i.is c.loop-i.invariant mid refusal goes c.requires.names c.requires.few
     c.in_default-refusal.not-NoMemory
     (subst (λ (x : SavedMark). (mark mid x.name ≡ Err refusal) ⊎ ((refusal ≡ OutOfMemory) × IsOk (mark mid x.name))) named c.in-Err-mark.ensures.err)
 
@@ -36,7 +36,7 @@ loop-i-preserved g c =
     let mid = book_state c.go_to.new.book in
     let m = c.index-marks-i.result in
     let its = c.deref.ensures.value ∙ ap (λ (x : SavedMark). x.events.items) (sym c.index-marks-i.is) in
-    let goes = subst (λ es. GoesTo g.row.R now es mid (Ok tt)) its c.in_default.ensures in
+    let goes = subst (λ es. GoesTo now es mid (Ok tt)) its c.in_default.ensures in
     let named = get_or_default c.args.marks.now c.loop-i.i _ _ c.loop-i-test.true ∙ sym c.index-marks-i.is in
-    one_set g.row.R (book_state c.args.book.now) now c.args.marks.now c.loop-i.i m c.loop-i-test.true c.index-marks-i.is c.loop-i.invariant mid (book_state c.mark.new.self) goes
+    one_set (book_state c.args.book.now) now c.args.marks.now c.loop-i.i m c.loop-i-test.true c.index-marks-i.is c.loop-i.invariant mid (book_state c.mark.new.self) goes
     (ap (λ (x : SavedMark). mark mid x.name) (sym named) ∙ c.in_default-mark.ensures.ok)

@@ -4,7 +4,7 @@ use Rattle.rd_trace.proofs.ReplayLemmas.{none_stepped, one_stepped, one_refused,
 use Rattle.rd_trace.proofs.replay.step_all.Goals as goal
 
 pub loop-event-init : goal.loop-event-init
-loop-event-init g c = none_stepped g.row.R (book_state c.args.book.now) c.requires.through c.requires.none
+loop-event-init g c = none_stepped (book_state c.args.book.now) c.requires.through c.requires.none
 
 pub returns-in-Err : goal.returns-in-Err
 returns-in-Err g c =
@@ -12,15 +12,15 @@ returns-in-Err g c =
     let now = book_state c.loop-event.book in
     let number : c.len.result + 1 ≡ length now.session.live + 1 =
     ap (λ n. n + 1) (c.len.ensures.count ∙ ap (λ (s : State). length s.live) (c.session.ensures.state ∙ ap (λ (b : BookState). b.session) c.in-Err.ensures.unchanged)) in
-    one_refused g.row.R old now c.args.events.now c.loop-event.event-index _ c.loop-event-test.true (get_or_default c.args.events.now c.loop-event.event-index _ _ c.loop-event-test.true) c.loop-event.invariant (c.len.result + 1) c.in-Err.cause number
-    (not_happened g.row.R now (book_state c.apply.new.self) _ c.in-Err.cause c.in-Err.ensures.answer)
+    one_refused old now c.args.events.now c.loop-event.event-index _ c.loop-event-test.true (get_or_default c.args.events.now c.loop-event.event-index _ _ c.loop-event-test.true) c.loop-event.invariant (c.len.result + 1) c.in-Err.cause number
+    (not_happened now (book_state c.apply.new.self) _ c.in-Err.cause c.in-Err.ensures.answer)
 
 pub loop-event-preserved : goal.loop-event-preserved
 loop-event-preserved g c =
     let now = book_state c.loop-event.book in
     let after = book_state c.apply.new.self in
-    let did = happened g.row.R now after _ _ c.in_default.ensures.answer in
-    one_stepped g.row.R (book_state c.args.book.now) now c.args.events.now c.loop-event.event-index _ c.loop-event-test.true (get_or_default c.args.events.now c.loop-event.event-index _ _ c.loop-event-test.true) c.loop-event.invariant after did.0 did.1
+    let did = happened now after _ _ c.in_default.ensures.answer in
+    one_stepped (book_state c.args.book.now) now c.args.events.now c.loop-event.event-index _ c.loop-event-test.true (get_or_default c.args.events.now c.loop-event.event-index _ _ c.loop-event-test.true) c.loop-event.invariant after did.0 did.1
 
 pub returns : goal.returns
-returns g c = all_of g.row.R (book_state c.args.book.now) (book_state c.loop-event.book) c.args.events.now c.loop-event.event-index (omega arith) c.loop-event.invariant
+returns g c = all_of (book_state c.args.book.now) (book_state c.loop-event.book) c.args.events.now c.loop-event.event-index (omega arith) c.loop-event.invariant

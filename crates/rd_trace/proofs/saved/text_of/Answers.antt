@@ -13,7 +13,7 @@ returns g c = λ utf8.
     let same = c.session-session.ensures.state in
     let start = c.in_ok-put_start.ensures in
     let text = string_bytes c.push_str-6.new.self in
-    let rules : KeepsRules R (of s) = subst (λ x. KeepsRules R (of x)) (sym same) c.put_marks.ensures.rules in
+    let rules : KeepsRules (of s) = subst (λ x. KeepsRules (of x)) (sym same) c.put_marks.ensures.rules in
     let t1 = string_bytes c.push_str.new.self in
     let t2 = string_bytes c.put_live.new.text in
     let t3 = string_bytes c.push_str-2.new.self in
@@ -45,8 +45,8 @@ returns g c = λ utf8.
     let e3 : text ≡ t2 ++ (codes "],\"marks\":[" ++ q4) = two_parts (t2) t3 text (codes "],\"marks\":[") q4 c.in_ok-push_str-2.ensures.bytes e4 in
     let e2 : text ≡ t1 ++ (joined_text false (items_by event_data s.live) ++ q3) = two_parts (t1) t2 text (joined_text false (items_by event_data s.live)) q3 c.in_ok-put_live.ensures.text e3 in
     let e1 : text ≡ string_bytes c.new-text.result ++ (codes "{\"events\":[" ++ q2) = two_parts (string_bytes c.new-text.result) t1 text (codes "{\"events\":[") q2 c.in_ok-push_str.ensures.bytes e2 in
-    subst (λ x. IsTextOf R (of x) text) same
-    (text_of_book R (of s) start.start text (omega arith)
+    subst (λ x. IsTextOf (of x) text) same
+    (text_of_book (of s) start.start text (omega arith)
     (record {
       is_start = start.is_start;
       spells_start = start.spelled;

@@ -47,10 +47,10 @@ returns-in-Ok-close-clause-ok g c =
     sym (length-map c.in-Ok.passes.items number) ∙ ap length c.in-Ok.ensures.ok.numbered ∙ length-numbers 1 (length c.args.said.now) in
     let numbered : map number (map (λ viewer. viewer.0) work) ≡ numbers 1 (length work) =
     ap (map number) passes ∙ c.in-Ok.ensures.ok.numbered ∙ ap (numbers 1) (sym many ∙ sym (ap length passes) ∙ counted) in (
-      subst (λ first. IsLegal g.row.N first (entries history)) state (∥∥₁_map closed.leaves (λ l. (_, l))),
+      subst (λ first. IsLegal first (entries history)) state (∥∥₁_map closed.leaves (λ l. (_, l))),
       subst (λ n. NamesUpTo n (entries history)) c.in-Ok.ensures.ok.counted closed.names,
-      subst (λ answered. AreAnswered g.row.N opened (entries history) 1 c.args.said.now answered) (sym c.in_ok-passes.ensures.answered)
-          (subst (λ first. AreAnswered g.row.N first (entries history) 1 c.args.said.now (map answers_of c.in-Ok-run_viewers.rans.items)) state
+      subst (λ answered. AreAnswered opened (entries history) 1 c.args.said.now answered) (sym c.in_ok-passes.ensures.answered)
+          (subst (λ first. AreAnswered first (entries history) 1 c.args.said.now (map answers_of c.in-Ok-run_viewers.rans.items)) state
           (all_answered g.row.N (Recorded.ghosts (number_of g.row.N)) desk history 1 work c.in-Ok-run_viewers.rans.items c.args.said.now c.in-Ok-run_viewers.ensures.ok
           (subst (λ ps. AllByRecursion (IsNewViewer desk) ps) (sym passes) c.in-Ok.ensures.ok.are_new) numbered c.in_ok-work.ensures.commands
           (subst (λ ps. AllByRecursion (λ pass. Continues (number pass) (seen pass) (entries history)) ps) c.in_ok-passes.ensures.passes closed.continues))),

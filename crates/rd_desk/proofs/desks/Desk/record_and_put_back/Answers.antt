@@ -17,5 +17,5 @@ put_back-requires-clause-value g c = let e = c.record-answer.ensures in record {
 
 pub returns-clause-outcome : goal.returns-clause-outcome
 returns-clause-outcome g c = let e = c.record-answer.ensures in let kept = c.record-answer.new.self in
-    outcome_after g.row.R (opened_state c.args.self.now) c.args.pass.now c.put_back.new.pass c.args.kept kept c.args.self.now.lock c.args.command c.number.result c.record-answer.result c.requires.taken c.put_back.ensures.ok c.number.ensures e.ok e.few e.err e.unchanged
-    (subst (λ b. IsLegal g.row.R (book_state b) (entries kept.history)) (e.opened ∙ c.requires.taken.rooted) (is_legal _ _ _ _ kept.legal))
+    outcome_after (opened_state c.args.self.now) c.args.pass.now c.put_back.new.pass c.args.kept kept c.args.self.now.lock c.args.command c.number.result c.record-answer.result c.requires.taken c.put_back.ensures.ok c.number.ensures e.ok e.few e.err e.unchanged
+    (subst (λ b. IsLegal (book_state b) (entries kept.history)) (e.opened ∙ c.requires.taken.rooted) (is_legal _ _ _ kept.legal))

@@ -20,5 +20,5 @@ invariant_of-self-2-clause-few g c =
 
 pub invariant_of-self-2-clause-legal : goal.invariant_of-self-2-clause-legal
 invariant_of-self-2-clause-legal g c =
-    one_recorded _ _ _ _ _ _ _ _ _ (subst (λ b. IsLeftBy g.row.R (book_state c.args.self.now.opened.value) (entries c.args.self.now.history) (book_state b)) (sym c.deref_mut.ensures.value) c.args.self.now.legal) c.obey-answer.ensures.answer
+    one_recorded _ _ _ _ _ _ _ _ (subst (λ b. IsLeftBy (book_state c.args.self.now.opened.value) (entries c.args.self.now.history) (book_state b)) (sym c.deref_mut.ensures.value) c.args.self.now.legal) c.obey-answer.ensures.answer
     (c.push.ensures ∙ ap (λ es. es ++ viewer_entry c.args.viewer c.args.command c.obey-answer.result ∷ []) c.make_room.ensures.entries)

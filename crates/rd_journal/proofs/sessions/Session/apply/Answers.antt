@@ -15,7 +15,12 @@ invariant_of-self g c =
     record { kept = is.kept; within = is.within; indexed = is.indexed }
 
 pub returns-in_err-make_room_for-clause-memory : goal.returns-in_err-make_room_for-clause-memory
-returns-in_err-make_room_for-clause-memory g c = grind (arith, full_entries, error_passed_up, is_session, none_taken)
+returns-in_err-make_room_for-clause-memory g c =
+    let self = c.args.self.now in
+    let less : length (journal self).live < MOST_STEPS = omega (arith, c.live_len.ensures, self.kept.few) in
+    let full = full_entries self.entries (omega (arith, c.in_err-make_room_for.ensures.err, c.live_len-live.ensures)) in
+    error_passed_up _ NoMemory c.from_residual.result c.from_residual.ensures.1
+    (inr (refl, record { not_full = less; asked = inl (none_taken self.undone (ahead_entries self.entries) full.none, full.filled) }))
 
 pub returns-in_err-make_room_for-clause-err : goal.returns-in_err-make_room_for-clause-err
 returns-in_err-make_room_for-clause-err g c = said_of_state c.args.self.now c.args.event c.from_residual.result (returns-in_err-make_room_for-clause-memory g c)
@@ -37,7 +42,7 @@ returns-in_err-entry-clause-memory g c =
     let less : length old.live < MOST_STEPS = omega (arith, c.live_len.ensures, self.kept.few) in
     error_passed_up _ c.in_err-entry.field-0.0 c.from_residual-in_err-entry.result c.from_residual-in_err-entry.ensures.1 (
     elim c.in_err-entry.ensures.err [
-      | inl h ↦ inl (apply_refused g.row.R old c.args.event c.in_err-entry.field-0.0 (is_session self).runs less h)
+      | inl h ↦ inl (apply_refused old c.args.event c.in_err-entry.field-0.0 (is_session self).runs less h)
       | inr h ↦ inr (h.0, record { not_full = less; asked = inr (inl h.1) })
     ])
 
@@ -53,17 +58,17 @@ pub unstep-requires : goal.unstep-requires
 unstep-requires g c =
     let self = c.args.self.now in (
       omega (arith, c.step.new.self.small),
-      (just_stepped g.row.R (model self.world) (model c.step.new.self) c.args.event c.in_ok-entry.entry (now_formed g.row.R (journal self) (is_session self).runs)
+      (just_stepped (model self.world) (model c.step.new.self) c.args.event c.in_ok-entry.entry (now_formed (journal self) (is_session self).runs)
           c.in_ok-entry.ensures.ok).was,
     )
 
 pub invariant_of-self-then-is_err : goal.invariant_of-self-then-is_err
 invariant_of-self-then-is_err g c =
     let self = c.args.self.now in
-    let back = (just_stepped g.row.R (model self.world) (model c.step.new.self) c.args.event c.in_ok-entry.entry (now_formed g.row.R (journal self) (is_session self).runs)
+    let back = (just_stepped (model self.world) (model c.step.new.self) c.args.event c.in_ok-entry.entry (now_formed (journal self) (is_session self).runs)
     c.in_ok-entry.ensures.ok).back in
     let is = still self c.unstep.new.world c.make_room_for.new.self (c.unstep.ensures.back ∙ back) c.make_room_for.ensures.live c.make_room_for.ensures.ahead
-    (stepped_back g.row.R (model self.world) (model c.step.new.self) c.args.event c.in_ok-entry.entry (room self.world) (room c.step.new.self) (room c.unstep.new.world)
+    (stepped_back (model self.world) (model c.step.new.self) c.args.event c.in_ok-entry.entry (room self.world) (room c.step.new.self) (room c.unstep.new.world)
     c.in_ok-entry.ensures.ok c.in_ok-entry.ensures.room c.unstep.ensures.room) in
     record {
       kept = is.kept;
@@ -98,7 +103,7 @@ returns-then-is_err-clause-err g c = said_of_state {X = ℕ × Entry} c.args.sel
 pub returns-then-is_err-clause-unchanged : goal.returns-then-is_err-clause-unchanged
 returns-then-is_err-clause-unchanged g c =
     let self = c.args.self.now in
-    let back = (just_stepped g.row.R (model self.world) (model c.step.new.self) c.args.event c.in_ok-entry.entry (now_formed g.row.R (journal self) (is_session self).runs)
+    let back = (just_stepped (model self.world) (model c.step.new.self) c.args.event c.in_ok-entry.entry (now_formed (journal self) (is_session self).runs)
     c.in_ok-entry.ensures.ok).back in
     unchanged self _ (c.unstep.ensures.back ∙ back) c.make_room_for.ensures.live c.make_room_for.ensures.ahead refl
 
@@ -115,7 +120,7 @@ invariant_of-self-2 g c =
     grind (arith, take-append-le) in
     record {
       kept =
-          longer_session g.row.R old new c.args.event c.in_ok-entry.entry (room self.world) (room c.step.new.self) self.kept less
+          longer_session old new c.args.event c.in_ok-entry.entry (room self.world) (room c.step.new.self) self.kept less
           c.in_ok-entry.ensures.ok longer;
       within = omega arith;
       indexed =
@@ -131,4 +136,4 @@ returns-clause-ok g c =
     let whole : take c.live_len-live.result (live_entries c.make_room_for.new.self) ≡ old.live =
     ap (take c.live_len-live.result) c.make_room_for.ensures.live ∙ take_all c.live_len-live.result old.live (omega (arith, c.live_len-live.ensures)) in
     let longer : IsLengthened c.in_ok-entry.entry old new = grind arith in
-    apply_goes g.row.R old new c.args.event c.in_ok-entry.entry (is_session self).runs less c.in_ok-entry.ensures.ok longer
+    apply_goes old new c.args.event c.in_ok-entry.entry (is_session self).runs less c.in_ok-entry.ensures.ok longer

@@ -11,5 +11,5 @@ returns-clause-state g c =
 
 pub returns-clause-run : goal.returns-clause-run
 returns-clause-run g c =
-    before_last g.row.R c.args.n (journal c.args.self.now) (journal c.undo_many.new.self) c.undo_many.ensures.entries
+    before_last c.args.n (journal c.args.self.now) (journal c.undo_many.new.self) c.undo_many.ensures.entries
     (is_session c.undo_many.new.self).runs c.undo_many.ensures.state

@@ -25,7 +25,7 @@ undo_behind-requires g c =
         omega (arith, c.requires.within, ap length c.live.ensures),
         (
           start_of j,
-          subst (λ (xs : List Entry). LeadsTo g.row.R (start_of j) j.world xs) (sym c.live.ensures) (live_lead g.row.R j (is_session self).runs),
+          subst (λ (xs : List Entry). LeadsTo (start_of j) j.world xs) (sym c.live.ensures) (live_lead j (is_session self).runs),
         ),
       ),
     )
@@ -38,19 +38,19 @@ step_all-requires g c =
     let given = c.args.given.now in
     let w = model c.undo_behind.new.world in
     let kept = take n j.live in
-    let leads : LeadsTo g.row.R (start_of j) w kept =
-    subst (λ (xs : List Entry). LeadsTo g.row.R (start_of j) w (take n xs)) c.live.ensures
-    (c.undo_behind.ensures.leads (start_of j) (subst (λ (xs : List Entry). LeadsTo g.row.R (start_of j) j.world xs) (sym c.live.ensures) (live_lead g.row.R j (is_session self).runs))) in
+    let leads : LeadsTo (start_of j) w kept =
+    subst (λ (xs : List Entry). LeadsTo (start_of j) w (take n xs)) c.live.ensures
+    (c.undo_behind.ensures.leads (start_of j) (subst (λ (xs : List Entry). LeadsTo (start_of j) j.world xs) (sym c.live.ensures) (live_lead j (is_session self).runs))) in
     let given_is : c.behind.result ≡ given =
     c.behind.ensures ∙ ap (drop n) (c.live-2.ensures ∙ c.exchange.ensures.live) ∙ drop_at kept given n (length-take-le n j.live c.requires.within) in
     let has : HasRoom given (room_without (drop n j.live) (room self.world)) =
-    room_for_all g.row.R j.world j.live given (room_without (drop n j.live) (room self.world)) (is_session self).runs.live_ran n c.requires.run c.requires.makings in
+    room_for_all j.world j.live given (room_without (drop n j.live) (room self.world)) (is_session self).runs.live_ran n c.requires.run c.requires.makings in
     let enough : HasRoom given (room c.undo_behind.new.world) =
     room_given given (drop n j.live) (room self.world) (room c.undo_behind.new.world) has
     (λ m. subst (λ (xs : List Entry). room_without (drop n xs) (room self.world) m ≤ room c.undo_behind.new.world m) c.live.ensures (c.undo_behind.ensures.room m)) in (
       omega (arith, c.undo_behind.new.world.small),
       (
-        subst (λ (xs : List Entry). IsRunFrom g.row.R w xs) (sym given_is) (runs_on g.row.R (start_of j) w kept given leads.ran c.requires.run),
+        subst (λ (xs : List Entry). IsRunFrom w xs) (sym given_is) (runs_on (start_of j) w kept given leads.ran c.requires.run),
         subst (λ (xs : List Entry). HasRoom xs (room c.undo_behind.new.world)) (sym given_is) enough,
       ),
     )
@@ -64,18 +64,18 @@ invariant_of-self-2 g c =
     let given = c.args.given.now in
     let w = model c.undo_behind.new.world in
     let kept = take n j.live in
-    let leads : LeadsTo g.row.R (start_of j) w kept =
-    subst (λ (xs : List Entry). LeadsTo g.row.R (start_of j) w (take n xs)) c.live.ensures
-    (c.undo_behind.ensures.leads (start_of j) (subst (λ (xs : List Entry). LeadsTo g.row.R (start_of j) j.world xs) (sym c.live.ensures) (live_lead g.row.R j (is_session self).runs))) in
+    let leads : LeadsTo (start_of j) w kept =
+    subst (λ (xs : List Entry). LeadsTo (start_of j) w (take n xs)) c.live.ensures
+    (c.undo_behind.ensures.leads (start_of j) (subst (λ (xs : List Entry). LeadsTo (start_of j) j.world xs) (sym c.live.ensures) (live_lead j (is_session self).runs))) in
     let given_is : c.behind.result ≡ given =
     c.behind.ensures ∙ ap (drop n) (c.live-2.ensures ∙ c.exchange.ensures.live) ∙ drop_at kept given n (length-take-le n j.live c.requires.within) in
-    let goes : run g.row.R w (events given) ≡ Ok (record { world = new.world; entries = given }) =
-    subst (λ (xs : List Entry). run g.row.R w (events xs) ≡ Ok (record { world = new.world; entries = xs })) given_is c.step_all.ensures.ran in
+    let goes : run w (events given) ≡ Ok (record { world = new.world; entries = given }) =
+    subst (λ (xs : List Entry). run w (events xs) ≡ Ok (record { world = new.world; entries = xs })) given_is c.step_all.ensures.ran in
     let all : take n (live_entries self.entries ++ ahead_entries self.entries) ++ given ≡ live_entries c.exchange.new.self ++ ahead_entries c.exchange.new.self =
     grind (arith, take-append-le, append-nil) in
     record {
       kept =
-          (exchanged g.row.R n j new given w (room c.step_all.new.world) c.requires.within c.requires.few leads goes
+          (exchanged n j new given w (room c.step_all.new.world) c.requires.within c.requires.few leads goes
           (record { live = c.exchange.ensures.live; undone = c.exchange.ensures.ahead })).session;
       within = omega arith;
       indexed = subst (λ (xs : List Entry). IsIndexOf c.index_instead.new.index xs) all c.in_ok-index_instead.ensures.ok;
@@ -90,12 +90,12 @@ returns-clause-state g c =
     let given = c.args.given.now in
     let w = model c.undo_behind.new.world in
     let kept = take n j.live in
-    let leads : LeadsTo g.row.R (start_of j) w kept =
-    subst (λ (xs : List Entry). LeadsTo g.row.R (start_of j) w (take n xs)) c.live.ensures
-    (c.undo_behind.ensures.leads (start_of j) (subst (λ (xs : List Entry). LeadsTo g.row.R (start_of j) j.world xs) (sym c.live.ensures) (live_lead g.row.R j (is_session self).runs))) in
+    let leads : LeadsTo (start_of j) w kept =
+    subst (λ (xs : List Entry). LeadsTo (start_of j) w (take n xs)) c.live.ensures
+    (c.undo_behind.ensures.leads (start_of j) (subst (λ (xs : List Entry). LeadsTo (start_of j) j.world xs) (sym c.live.ensures) (live_lead j (is_session self).runs))) in
     let given_is : c.behind.result ≡ given =
     c.behind.ensures ∙ ap (drop n) (c.live-2.ensures ∙ c.exchange.ensures.live) ∙ drop_at kept given n (length-take-le n j.live c.requires.within) in
-    let goes : run g.row.R w (events given) ≡ Ok (record { world = new.world; entries = given }) =
-    subst (λ (xs : List Entry). run g.row.R w (events xs) ≡ Ok (record { world = new.world; entries = xs })) given_is c.step_all.ensures.ran in
+    let goes : run w (events given) ≡ Ok (record { world = new.world; entries = given }) =
+    subst (λ (xs : List Entry). run w (events xs) ≡ Ok (record { world = new.world; entries = xs })) given_is c.step_all.ensures.ran in
     let is : IsSwitched n given j new = record { live = c.exchange.ensures.live; undone = refl } in
-    switched_state given n j new (exchanged g.row.R n j new given w (room c.step_all.new.world) c.requires.within c.requires.few leads goes is).start is
+    switched_state given n j new (exchanged n j new given w (room c.step_all.new.world) c.requires.within c.requires.few leads goes is).start is

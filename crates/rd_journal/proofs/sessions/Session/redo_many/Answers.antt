@@ -20,14 +20,14 @@ invariant_of-self g c =
     let new = whole_journal (model c.step_all.new.world) c.step_forward.new.self in
     let n = c.args.n in
     let moved : IsMovedForward n old new = record { live = c.step_forward.ensures.live; undone = c.step_forward.ensures.ahead } in
-    let goes : run g.row.R old.world (events (take n old.undone)) ≡ Ok (record { world = new.world; entries = take n old.undone }) =
-    subst (λ (xs : List Entry). run g.row.R old.world (events xs) ≡ Ok (record { world = new.world; entries = xs })) c.ahead.ensures c.step_all.ensures.ran in
+    let goes : run old.world (events (take n old.undone)) ≡ Ok (record { world = new.world; entries = take n old.undone }) =
+    subst (λ (xs : List Entry). run old.world (events xs) ≡ Ok (record { world = new.world; entries = xs })) c.ahead.ensures c.step_all.ensures.ran in
     let all : old.undone ≡ c.ahead.result ++ drop n old.undone =
     sym (ap (λ (xs : List Entry). xs ++ drop n old.undone) c.ahead.ensures ∙ take-append-drop n old.undone) in
     let has : HasRoom (drop n old.undone) (room c.step_all.new.world) =
     c.step_all.ensures.room (drop n old.undone) (subst (λ (xs : List Entry). HasRoom xs (room self.world)) all self.kept.has_room) in
     record {
-      kept = moved_forward g.row.R n old new (room self.world) (room c.step_all.new.world) self.kept goes has moved;
+      kept = moved_forward n old new (room self.world) (room c.step_all.new.world) self.kept goes has moved;
       within = omega (arith, self.within, ap length moved.undone, length-drop n old.undone);
       indexed = subst (λ (es : List Entry). IsIndexOf self.index es) (sym c.step_forward.ensures.kept) self.indexed;
     }
@@ -46,9 +46,9 @@ returns-clause-state g c =
     let new = whole_journal (model c.step_all.new.world) c.step_forward.new.self in
     let n = c.args.n in
     let moved : IsMovedForward n old new = record { live = c.step_forward.ensures.live; undone = c.step_forward.ensures.ahead } in
-    let goes : run g.row.R old.world (events (take n old.undone)) ≡ Ok (record { world = new.world; entries = take n old.undone }) =
-    subst (λ (xs : List Entry). run g.row.R old.world (events xs) ≡ Ok (record { world = new.world; entries = xs })) c.ahead.ensures c.step_all.ensures.ran in
-    state_forward n (journal self) (journal_of new.world c.step_forward.new.self (self.undone - n)) (led_forward g.row.R n old new self.kept.runs goes moved)
+    let goes : run old.world (events (take n old.undone)) ≡ Ok (record { world = new.world; entries = take n old.undone }) =
+    subst (λ (xs : List Entry). run old.world (events xs) ≡ Ok (record { world = new.world; entries = xs })) c.ahead.ensures c.step_all.ensures.ran in
+    state_forward n (journal self) (journal_of new.world c.step_forward.new.self (self.undone - n)) (led_forward n old new self.kept.runs goes moved)
     (forward_undone self.undone n old new (omega (arith, c.requires.enough, length-take self.undone old.undone)) moved)
 
 pub returns-clause-along : goal.returns-clause-along

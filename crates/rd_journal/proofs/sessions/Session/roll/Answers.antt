@@ -10,7 +10,7 @@ returns-then-len-k-clause-answer g c = grind (arith, roll_answer_missing, then-l
 
 pub returns-then-len-k-clause-state : goal.returns-then-len-k-clause-state
 returns-then-len-k-clause-state g c = (
-  roll_missing g.row.R (journal c.args.self.now) c.args.k c.len-len.result c.len-len.ensures.entries
+  roll_missing (journal c.args.self.now) c.args.k c.len-len.result c.len-len.ensures.entries
       (elim c.then-len-k.branch [ then-len-k-via-then-len-k w ↦ inr (omega arith) | then-len-k-via-else-len-k+then-k-eq0 w ↦ inl (omega arith) ]),
   refl,
 )
@@ -19,7 +19,7 @@ pub returns-clause-state : goal.returns-clause-state
 returns-clause-state g c =
     let old = journal c.args.self.now in
     let within : c.args.k ≤ length old.live = omega (arith, c.len-len.ensures.entries) in
-    roll_there g.row.R old c.args.k (is_session c.args.self.now).runs (omega arith) within
+    roll_there old c.args.k (is_session c.args.self.now).runs (omega arith) within
     ∙ ap (λ (s : State). Ok s) (sym (rolled_state c.args.k old (journal c.roll_back.new.self) c.roll_back.ensures.entries c.roll_back.ensures.start))
 
 pub returns-clause-answer : goal.returns-clause-answer
@@ -27,5 +27,5 @@ returns-clause-answer g c = grind (arith, roll_answer_there)
 
 pub returns-clause-run : goal.returns-clause-run
 returns-clause-run g c =
-    rolled_run g.row.R c.args.k (journal c.args.self.now) (journal c.roll_back.new.self) c.roll_back.ensures.entries
+    rolled_run c.args.k (journal c.args.self.now) (journal c.roll_back.new.self) c.roll_back.ensures.entries
     c.roll_back.ensures.start (is_session c.roll_back.new.self).runs

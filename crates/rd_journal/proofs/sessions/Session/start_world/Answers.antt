@@ -12,8 +12,8 @@ undo_behind-requires g c =
         omega arith,
         (
           start_of j,
-          subst (λ (w : World). LeadsTo g.row.R (start_of j) w c.live.result) (sym c.in_ok-world.ensures.ok)
-              (subst (λ (xs : List Entry). LeadsTo g.row.R (start_of j) j.world xs) (sym c.live.ensures.entries) (live_lead g.row.R j (is_session c.args.self.now).runs)),
+          subst (λ (w : World). LeadsTo (start_of j) w c.live.result) (sym c.in_ok-world.ensures.ok)
+              (subst (λ (xs : List Entry). LeadsTo (start_of j) j.world xs) (sym c.live.ensures.entries) (live_lead j (is_session c.args.self.now).runs)),
         ),
       ),
     )
@@ -21,6 +21,6 @@ undo_behind-requires g c =
 pub returns-clause-ok : goal.returns-clause-ok
 returns-clause-ok g c =
     let j = journal c.args.self.now in
-    let leads = subst (λ (w : World). LeadsTo g.row.R (start_of j) w c.live.result) (sym c.in_ok-world.ensures.ok)
-    (subst (λ (xs : List Entry). LeadsTo g.row.R (start_of j) j.world xs) (sym c.live.ensures.entries) (live_lead g.row.R j (is_session c.args.self.now).runs)) in
-    led_nowhere g.row.R (start_of j) (model c.undo_behind.new.world) (c.undo_behind.ensures.leads (start_of j) leads)
+    let leads = subst (λ (w : World). LeadsTo (start_of j) w c.live.result) (sym c.in_ok-world.ensures.ok)
+    (subst (λ (xs : List Entry). LeadsTo (start_of j) j.world xs) (sym c.live.ensures.entries) (live_lead j (is_session c.args.self.now).runs)) in
+    led_nowhere (start_of j) (model c.undo_behind.new.world) (c.undo_behind.ensures.leads (start_of j) leads)

@@ -11,7 +11,7 @@ unstep-requires g c =
     let old = whole_journal (model self.world) self.entries in
     let x = c.live_at.result.now in
     let at : IsNumber old.live c.args.k x = record { some = c.requires.some; within = c.requires.position; here = c.live_at.ensures } in
-    (omega (arith, self.world.small), (may_undo_at g.row.R old c.args.k x at c.requires.free self.kept.runs).was)
+    (omega (arith, self.world.small), (may_undo_at old c.args.k x at c.requires.free self.kept.runs).was)
 
 pub invariant_of-self : goal.invariant_of-self
 invariant_of-self g c =
@@ -21,7 +21,7 @@ invariant_of-self g c =
     let x = c.live_at.result.now in
     let at : IsNumber old.live c.args.k x = record { some = c.requires.some; within = c.requires.position; here = c.live_at.ensures } in
     let moved : IsUndoneAlone c.args.k old new = record { live = c.undo_alone.ensures.live; undone = c.undo_alone.ensures.ahead } in
-    let may = may_undo_at g.row.R old c.args.k x at c.requires.free self.kept.runs in
+    let may = may_undo_at old c.args.k x at c.requires.free self.kept.runs in
     let front = taken_out_front c.args.k old new x at moved in
     record {
       kept = record {
@@ -47,6 +47,6 @@ returns-clause-state g c =
     let x = c.live_at.result.now in
     let at : IsNumber old.live c.args.k x = record { some = c.requires.some; within = c.requires.position; here = c.live_at.ensures } in
     let moved : IsUndoneAlone c.args.k old new = record { live = c.undo_alone.ensures.live; undone = c.undo_alone.ensures.ahead } in
-    let may = may_undo_at g.row.R old c.args.k x at c.requires.free self.kept.runs in
+    let may = may_undo_at old c.args.k x at c.requires.free self.kept.runs in
     undone_alone_state c.args.k (journal self) (with_undone (self.undone + 1) new) (out_undone self.undone c.args.k old new c.requires.some c.requires.position moved)
     (may.start new (c.unstep.ensures.taken_out may.was) moved)

@@ -10,7 +10,7 @@ returns-then-len-k-clause-answer g c = grind (arith, answer_missing, then-len-k-
 
 pub returns-then-len-k-clause-state : goal.returns-then-len-k-clause-state
 returns-then-len-k-clause-state g c = (
-  undo_at_missing g.row.R (journal c.args.self.now) c.args.k c.len-len.result c.len-len.ensures.entries
+  undo_at_missing (journal c.args.self.now) c.args.k c.len-len.result c.len-len.ensures.entries
       (elim c.then-len-k.branch [ then-len-k-via-then-len-k w ↦ inr (omega arith) | then-len-k-via-else-len-k+then-k-eq0 w ↦ inl (omega arith) ]),
   refl,
 )
@@ -24,7 +24,7 @@ returns-in-Some-clause-state g c =
     let within : c.args.k ≤ length old.live = omega (arith, c.len-len.ensures.entries) in
     let first : first_dependant old.live c.args.k ≡ Some c.in-Some.dependant =
     sym c.in-Some.ensures in
-    (undo_at_there g.row.R old c.args.k (is_session c.args.self.now).runs (omega arith) within ∙ ap (undone_alone_unless (state c.args.self.now) c.args.k) first, refl)
+    (undo_at_there old c.args.k (is_session c.args.self.now).runs (omega arith) within ∙ ap (undone_alone_unless (state c.args.self.now) c.args.k) first, refl)
 
 pub undo_alone-requires : goal.undo_alone-requires
 undo_alone-requires g c = grind arith
@@ -35,7 +35,7 @@ returns-clause-state g c =
     let within : c.args.k ≤ length old.live = omega (arith, c.len-len.ensures.entries) in
     let first : first_dependant old.live c.args.k ≡ None =
     sym c.first_dependant.ensures ∙ c.in_default.is in
-    undo_at_there g.row.R old c.args.k (is_session c.args.self.now).runs (omega arith) within
+    undo_at_there old c.args.k (is_session c.args.self.now).runs (omega arith) within
     ∙ ap (undone_alone_unless (state c.args.self.now) c.args.k) first ∙ ap (λ (s : State). Ok s) (sym c.undo_alone.ensures.state)
 
 pub returns-clause-answer : goal.returns-clause-answer

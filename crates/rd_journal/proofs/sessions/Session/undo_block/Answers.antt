@@ -51,7 +51,7 @@ invariant_of-self g c =
     let said = c.gather_closure-count.ensures in
     let gathered : IsGatheredLast c.args.k old mid = record { world = refl; live = said.live; undone = said.ahead; len = said.len } in
     record {
-      kept = gathered_session g.row.R c.args.k old mid (room self.world) self.kept c.requires.some c.requires.position gathered;
+      kept = gathered_session c.args.k old mid (room self.world) self.kept c.requires.some c.requires.position gathered;
       within = omega (arith, self.within, ap length said.ahead);
       indexed = c.fill_index.ensures;
     }
@@ -65,5 +65,5 @@ returns-clause-start g c =
     let mid = journal_of (model self.world) c.gather_closure-count.new.self self.undone in
     let said = c.gather_closure-count.ensures in
     let gathered : IsGatheredLast c.args.k (journal self) mid = record { world = refl; live = said.live; undone = ap (take self.undone) said.ahead; len = said.len } in
-    rolled_start g.row.R c.args.k c.gather_closure-count.result (journal self) mid (journal c.undo_many.new.self) (is_session self).runs c.requires.some
+    rolled_start c.args.k c.gather_closure-count.result (journal self) mid (journal c.undo_many.new.self) (is_session self).runs c.requires.some
     c.requires.position gathered c.undo_many.ensures.state

@@ -14,7 +14,7 @@ undo_behind-requires g c =
         omega (arith, ap length c.live.ensures, c.live_len.ensures),
         (
           start_of old,
-          subst (λ (xs : List Entry). LeadsTo g.row.R (start_of old) old.world xs) (sym c.live.ensures) (live_lead g.row.R old self.kept.runs),
+          subst (λ (xs : List Entry). LeadsTo (start_of old) old.world xs) (sym c.live.ensures) (live_lead old self.kept.runs),
         ),
       ),
     )
@@ -27,13 +27,13 @@ invariant_of-self g c =
     let n = c.args.n in
     let k = length old.live - n in
     let moved : IsMovedBack n old new = record { live = c.step_back.ensures.live; undone = c.step_back.ensures.ahead } in
-    let leads : LeadsTo g.row.R (start_of old) new.world (take k old.live) =
-    subst (λ (xs : List Entry). LeadsTo g.row.R (start_of old) new.world xs) (λ i. take (c.live_len.ensures i - n) (c.live.ensures i))
+    let leads : LeadsTo (start_of old) new.world (take k old.live) =
+    subst (λ (xs : List Entry). LeadsTo (start_of old) new.world xs) (λ i. take (c.live_len.ensures i - n) (c.live.ensures i))
     (c.undo_behind.ensures.leads (start_of old)
-    (subst (λ (xs : List Entry). LeadsTo g.row.R (start_of old) old.world xs) (sym c.live.ensures) (live_lead g.row.R old self.kept.runs))) in
+    (subst (λ (xs : List Entry). LeadsTo (start_of old) old.world xs) (sym c.live.ensures) (live_lead old self.kept.runs))) in
     record {
       kept =
-          moved_back g.row.R n old new (room self.world) (room c.undo_behind.new.world) c.requires.enough self.kept leads
+          moved_back n old new (room self.world) (room c.undo_behind.new.world) c.requires.enough self.kept leads
           (λ m. subst (λ (xs : List Entry). room self.world m + room_returned_by xs m ≤ room c.undo_behind.new.world m)
           (λ i. drop (c.live_len.ensures i - n) (c.live.ensures i)) (c.undo_behind.ensures.room m)) moved;
       within = omega (arith, self.within, ap length moved.undone, length-append (drop k old.live) old.undone, length-drop k old.live, c.requires.enough);
@@ -50,11 +50,11 @@ returns-clause-state g c =
     let new = whole_journal (model c.undo_behind.new.world) c.step_back.new.self in
     let n = c.args.n in
     let moved : IsMovedBack n old new = record { live = c.step_back.ensures.live; undone = c.step_back.ensures.ahead } in
-    let leads : LeadsTo g.row.R (start_of old) new.world (take (length old.live - n) old.live) =
-    subst (λ (xs : List Entry). LeadsTo g.row.R (start_of old) new.world xs) (λ i. take (c.live_len.ensures i - n) (c.live.ensures i))
+    let leads : LeadsTo (start_of old) new.world (take (length old.live - n) old.live) =
+    subst (λ (xs : List Entry). LeadsTo (start_of old) new.world xs) (λ i. take (c.live_len.ensures i - n) (c.live.ensures i))
     (c.undo_behind.ensures.leads (start_of old)
-    (subst (λ (xs : List Entry). LeadsTo g.row.R (start_of old) old.world xs) (sym c.live.ensures) (live_lead g.row.R old self.kept.runs))) in
-    state_back n (journal self) (journal_of new.world c.step_back.new.self (self.undone + n)) c.requires.enough (led_back g.row.R n old new leads moved)
+    (subst (λ (xs : List Entry). LeadsTo (start_of old) old.world xs) (sym c.live.ensures) (live_lead old self.kept.runs))) in
+    state_back n (journal self) (journal_of new.world c.step_back.new.self (self.undone + n)) c.requires.enough (led_back n old new leads moved)
     (back_undone self.undone n old new c.requires.enough moved)
 
 pub returns-clause-along : goal.returns-clause-along

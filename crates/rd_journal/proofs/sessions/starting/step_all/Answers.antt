@@ -15,11 +15,11 @@ step_again-requires g c =
     let w = model c.loop-next.world in
     let x = c.at.result.now in
     let here = drop_one_less xs n x (omega (arith, c.loop-next-test.true, c.len-next-end.ensures)) c.at.ensures in
-    let first = first_step g.row.R w x (drop (n + 1) xs) (subst (λ (ys : List Entry). IsRunFrom g.row.R w ys) here c.loop-next.invariant.rest) in (
+    let first = first_step w x (drop (n + 1) xs) (subst (λ (ys : List Entry). IsRunFrom w ys) here c.loop-next.invariant.rest) in (
       omega (arith, c.loop-next.world.small),
       (
         (first.after, first.goes),
-        redo_room g.row.R w first.after (drop n xs) (drop (n + 1) xs) x (room c.loop-next.world) here first.goes c.loop-next.invariant.room,
+        redo_room w first.after (drop n xs) (drop (n + 1) xs) x (room c.loop-next.world) here first.goes c.loop-next.invariant.room,
       ),
     )
 
@@ -32,25 +32,25 @@ loop-next-preserved g c =
     let x = c.at.result.now in
     let within : n < length xs = omega (arith, c.loop-next-test.true, c.len-next-end.ensures) in
     let here = drop_one_less xs n x within c.at.ensures in
-    let first = first_step g.row.R w x (drop (n + 1) xs) (subst (λ (ys : List Entry). IsRunFrom g.row.R w ys) here c.loop-next.invariant.rest) in
+    let first = first_step w x (drop (n + 1) xs) (subst (λ (ys : List Entry). IsRunFrom w ys) here c.loop-next.invariant.rest) in
     let both : record { world = first.after; entry = x } ≡ record { world = v; entry = x } = cc (first.goes, c.step_again.ensures.done) in
     let same : first.after ≡ v = ap (λ (s : Stepped). s.world) both in
-    let one : run g.row.R w (x.event ∷ []) ≡ Ok (record { world = v; entries = x ∷ [] }) =
-    run-cons g.row.R w x.event [] (record { world = v; entry = x }) (record { world = v; entries = [] }) c.step_again.ensures.done refl in
+    let one : run w (x.event ∷ []) ≡ Ok (record { world = v; entries = x ∷ [] }) =
+    run-cons w x.event [] (record { world = v; entry = x }) (record { world = v; entries = [] }) c.step_again.ensures.done refl in
     let more : take (n + 1) xs ≡ take n xs ++ x ∷ [] = take_more xs n x within ∙ ap (λ (y : Entry). take n xs ++ y ∷ []) (sym c.at.ensures) in
     record {
       ran =
-          ap (λ (ys : List Entry). run g.row.R (model c.args.world.now) (events ys)) more
-          ∙ ap (run g.row.R (model c.args.world.now)) (map-append (λ (y : Entry). y.event) (take n xs) (x ∷ []))
-          ∙ run_joined g.row.R (model c.args.world.now) (events (take n xs)) (x.event ∷ []) (record { world = w; entries = take n xs })
+          ap (λ (ys : List Entry). run (model c.args.world.now) (events ys)) more
+          ∙ ap (run (model c.args.world.now)) (map-append (λ (y : Entry). y.event) (take n xs) (x ∷ []))
+          ∙ run_joined (model c.args.world.now) (events (take n xs)) (x.event ∷ []) (record { world = w; entries = take n xs })
           (record { world = v; entries = x ∷ [] }) c.loop-next.invariant.ran one
           ∙ ap (λ (ys : List Entry). Ok (record { world = v; entries = ys })) (sym more);
-      rest = subst (λ (u : World). IsRunFrom g.row.R u (drop (n + 1) xs)) same first.rest;
+      rest = subst (λ (u : World). IsRunFrom u (drop (n + 1) xs)) same first.rest;
       room =
-          redone_room g.row.R w v (drop n xs) (drop (n + 1) xs) x (room c.loop-next.world) (room c.step_again.new.self) here c.step_again.ensures.done
+          redone_room w v (drop n xs) (drop (n + 1) xs) x (room c.loop-next.world) (room c.step_again.new.self) here c.step_again.ensures.done
           c.loop-next.invariant.room c.step_again.ensures.room;
       more = λ rest has.
-          redone_room g.row.R w v (drop n xs ++ rest) (drop (n + 1) xs ++ rest) x (room c.loop-next.world) (room c.step_again.new.self)
+          redone_room w v (drop n xs ++ rest) (drop (n + 1) xs ++ rest) x (room c.loop-next.world) (room c.step_again.new.self)
           (ap (λ (ys : List Entry). ys ++ rest) here) c.step_again.ensures.done (c.loop-next.invariant.more rest has) c.step_again.ensures.room;
     }
 
@@ -58,7 +58,7 @@ pub returns-clause-ran : goal.returns-clause-ran
 returns-clause-ran g c =
     let xs = c.args.steps.now in
     let all : take c.loop-next.next xs ≡ xs = take_all c.loop-next.next xs (omega (arith, c.loop-next-test.false, c.len-next-end.ensures)) in
-    ap (λ (ys : List Entry). run g.row.R (model c.args.world.now) (events ys)) (sym all) ∙ c.loop-next.invariant.ran
+    ap (λ (ys : List Entry). run (model c.args.world.now) (events ys)) (sym all) ∙ c.loop-next.invariant.ran
     ∙ ap (λ (ys : List Entry). Ok (record { world = model c.loop-next.world; entries = ys })) all
 
 pub returns-clause-room : goal.returns-clause-room

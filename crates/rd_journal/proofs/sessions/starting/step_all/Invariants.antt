@@ -4,8 +4,8 @@ use Rattle.rd_journal.proofs.sessions.starting.step_all.Given as goal
 
 abbrev pub invariant-loop-next : goal.invariant-loop-next
 invariant-loop-next g l = record {
-  ran : run g.row.R (model l.fn.world) (events (take l.next l.steps)) ≡ Ok (record { world = model l.world; entries = take l.next l.steps });
-  rest : IsRunFrom g.row.R (model l.world) (drop l.next l.steps);
+  ran : run (model l.fn.world) (events (take l.next l.steps)) ≡ Ok (record { world = model l.world; entries = take l.next l.steps });
+  rest : IsRunFrom (model l.world) (drop l.next l.steps);
   more : (rest : List Entry) → HasRoom (l.steps ++ rest) (room l.fn.world) → HasRoom (drop l.next l.steps ++ rest) (room l.world);
   room : HasRoom (drop l.next l.steps) (room l.world);
 }

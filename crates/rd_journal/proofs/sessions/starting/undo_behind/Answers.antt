@@ -10,7 +10,7 @@ loop-last-init g c =
     record {
       from = omega (arith, c.requires.within, c.len-last.ensures);
       within = omega (arith, c.len-last.ensures);
-      leads = λ start leads. subst (λ (ys : List Entry). LeadsTo g.row.R start (model c.args.world.now) ys) (sym (take_all all xs (omega (arith, c.len-last.ensures)))) leads;
+      leads = λ start leads. subst (λ (ys : List Entry). LeadsTo start (model c.args.world.now) ys) (sym (take_all all xs (omega (arith, c.len-last.ensures)))) leads;
       room = grind (arith, drop_all);
     }
 
@@ -21,8 +21,8 @@ unstep-requires g c =
     let cut = one_more xs n c.at.result.now (omega (arith, c.loop-last.invariant.from)) c.loop-last.invariant.within c.at.ensures in
     let leads = c.loop-last.invariant.leads c.requires.leads.0 c.requires.leads.1 in (
       omega (arith, c.loop-last.world.small),
-      (may_step_back g.row.R c.requires.leads.0 (model c.loop-last.world) (take (n - 1) xs) c.at.result.now
-          (subst (λ (ys : List Entry). LeadsTo g.row.R c.requires.leads.0 (model c.loop-last.world) ys) cut leads)).was,
+      (may_step_back c.requires.leads.0 (model c.loop-last.world) (take (n - 1) xs) c.at.result.now
+          (subst (λ (ys : List Entry). LeadsTo c.requires.leads.0 (model c.loop-last.world) ys) cut leads)).was,
     )
 
 pub loop-last-preserved : goal.loop-last-preserved
@@ -36,9 +36,9 @@ loop-last-preserved g c =
       from = omega arith;
       within = omega (arith, c.loop-last.invariant.within);
       leads = λ start first.
-          subst (λ (w : World). LeadsTo g.row.R start w (take (n - 1) xs)) (sym c.unstep.ensures.back)
-          (may_step_back g.row.R start (model c.loop-last.world) (take (n - 1) xs) x
-          (subst (λ (ys : List Entry). LeadsTo g.row.R start (model c.loop-last.world) ys) cut (c.loop-last.invariant.leads start first))).left;
+          subst (λ (w : World). LeadsTo start w (take (n - 1) xs)) (sym c.unstep.ensures.back)
+          (may_step_back start (model c.loop-last.world) (take (n - 1) xs) x
+          (subst (λ (ys : List Entry). LeadsTo start (model c.loop-last.world) ys) cut (c.loop-last.invariant.leads start first))).left;
       room = λ m.
           let more = ap (λ (ys : List Entry). room_returned_by ys m) behind in
           omega (arith, more, c.loop-last.invariant.room m, c.unstep.ensures.room m);
@@ -49,7 +49,7 @@ returns g c =
     let end : c.loop-last.last ≡ c.args.n = omega (arith, c.loop-last.invariant.from) in
     record {
       leads = λ start leads.
-          subst (λ (n : ℕ). LeadsTo g.row.R start (model c.loop-last.world) (take n c.args.steps.now)) end (c.loop-last.invariant.leads start leads);
+          subst (λ (n : ℕ). LeadsTo start (model c.loop-last.world) (take n c.args.steps.now)) end (c.loop-last.invariant.leads start leads);
       room = λ m.
           subst (λ (n : ℕ). room c.args.world.now m + room_returned_by (drop n c.args.steps.now) m ≤ room c.loop-last.world m) end (c.loop-last.invariant.room m);
     }

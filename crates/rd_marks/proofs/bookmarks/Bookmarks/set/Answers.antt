@@ -37,7 +37,7 @@ invariant_of-self-in-Break-branch-2 g c = record { kept = (kept_same _ _ c.in_er
 
 pub returns-in_err-grown-clause-runs : goal.returns-in_err-grown-clause-runs
 returns-in_err-grown-clause-runs g c =
-    subst (λ (ls : List (MarkName × List Entry)). AreRuns g.row.R (state c.args.session.now).start ls) (sym (stay g (goal.at.returns-in_err-grown-clause-runs g c).In_err-grown).1) c.requires.runs
+    subst (λ (ls : List (MarkName × List Entry)). AreRuns (state c.args.session.now).start ls) (sym (stay g (goal.at.returns-in_err-grown-clause-runs g c).In_err-grown).1) c.requires.runs
 
 pub returns-in_err-grown-clause-stands : goal.returns-in_err-grown-clause-stands
 returns-in_err-grown-clause-stands g c =
@@ -54,13 +54,13 @@ returns-in_err-grown-clause-unchanged g c = fact_passed_up _ (stay g (goal.at.re
 
 -- where all was put
 put_last : (g : Over) (c : After-here_after-self g)
-    → let b = c.args.self.now in IsSet g.row.R (state c.args.session.now).start b.stretches.list.items c.grow.new.self.list.items b.names.entries c.put.new.names.entries c.args.name c.live-live.result
+    → let b = c.args.self.now in IsSet (state c.args.session.now).start b.stretches.list.items c.grow.new.self.list.items b.names.entries c.put.new.names.entries c.args.name c.live-live.result
     (track c.args.session.now) c.here_after-self.result
 put_last g c =
     let b = c.args.self.now in
     let live = c.live-live in
     let at = c.follow-at in
-    is_set g.row.R _ _ b.stretches.nested _ _ b.kept c.requires.few c.requires.runs live.result (record { few = live.ensures.few; ran = live.ensures.run }) _ c.requires.stands
+    is_set _ _ b.stretches.nested _ _ b.kept c.requires.few c.requires.runs live.result (record { few = live.ensures.few; ran = live.ensures.run }) _ c.requires.stands
     (live_begin c.args.session.now live.result live.ensures.events) at.result at.ensures.within at.ensures.along _ c.in_ok-grown.grown c.in_ok-grown.ensures.ok c.args.name _ _ c.reserve.ensures.entries
     c.put.ensures _ c.len-2.result c.here_after-self.ensures.near c.here_after-self.ensures.far
 

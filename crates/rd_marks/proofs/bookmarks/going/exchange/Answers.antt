@@ -21,10 +21,10 @@ switch-requires g c =
     let given = c.deref.ensures.value ∙ c.in-Ok.ensures.ok in
     let same = common_live ss c.follow-beginning.result c.args.place n (events c.live-live.result) (state c.args.session.now).live c.live-live.ensures.events said.first
     c.follow-beginning.ensures.along said.alike in
-    let run = subst (λ (xs : List Entry). IsRunFrom g.row.R (state c.args.session.now).start xs) c.live-live.ensures.entries c.live-live.ensures.run in
+    let run = subst (λ (xs : List Entry). IsRunFrom (state c.args.session.now).start xs) c.live-live.ensures.entries c.live-live.ensures.run in
     let live = length-map c.live-live.result (λ (x : Entry). x.event) in
     let few = few_enough n c.deref.result.now (entries_at ss c.args.place) given (omega (arith, said.second, entries_length ss c.args.place c.requires.within)) c.requires.run.few in
-    let may = may_switch g.row.R (journal c.args.session.now) n c.deref.result.now (entries_at ss c.args.place) given run c.requires.run same in
+    let may = may_switch (journal c.args.session.now) n c.deref.result.now (entries_at ss c.args.place) given run c.requires.run same in
     (lit< tt, (omega (arith, said.first, c.follow-beginning.ensures.along.enough, ap length c.live-live.ensures.entries, live), (few, may)))
 
 pub returns-in-Err-clause-succeeds : goal.returns-in-Err-clause-succeeds

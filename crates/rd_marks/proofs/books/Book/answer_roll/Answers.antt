@@ -8,7 +8,7 @@ use Rattle.rd_marks.proofs.books.Book.answer_roll.Goals as goal
 pub invariant_of-self : goal.invariant_of-self
 invariant_of-self g c =
     let book = c.args.self.now in
-    let start = answers_start _ c.roll.result book.session c.roll.new.self (roll_start g.row.R _ c.args.k) c.roll.ensures.state in
+    let start = answers_start _ c.roll.result book.session c.roll.new.self (roll_start _ c.args.k) c.roll.ensures.state in
     record { runs = rw start book.runs; stands = rw (ap track c.in_err-roll.ensures.state.1) book.stands }
 
 pub invariant_of-self-2 : goal.invariant_of-self-2
@@ -17,10 +17,10 @@ invariant_of-self-2 g c =
     let old = journal book.session in
     record {
       runs =
-          runs_stay g.row.R _ _ _ _ (answers_start _ c.roll.result book.session c.roll.new.self (roll_start g.row.R _ c.args.k) c.roll.ensures.state) c.cut_here.ensures.lists book.runs;
+          runs_stay _ _ _ _ (answers_start _ c.roll.result book.session c.roll.new.self (roll_start _ c.args.k) c.roll.ensures.state) c.cut_here.ensures.lists book.runs;
       stands =
           track_cut _ _ c.cut_here.ensures.begins c.saturating_sub.result old (journal c.roll.new.self) _ _ book.stands c.cut_here.ensures.short
-          (omega (arith, rolled_within g.row.R _ c.args.k _ c.in_ok-roll.ensures.state, length-map old.live (λ (x : Entry). x.event), c.saturating_sub.ensures))
+          (omega (arith, rolled_within _ c.args.k _ c.in_ok-roll.ensures.state, length-map old.live (λ (x : Entry). x.event), c.saturating_sub.ensures))
           (roll_leaves c.args.k _ old (journal c.roll.new.self) (omega arith) c.in_ok-roll.ensures.entries);
     }
 

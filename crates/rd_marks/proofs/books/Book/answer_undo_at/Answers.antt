@@ -8,7 +8,7 @@ use Rattle.rd_marks.proofs.books.Book.answer_undo_at.Goals as goal
 pub invariant_of-self : goal.invariant_of-self
 invariant_of-self g c =
     let book = c.args.self.now in
-    let start = answers_start _ c.undo_at.result book.session c.undo_at.new.self (undo_at_start g.row.R _ c.args.k) c.undo_at.ensures.state in
+    let start = answers_start _ c.undo_at.result book.session c.undo_at.new.self (undo_at_start _ c.args.k) c.undo_at.ensures.state in
     record { runs = rw start book.runs; stands = rw (ap track c.in_err-undo_at.ensures.state.1) book.stands }
 
 pub invariant_of-self-2 : goal.invariant_of-self-2
@@ -17,10 +17,10 @@ invariant_of-self-2 g c =
     let old = journal book.session in
     record {
       runs =
-          runs_stay g.row.R _ _ _ _ (answers_start _ c.undo_at.result book.session c.undo_at.new.self (undo_at_start g.row.R _ c.args.k) c.undo_at.ensures.state) c.cut_here.ensures.lists book.runs;
+          runs_stay _ _ _ _ (answers_start _ c.undo_at.result book.session c.undo_at.new.self (undo_at_start _ c.args.k) c.undo_at.ensures.state) c.cut_here.ensures.lists book.runs;
       stands =
           track_cut _ _ c.cut_here.ensures.begins c.saturating_sub.result old (journal c.undo_at.new.self) _ _ book.stands c.cut_here.ensures.short
-          (omega (arith, undone_within g.row.R _ c.args.k _ c.in_ok-undo_at.ensures.state, length-map old.live (λ (x : Entry). x.event), c.saturating_sub.ensures))
+          (omega (arith, undone_within _ c.args.k _ c.in_ok-undo_at.ensures.state, length-map old.live (λ (x : Entry). x.event), c.saturating_sub.ensures))
           (undone_alone_leaves c.args.k _ old (journal c.undo_at.new.self) c.saturating_sub.ensures c.in_ok-undo_at.ensures.entries);
     }
 

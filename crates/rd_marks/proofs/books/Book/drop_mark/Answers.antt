@@ -6,7 +6,7 @@ use Rattle.rd_marks.proofs.books.Book.drop_mark.Goals as goal
 
 pub invariant_of-self : goal.invariant_of-self
 invariant_of-self g c = record {
-  runs = rw c.drop.ensures.lists (all_without (same_name c.args.name) (λ (l : MarkName × List Entry). AreEntriesOfRun g.row.R (state c.args.self.now.session).start l.1) _ c.args.self.now.runs);
+  runs = rw c.drop.ensures.lists (all_without (same_name c.args.name) (λ (l : MarkName × List Entry). AreEntriesOfRun (state c.args.self.now.session).start l.1) _ c.args.self.now.runs);
   stands = still_begins _ _ c.drop.ensures.here _ c.args.self.now.stands;
 }
 

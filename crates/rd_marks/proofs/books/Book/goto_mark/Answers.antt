@@ -9,7 +9,7 @@ returns-in_default-clause-err g c = grind (arith, found_events, option_map)
 
 pub go_to-requires : goal.go_to-requires
 go_to-requires g c =
-    let fact = all_found (same_name c.args.name) (λ (xs : List Entry). AreEntriesOfRun g.row.R (state c.args.self.now.session).start xs) (lists_in c.args.self.now.bookmarks)
+    let fact = all_found (same_name c.args.name) (λ (xs : List Entry). AreEntriesOfRun (state c.args.self.now.session).start xs) (lists_in c.args.self.now.bookmarks)
     (entries_in c.args.self.now.bookmarks c.in-Some.place) c.args.self.now.runs in
     grind (arith, c.args.self.now.stands, c.in-Some.ensures.within, fact)
 
@@ -23,7 +23,7 @@ returns-clause-err g c =
 
 pub invariant_of-self : goal.invariant_of-self
 invariant_of-self g c = record {
-  runs = runs_stay g.row.R _ _ _ _ (start_kept c.go_to.result _ _ _ c.go_to.ensures.ok c.go_to.ensures.unchanged) c.go_to.ensures.lists c.args.self.now.runs;
+  runs = runs_stay _ _ _ _ (start_kept c.go_to.result _ _ _ c.go_to.ensures.ok c.go_to.ensures.unchanged) c.go_to.ensures.lists c.args.self.now.runs;
   stands = c.go_to.ensures.stands;
 }
 

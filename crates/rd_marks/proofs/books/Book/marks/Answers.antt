@@ -6,4 +6,4 @@ use Rattle.rd_marks.proofs.books.Book.marks.Goals as goal
 pub returns-clause-rules : goal.returns-clause-rules
 returns-clause-rules g c =
     let book = c.args.self.now in
-    keeps_rules g.row.R (book_state book) (lists_in book.bookmarks) refl (omega (arith, c.len.ensures.count, c.len.ensures.few)) book.runs c.len.ensures.unique
+    keeps_rules (book_state book) (lists_in book.bookmarks) refl (omega (arith, c.len.ensures.count, c.len.ensures.few)) book.runs c.len.ensures.unique

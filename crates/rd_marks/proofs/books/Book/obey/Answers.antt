@@ -8,19 +8,19 @@ returns-in-Some-clause-succeeds g c = λ needs. absurd (event_needs (book_state 
 
 pub returns-in-Some-clause-answer : goal.returns-in-Some-clause-answer
 returns-in-Some-clause-answer g c =
-    event_obeyed g.row.R (book_state c.args.self.now) c.args.command c.in-Some.event _ (sym c.as_event.ensures ∙ c.in-Some.is) c.answer_event.ensures.happens
+    event_obeyed (book_state c.args.self.now) c.args.command c.in-Some.event _ (sym c.as_event.ensures ∙ c.in-Some.is) c.answer_event.ensures.happens
 
 pub returns-in-Some-clause-start : goal.returns-in-Some-clause-start
-returns-in-Some-clause-start g c = (happened_leaves g.row.R (book_state c.args.self.now) c.in-Some.event _ c.answer_event.ensures.happens).start
+returns-in-Some-clause-start g c = (happened_leaves (book_state c.args.self.now) c.in-Some.event _ c.answer_event.ensures.happens).start
 
 pub returns-in-Some-clause-unchanged : goal.returns-in-Some-clause-unchanged
-returns-in-Some-clause-unchanged g c = (happened_leaves g.row.R (book_state c.args.self.now) c.in-Some.event _ c.answer_event.ensures.happens).unchanged
+returns-in-Some-clause-unchanged g c = (happened_leaves (book_state c.args.self.now) c.in-Some.event _ c.answer_event.ensures.happens).unchanged
 
 pub returns-in-None-clause-start : goal.returns-in-None-clause-start
-returns-in-None-clause-start g c = (obeyed_leaves g.row.R (book_state c.args.self.now) c.args.command _ c.answer_to.ensures.answer).start
+returns-in-None-clause-start g c = (obeyed_leaves (book_state c.args.self.now) c.args.command _ c.answer_to.ensures.answer).start
 
 pub returns-in-None-clause-unchanged : goal.returns-in-None-clause-unchanged
-returns-in-None-clause-unchanged g c = (obeyed_leaves g.row.R (book_state c.args.self.now) c.args.command _ c.answer_to.ensures.answer).unchanged
+returns-in-None-clause-unchanged g c = (obeyed_leaves (book_state c.args.self.now) c.args.command _ c.answer_to.ensures.answer).unchanged
 
 pub returns-in-Some-clause-memory : goal.returns-in-Some-clause-memory
 returns-in-Some-clause-memory g c =

@@ -15,8 +15,8 @@ returns-in-Err g c = grind (arith, both_there, found_events, option_map)
 pub returns-in-Ok : goal.returns-in-Ok
 returns-in-Ok g c =
     let book = c.args.self.now in
-    let runs = λ (xs : List Entry). AreEntriesOfRun g.row.R (state book.session).start xs in
-    both_there g.row.R _ _ _ _ _ (Ok c.in-Ok.same) (found_events c.args.one _ ∙ ap (option_map events) (sym c.in-Some.ensures.found))
+    let runs = λ (xs : List Entry). AreEntriesOfRun (state book.session).start xs in
+    both_there _ _ _ _ _ (Ok c.in-Ok.same) (found_events c.args.one _ ∙ ap (option_map events) (sym c.in-Some.ensures.found))
     (found_events c.args.other _ ∙ ap (option_map events) (sym c.in-Some-find.ensures.found))
-    (decided g.row.R _ _ _ c.in-Ok.same (all_found (same_name c.args.one) runs _ _ book.runs (sym c.in-Some.ensures.found))
+    (decided _ _ _ c.in-Ok.same (all_found (same_name c.args.one) runs _ _ book.runs (sym c.in-Some.ensures.found))
     (all_found (same_name c.args.other) runs _ _ book.runs (sym c.in-Some-find.ensures.found)) c.in-Ok.ensures.answer)

@@ -9,7 +9,7 @@ invariant_of-result g c = record {
   small = c.requires.small;
   makers = c.in-Ok.ensures.number ∙ lists_right c.args.parts (sym c.first_flaw.ensures ∙ c.in_default.is);
   well_formed =
-      subst (λ (w : World). IsWellFormed g.row.R w) (sym (parts_make c.args.parts c.in-Ok.space c.in-Ok.ensures.ok)) (assembled g.row.R c.args.parts (sym c.first_flaw.ensures ∙ c.in_default.is));
+      subst (λ (w : World). IsWellFormed w) (sym (parts_make c.args.parts c.in-Ok.space c.in-Ok.ensures.ok)) (assembled g.row.R c.args.parts (sym c.first_flaw.ensures ∙ c.in_default.is));
 }
 
 pub returns-in-Ok-clause-ok : goal.returns-in-Ok-clause-ok

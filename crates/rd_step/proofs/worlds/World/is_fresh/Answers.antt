@@ -10,7 +10,7 @@ returns-then-is_fresh g c =
     both_tests c.is_fresh.result c.are_idle.result c.is_fresh.ensures c.are_idle.ensures
     (λ at idle_all.
     let same = idle_actors xs (subst (λ (ys : List Actor). All (λ x. x ≡ idle) ys) c.deref.ensures.value idle_all) in
-    (length xs, (λ i. record { at = at i; actor = same i })))
+    (length xs, (λ i. record { ring = g.row.R; at = at i; actor = same i })))
     (λ w. subst (λ (ys : List Actor). All (λ x. x ≡ idle) ys) (sym c.deref.ensures.value) (all_idle xs w.0 (ap (λ (x : World). x.actor) w.1))) c.if-is_fresh.true
 
 pub returns-else-is_fresh : goal.returns-else-is_fresh

@@ -12,7 +12,7 @@ invariant_of-self g c = record {
   small = c.args.self.now.small;
   makers = c.make_room.ensures.number ∙ c.args.self.now.makers;
   well_formed =
-      subst (λ (w : World). IsWellFormed g.row.R w)
+      subst (λ (w : World). IsWellFormed w)
       (sym (same_world c.args.self.now.space c.make_room.new.self c.args.self.now.actors.items c.make_room.ensures.unchanged)) c.args.self.now.well_formed;
 }
 

@@ -11,7 +11,7 @@ invariant_of-result g c =
       small = c.requires.small;
       makers = c.in_ok-space.ensures.number ∙ ap (λ (n : ℕ). suc n) (sym len);
       well_formed =
-          subst (λ (w : World). IsWellFormed g.row.R w)
+          subst (λ (w : World). IsWellFormed w)
           (sym (fields_make c.in_ok-space.space c.loop-number.list.items poised c.args.actors c.in_ok-space.ensures.ok len (λ n h. c.loop-number.invariant.2 n (omega arith))))
           (poised_formed g.row.R c.args.actors c.requires.some c.requires.few);
     }

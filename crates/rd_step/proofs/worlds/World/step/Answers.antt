@@ -10,7 +10,7 @@ returns-in_err-access-clause-err g c =
     let self = c.args.self.now in
     let can = representable_here _ self.space self.actors.items c.args.event c.in-Some.actor self.well_formed self.small (sym c.in-Some.ensures) in
     error_passed_up _ c.in_err-access.field-0.0 c.from_residual.result c.from_residual.ensures.1
-    (inl (step_not_needed _ (world_of_fields self.space self.actors.items) c.args.event c.in-Some.actor c.in_err-access.field-0.0
+    (inl (step_not_needed (world_of_fields self.space self.actors.items) c.args.event c.in-Some.actor c.in_err-access.field-0.0
     (sym c.in-Some.ensures) (sym (c.in_err-access.ensures can))))
 
 pub perform-requires : goal.perform-requires
@@ -60,7 +60,7 @@ pub returns-in_err-done-clause-room : goal.returns-in_err-done-clause-room
 returns-in_err-done-clause-room g c = λ m.
     let self = c.args.self.now in
     let can = representable_here _ self.space self.actors.items c.args.event c.in-Some.actor self.well_formed self.small (sym c.in-Some.ensures) in
-    let e = makes_by _ (world_of_fields self.space self.actors.items) c.args.event c.in-Some.actor c.in_ok-access.access (sym c.in-Some.ensures) (sym (c.in_ok-access.ensures can)) in
+    let e = makes_by (world_of_fields self.space self.actors.items) c.args.event c.in-Some.actor c.in_ok-access.access (sym c.in-Some.ensures) (sym (c.in_ok-access.ensures can)) in
     subst (λ (b : Bool). room self.space m ≤ room c.perform.new.space m + room_used b c.args.event.actor m) (sym e) (c.in_err-done.ensures.room m)
 
 pub invariant_of-self-2 : goal.invariant_of-self-2
@@ -90,21 +90,21 @@ pub returns-clause-room : goal.returns-clause-room
 returns-clause-room g c = λ m.
     let self = c.args.self.now in
     let can = representable_here _ self.space self.actors.items c.args.event c.in-Some.actor self.well_formed self.small (sym c.in-Some.ensures) in
-    let e = makes_by _ (world_of_fields self.space self.actors.items) c.args.event c.in-Some.actor c.in_ok-access.access (sym c.in-Some.ensures) (sym (c.in_ok-access.ensures can)) in
+    let e = makes_by (world_of_fields self.space self.actors.items) c.args.event c.in-Some.actor c.in_ok-access.access (sym c.in-Some.ensures) (sym (c.in_ok-access.ensures can)) in
     subst (λ (b : Bool). room self.space m ≤ room c.perform.new.space m + room_used b c.args.event.actor m) (sym e) (c.in_ok-done.ensures.room m)
 
 pub returns-in_err-done-clause-others : goal.returns-in_err-done-clause-others
 returns-in_err-done-clause-others g c = λ m other.
     let self = c.args.self.now in
     let can = representable_here _ self.space self.actors.items c.args.event c.in-Some.actor self.well_formed self.small (sym c.in-Some.ensures) in
-    let e = makes_by _ (world_of_fields self.space self.actors.items) c.args.event c.in-Some.actor c.in_ok-access.access (sym c.in-Some.ensures) (sym (c.in_ok-access.ensures can)) in
+    let e = makes_by (world_of_fields self.space self.actors.items) c.args.event c.in-Some.actor c.in_ok-access.access (sym c.in-Some.ensures) (sym (c.in_ok-access.ensures can)) in
     c.in_err-done.ensures.others m (λ makes. other (e ∙ makes))
 
 pub returns-clause-others : goal.returns-clause-others
 returns-clause-others g c = λ m other.
     let self = c.args.self.now in
     let can = representable_here _ self.space self.actors.items c.args.event c.in-Some.actor self.well_formed self.small (sym c.in-Some.ensures) in
-    let e = makes_by _ (world_of_fields self.space self.actors.items) c.args.event c.in-Some.actor c.in_ok-access.access (sym c.in-Some.ensures) (sym (c.in_ok-access.ensures can)) in
+    let e = makes_by (world_of_fields self.space self.actors.items) c.args.event c.in-Some.actor c.in_ok-access.access (sym c.in-Some.ensures) (sym (c.in_ok-access.ensures can)) in
     c.in_ok-done.ensures.others m (λ makes. other (e ∙ makes))
 
 pub returns-in_err-done-clause-ended : goal.returns-in_err-done-clause-ended

@@ -9,7 +9,7 @@ pub unreachable-requires : goal.unreachable-requires
 unreachable-requires g c =
     let self = c.args.self.now in
     let x = c.args.entry.now in
-    let l = leaves _ (model self) c.requires.goes.0 x c.requires.goes.1 in
+    let l = leaves (model self) c.requires.goes.0 x c.requires.goes.1 in
     let can = representable_here _ self.space self.actors.items x.event x.old_actor self.well_formed self.small l.has in
     cc (l.needs, c.need.ensures can)
 
@@ -17,7 +17,7 @@ pub perform-requires : goal.perform-requires
 perform-requires g c =
     let self = c.args.self.now in
     let x = c.args.entry.now in
-    let l = leaves _ (model self) c.requires.goes.0 x c.requires.goes.1 in
+    let l = leaves (model self) c.requires.goes.0 x c.requires.goes.1 in
     let can = representable_here _ self.space self.actors.items x.event x.old_actor self.well_formed self.small l.has in (
       omega arith,
       (
@@ -36,7 +36,7 @@ pub invariant_of-self : goal.invariant_of-self
 invariant_of-self g c =
     let self = c.args.self.now in
     let x = c.args.entry.now in
-    let l = leaves _ (model self) c.requires.goes.0 x c.requires.goes.1 in
+    let l = leaves (model self) c.requires.goes.0 x c.requires.goes.1 in
     let can = representable_here _ self.space self.actors.items x.event x.old_actor self.well_formed self.small l.has in
     let again =
     access_again _ self.space c.perform.new.space self.actors.items c.set_actor.new.actors.items c.requires.goes.0 x c.after.result c.in-Ok.access
@@ -53,7 +53,7 @@ pub unreachable-requires-in-Err : goal.unreachable-requires-in-Err
 unreachable-requires-in-Err g c =
     let self = c.args.self.now in
     let x = c.args.entry.now in
-    let l = leaves _ (model self) c.requires.goes.0 x c.requires.goes.1 in
+    let l = leaves (model self) c.requires.goes.0 x c.requires.goes.1 in
     let can = representable_here _ self.space self.actors.items x.event x.old_actor self.well_formed self.small l.has in
     not_refused _ self.space self.actors.items c.requires.goes.0 x c.in-Ok.access c.in-Err.field-0 c.requires.goes.1
     (sym (c.in-Ok.ensures can)) c.requires.room c.in-Err.ensures.err
@@ -74,7 +74,7 @@ pub returns-in-Ok-perform-clause-done : goal.returns-in-Ok-perform-clause-done
 returns-in-Ok-perform-clause-done g c =
     let self = c.args.self.now in
     let x = c.args.entry.now in
-    let l = leaves _ (model self) c.requires.goes.0 x c.requires.goes.1 in
+    let l = leaves (model self) c.requires.goes.0 x c.requires.goes.1 in
     let can = representable_here _ self.space self.actors.items x.event x.old_actor self.well_formed self.small l.has in
     (access_again _ self.space c.perform.new.space self.actors.items c.set_actor.new.actors.items c.requires.goes.0 x c.after.result c.in-Ok.access
     c.perform.result self.well_formed c.requires.goes.1 c.requires.room c.after.ensures c.set_actor.ensures.done (sym (c.in-Ok.ensures can))
@@ -84,9 +84,9 @@ pub returns-in-Ok-perform-clause-room : goal.returns-in-Ok-perform-clause-room
 returns-in-Ok-perform-clause-room g c = λ m.
     let self = c.args.self.now in
     let x = c.args.entry.now in
-    let l = leaves _ (model self) c.requires.goes.0 x c.requires.goes.1 in
+    let l = leaves (model self) c.requires.goes.0 x c.requires.goes.1 in
     let can = representable_here _ self.space self.actors.items x.event x.old_actor self.well_formed self.small l.has in
-    let e = makes_by _ (world_of_fields self.space self.actors.items) x.event x.old_actor c.in-Ok.access l.has (sym (c.in-Ok.ensures can)) in
+    let e = makes_by (world_of_fields self.space self.actors.items) x.event x.old_actor c.in-Ok.access l.has (sym (c.in-Ok.ensures can)) in
     subst (λ (b : Bool). room self.space m ≤ room c.perform.new.space m + room_used b x.event.actor m) (sym e) (c.in-Ok-perform.ensures.room m)
 
 pub returns-else-not-is_nothing-clause-done : goal.returns-else-not-is_nothing-clause-done
@@ -99,7 +99,7 @@ pub returns-in-Ok-perform-clause-others : goal.returns-in-Ok-perform-clause-othe
 returns-in-Ok-perform-clause-others g c = λ m other.
     let self = c.args.self.now in
     let x = c.args.entry.now in
-    let l = leaves _ (model self) c.requires.goes.0 x c.requires.goes.1 in
+    let l = leaves (model self) c.requires.goes.0 x c.requires.goes.1 in
     let can = representable_here _ self.space self.actors.items x.event x.old_actor self.well_formed self.small l.has in
-    let e = makes_by _ (world_of_fields self.space self.actors.items) x.event x.old_actor c.in-Ok.access l.has (sym (c.in-Ok.ensures can)) in
+    let e = makes_by (world_of_fields self.space self.actors.items) x.event x.old_actor c.in-Ok.access l.has (sym (c.in-Ok.ensures can)) in
     c.in-Ok-perform.ensures.others m (λ makes. other (e ∙ makes))
