@@ -18,13 +18,13 @@ ran_with_writer : (before after : BookState) (d : Devices) (n : ℕ) → RanToEn
 ran_with_writer before after d n ran = subst (λ failed. RanToEnd before after (record d { out_failed = failed }) n) ran.out_works ran
 
 -- a run that came to its end over the fresh world, and what became of its trace
-pub ran_to_trace : (R R' actors : ℕ) (traced : Bool) (d : Devices) (s after : BookState) (reported : Option (List ℕ)) (failed : Bool) (n : ℕ) (written : Result (Unit {0}) WriteTraceFault)
-    → R' ≡ R → s ≡ fresh_state R actors → RanToEnd s after (record d { out_after = reported; out_failed = failed }) n
+pub ran_to_trace : (R actors : ℕ) (traced : Bool) (d : Devices) (s after : BookState) (reported : Option (List ℕ)) (failed : Bool) (n : ℕ) (written : Result (Unit {0}) WriteTraceFault)
+    → s ≡ fresh_state R actors → RanToEnd s after (record d { out_after = reported; out_failed = failed }) n
     → WritesIf traced after reported d.out_after d.out_failed written → RanToTrace R actors traced d n written
-ran_to_trace R R' actors traced d s after reported failed n written ring state ran trace = record {
+ran_to_trace R actors traced d s after reported failed n written state ran trace = record {
   after = after;
   reported = reported;
   ran = ran_with_writer (fresh_state R actors) after (record d { out_after = reported; out_failed = failed }) n
       (subst (λ b. RanToEnd b after (record d { out_after = reported; out_failed = failed }) n) state ran);
-  trace = subst (λ k. WritesIf traced after reported d.out_after d.out_failed written) ring trace;
+  trace = trace;
 }

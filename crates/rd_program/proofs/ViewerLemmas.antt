@@ -5,8 +5,7 @@ use Rattle.rd_marks.specs.Books.{BookState}
 use Rattle.rd_program.specs.declared.faults.ProgramFault.{ProgramFault}
 use Rattle.rd_program.specs.Viewers.{ViewsOver}
 
--- a view over an equal ring and an equal state
-pub same_view : (R' : ℕ) (b b' : BookState) (scripts : List (Vec ℕ Global)) (old new : Option (List ℕ)) (failed : Bool) (r : Result ℕ ProgramFault) → b.session.start.ring ≡ R' → b ≡ b'
+-- a view over an equal state
+pub same_view : (b b' : BookState) (scripts : List (Vec ℕ Global)) (old new : Option (List ℕ)) (failed : Bool) (r : Result ℕ ProgramFault) → b ≡ b'
     → ViewsOver b scripts old new failed r → ViewsOver b' scripts old new failed r
-same_view R' b b' scripts old new failed r ring state views =
-    subst (λ k. ViewsOver b' scripts old new failed r) ring (subst (λ s. ViewsOver s scripts old new failed r) state views)
+same_view b b' scripts old new failed r state views = subst (λ s. ViewsOver s scripts old new failed r) state views

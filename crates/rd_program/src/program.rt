@@ -4,7 +4,7 @@
 
 ghost use Rattle.std.specs.Prelude.{◌≡◌, ℕ, false, IfOk, IfErr, IfSome};
 ghost use Rattle.rd_trace.specs.Traces.{ring_length};
-ghost use Rattle.rd_trace.specs.Loading.{any_ring, any_state, fresh_state};
+ghost use Rattle.rd_trace.specs.Loading.{any_state, fresh_state};
 ghost use Rattle.rd_trace.specs.Devices.{devices};
 ghost use Rattle.rd_program.specs.Program.{IsUnread, PlaysScript, ResumesTrace, WritesIf};
 
@@ -52,8 +52,8 @@ fn play_over<S: Source, K: Sink>(
 ) -> Result<u64, ProgramFault>
     requires reader_works { S.has_failed reader.old ≡ false }
     requires writer_works { K.has_failed writer.old ≡ false }
-    ensures { (actors : ℕ) → any_state book.old ≡ fresh_state (any_ring book.old) actors
-        → PlaysScript (any_ring book.old) actors trace (devices S.Source K.Sink reader.old reader.new writer.old writer.new) result }
+    ensures { (R actors : ℕ) → any_state book.old ≡ fresh_state R actors
+        → PlaysScript R actors trace (devices S.Source K.Sink reader.old reader.new writer.old writer.new) result }
 {
     let lines = book.run(reader, writer)?;
     write_if(alloc, writer, book, trace)?;

@@ -152,7 +152,7 @@ module _ (R : ℕ) (t u : Trace R) (same : seen t ≡ seen u) where
 
   same_answer : (r q : Result AnyBook LoadTraceFault) → (r ≡ Err NoMemory → ⊥) → (q ≡ Err NoMemory → ⊥) → Replays (IsBookIn (loaded_state t)) t r
       → Replays (IsBookIn (loaded_state u)) u q → IsSameAnswer r q
-  same_answer (Ok a) (Ok b) some also h k = (h.1.0 ∙ sym k.1.0, subst₂ IsSameBook (sym h.1.1) (sym k.1.1) (same_book R R t u same))
+  same_answer (Ok a) (Ok b) some also h k = subst₂ IsSameBook (sym h.1) (sym k.1) (same_book R R t u same)
   same_answer (Ok a) (Err f) some also h k = plays_alone (seen t) f (plays_as_seen R t h.0) (fails_alike f (λ is. also (ap Err is)) k)
   same_answer (Err e) (Ok b) some also h k =
       plays_alone (seen t) e (subst (Plays) (sym same) (plays_as_seen R u k.0)) (fails_as_seen R t (IsBookIn (loaded_state t)) e (λ is. some (ap Err is)) h)
@@ -164,7 +164,7 @@ module _ (R : ℕ) (t u : Trace R) (same : seen t ≡ seen u) where
   no_fault plays f some k = plays_alone (seen t) f (plays_as_seen R t plays) (fails_alike f some k)
 
   again : IsPlayable t → (q : Result AnyBook LoadTraceFault) → Replays (IsBookIn (loaded_state u)) u q → LoadsAgain (loaded_state t) q
-  again plays (Ok b) k = (k.1.0, subst (λ x. IsSameBook x (loaded_state t)) (sym k.1.1) (sym_book (same_book R R t u same)))
+  again plays (Ok b) k = subst (λ x. IsSameBook x (loaded_state t)) (sym k.1) (sym_book (same_book R R t u same))
   again plays (Err NoMemory) k = refl
   again plays (Err BadTrace) k = absurd k
   again plays (Err (Flawed flaw)) k = absurd (no_fault plays (Flawed flaw) (λ e. cc) k)

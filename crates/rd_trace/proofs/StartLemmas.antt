@@ -31,11 +31,11 @@ fresh_spelled count some few = record { members = refl; fresh = record { number 
 
 -- ---- the world of a start
 
-module _ (R : ℕ) (w : World) where
+module _ (w : World) where
   -- a fresh one is written as one
-  module _ (count n : ℕ) (e : w ≡ fresh_world R count) (same : count ≡ n) (d : Data) (is : d ≡ fresh_data n) where
-    fresh_by : w ≡ fresh_world R n
-    fresh_by = e ∙ ap (fresh_world R) same
+  module _ (count n : ℕ) (e : w ≡ fresh_world w.ring count) (same : count ≡ n) (d : Data) (is : d ≡ fresh_data n) where
+    fresh_by : w ≡ fresh_world w.ring n
+    fresh_by = e ∙ ap (fresh_world w.ring) same
 
     pub starts_fresh : 1 ≤ n → n ≤ MOST_ACTORS → IsStartData w d
     starts_fresh some few = inl (n, fresh_by, some, few, is)
@@ -44,8 +44,8 @@ module _ (R : ℕ) (w : World) where
     spells_fresh some few = (Fresh n, subst (λ x. IsFreshStart x n) (sym is) (fresh_spelled n some few), refl, sym fresh_by)
 
   -- and another one as its parts
-  module _ (p : Parts R) (parts : world_of_parts p ≡ w) (flawless : first_flaw p ≡ None) (d : Data) (is : d ≡ parts_data p) where
-    pub starts_parts : ((count : ℕ) × (w ≡ fresh_world R count) → ⊥) → IsStartData w d
+  module _ (p : Parts w.ring) (parts : world_of_parts p ≡ w) (flawless : first_flaw p ≡ None) (d : Data) (is : d ≡ parts_data p) where
+    pub starts_parts : ((count : ℕ) × (w ≡ fresh_world w.ring count) → ⊥) → IsStartData w d
     starts_parts other = inr ((λ count e. other (count, e)), p, flawless, parts, is)
 
     pub spells_parts : IsParts (parts_data p) p → SpellsWorld w d

@@ -14,12 +14,6 @@ use Rattle.rd_trace.specs.Saved.{Trace, IsTraceText, loaded_state, IsSameBook}
 use Rattle.rd_marks.specs.Rules.{GoThrough, MarksGoThrough}
 use Rattle.rd_trace.specs.Traces.{IsRefusedAt, IsMarkRefusedAt}
 
--- the number of cells of a book's rings
-abbrev pub any_ring : AnyBook → ℕ
-any_ring (Two book) = 2
-any_ring (Four book) = 4
-any_ring (Eight book) = 8
-
 -- the state of a book
 abbrev pub any_state : AnyBook → BookState
 any_state (Two book) = book_state book
@@ -35,9 +29,9 @@ form_fault BadForm = BadTrace
 abbrev pub fresh_state : ℕ → ℕ → BookState
 fresh_state R actors = record { session = record { start = fresh_world R actors; live = []; undone = [] }; marks = [] }
 
--- the book is in this state, over rings of this many cells
+-- the book is in this state
 abbrev pub IsBookIn : BookState → AnyBook → Type 0
-IsBookIn b book = (any_ring book ≡ b.session.start.ring) × (any_state book ≡ b)
+IsBookIn b book = any_state book ≡ b
 
 -- the start of a trace is a well-formed world, and the events of each of its bookmarks can run from
 -- it
@@ -68,9 +62,9 @@ LoadsTrace text (Err NoMemory) = Unit {0}
 LoadsTrace text (Err BadTrace) = (R : ℕ) (t : Trace R) → IsTraceText text t → ⊥
 LoadsTrace text result = (R : ℕ) × (t : Trace R) × IsTraceText text t × Replays (IsBookIn (loaded_state t)) t result
 
--- two results of loading are the same: the same book over the same rings, or the same fault
+-- two results of loading are the same: the same book, or the same fault
 abbrev pub IsSameAnswer : Result AnyBook LoadTraceFault → Result AnyBook LoadTraceFault → Type 0
-IsSameAnswer (Ok one) (Ok other) = (any_ring one ≡ any_ring other) × IsSameBook (any_state one) (any_state other)
+IsSameAnswer (Ok one) (Ok other) = IsSameBook (any_state one) (any_state other)
 IsSameAnswer (Ok book) (Err fault) = ⊥
 IsSameAnswer (Err fault) (Ok book) = ⊥
 IsSameAnswer (Err one) (Err other) = one ≡ other
@@ -83,5 +77,5 @@ IsLoadable b text = (t : Trace b.session.start.ring) × IsTraceText text t × Is
 -- the result of loading the text as which a book in this state was written: the same book, unless
 -- memory was refused
 abbrev pub LoadsAgain : BookState → Result AnyBook LoadTraceFault → Type 0
-LoadsAgain b (Ok book) = (any_ring book ≡ b.session.start.ring) × IsSameBook (any_state book) b
+LoadsAgain b (Ok book) = IsSameBook (any_state book) b
 LoadsAgain b (Err fault) = fault ≡ NoMemory

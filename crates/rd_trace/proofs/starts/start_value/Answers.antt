@@ -15,7 +15,7 @@ returns-then-is_fresh-clause-value g c =
     let counted : c.from.result ≡ n = omega arith in
     let same : fresh.0 ≡ n = one_count g.row.R fresh.0 n w fresh.1 c.actors.ensures.count in
     IfOk-weaker c.fresh_value.result (λ (value : Value). view value ≡ fresh_data c.from.result) (λ value. IsStartData w (view value))
-    (λ value e. starts_fresh g.row.R w fresh.0 n fresh.1 same (view value) (e ∙ ap fresh_data counted) c.actors.ensures.some c.actors.ensures.within) c.fresh_value.ensures
+    (λ value e. starts_fresh w fresh.0 n fresh.1 same (view value) (e ∙ ap fresh_data counted) c.actors.ensures.some c.actors.ensures.within) c.fresh_value.ensures
 
 pub returns-then-is_fresh-clause-spelled : goal.returns-then-is_fresh-clause-spelled
 returns-then-is_fresh-clause-spelled g c =
@@ -25,14 +25,14 @@ returns-then-is_fresh-clause-spelled g c =
     let counted : c.from.result ≡ n = omega arith in
     let same : fresh.0 ≡ n = one_count g.row.R fresh.0 n w fresh.1 c.actors.ensures.count in
     IfOk-weaker c.fresh_value.result (λ (value : Value). view value ≡ fresh_data c.from.result) (λ value. SpellsWorld w (view value))
-    (λ value e. spells_fresh g.row.R w fresh.0 n fresh.1 same (view value) (e ∙ ap fresh_data counted) c.actors.ensures.some c.actors.ensures.within) c.fresh_value.ensures
+    (λ value e. spells_fresh w fresh.0 n fresh.1 same (view value) (e ∙ ap fresh_data counted) c.actors.ensures.some c.actors.ensures.within) c.fresh_value.ensures
 
 pub returns-clause-value : goal.returns-clause-value
 returns-clause-value g c =
     let w = model c.args.world.now in
     let p = c.in-Ok.parts in
     IfOk-weaker c.parts_value.result (λ (value : Value). view value ≡ parts_data p) (λ value. IsStartData w (view value))
-    (λ value e. starts_parts g.row.R w p c.in-Ok.ensures.ok c.in-Ok.ensures.flawless (view value) e (λ fresh. both_ways c.is_fresh.result c.if-is_fresh.false (c.is_fresh.ensures.1 fresh)))
+    (λ value e. starts_parts w p c.in-Ok.ensures.ok c.in-Ok.ensures.flawless (view value) e (λ fresh. both_ways c.is_fresh.result c.if-is_fresh.false (c.is_fresh.ensures.1 fresh)))
     c.parts_value.ensures.value
 
 pub returns-clause-spelled : goal.returns-clause-spelled
@@ -40,4 +40,4 @@ returns-clause-spelled g c =
     let w = model c.args.world.now in
     let p = c.in-Ok.parts in
     both_ok (λ (value : Value). view value ≡ parts_data p) (λ value. SpellsWorld w (view value)) c.parts_value.result
-    c.parts_value.ensures.value c.parts_value.ensures.spelled (λ value e h. spells_parts g.row.R w p c.in-Ok.ensures.ok c.in-Ok.ensures.flawless (view value) e h)
+    c.parts_value.ensures.value c.parts_value.ensures.spelled (λ value e h. spells_parts w p c.in-Ok.ensures.ok c.in-Ok.ensures.flawless (view value) e h)
