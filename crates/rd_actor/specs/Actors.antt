@@ -5,7 +5,7 @@ use Rattle.rd_actor.specs.declared.actors.Actor.{Actor}
 use Rattle.rd_actor.specs.declared.actors.Pc.TheVariants.{Idle, E4}
 use Rattle.rd_actor.specs.declared.actors.Pc.{Pc}
 use Rattle.rd_actor.specs.declared.actors.Op.{Op}
-use Rattle.rd_actor.specs.declared.actors.Op.TheVariants.{Enq}
+use Rattle.rd_actor.specs.declared.actors.Op.TheVariants as op
 
 -- the record of an actor in no call
 abbrev pub idle : Actor
@@ -26,7 +26,7 @@ idle = record {
 
 -- the record of an actor in an enqueue of this value, whose next step draws a position on the root
 abbrev pub poised : ℕ → Actor
-poised value = record idle { pc = E4; op = Some (Enq value) }
+poised value = record idle { pc = E4; op = Some (op.Enq value) }
 
 -- the record of an actor that begins this call at this control point
 abbrev pub calling : Pc → Op → Actor

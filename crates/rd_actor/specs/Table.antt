@@ -4,33 +4,33 @@ use Rattle.std.specs.Prelude.{ℕ, ◌+◌, ◌%◌, ◌^◌, ◌<◌, Bool, tru
 use Rattle.rd_cell.specs.declared.cells.Cell.{Cell}
 use Rattle.rd_cell.specs.declared.places.SegName.{SegName}
 use Rattle.rd_cell.specs.declared.places.Place.{Place}
-use Rattle.rd_cell.specs.declared.places.Place.TheVariants.{QHead, QTail, Head, Tail, Next, Cell as CellAt, Val as ValAt, Idx as IdxAt, ArrHead, ArrTail, ArrCell}
+use Rattle.rd_cell.specs.declared.places.Place.TheVariants as place
 use Rattle.rd_cell.specs.declared.contents.ArrSlot.{ArrSlot}
-use Rattle.rd_cell.specs.declared.contents.ArrSlot.TheVariants.{Empty as NobodyYet, Top, Value as Held}
-use Rattle.rd_cell.specs.declared.contents.Content.TheVariants.{Name, Number, Tail as TailIs, Next as NextIs, Slot}
+use Rattle.rd_cell.specs.declared.contents.ArrSlot.TheVariants as slot
+use Rattle.rd_cell.specs.declared.contents.Content.TheVariants as content
 use Rattle.rd_cell.specs.declared.access.Access.{Access}
 use Rattle.rd_cell.specs.declared.access.Access.TheVariants.{NoPlace, At, Make}
 use Rattle.rd_cell.specs.declared.operations.Operation.TheVariants.{Read, ReadValue, ReadSafeAndIndex, Add, AddArray, Close, CasName, CasNext, CasTail, Cas2, Swap}
 use Rattle.rd_cell.specs.declared.operations.Answer.{Answer}
-use Rattle.rd_cell.specs.declared.operations.Answer.TheVariants.{Found, Value, SafeAndIndex, Won, Lost, Made}
+use Rattle.rd_cell.specs.declared.operations.Answer.TheVariants as answer
 use Rattle.rd_cell.specs.declared.refusal.Refusal.{Refusal}
-use Rattle.rd_cell.specs.declared.refusal.Refusal.TheVariants.{NotIdle, Idle as IsIdle, NeedsChoice, NoChoice}
-use Rattle.rd_cell.specs.Cells.{is_bit}
+use Rattle.rd_cell.specs.declared.refusal.Refusal.TheVariants as refusal
+use Rattle.rd_cell.specs.Cells.{bit_eq}
 use Rattle.rd_actor.specs.declared.actors.Act.{Act}
-use Rattle.rd_actor.specs.declared.actors.Act.TheVariants.{Enq, Deq, AEnq, ADeq, Go, Starve}
+use Rattle.rd_actor.specs.declared.actors.Act.TheVariants as act
 use Rattle.rd_actor.specs.declared.actors.Actor.{Actor}
 use Rattle.rd_actor.specs.declared.actors.Op.{Op}
-use Rattle.rd_actor.specs.declared.actors.Op.TheVariants.{Enq as Enqueue, Deq as Dequeue, AEnq as EnqueueInArray, ADeq as DequeueFromArray}
+use Rattle.rd_actor.specs.declared.actors.Op.TheVariants as op
 use Rattle.rd_actor.specs.declared.actors.OpReply.{OpReply}
-use Rattle.rd_actor.specs.declared.actors.OpReply.TheVariants.{Enqueued, Value as Dequeued, Empty}
+use Rattle.rd_actor.specs.declared.actors.OpReply.TheVariants as op_reply
 use Rattle.rd_actor.specs.declared.actors.Pc.{Pc}
 use Rattle.rd_actor.specs.declared.actors.Pc.TheVariants.{Idle, E1, E2, E3, E4, E5, E6, E7, E8, E9, E10, E11, E12, E13, E14, Q1, Q2, Q3, Q4, Q5, Q6, Q7, Q8, Q9, Q10, Q11, Q12, Q13, Q14, A1, A2, B1, B2, B3}
 use Rattle.rd_actor.specs.Actors.{idle, calling}
 
 -- the value that an enqueue is to put, on either queue
 abbrev pub value_to_put : Option Op → ℕ
-value_to_put (Some (Enqueue x)) = x
-value_to_put (Some (EnqueueInArray x)) = x
+value_to_put (Some (op.Enq x)) = x
+value_to_put (Some (op.AEnq x)) = x
 value_to_put _ = 0
 
 -- the cell at the tail position of an actor, where an enqueue works, or a half of it, by the kind
@@ -48,61 +48,61 @@ cell_with safe idx val = record { safe = safe; idx = idx; val = val }
 -- the access that an actor at this control point asks for, over rings of R cells, or why it has
 -- none
 abbrev pub need_at : ℕ → Pc → Actor → Result Access Refusal
-need_at R E1 a = Ok (At QTail Read)
-need_at R E2 a = Ok (At (Next a.crq) Read)
-need_at R E3 a = Ok (At QTail (CasName a.crq a.next))
-need_at R E4 a = Ok (At (Tail a.crq) Add)
-need_at R E5 a = Ok (At (at_tail R ValAt a) ReadValue)
-need_at R E6 a = Ok (At (at_tail R IdxAt a) ReadSafeAndIndex)
-need_at R E7 a = Ok (At (Head a.crq) Read)
-need_at R E8 a = Ok (At (at_tail R CellAt a) (Cas2 (cell_with a.safe a.idx None) (cell_with true a.t (Some (value_to_put a.op)))))
-need_at R E9 a = Ok (At (Head a.crq) Read)
-need_at R E10 a = Err NeedsChoice
-need_at R E11 a = Ok (At (Tail a.crq) Close)
+need_at R E1 a = Ok (At place.QTail Read)
+need_at R E2 a = Ok (At (place.Next a.crq) Read)
+need_at R E3 a = Ok (At place.QTail (CasName a.crq a.next))
+need_at R E4 a = Ok (At (place.Tail a.crq) Add)
+need_at R E5 a = Ok (At (at_tail R place.Val a) ReadValue)
+need_at R E6 a = Ok (At (at_tail R place.Idx a) ReadSafeAndIndex)
+need_at R E7 a = Ok (At (place.Head a.crq) Read)
+need_at R E8 a = Ok (At (at_tail R place.Cell a) (Cas2 (cell_with a.safe a.idx None) (cell_with true a.t (Some (value_to_put a.op)))))
+need_at R E9 a = Ok (At (place.Head a.crq) Read)
+need_at R E10 a = Err refusal.NeedsChoice
+need_at R E11 a = Ok (At (place.Tail a.crq) Close)
 need_at R E12 a = Ok (Make (value_to_put a.op))
-need_at R E13 a = Ok (At (Next a.crq) (CasNext a.new))
-need_at R E14 a = Ok (At QTail (CasName a.crq a.new))
-need_at R Q1 a = Ok (At QHead Read)
-need_at R Q2 a = Ok (At (Head a.crq) Add)
-need_at R Q3 a = Ok (At (at_head R ValAt a) ReadValue)
-need_at R Q4 a = Ok (At (at_head R IdxAt a) ReadSafeAndIndex)
-need_at R Q5 a = Ok (At (at_head R CellAt a) (Cas2 (cell_with a.safe a.idx a.val) (cell_with a.safe (a.h + R) None)))
-need_at R Q6 a = Ok (At (at_head R CellAt a) (Cas2 (cell_with a.safe a.idx a.val) (cell_with false a.idx a.val)))
-need_at R Q7 a = Ok (At (at_head R CellAt a) (Cas2 (cell_with a.safe a.idx None) (cell_with a.safe (a.h + R) None)))
-need_at R Q8 a = Ok (At (Tail a.crq) Read)
-need_at R Q9 a = Ok (At (Tail a.crq) Read)
-need_at R Q10 a = Ok (At (Head a.crq) Read)
-need_at R Q11 a = Ok (At (Tail a.crq) Read)
-need_at R Q12 a = Ok (At (Tail a.crq) (CasTail a.t a.h))
-need_at R Q13 a = Ok (At (Next a.crq) Read)
-need_at R Q14 a = Ok (At QHead (CasName a.crq a.next))
-need_at R A1 a = Ok (At ArrTail AddArray)
-need_at R A2 a = Ok (At (ArrCell a.t) (Swap (Held (value_to_put a.op))))
-need_at R B1 a = Ok (At ArrHead AddArray)
-need_at R B2 a = Ok (At (ArrCell a.h) (Swap Top))
-need_at R B3 a = Ok (At ArrTail Read)
-need_at R Idle a = Err IsIdle
+need_at R E13 a = Ok (At (place.Next a.crq) (CasNext a.new))
+need_at R E14 a = Ok (At place.QTail (CasName a.crq a.new))
+need_at R Q1 a = Ok (At place.QHead Read)
+need_at R Q2 a = Ok (At (place.Head a.crq) Add)
+need_at R Q3 a = Ok (At (at_head R place.Val a) ReadValue)
+need_at R Q4 a = Ok (At (at_head R place.Idx a) ReadSafeAndIndex)
+need_at R Q5 a = Ok (At (at_head R place.Cell a) (Cas2 (cell_with a.safe a.idx a.val) (cell_with a.safe (a.h + R) None)))
+need_at R Q6 a = Ok (At (at_head R place.Cell a) (Cas2 (cell_with a.safe a.idx a.val) (cell_with false a.idx a.val)))
+need_at R Q7 a = Ok (At (at_head R place.Cell a) (Cas2 (cell_with a.safe a.idx None) (cell_with a.safe (a.h + R) None)))
+need_at R Q8 a = Ok (At (place.Tail a.crq) Read)
+need_at R Q9 a = Ok (At (place.Tail a.crq) Read)
+need_at R Q10 a = Ok (At (place.Head a.crq) Read)
+need_at R Q11 a = Ok (At (place.Tail a.crq) Read)
+need_at R Q12 a = Ok (At (place.Tail a.crq) (CasTail a.t a.h))
+need_at R Q13 a = Ok (At (place.Next a.crq) Read)
+need_at R Q14 a = Ok (At place.QHead (CasName a.crq a.next))
+need_at R A1 a = Ok (At place.ArrTail AddArray)
+need_at R A2 a = Ok (At (place.ArrCell a.t) (Swap (slot.Value (value_to_put a.op))))
+need_at R B1 a = Ok (At place.ArrHead AddArray)
+need_at R B2 a = Ok (At (place.ArrCell a.h) (Swap slot.Top))
+need_at R B3 a = Ok (At place.ArrTail Read)
+need_at R Idle a = Err refusal.Idle
 
 -- what a call asks for at this control point: it needs an idle actor, and accesses no place
 abbrev pub need_call : Pc → Result Access Refusal
 need_call Idle = Ok NoPlace
-need_call _ = Err NotIdle
+need_call _ = Err refusal.NotIdle
 
 -- what a choice asks for at this control point: it needs an actor that has to make one, and
 -- accesses no place
 abbrev pub need_choice : Pc → Result Access Refusal
-need_choice Idle = Err IsIdle
+need_choice Idle = Err refusal.Idle
 need_choice E10 = Ok NoPlace
-need_choice _ = Err NoChoice
+need_choice _ = Err refusal.NoChoice
 
 -- the one access that an actor asks for over rings of R cells, or why it has none
 abbrev pub need : ℕ → Actor → Act → Result Access Refusal
-need R a (Enq x) = need_call a.pc
-need R a Deq = need_call a.pc
-need R a (AEnq x) = need_call a.pc
-need R a ADeq = need_call a.pc
-need R a Go = need_at R a.pc a
-need R a (Starve b) = need_choice a.pc
+need R a (act.Enq x) = need_call a.pc
+need R a act.Deq = need_call a.pc
+need R a (act.AEnq x) = need_call a.pc
+need R a act.ADeq = need_call a.pc
+need R a act.Go = need_at R a.pc a
+need R a (act.Starve b) = need_choice a.pc
 
 -- the numbers in this row's access fit the words of the program: the index of a cell that is moved
 -- on to its next round is below 2^64, and the number of a slot of the array is a byte
@@ -116,7 +116,7 @@ IsRepresentableAt R _ a = Unit {0}
 -- the numbers in the access that an actor asks for by this act fit the words of the program; calls
 -- and choices have no number
 abbrev pub IsRepresentable : ℕ → Actor → Act → Type 0
-IsRepresentable R a Go = IsRepresentableAt R a.pc a
+IsRepresentable R a act.Go = IsRepresentableAt R a.pc a
 IsRepresentable R a _ = Unit {0}
 
 -- the actor moved to this control point, with its other words as they are
@@ -168,81 +168,81 @@ after_empty_check a count = record a { t = count; pc = if nat_le count (a.h + 1)
 -- not below the head, and else tries to move it
 abbrev pub after_repair_check : Actor → Bool → ℕ → Actor
 after_repair_check a closed count =
-    record a { pc = if is_bit closed a.closed && (count == a.t) then (if a.closed || nat_le a.h a.t then pc_after_empty_pass a else Q12) else Q9 }
+    record a { pc = if bit_eq closed a.closed && (count == a.t) then (if a.closed || nat_le a.h a.t then pc_after_empty_pass a else Q12) else Q9 }
 
 -- a dequeue that took this value replies it, and its call is over; without a value it stays as it
 -- is
 abbrev pub after_take : Option ℕ → Actor → Actor × Option OpReply
-after_take (Some v) a = (idle, Some (Dequeued v))
+after_take (Some v) a = (idle, Some (op_reply.Value v))
 after_take None a = (a, None)
 
 -- an enqueue on the array that swapped its value in is over if nobody had been at the slot before,
 -- else it draws the next position
 abbrev pub after_swap_in : Actor → ArrSlot → Actor × Option OpReply
-after_swap_in a NobodyYet = (idle, Some Enqueued)
+after_swap_in a slot.Empty = (idle, Some op_reply.Enqueued)
 after_swap_in a _ = (with_pc A1 a, None)
 
 -- a dequeue on the array that swapped its slot out replies the value that it found, else it looks
 -- at the tail
 abbrev pub after_swap_out : Actor → ArrSlot → Actor × Option OpReply
-after_swap_out a (Held v) = (idle, Some (Dequeued v))
+after_swap_out a (slot.Value v) = (idle, Some (op_reply.Value v))
 after_swap_out a _ = (with_pc B3 a, None)
 
 -- a dequeue on the array that read the tail is over if nothing is enqueued after its position, else
 -- it draws the next one
 abbrev pub after_array_empty_check : Actor → ℕ → Actor × Option OpReply
-after_array_empty_check a count = if nat_le count (a.h + 1) then (idle, Some Empty) else (with_pc B1 a, None)
+after_array_empty_check a count = if nat_le count (a.h + 1) then (idle, Some op_reply.Empty) else (with_pc B1 a, None)
 
 -- how an actor at this control point goes on with an answer, and what it replies; an answer of a
 -- kind that the row's access never gives changes nothing
 abbrev pub after_at : ℕ → Pc → Actor → Answer → Actor × Option OpReply
-after_at R E1 a (Found (Name s)) = (record a { crq = s; pc = E2 }, None)
-after_at R E2 a (Found (NextIs (Some m))) = (record a { next = m; pc = E3 }, None)
-after_at R E2 a (Found (NextIs None)) = (with_pc E4 a, None)
+after_at R E1 a (answer.Found (content.Name s)) = (record a { crq = s; pc = E2 }, None)
+after_at R E2 a (answer.Found (content.Next (Some m))) = (record a { next = m; pc = E3 }, None)
+after_at R E2 a (answer.Found (content.Next None)) = (with_pc E4 a, None)
 after_at R E3 a answer = (with_pc E1 a, None)
-after_at R E4 a (Found (TailIs closed count)) = (after_tail_add a closed count, None)
-after_at R E5 a (Value v) = (record a { val = v; pc = E6 }, None)
-after_at R E6 a (SafeAndIndex safe idx) = (after_enqueue_reads_index a safe idx, None)
-after_at R E7 a (Found (Number g)) = (after_unsafe_check a g, None)
-after_at R E8 a Won = (idle, Some Enqueued)
-after_at R E8 a Lost = (with_pc E9 a, None)
-after_at R E9 a (Found (Number g)) = (after_full_check R a g, None)
+after_at R E4 a (answer.Found (content.Tail closed count)) = (after_tail_add a closed count, None)
+after_at R E5 a (answer.Value v) = (record a { val = v; pc = E6 }, None)
+after_at R E6 a (answer.SafeAndIndex safe idx) = (after_enqueue_reads_index a safe idx, None)
+after_at R E7 a (answer.Found (content.Number g)) = (after_unsafe_check a g, None)
+after_at R E8 a answer.Won = (idle, Some op_reply.Enqueued)
+after_at R E8 a answer.Lost = (with_pc E9 a, None)
+after_at R E9 a (answer.Found (content.Number g)) = (after_full_check R a g, None)
 after_at R E11 a answer = (with_pc E12 a, None)
-after_at R E12 a (Made s) = (record a { new = s; pc = E13 }, None)
-after_at R E13 a Won = (with_pc E14 a, None)
-after_at R E13 a Lost = (with_pc E1 a, None)
-after_at R E14 a answer = (idle, Some Enqueued)
-after_at R Q1 a (Found (Name s)) = (record a { crq = s; pass = 1; pc = Q2 }, None)
-after_at R Q2 a (Found (Number g)) = (record a { h = g; pc = Q3 }, None)
-after_at R Q3 a (Value v) = (record a { val = v; pc = Q4 }, None)
-after_at R Q4 a (SafeAndIndex safe idx) = (after_dequeue_reads_index a safe idx, None)
-after_at R Q5 a Won = after_take a.val a
-after_at R Q5 a Lost = (with_pc Q3 a, None)
-after_at R Q6 a Won = (with_pc Q8 a, None)
-after_at R Q6 a Lost = (with_pc Q3 a, None)
-after_at R Q7 a Won = (with_pc Q8 a, None)
-after_at R Q7 a Lost = (with_pc Q3 a, None)
-after_at R Q8 a (Found (TailIs closed count)) = (after_empty_check a count, None)
-after_at R Q9 a (Found (TailIs closed count)) = (record a { closed = closed; t = count; pc = Q10 }, None)
-after_at R Q10 a (Found (Number g)) = (record a { h = g; pc = Q11 }, None)
-after_at R Q11 a (Found (TailIs closed count)) = (after_repair_check a closed count, None)
-after_at R Q12 a Won = (with_pc (pc_after_empty_pass a) a, None)
-after_at R Q12 a Lost = (with_pc Q9 a, None)
-after_at R Q13 a (Found (NextIs None)) = (idle, Some Empty)
-after_at R Q13 a (Found (NextIs (Some m))) = (record a { next = m; pass = 2; pc = Q2 }, None)
+after_at R E12 a (answer.Made s) = (record a { new = s; pc = E13 }, None)
+after_at R E13 a answer.Won = (with_pc E14 a, None)
+after_at R E13 a answer.Lost = (with_pc E1 a, None)
+after_at R E14 a answer = (idle, Some op_reply.Enqueued)
+after_at R Q1 a (answer.Found (content.Name s)) = (record a { crq = s; pass = 1; pc = Q2 }, None)
+after_at R Q2 a (answer.Found (content.Number g)) = (record a { h = g; pc = Q3 }, None)
+after_at R Q3 a (answer.Value v) = (record a { val = v; pc = Q4 }, None)
+after_at R Q4 a (answer.SafeAndIndex safe idx) = (after_dequeue_reads_index a safe idx, None)
+after_at R Q5 a answer.Won = after_take a.val a
+after_at R Q5 a answer.Lost = (with_pc Q3 a, None)
+after_at R Q6 a answer.Won = (with_pc Q8 a, None)
+after_at R Q6 a answer.Lost = (with_pc Q3 a, None)
+after_at R Q7 a answer.Won = (with_pc Q8 a, None)
+after_at R Q7 a answer.Lost = (with_pc Q3 a, None)
+after_at R Q8 a (answer.Found (content.Tail closed count)) = (after_empty_check a count, None)
+after_at R Q9 a (answer.Found (content.Tail closed count)) = (record a { closed = closed; t = count; pc = Q10 }, None)
+after_at R Q10 a (answer.Found (content.Number g)) = (record a { h = g; pc = Q11 }, None)
+after_at R Q11 a (answer.Found (content.Tail closed count)) = (after_repair_check a closed count, None)
+after_at R Q12 a answer.Won = (with_pc (pc_after_empty_pass a) a, None)
+after_at R Q12 a answer.Lost = (with_pc Q9 a, None)
+after_at R Q13 a (answer.Found (content.Next None)) = (idle, Some op_reply.Empty)
+after_at R Q13 a (answer.Found (content.Next (Some m))) = (record a { next = m; pass = 2; pc = Q2 }, None)
 after_at R Q14 a answer = (with_pc Q1 a, None)
-after_at R A1 a (Found (Number u)) = (record a { t = u; pc = A2 }, None)
-after_at R A2 a (Found (Slot slot)) = after_swap_in a slot
-after_at R B1 a (Found (Number g)) = (record a { h = g; pc = B2 }, None)
-after_at R B2 a (Found (Slot slot)) = after_swap_out a slot
-after_at R B3 a (Found (Number u)) = after_array_empty_check a u
+after_at R A1 a (answer.Found (content.Number u)) = (record a { t = u; pc = A2 }, None)
+after_at R A2 a (answer.Found (content.Slot slot)) = after_swap_in a slot
+after_at R B1 a (answer.Found (content.Number g)) = (record a { h = g; pc = B2 }, None)
+after_at R B2 a (answer.Found (content.Slot slot)) = after_swap_out a slot
+after_at R B3 a (answer.Found (content.Number u)) = after_array_empty_check a u
 after_at R _ a _ = (a, None)
 
 -- the actor's next record, and what it replies if its call is over
 abbrev pub after : ℕ → Actor → Act → Answer → Actor × Option OpReply
-after R a (Enq x) answer = (calling E1 (Enqueue x), None)
-after R a Deq answer = (calling Q1 Dequeue, None)
-after R a (AEnq x) answer = (calling A1 (EnqueueInArray x), None)
-after R a ADeq answer = (calling B1 DequeueFromArray, None)
-after R a Go answer = after_at R a.pc a answer
-after R a (Starve b) answer = (with_pc (if b then E11 else E4) a, None)
+after R a (act.Enq x) answer = (calling E1 (op.Enq x), None)
+after R a act.Deq answer = (calling Q1 op.Deq, None)
+after R a (act.AEnq x) answer = (calling A1 (op.AEnq x), None)
+after R a act.ADeq answer = (calling B1 op.ADeq, None)
+after R a act.Go answer = after_at R a.pc a answer
+after R a (act.Starve b) answer = (with_pc (if b then E11 else E4) a, None)

@@ -1,37 +1,37 @@
 -- Which words fit an actor's control point, one row a control point.
 use Rattle.std.specs.Prelude.{Bool, true, false, not, ◌==◌, ◌&&◌, ◌||◌, nat_lt, nat_le, Option, Some, is_some, is_none}
 use Rattle.rd_cell.specs.declared.limits.TheConstants.{SLOTS}
-use Rattle.rd_cell.specs.Places.{root, is_name}
+use Rattle.rd_cell.specs.Places.{root, name_eq}
 use Rattle.rd_actor.specs.declared.actors.Actor.{Actor}
 use Rattle.rd_actor.specs.declared.actors.Op.{Op}
-use Rattle.rd_actor.specs.declared.actors.Op.TheVariants.{Enq, Deq, AEnq, ADeq}
+use Rattle.rd_actor.specs.declared.actors.Op.TheVariants as op
 use Rattle.rd_actor.specs.declared.actors.Pc.{Pc}
 use Rattle.rd_actor.specs.declared.actors.Pc.TheVariants.{Idle, E1, E2, E3, E4, E5, E6, E7, E8, E9, E10, E11, E12, E13, E14, Q1, Q2, Q3, Q4, Q5, Q6, Q7, Q8, Q9, Q10, Q11, Q12, Q13, Q14, A1, A2, B1, B2, B3}
 
 -- whether there is a call, and it is an enqueue
 abbrev pub enqueues : Option Op → Bool
-enqueues (Some (Enq x)) = true
+enqueues (Some (op.Enq x)) = true
 enqueues _ = false
 
 -- whether there is a call, and it is a dequeue
 abbrev pub dequeues : Option Op → Bool
-dequeues (Some Deq) = true
+dequeues (Some op.Deq) = true
 dequeues _ = false
 
 -- whether there is a call, and it is an enqueue on the array
 abbrev pub array_enqueues : Option Op → Bool
-array_enqueues (Some (AEnq x)) = true
+array_enqueues (Some (op.AEnq x)) = true
 array_enqueues _ = false
 
 -- whether there is a call, and it is a dequeue on the array
 abbrev pub array_dequeues : Option Op → Bool
-array_dequeues (Some ADeq) = true
+array_dequeues (Some op.ADeq) = true
 array_dequeues _ = false
 
 -- whether the words, except the control point, are those of the idle record
 abbrev pub has_idle_words : Actor → Bool
 has_idle_words a =
-    is_none a.op && is_name a.crq root && is_name a.new root && is_name a.next root && (a.t == 0) && (a.h == 0)
+    is_none a.op && name_eq a.crq root && name_eq a.new root && name_eq a.next root && (a.t == 0) && (a.h == 0)
     && not a.closed && is_none a.val && not a.safe && (a.idx == 0) && (a.pass == 0)
 
 -- whether the actor is in an enqueue, and so in no pass

@@ -6,9 +6,7 @@
 
 ghost use Rattle.std.specs.Prelude.{◌≡◌, ◌+◌, ◌%◌, ◌^◌, ◌<◌, ◌≤◌, true, false, Some, None};
 ghost use Rattle.rd_cell.specs.declared.limits.TheConstants.{MOST_CELLS};
-ghost use Rattle.rd_cell.specs.declared.places.Place.TheVariants.{Cell as CellAt, ArrCell};
 ghost use Rattle.rd_cell.specs.declared.operations.Operation.TheVariants.{CasName, CasTail, Cas2, Swap};
-ghost use Rattle.rd_cell.specs.declared.contents.ArrSlot.TheVariants.{Value as Held};
 ghost use Rattle.rd_actor.specs.Table.{value_to_put, cell_with, need, need_at, IsRepresentable, IsRepresentableAt, after, after_at, with_pc, pc_after_empty_pass, after_take, after_swap_in, after_swap_out, after_array_empty_check, after_tail_add, after_enqueue_reads_index, after_dequeue_reads_index, after_unsafe_check, after_full_check, after_empty_check, after_repair_check};
 
 use super::actors::{Act, Actor, Op, OpReply, Pc};
@@ -455,7 +453,7 @@ fn value_to_put(op: Option<Op>) -> u64
 fn cell_at<const R: usize>(actor: &Actor, position: u64) -> Place
     requires positive { 1 ≤ R }
     requires small { R ≤ MOST_CELLS }
-    ensures { result ≡ CellAt actor.now.crq (position % R) }
+    ensures { result ≡ Place.Cell actor.now.crq (position % R) }
 {
     Place::Cell(actor.crq, index_of::<R>(position))
 }
@@ -471,14 +469,14 @@ fn index_of<const R: usize>(position: u64) -> u8
 
 /// Returns the slot of the array at this position, which is 0 to 63 for the actors of a world.
 fn slot_at(position: u64) -> Place
-    ensures { position < 2 ^ 8 → result ≡ ArrCell position }
+    ensures { position < 2 ^ 8 → result ≡ Place.ArrCell position }
 {
     Place::ArrCell(u8::try_from(position).unwrap_or(u8::MAX))
 }
 
 /// Returns the operation of A2: the enqueue's value is swapped into the slot.
 fn swap_in(actor: &Actor) -> Operation
-    ensures { result ≡ Swap (Held (value_to_put actor.now.op)) }
+    ensures { result ≡ Swap (ArrSlot.Value (value_to_put actor.now.op)) }
 {
     Operation::Swap(ArrSlot::Value(value_to_put(actor.op)))
 }

@@ -6,15 +6,15 @@ use mathlib.Core.Path.{fun_ext}
 use Rattle.rd_cell.specs.declared.limits.TheConstants.{MOST_SEGMENTS}
 use Rattle.rd_cell.specs.declared.places.SegName.{SegName}
 use Rattle.rd_cell.specs.declared.places.Place.{Place}
-use Rattle.rd_cell.specs.declared.places.Place.TheVariants.{Head, Cell as CellAt, Whole as WholeOf}
+use Rattle.rd_cell.specs.declared.places.Place.TheVariants as place
 use Rattle.rd_cell.specs.declared.cells.Cell.{Cell}
 use Rattle.rd_cell.specs.declared.contents.Content.{Content}
-use Rattle.rd_cell.specs.declared.contents.Content.TheVariants.{Cell as CellIs, Val as ValIs, Idx as IdxIs}
+use Rattle.rd_cell.specs.declared.contents.Content.TheVariants as content
 use Rattle.rd_cell.specs.declared.operations.Operation.{Operation}
 use Rattle.rd_cell.specs.declared.access.Access.{Access}
 use Rattle.rd_cell.specs.declared.access.Access.TheVariants.{NoPlace, At, Make}
 use Rattle.rd_cell.specs.declared.refusal.Refusal.{Refusal}
-use Rattle.rd_cell.specs.Places.{is_name, covers, some_covers, some_overlap, written, interfere}
+use Rattle.rd_cell.specs.Places.{name_eq, covers, some_covers, some_overlap, written, interfere}
 use Rattle.rd_cell.specs.Contents.{Contents, half, cell_of_halves, share, after_write_at, operand}
 use Rattle.rd_cell.specs.Operations.{Effect, effect, wrote_content, wrote_by}
 use Rattle.rd_cell.specs.Access.{Performed, contents_after, number_made_from, number_made, effect_at, operate, make, perform}
@@ -40,12 +40,12 @@ after_write-same p given at at' q h = grind arith
 
 -- a cell that is there has both its halves
 pub halves_there : (a b : Option Content) (c : Content) → cell_of_halves a b ≡ Some c
-    → (x : Cell) × (c ≡ CellIs x) × (a ≡ Some (ValIs x.val)) × (b ≡ Some (IdxIs x.safe x.idx))
+    → (x : Cell) × (c ≡ content.Cell x) × (a ≡ Some (content.Val x.val)) × (b ≡ Some (content.Idx x.safe x.idx))
 halves_there a b c h = grind arith
 
 -- a cell is no place of the map
 abbrev pub is_cell_at : Place → Bool
-is_cell_at (CellAt s i) = true
+is_cell_at (place.Cell s i) = true
 is_cell_at _ = false
 
 -- each place of the map that its place covers has its share of it
@@ -100,7 +100,7 @@ after_swap d e at h = fun_ext (λ r. after_swap-at d e at r h)
 -- The makers don't see each other
 
 pub number_made_from-same : (more : ℕ) (at at' : Contents) (maker n : ℕ)
-    → ((k : ℕ) → is_some (at (Head (record { maker = maker; n = k }))) ≡ is_some (at' (Head (record { maker = maker; n = k }))))
+    → ((k : ℕ) → is_some (at (place.Head (record { maker = maker; n = k }))) ≡ is_some (at' (place.Head (record { maker = maker; n = k }))))
     → number_made_from more at maker n ≡ number_made_from more at' maker n
 unfolding number_made_from
 number_made_from-same zero at at' maker n same = refl
@@ -108,7 +108,7 @@ number_made_from-same (suc more) at at' maker n same =
     ap₂ (λ (t : Bool) (m : ℕ). if t then m else n) (same n) (number_made_from-same more at at' maker (n + 1) same)
 
 number_made-same : (at at' : Contents) (maker : ℕ)
-    → ((k : ℕ) → is_some (at (Head (record { maker = maker; n = k }))) ≡ is_some (at' (Head (record { maker = maker; n = k }))))
+    → ((k : ℕ) → is_some (at (place.Head (record { maker = maker; n = k }))) ≡ is_some (at' (place.Head (record { maker = maker; n = k }))))
     → number_made at maker ≡ number_made at' maker
 unfolding number_made
 number_made-same at at' maker same = number_made_from-same MOST_SEGMENTS at at' maker 0 same
@@ -142,7 +142,7 @@ plain_kind r = grind arith
 halves_kind : (x y : Cell) (q : Place) → is_some (half y q) ≡ is_some (half x q)
 halves_kind x y q = grind arith
 
-cell_kind : (s : SegName) (i : ℕ) (op : Operation) (x : Cell) (q : Place) → IfOk (effect op (CellIs x)) (KeepsKind (CellAt s i) (CellIs x) q)
+cell_kind : (s : SegName) (i : ℕ) (op : Operation) (x : Cell) (q : Place) → IfOk (effect op (content.Cell x)) (KeepsKind (place.Cell s i) (content.Cell x) q)
 cell_kind s i op x q = grind arith
 
 -- each does
@@ -159,18 +159,18 @@ pub keeps-operate : (p : Place) (op : Operation) (o : Option Content) (at : Cont
     → IfOk (operate p op o) (λ did. is_some (contents_after did at q) ≡ is_some (at q))
 keeps-operate p op o at q h bare = grind (arith, keeps-effect, effect_kind)
 
-other_maker : (a b m n : ℕ) → (a ≡ b → ⊥) → is_name (record { maker = a; n = m }) (record { maker = b; n = n }) ≡ false
+other_maker : (a b m n : ℕ) → (a ≡ b → ⊥) → name_eq (record { maker = a; n = m }) (record { maker = b; n = n }) ≡ false
 other_maker a b m n ne = and_left (a == b) (m == n) (ne_eqb a b ne)
 
 keeps-make : (R : ℕ) (actor n : ℕ) (x : ℕ) (at : Contents) (maker k : ℕ) → (actor ≡ maker → ⊥)
-    → IfOk (make R (record { maker = actor; n = n }) x) (λ did. is_some (contents_after did at (Head (record { maker = maker; n = k }))) ≡ is_some (at (Head (record { maker = maker; n = k }))))
+    → IfOk (make R (record { maker = actor; n = n }) x) (λ did. is_some (contents_after did at (place.Head (record { maker = maker; n = k }))) ≡ is_some (at (place.Head (record { maker = maker; n = k }))))
 keeps-make R actor n x at maker k ne = grind arith
 
 -- an access by one actor keeps which segments of another are there
 pub keeps-perform : (R actor : ℕ) (at : Contents) (x : Access) (maker k : ℕ) → (actor ≡ maker → ⊥)
-    → IfOk (perform R actor at x) (λ did. is_some (contents_after did at (Head (record { maker = maker; n = k }))) ≡ is_some (at (Head (record { maker = maker; n = k }))))
+    → IfOk (perform R actor at x) (λ did. is_some (contents_after did at (place.Head (record { maker = maker; n = k }))) ≡ is_some (at (place.Head (record { maker = maker; n = k }))))
 keeps-perform R actor at NoPlace maker k ne = refl
-keeps-perform R actor at (At p op) maker k ne = keeps-operate p op (operand at p) at (Head (record { maker = maker; n = k })) refl (λ e. cc)
+keeps-perform R actor at (At p op) maker k ne = keeps-operate p op (operand at p) at (place.Head (record { maker = maker; n = k })) refl (λ e. cc)
 keeps-perform R actor at (Make x) maker k ne = keeps-make R actor (number_made at actor) x at maker k ne
 
 -- an access by one actor leaves the number of segments that another has made
@@ -178,7 +178,7 @@ pub number_made-after : (R actor : ℕ) (at : Contents) (x : Access) (did : Perf
     → perform R actor at x ≡ Ok did → number_made (contents_after did at) maker ≡ number_made at maker
 number_made-after R actor at x did maker ne h =
     number_made-same (contents_after did at) at maker (λ k.
-    let q = Head (record { maker = maker; n = k }) in
+    let q = place.Head (record { maker = maker; n = k }) in
     IfOk-at_ok (λ (d : Performed). is_some (contents_after d at q) ≡ is_some (at q)) h (keeps-perform R actor at x maker k ne))
 
 -- The law
@@ -199,7 +199,7 @@ perform_same R actor at at' x same count = grind arith
 pub place-operate : (p : Place) (op : Operation) (o : Option Content) → IfOk (operate p op o) (λ did. did.place ≡ Some p)
 place-operate p op o = grind arith
 
-pub place-make : (R : ℕ) (s : SegName) (x : ℕ) → IfOk (make R s x) (λ did. did.place ≡ Some (WholeOf s))
+pub place-make : (R : ℕ) (s : SegName) (x : ℕ) → IfOk (make R s x) (λ did. did.place ≡ Some (place.Whole s))
 place-make R s x = grind arith
 
 -- what an access did was at its place

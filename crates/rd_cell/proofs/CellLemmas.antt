@@ -1,8 +1,8 @@
 -- When two cells are one.
 use Rattle.std.proofs.Common.{◌≡◌, true, arith}
 use Rattle.rd_cell.specs.declared.cells.Cell.{Cell}
-use Rattle.rd_cell.specs.Cells.{is_cell}
+use Rattle.rd_cell.specs.Cells.{cell_eq}
 
 -- the test answers true for one cell alone
-pub is_cell-true : (a b : Cell) → is_cell a b ≡ true → a ≡ b
-is_cell-true a b h = grind arith
+pub cell_eq-true : (a b : Cell) → cell_eq a b ≡ true → a ≡ b
+cell_eq-true a b h = grind arith

@@ -6,18 +6,18 @@ use Rattle.std.proofs.lemmas.Result.{IfOk-at_ok}
 use Rattle.rd_cell.specs.declared.places.Place.{Place}
 use Rattle.rd_cell.specs.declared.places.SegName.{SegName}
 use Rattle.rd_cell.specs.declared.places.Wrote.{Wrote}
-use Rattle.rd_cell.specs.declared.places.Wrote.TheVariants.{Nothing as WroteNothing, Place as AllOfPlace}
+use Rattle.rd_cell.specs.declared.places.Wrote.TheVariants as wrote
 use Rattle.rd_cell.specs.declared.contents.Content.{Content}
-use Rattle.rd_cell.specs.declared.contents.Content.TheVariants.{Cell as CellIs}
+use Rattle.rd_cell.specs.declared.contents.Content.TheVariants as content
 use Rattle.rd_cell.specs.declared.operations.Operation.{Operation}
 use Rattle.rd_cell.specs.declared.operations.Answer.{Answer}
 use Rattle.rd_cell.specs.declared.access.Done.{Done}
 use Rattle.rd_cell.specs.declared.refusal.Refusal.{Refusal}
-use Rattle.rd_cell.specs.Places.{is_of, is_place, is_of_same_segment, covers, segment_of, some_covers, written}
+use Rattle.rd_cell.specs.Places.{is_of, place_eq, is_of_same_segment, covers, segment_of, some_covers, written}
 use Rattle.rd_cell.specs.Contents.{Contents, restore, operand}
 use Rattle.rd_cell.specs.Operations.{effect}
 use Rattle.rd_cell.specs.Access.{Performed, operate, HasEffect, everywhere, Operates, OperatesOn, Restores}
-use Rattle.rd_cell.proofs.PlaceLemmas.{is_place-true, written-covers}
+use Rattle.rd_cell.proofs.PlaceLemmas.{place_eq-true, written-covers}
 use Rattle.rd_cell.proofs.AccessLemmas.{after_write-outside, after_write-same, place-operate}
 
 -- if two pairs of contents agree on the places that are looked at, and nothing else is covered or
@@ -82,34 +82,34 @@ narrow looked_at does done old new h = grind arith
 
 -- a content that is none of a cell
 abbrev pub is_cell_content : Content → Bool
-is_cell_content (CellIs x) = true
+is_cell_content (content.Cell x) = true
 is_cell_content _ = false
 
 -- an operation that wrote this content, which is none of a cell
 pub wrote_on : (p : Place) (op : Operation) (old new : Content) (answer : Answer) (done : Done) → is_cell_content new ≡ false
-    → effect op old ≡ Ok (record { answer = answer; writes = Some new }) → done ≡ record { place = Some p; old = Some old; answer = answer; wrote = AllOfPlace }
+    → effect op old ≡ Ok (record { answer = answer; writes = Some new }) → done ≡ record { place = Some p; old = Some old; answer = answer; wrote = wrote.Place }
     → OperatesOn p op done old new
 wrote_on p op old new answer done plain does notes = grind arith
 
 -- an operation that wrote nothing
 pub read_on : (p : Place) (op : Operation) (old : Content) (answer : Answer) (done : Done)
-    → effect op old ≡ Ok (record { answer = answer; writes = None }) → done ≡ record { place = Some p; old = Some old; answer = answer; wrote = WroteNothing }
+    → effect op old ≡ Ok (record { answer = answer; writes = None }) → done ≡ record { place = Some p; old = Some old; answer = answer; wrote = wrote.Nothing }
     → OperatesOn p op done old old
 read_on p op old answer done does notes = grind arith
 
 -- if two contents have this at p alone
-pub agrees_at : (p : Place) (was now : Content) (old new : Contents) → ((q : Place) → covers p q ≡ is_place p q) → old p ≡ Some was → new p ≡ Some now
-    → ((q : Place) → is_place p q ≡ false → new q ≡ old q) → Agrees (is_place p) p (λ q. Some was) (λ q. Some now) old new
-agrees_at p was now old new plain found left others = grind (arith, common_steps, is_place-true)
+pub agrees_at : (p : Place) (was now : Content) (old new : Contents) → ((q : Place) → covers p q ≡ place_eq p q) → old p ≡ Some was → new p ≡ Some now
+    → ((q : Place) → place_eq p q ≡ false → new q ≡ old q) → Agrees (place_eq p) p (λ q. Some was) (λ q. Some now) old new
+agrees_at p was now old new plain found left others = grind (arith, common_steps, place_eq-true)
 
 -- an operation that had its effect on what is at a place, if every other place is as before, was
 -- done there
-pub place_operates : (p : Place) (op : Operation) (was now : Content) (old new : Contents) → ((q : Place) → covers p q ≡ is_place p q)
-    → operand old p ≡ Some was → old p ≡ Some was → new p ≡ Some now → ((q : Place) → is_place p q ≡ false → new q ≡ old q)
+pub place_operates : (p : Place) (op : Operation) (was now : Content) (old new : Contents) → ((q : Place) → covers p q ≡ place_eq p q)
+    → operand old p ≡ Some was → old p ≡ Some was → new p ≡ Some now → ((q : Place) → place_eq p q ≡ false → new q ≡ old q)
     → (r : Result Done Refusal) → IfOk r (λ done. OperatesOn p op done was now) → IfOk r (λ done. Operates everywhere p op done old new)
 place_operates p op was now old new plain works found left others (Err e) h = tt
 place_operates p op was now old new plain works found left others (Ok done) h =
-    lift_operation (is_place p) p op (Some was) done (λ q. Some was) (λ q. Some now) old new works (agrees_at p was now old new plain found left others) h
+    lift_operation (place_eq p) p op (Some was) done (λ q. Some was) (λ q. Some now) old new works (agrees_at p was now old new plain found left others) h
 
 -- The places of one segment
 

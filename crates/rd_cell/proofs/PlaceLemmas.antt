@@ -3,29 +3,29 @@ use Rattle.std.proofs.Common.{◌≡◌, ℕ, true, false, ◌==◌, refl, sym, 
 use Rattle.std.proofs.lemmas.Bool.{and_from, or_left, or_right}
 use Rattle.rd_cell.specs.declared.places.SegName.{SegName}
 use Rattle.rd_cell.specs.declared.places.Place.{Place}
-use Rattle.rd_cell.specs.declared.places.Place.TheVariants.{QHead, QTail, Head, Tail, Next, Cell, Val, Idx, Whole, ArrHead, ArrTail, ArrCell}
+use Rattle.rd_cell.specs.declared.places.Place.TheVariants as place
 use Rattle.rd_cell.specs.declared.places.Wrote.{Wrote}
-use Rattle.rd_cell.specs.Places.{is_name, is_of, is_of_cell, is_place, covers, overlaps, some_covers, some_overlap, written, interfere}
+use Rattle.rd_cell.specs.Places.{name_eq, is_of, is_of_cell, place_eq, covers, overlaps, some_covers, some_overlap, written, interfere}
 
 -- the test answers true for one name alone
-pub is_name-true : (s t : SegName) → is_name s t ≡ true → s ≡ t
-is_name-true s t h = grind arith
+pub name_eq-true : (s t : SegName) → name_eq s t ≡ true → s ≡ t
+name_eq-true s t h = grind arith
 
-pub is_name-refl : (s : SegName) → is_name s s ≡ true
-is_name-refl s = and_from (s.maker == s.maker) (s.n == s.n) (eq-eqb s.maker s.maker refl) (eq-eqb s.n s.n refl)
+pub name_eq-refl : (s : SegName) → name_eq s s ≡ true
+name_eq-refl s = and_from (s.maker == s.maker) (s.n == s.n) (eq-eqb s.maker s.maker refl) (eq-eqb s.n s.n refl)
 
 -- the test answers true for one place alone
-pub is_place-true : (p q : Place) → is_place p q ≡ true → p ≡ q
-is_place-true p q h = grind arith
+pub place_eq-true : (p q : Place) → place_eq p q ≡ true → p ≡ q
+place_eq-true p q h = grind arith
 
-pub is_place-refl : (p : Place) → is_place p p ≡ true
-is_place-refl p = grind arith
+pub place_eq-refl : (p : Place) → place_eq p p ≡ true
+place_eq-refl p = grind arith
 
-one_name : (s t u : SegName) → is_name s u ≡ true → is_name t u ≡ true → is_name s t ≡ true
-one_name s t u h k = subst (λ (x : SegName). is_name s x ≡ true) (sym (is_name-true t u k)) h
+one_name : (s t u : SegName) → name_eq s u ≡ true → name_eq t u ≡ true → name_eq s t ≡ true
+one_name s t u h k = subst (λ (x : SegName). name_eq s x ≡ true) (sym (name_eq-true t u k)) h
 
 -- one segment has two names only if they are equal
-pub is_of-name : (s t : SegName) (q : Place) → is_of s q ≡ true → is_of t q ≡ true → is_name s t ≡ true
+pub is_of-name : (s t : SegName) (q : Place) → is_of s q ≡ true → is_of t q ≡ true → name_eq s t ≡ true
 is_of-name s t q h k = grind arith
 
 -- a half of a cell, and the cell itself, is a place of the cell's segment
@@ -33,28 +33,28 @@ pub is_of_cell-of : (s : SegName) (i : ℕ) (q : Place) → is_of_cell s i q ≡
 is_of_cell-of s i q h = grind arith
 
 -- one place is of two cells only if they are equal
-one_cell : (s t : SegName) (i j : ℕ) (q : Place) → is_of_cell s i q ≡ true → is_of_cell t j q ≡ true → is_of_cell s i (Cell t j) ≡ true
+one_cell : (s t : SegName) (i j : ℕ) (q : Place) → is_of_cell s i q ≡ true → is_of_cell t j q ≡ true → is_of_cell s i (place.Cell t j) ≡ true
 one_cell s t i j q h l = grind arith
 
 -- what covers a place is that place, the cell of which it is a half, or the whole of its segment
 pub data Covering (p q : Place) : Type 0 where
   itself : p ≡ q → Covering p q
-  as_cell : (s : SegName) (i : ℕ) → p ≡ Cell s i → is_of_cell s i q ≡ true → Covering p q
-  as_whole : (s : SegName) → p ≡ Whole s → is_of s q ≡ true → Covering p q
+  as_cell : (s : SegName) (i : ℕ) → p ≡ place.Cell s i → is_of_cell s i q ≡ true → Covering p q
+  as_whole : (s : SegName) → p ≡ place.Whole s → is_of s q ≡ true → Covering p q
 
 pub covers_cases : (p q : Place) → covers p q ≡ true → Covering p q
-covers_cases (Whole s) q h = as_whole s refl h
-covers_cases (Cell s i) q h = as_cell s i refl h
-covers_cases QHead q h = itself (is_place-true QHead q h)
-covers_cases QTail q h = itself (is_place-true QTail q h)
-covers_cases (Head s) q h = itself (is_place-true (Head s) q h)
-covers_cases (Tail s) q h = itself (is_place-true (Tail s) q h)
-covers_cases (Next s) q h = itself (is_place-true (Next s) q h)
-covers_cases (Val s i) q h = itself (is_place-true (Val s i) q h)
-covers_cases (Idx s i) q h = itself (is_place-true (Idx s i) q h)
-covers_cases ArrHead q h = itself (is_place-true ArrHead q h)
-covers_cases ArrTail q h = itself (is_place-true ArrTail q h)
-covers_cases (ArrCell i) q h = itself (is_place-true (ArrCell i) q h)
+covers_cases (place.Whole s) q h = as_whole s refl h
+covers_cases (place.Cell s i) q h = as_cell s i refl h
+covers_cases place.QHead q h = itself (place_eq-true place.QHead q h)
+covers_cases place.QTail q h = itself (place_eq-true place.QTail q h)
+covers_cases (place.Head s) q h = itself (place_eq-true (place.Head s) q h)
+covers_cases (place.Tail s) q h = itself (place_eq-true (place.Tail s) q h)
+covers_cases (place.Next s) q h = itself (place_eq-true (place.Next s) q h)
+covers_cases (place.Val s i) q h = itself (place_eq-true (place.Val s i) q h)
+covers_cases (place.Idx s i) q h = itself (place_eq-true (place.Idx s i) q h)
+covers_cases place.ArrHead q h = itself (place_eq-true place.ArrHead q h)
+covers_cases place.ArrTail q h = itself (place_eq-true place.ArrTail q h)
+covers_cases (place.ArrCell i) q h = itself (place_eq-true (place.ArrCell i) q h)
 
 -- a place covers itself
 pub covers-refl : (p : Place) → covers p p ≡ true

@@ -3,19 +3,19 @@ use Rattle.std.specs.Prelude.{◌≡◌, ◌<◌, ◌≤◌, ℕ, zero, suc, ◌
 use Rattle.rd_cell.specs.declared.limits.TheConstants.{MOST_SEGMENTS}
 use Rattle.rd_cell.specs.declared.places.SegName.{SegName}
 use Rattle.rd_cell.specs.declared.places.Place.{Place}
-use Rattle.rd_cell.specs.declared.places.Place.TheVariants.{Head, Whole}
+use Rattle.rd_cell.specs.declared.places.Place.TheVariants as place
 use Rattle.rd_cell.specs.declared.places.Wrote.{Wrote}
-use Rattle.rd_cell.specs.declared.places.Wrote.TheVariants.{Nothing as WroteNothing, Place as WrotePlace}
+use Rattle.rd_cell.specs.declared.places.Wrote.TheVariants as wrote
 use Rattle.rd_cell.specs.declared.contents.Content.{Content}
 use Rattle.rd_cell.specs.declared.operations.Operation.{Operation}
 use Rattle.rd_cell.specs.declared.operations.Answer.{Answer}
-use Rattle.rd_cell.specs.declared.operations.Answer.TheVariants.{Nothing, Made}
+use Rattle.rd_cell.specs.declared.operations.Answer.TheVariants as answer
 use Rattle.rd_cell.specs.declared.access.Access.{Access}
 use Rattle.rd_cell.specs.declared.access.Access.TheVariants.{NoPlace, At, Make}
 use Rattle.rd_cell.specs.declared.access.Done.{Done}
 use Rattle.rd_cell.specs.declared.refusal.Refusal.{Refusal}
-use Rattle.rd_cell.specs.declared.refusal.Refusal.TheVariants.{SegmentsEnd, NoMemory, NoSuchPlace}
-use Rattle.rd_cell.specs.Places.{is_place, written}
+use Rattle.rd_cell.specs.declared.refusal.Refusal.TheVariants as refusal
+use Rattle.rd_cell.specs.Places.{place_eq, written}
 use Rattle.rd_cell.specs.Contents.{Contents, share, after_write_at, restore, operand, holding}
 use Rattle.rd_cell.specs.Operations.{Effect, effect, wrote_by}
 use Rattle.rd_cell.specs.Results.{and_then, result_map}
@@ -42,7 +42,7 @@ done_of did = record { place = did.place; old = did.old; answer = did.answer; wr
 unfoldable pub number_made_from : ℕ → Contents → ℕ → ℕ → ℕ
 number_made_from zero at maker n = n
 number_made_from (suc more) at maker n =
-    if is_some (at (Head (record { maker = maker; n = n }))) then number_made_from more at maker (n + 1) else n
+    if is_some (at (place.Head (record { maker = maker; n = n }))) then number_made_from more at maker (n + 1) else n
 
 -- how many segments the maker has made: the number of its next one
 unfoldable pub number_made : Contents → ℕ → ℕ
@@ -50,7 +50,7 @@ number_made at maker = number_made_from MOST_SEGMENTS at maker 0
 
 -- what a step without an access did: nothing
 abbrev pub no_access : Performed
-no_access = record { place = None; old = None; answer = Nothing; wrote = WroteNothing; given = λ q. None }
+no_access = record { place = None; old = None; answer = answer.Nothing; wrote = wrote.Nothing; given = λ q. None }
 
 -- what an operation with this effect did at a place that had this content
 abbrev pub effect_at : Place → Content → Effect → Performed
@@ -58,15 +58,15 @@ effect_at p c e = record { place = Some p; old = Some c; answer = e.answer; wrot
 
 -- what an operation does at a place with this content; it is refused if the place has none
 abbrev pub operate : Place → Operation → Option Content → Result Performed Refusal
-operate p op o = and_then (ok_or o NoSuchPlace) (λ c. result_map (effect_at p c) (effect op c))
+operate p op o = and_then (ok_or o refusal.NoSuchPlace) (λ c. result_map (effect_at p c) (effect op c))
 
 -- what the making of this segment does: it writes all places of the segment, which has R cells and
 -- holds x; refused if a maker may have no segment of this number
 abbrev pub make : ℕ → SegName → ℕ → Result Performed Refusal
 make R s x =
     if nat_lt s.n MOST_SEGMENTS
-    then Ok (record { place = Some (Whole s); old = None; answer = Made s; wrote = WrotePlace; given = holding R x })
-    else Err SegmentsEnd
+    then Ok (record { place = Some (place.Whole s); old = None; answer = answer.Made s; wrote = wrote.Place; given = holding R x })
+    else Err refusal.SegmentsEnd
 
 -- what an access by this actor does, over rings of R cells, where `at` is the content of each place
 abbrev pub perform : ℕ → ℕ → Contents → Access → Result Performed Refusal
@@ -93,12 +93,12 @@ Operates looked_at p op done old new = HasEffect looked_at (operate p op (operan
 
 -- the operation was done at this place, which has the new content where it had the old one
 abbrev pub OperatesOn : Place → Operation → Done → Content → Content → Type 0
-OperatesOn p op done old new = HasEffect (is_place p) (operate p op (Some old)) done (λ q. Some old) (λ q. Some new)
+OperatesOn p op done old new = HasEffect (place_eq p) (operate p op (Some old)) done (λ q. Some old) (λ q. Some new)
 
 -- this segment was made, with R cells and x enqueued already, and no other place changed
 abbrev pub Makes : ℕ → SegName → ℕ → Contents → Contents → Type 0
 Makes R s x old new =
-    HasEffect everywhere (make R s x) (record { place = Some (Whole s); old = None; answer = Made s; wrote = WrotePlace }) old new
+    HasEffect everywhere (make R s x) (record { place = Some (place.Whole s); old = None; answer = answer.Made s; wrote = wrote.Place }) old new
 
 -- this old content was put back at the place, or, if it is none, the places that this place covers
 -- were taken away, as seen at the places that are looked at
@@ -108,6 +108,6 @@ Restores looked_at p o old new = (q : Place) → looked_at q ≡ true → new q 
 -- why no further segment is made: `SegmentsEnd` if the maker has made as many as it may, else
 -- `NoMemory` if there is no room for one more
 abbrev pub RefusesMaking : ℕ → ℕ → Refusal → Type 0
-RefusesMaking number room SegmentsEnd = MOST_SEGMENTS ≤ number
-RefusesMaking number room NoMemory = (number < MOST_SEGMENTS) × (room ≡ 0)
+RefusesMaking number room refusal.SegmentsEnd = MOST_SEGMENTS ≤ number
+RefusesMaking number room refusal.NoMemory = (number < MOST_SEGMENTS) × (room ≡ 0)
 RefusesMaking number room _ = ⊥

@@ -3,20 +3,20 @@ use Rattle.std.specs.Prelude.{ℕ, Bool, true, false, ◌==◌, ◌&&◌, if◌t
 use Rattle.rd_cell.specs.declared.cells.Cell.{Cell}
 
 -- whether two bits are equal
-abbrev pub is_bit : Bool → Bool → Bool
-is_bit true b = b
-is_bit false true = false
-is_bit false false = true
+abbrev pub bit_eq : Bool → Bool → Bool
+bit_eq true b = b
+bit_eq false true = false
+bit_eq false false = true
 
 -- whether two values are equal, or both are none
-abbrev pub is_value : Option ℕ → Option ℕ → Bool
-is_value None None = true
-is_value (Some x) (Some y) = x == y
-is_value _ _ = false
+abbrev pub value_eq : Option ℕ → Option ℕ → Bool
+value_eq None None = true
+value_eq (Some x) (Some y) = x == y
+value_eq _ _ = false
 
 -- whether two cells are equal
-abbrev pub is_cell : Cell → Cell → Bool
-is_cell a b = is_bit a.safe b.safe && (a.idx == b.idx) && is_value a.val b.val
+abbrev pub cell_eq : Cell → Cell → Bool
+cell_eq a b = bit_eq a.safe b.safe && (a.idx == b.idx) && value_eq a.val b.val
 
 -- cell u of a new segment, with this value: safe and at index u
 abbrev pub new_cell : ℕ → Option ℕ → Cell

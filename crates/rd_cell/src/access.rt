@@ -1,8 +1,6 @@
 //! The one access of a step, and what the entry of the step records of it.
 
 ghost use Rattle.std.specs.Prelude.{◌≡◌, Some, if◌then◌else◌};
-ghost use Rattle.rd_cell.specs.declared.places.Wrote.TheVariants.{Nothing as WroteNothing};
-ghost use Rattle.rd_cell.specs.declared.operations.Answer.TheVariants.{Won, Lost};
 
 use super::contents::Content;
 use super::operations::{Answer, Operation};
@@ -51,7 +49,7 @@ impl Done {
     /// Returns the record of a compare-and-swap that found this content, and lost, or won and wrote
     /// this of its place.
     pub fn swapped(place: Place, found: Content, won: bool, written: Wrote) -> Done
-        ensures { result ≡ record { place = Some place; old = Some found; answer = if won then Won else Lost; wrote = if won then written else WroteNothing } }
+        ensures { result ≡ record { place = Some place; old = Some found; answer = if won then Answer.Won else Answer.Lost; wrote = if won then written else Wrote.Nothing } }
     {
         let (answer, wrote) = if won {
             (Answer::Won, written)

@@ -1,8 +1,9 @@
 -- The first dependant, from the first later positions in an actor's list, a place's and a
 -- segment's.
 use Rattle.std.proofs.Common.{◌≡◌, ℕ, zero, suc, ◌+◌, ◌<◌, ◌≤◌, Bool, true, false, not, ◌||◌, ◌==◌, if◌then◌else◌, nat_lt, List, [], ◌∷◌, length, drop, Option, Some, None, option_and_then, refl, sym, ap, subst, ◌∙◌, arith}
-use Rattle.rd_depend.proofs.Prelude.{nat_tests, is_some, SegName, Place, Cell, Val, Idx, Whole, is_of_cell, some_overlap, is_nothing, written, interfere, Entry, Wrote, first_from, first_dependant, depends, depends_on_one, numbered, symmetric, DependIndex, At, In, is_kept_at, is_under, is_under_some, own_key, value_of_place, whole_key, AscendsFrom, IsAscending, first_above, earlier, Touch, By, reached, is_value_written, touches, positions_from, positions, kept, IsIndexOf}
+use Rattle.rd_depend.proofs.Prelude.{nat_tests, is_some, SegName, Place, is_of_cell, some_overlap, is_nothing, written, interfere, Entry, Wrote, first_from, first_dependant, depends, depends_on_one, numbered, symmetric, DependIndex, At, In, is_kept_at, is_under, is_under_some, own_key, value_of_place, whole_key, AscendsFrom, IsAscending, first_above, earlier, Touch, By, reached, is_value_written, touches, positions_from, positions, kept, IsIndexOf}
 use Rattle.rd_depend.proofs.IndexPositions.{positions-ascend, positions-number, number-within, ascending}
+use Rattle.rd_cell.specs.declared.places.Place.TheVariants as place
 
 -- the same test
 pub positions-same : (t u : Entry → Bool) → ((y : Entry) → t y ≡ u y) → (n : ℕ) (es : List Entry) → positions_from t n es ≡ positions_from u n es
@@ -74,12 +75,12 @@ found-after x k es =
 -- which places overlap
 
 -- the places that overlap the whole of a segment are the segment's
-pub overlaps-whole : (s : SegName) (o : Option Place) → some_overlap (Some (Whole s)) o ≡ is_under (In s) o
+pub overlaps-whole : (s : SegName) (o : Option Place) → some_overlap (Some (place.Whole s)) o ≡ is_under (In s) o
 overlaps-whole s o = grind arith
 
 -- whether a place is a cell, which names its two halves
 abbrev pub is_cell_at : Place → Bool
-is_cell_at (Cell s i) = true
+is_cell_at (place.Cell s i) = true
 is_cell_at _ = false
 
 -- a place is kept under its own key
@@ -87,12 +88,12 @@ pub kept_itself : (p : Place) → is_cell_at p ≡ false → is_kept_at p p ≡ 
 kept_itself p h = grind arith
 
 -- a cell is kept under its halves
-pub kept_half : (t : SegName) (j : ℕ) (p : Place) → is_of_cell t j p ≡ true → is_cell_at p ≡ false → is_kept_at p (Cell t j) ≡ true
+pub kept_half : (t : SegName) (j : ℕ) (p : Place) → is_of_cell t j p ≡ true → is_cell_at p ≡ false → is_kept_at p (place.Cell t j) ≡ true
 kept_half t j p h n = grind arith
 
 -- those that overlap a cell are its halves, the cell, and the whole of the segment
 pub overlaps-cell : (s : SegName) (i : ℕ) (o : Option Place)
-    → some_overlap (Some (Cell s i)) o ≡ (is_under (At (Val s i)) o || (is_under (At (Idx s i)) o || is_under (At (Whole s)) o))
+    → some_overlap (Some (place.Cell s i)) o ≡ (is_under (At (place.Val s i)) o || (is_under (At (place.Idx s i)) o || is_under (At (place.Whole s)) o))
 overlaps-cell s i o = grind arith
 
 -- those that overlap a place are kept under three keys at most: that of a cell's value half, its
@@ -101,8 +102,8 @@ abbrev pub overlaps_under : Place → Option Place → Bool
 overlaps_under p o = is_under_some (value_of_place p) o || (is_under (own_key p) o || is_under_some (whole_key p) o)
 
 pub overlaps-keys : (p : Place) (o : Option Place) → some_overlap (Some p) o ≡ overlaps_under p o
-overlaps-keys (Whole s) o = grind (arith, overlaps-whole)
-overlaps-keys (Cell s i) o = grind (arith, overlaps-cell)
+overlaps-keys (place.Whole s) o = grind (arith, overlaps-whole)
+overlaps-keys (place.Cell s i) o = grind (arith, overlaps-cell)
 overlaps-keys p o = grind arith
 
 -- the lists of an index

@@ -1,10 +1,10 @@
 -- What is kept under a key, and the three keys of a place: its own, that of a cell's value half,
 -- and its segment's.
 use Rattle.std.proofs.Common.{◌≡◌, Bool, true, false, ◌&&◌, ◌||◌, Option, Some, ap, ◌∙◌, arith}
-use Rattle.rd_depend.proofs.Prelude.{and_from, or_right, Place, is_place, index_half, Entry, Home, Homes, Key, is_that, is_kept_at, is_under, place_key, value_key, segment_key, counts, reached, homes_of, is_key-refl}
+use Rattle.rd_depend.proofs.Prelude.{and_from, or_right, Place, place_eq, index_half, Entry, Home, Homes, Key, is_that, is_kept_at, is_under, place_key, value_key, segment_key, counts, reached, homes_of, key_eq-refl}
 
 -- the index half of a cell, like any other place, is kept under its own key alone
-pub kept_half : (p r : Place) → is_kept_at p (index_half r) ≡ is_place p (index_half r)
+pub kept_half : (p r : Place) → is_kept_at p (index_half r) ≡ place_eq p (index_half r)
 kept_half p r = grind arith
 
 -- whether a list is one of a key's, for a step that wrote there or didn't
@@ -45,7 +45,7 @@ pub separate : (h : Homes) (x : Entry) → h ≡ homes_of x → AreSeparate h
 separate h x is = grind (arith, apart, either_apart, place_value, place_segment, value_segment)
 
 pub home_own : (h : Home) (w : Bool) (q : Key) → h.key ≡ Some q → counts w h.wrote ≡ true → is_home h w q ≡ true
-home_own h w q e c = and_from (counts w h.wrote) (is_that q h.key) c (ap (is_that q) e ∙ is_key-refl q)
+home_own h w q e c = and_from (counts w h.wrote) (is_that q h.key) c (ap (is_that q) e ∙ key_eq-refl q)
 
 first_false : (a b : Bool) → (a && b) ≡ false → b ≡ true → a ≡ false
 first_false a b h k = grind arith

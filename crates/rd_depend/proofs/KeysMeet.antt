@@ -1,14 +1,15 @@
 -- Two steps of a run depend on each other exactly where they are of one actor, or one of them wrote
 -- under a key where the other touched.
-use Rattle.rd_depend.proofs.Prelude.{common_steps, or_parts, SegName, Place, Whole, is_of, some_covers, some_overlap, is_nothing, written, is_name-refl, Covering, itself, as_cell, as_whole, covers_cases, some_overlap-sym, Entry, Wrote, depends, Key, At, In, is_kept_at, is_under, wrote_under, is_whole_of, is_of_map, touched, wrote, SharesPlace}
+use Rattle.rd_depend.proofs.Prelude.{common_steps, or_parts, SegName, Place, is_of, some_covers, some_overlap, is_nothing, written, name_eq-refl, Covering, itself, as_cell, as_whole, covers_cases, some_overlap-sym, Entry, Wrote, depends, Key, At, In, is_kept_at, is_under, wrote_under, is_whole_of, is_of_map, touched, wrote, SharesPlace}
 use Rattle.std.proofs.Common.{◌≡◌, ◌⊎◌, true, false, Option, Some, None, sym, ap, subst, arith}
 use Rattle.rd_depend.proofs.Sharing.{shared}
 use Rattle.rd_depend.proofs.IndexFirst.{is_cell_at, kept_itself, kept_half}
 use Rattle.rd_depend.proofs.TakingOut.{AreApart}
+use Rattle.rd_cell.specs.declared.places.Place.TheVariants as place
 
 -- a step at the whole of a segment wrote
 abbrev pub MakingWrote : Entry → Type 0
-MakingWrote x = (t : SegName) → x.place ≡ Some (Whole t) → is_nothing x.wrote ≡ false
+MakingWrote x = (t : SegName) → x.place ≡ Some (place.Whole t) → is_nothing x.wrote ≡ false
 
 -- Where one wrote under a key and the other touched there, they depend on each other
 
@@ -25,7 +26,7 @@ apart_of_free x y made_x made_y h = grind (arith, or_parts, meet, some_overlap-s
 -- a place of the map is covered under its own key, or by the whole of its segment
 data Covered (o : Option Place) (q : Place) : Type 0 where
   by_key : is_under (At q) o ≡ true → Covered o q
-  by_whole : (t : SegName) → o ≡ Some (Whole t) → is_of t q ≡ true → Covered o q
+  by_whole : (t : SegName) → o ≡ Some (place.Whole t) → is_of t q ≡ true → Covered o q
 
 of_map_cell : (q : Place) → is_of_map q ≡ true → is_cell_at q ≡ false
 of_map_cell q h = grind arith
@@ -43,11 +44,11 @@ covered (Some p) q m h = by (covers_cases p q h)
 under_segment : (o : Option Place) (q : Place) (t : SegName) → some_covers o q ≡ true → is_of t q ≡ true → is_under (In t) o ≡ true
 under_segment o q t h g = grind (arith, covers_cases)
 
-written_whole : (o : Option Place) (w : Wrote) (t : SegName) → written o w ≡ Some (Whole t) → o ≡ Some (Whole t)
+written_whole : (o : Option Place) (w : Wrote) (t : SegName) → written o w ≡ Some (place.Whole t) → o ≡ Some (place.Whole t)
 written_whole o w t h = grind arith
 
-whole_own : (t : SegName) (o : Option Place) → o ≡ Some (Whole t) → is_whole_of t o ≡ true
-whole_own t o e = subst (λ (p : Option Place). is_whole_of t p ≡ true) (sym e) (is_name-refl t)
+whole_own : (t : SegName) (o : Option Place) → o ≡ Some (place.Whole t) → is_whole_of t o ≡ true
+whole_own t o e = subst (λ (p : Option Place). is_whole_of t p ≡ true) (sym e) (name_eq-refl t)
 
 -- a place of the map that one wrote and the other touched: under some key one of them wrote and the
 -- other touched

@@ -1,5 +1,5 @@
 -- What is kept of two runs while they are compared goes on over one more step as it should.
-use Rattle.rd_depend.proofs.Prelude.{common_steps, slice_get-get_or, slice_get_past, and_from, and_parts, false≢true, map-append, reverse-append, nil_from_length, option_to_list, set, Place, is_nothing, slice_get-set_same, slice_get-set_other, Wrote, Entry, Key, PlacedStep, Reached, is_value_written, is_key, is_under, place_key, value_key, segment_key, segment_of_place, value_of_place, is_key-true, is_key-refl, wrote_under, is_making, bound, passed, moved, moved_under, IsInOrder, IsBehind, Placed, reached_or_nothing, list_at, items_of}
+use Rattle.rd_depend.proofs.Prelude.{common_steps, slice_get-get_or, slice_get_past, and_from, and_parts, false≢true, map-append, reverse-append, nil_from_length, option_to_list, set, Place, is_nothing, slice_get-set_same, slice_get-set_other, Wrote, Entry, Key, PlacedStep, Reached, is_value_written, key_eq, is_under, place_key, value_key, segment_key, segment_of_place, value_of_place, key_eq-true, key_eq-refl, wrote_under, is_making, bound, passed, moved, moved_under, IsInOrder, IsBehind, Placed, reached_or_nothing, list_at, items_of}
 use Rattle.std.proofs.Common.{◌≡◌, ◌↔◌, ℕ, ◌+◌, ◌<◌, ◌≤◌, Bool, true, false, not, ◌&&◌, ◌==◌, if◌then◌else◌, cond, IsTrue, inl, inr, List, [], ◌∷◌, ◌++◌, length, map, get_or, reverse, Vec, Global, Option, Some, None, IsSome, MatchOption, refl, sym, ap, subst, ◌∙◌, arith}
 use Rattle.rd_depend.specs.LastWriters.{with_first}
 use Rattle.rd_depend.proofs.TouchedKeys.{under_one, one_under}
@@ -32,19 +32,19 @@ moved_elsewhere : (o : Option Key) (k : Key) (w : Bool) (i : ℕ) (s : Key → R
 moved_elsewhere o k w i s h = grind arith
 
 -- what was written down under a key, and stays under the others
-pub written_down : (old new : Key → Option Reached) (key : Key) (r : Reached) (w : Bool) (i : ℕ) → ((k : Key) → new k ≡ cond (is_key key k) (Some r) (old k))
+pub written_down : (old new : Key → Option Reached) (key : Key) (r : Reached) (w : Bool) (i : ℕ) → ((k : Key) → new k ≡ cond (key_eq key k) (Some r) (old k))
     → r ≡ passed (reached_or_nothing key (old key)) w i
     → (k : Key) → reached_or_nothing k (new k) ≡ moved_under (Some key) w i (λ q. reached_or_nothing q (old q)) k
-written_down old new key r w i news its k = ap (reached_or_nothing k) (news k) ∙ by (is_key key k) refl
+written_down old new key r w i news its k = ap (reached_or_nothing k) (news k) ∙ by (key_eq key k) refl
   where
     s : Key → Reached
     s q = reached_or_nothing q (old q)
 
-    by : (b : Bool) → is_key key k ≡ b → reached_or_nothing k (cond b (Some r) (old k)) ≡ moved_under (Some key) w i s k
+    by : (b : Bool) → key_eq key k ≡ b → reached_or_nothing k (cond b (Some r) (old k)) ≡ moved_under (Some key) w i s k
     by true e =
-        let same : key ≡ k = is_key-true key k e in
+        let same : key ≡ k = key_eq-true key k e in
         its ∙ ap (λ (q : Key). passed (s q) w i) same ∙ sym (moved_at (Some key) k w i s (ap (λ (q : Key). Some q) same))
-    by false e = sym (moved_elsewhere (Some key) k w i s (λ h. false≢true (sym e ∙ ap (is_key key) (sym (let f : key ≡ k = cc in f)) ∙ is_key-refl key)))
+    by false e = sym (moved_elsewhere (Some key) k w i s (λ h. false≢true (sym e ∙ ap (key_eq key) (sym (let f : key ≡ k = cc in f)) ∙ key_eq-refl key)))
 
 behind_at : (o : Option Key) (k : Key) (s : Key → Reached) (w : Bool) (i : ℕ) → o ≡ Some k → IsBehind s o w i → bound (s k) w < i
 behind_at o k s w i e h = let there : IsBehind s (Some k) w i = subst (λ (q : Option Key). IsBehind s q w i) e h in there

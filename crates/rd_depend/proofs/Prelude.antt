@@ -10,9 +10,8 @@ pub use Rattle.std.proofs.lemmas.Option.{slice_get-get_or, slice_get_past}
 pub use Rattle.std.proofs.lemmas.Result.{IfOk-weaker, on_ok_weaker}
 pub use Rattle.std.specs.Option.{is_some, option_map, option_to_list}
 pub use Rattle.rd_cell.proofs.ListLemmas.{slice_get-push_other, slice_get-push_same, slice_get-set_other, slice_get-set_same}
-pub use Rattle.rd_cell.proofs.PlaceLemmas.{Covering, as_cell, as_whole, both_cover, covers-refl, covers_cases, is_name-refl, itself, some_overlap-sym, written-covers}
-pub use Rattle.rd_cell.specs.Places.{index_half, is_nothing, is_of, is_of_cell, is_place, segment_of}
-pub use Rattle.rd_cell.specs.declared.places.Place.TheVariants.{Cell, Idx, Val, Whole}
+pub use Rattle.rd_cell.proofs.PlaceLemmas.{Covering, as_cell, as_whole, both_cover, covers-refl, covers_cases, name_eq-refl, itself, some_overlap-sym, written-covers}
+pub use Rattle.rd_cell.specs.Places.{index_half, is_nothing, is_of, is_of_cell, place_eq, segment_of}
 pub use Rattle.rd_cell.specs.declared.places.SegName.{SegName}
 pub use Rattle.rd_step.proofs.Equivalence.{as_stepped-same, goes_first, run_events, stands_in}
 pub use Rattle.rd_step.proofs.RunParts.{FirstStep, first_step, middle, runs_to}
@@ -20,7 +19,7 @@ pub use Rattle.rd_step.proofs.Symmetry.{symmetric}
 pub use Rattle.rd_step.specs.Dependence.{depends_on_one, first_from}
 pub use Rattle.rd_step.specs.Equivalence.{IsEquivalent}
 pub use Rattle.rd_step.specs.Lists.{numbered, without}
-pub use Rattle.rd_step.specs.Prelude.{CellAt, Head, IsFree, Place, Ran, Stepped, ValAt, WholeOf, World, Wrote, covers, depends, first_dependant, interfere, overlaps, run, some_covers, some_overlap, step, written}
+pub use Rattle.rd_step.specs.Prelude.{IsFree, Place, Ran, Stepped, World, Wrote, covers, depends, first_dependant, interfere, overlaps, run, some_covers, some_overlap, step, written}
 pub use Rattle.rd_step.specs.Run.{IsRunFrom, events, run_entries}
 pub use Rattle.rd_step.specs.declared.entries.Entry.{Entry}
 pub use Rattle.rd_step.specs.declared.entries.Event.{Event}
@@ -28,8 +27,8 @@ pub use Rattle.rd_depend.specs.Changes.{Adds, EndsWith, Keeps, homes_of}
 pub use Rattle.rd_depend.specs.ComparedSteps.{GoesOn, StandsElsewhere, left_of, reached_of, reached_or_nothing}
 pub use Rattle.rd_depend.specs.Equivalence.{DecidesEquivalence}
 pub use Rattle.rd_depend.specs.Index.{By, GivesRoom, HasRoomFor, IsIndexOf, IsLast, Touch, Under, UsesRoom, capacity, is_value_written, kept, number_of, positions, positions_from, reached, spare, touches}
-pub use Rattle.rd_depend.specs.KeyLaws.{is_key-refl, is_key-sym, is_key-true}
-pub use Rattle.rd_depend.specs.Keys.{is_kept_at, is_key, is_that, is_under, is_under_some, own_key, place_key, segment_key, segment_of_place, slot_in, value_key, value_of_place, whole_key}
+pub use Rattle.rd_depend.specs.KeyLaws.{key_eq-refl, key_eq-sym, key_eq-true}
+pub use Rattle.rd_depend.specs.Keys.{is_kept_at, key_eq, is_that, is_under, is_under_some, own_key, place_key, segment_key, segment_of_place, slot_in, value_key, value_of_place, whole_key}
 pub use Rattle.rd_depend.specs.LastWriters.{AreAlike, IsBehind, IsInOrder, KeepsOrder, Placed, bound, by_actor, enumerated, is_making, is_whole_of, moved, moved_under, nothing_reached, passed, with_steps, wrote_under}
 pub use Rattle.rd_depend.specs.Lists.{AreUpTo, AscendsFrom, IsAscending, IsMoved, Lists, capacity_at, capacity_of, earlier, first_above, items_of, last_of, last_or, later, list_at, list_of, number_up_to, one_if, spare_at, up_to}
 pub use Rattle.rd_depend.specs.Sharing.{SharesPlace, is_of_map, one_wrote, touched, wrote}

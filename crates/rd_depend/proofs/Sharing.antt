@@ -1,12 +1,13 @@
 -- Two entries depend on each other exactly where they have one actor, or share a place of the map
 -- that one of them wrote.
 use Rattle.std.proofs.Common.{◌≡◌, ◌↔◌, ◌⊎◌, Bool, true, false, inl, inr, Option, Some, eq-eqb, arith}
-use Rattle.rd_depend.proofs.Prelude.{or_cases, or_left, or_right, covers-refl, both_cover, written-covers, Place, Head, CellAt, ValAt, WholeOf, covers, overlaps, some_covers, some_overlap, written, interfere, depends, Entry, is_of_map, wrote, SharesPlace, one_wrote}
+use Rattle.rd_depend.proofs.Prelude.{or_cases, or_left, or_right, covers-refl, both_cover, written-covers, Place, covers, overlaps, some_covers, some_overlap, written, interfere, depends, Entry, is_of_map, wrote, SharesPlace, one_wrote}
+use Rattle.rd_cell.specs.declared.places.Place.TheVariants as place
 
 -- a place of the map that a place names
 abbrev part : Place → Place
-part (CellAt s i) = ValAt s i
-part (WholeOf s) = Head s
+part (place.Cell s i) = place.Val s i
+part (place.Whole s) = place.Head s
 part p = p
 
 part_of_map : (p : Place) → is_of_map (part p) ≡ true

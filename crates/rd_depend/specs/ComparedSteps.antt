@@ -7,7 +7,7 @@ use Rattle.rd_depend.specs.declared.index.keys.Key.{Key}
 use Rattle.rd_depend.specs.declared.last_writers.Reached.{Reached}
 use Rattle.rd_depend.specs.declared.last_writers.ReachedByKey.{ReachedByKey}
 use Rattle.rd_depend.specs.declared.last_writers.StepsByActor.{StepsByActor}
-use Rattle.rd_depend.specs.Keys.{is_key}
+use Rattle.rd_depend.specs.Keys.{key_eq}
 use Rattle.rd_depend.specs.Lists.{list_at}
 use Rattle.rd_depend.specs.LastWriters.{Placed, nothing_reached, IsNext, moved, with_steps}
 
@@ -17,7 +17,7 @@ reached_or_nothing k o = unwrap_or o (nothing_reached k)
 
 -- how far the steps reached under each key
 abbrev pub reached_of : ReachedByKey → Key → Reached
-reached_of by_key k = reached_or_nothing k (get is_key by_key.reached k)
+reached_of by_key k = reached_or_nothing k (get key_eq by_key.reached k)
 
 -- the steps that are left of each actor, in their order; the code keeps them in the reverse order
 abbrev pub left_of : StepsByActor → ℕ → List Placed

@@ -1,7 +1,7 @@
 -- What an index keeps: of the entries of a list, the positions of those that touch an actor, a
 -- place or a segment, and of those that wrote a place or one of a segment.
 use Rattle.std.specs.Prelude.{◌≡◌, ℕ, ◌+◌, ◌≤◌, Bool, true, false, ◌==◌, if◌then◌else◌, List, [], ◌∷◌, ◌++◌, length, Option, Some}
-use Rattle.rd_step.specs.Prelude.{Place, Wrote, WrotePlace, written}
+use Rattle.rd_step.specs.Prelude.{Place, Wrote, written}
 use Rattle.rd_step.specs.declared.entries.Entry.{Entry}
 use Rattle.rd_step.specs.Lists.{numbered}
 use Rattle.rd_depend.specs.declared.index.DependIndex.{DependIndex}
@@ -9,6 +9,7 @@ use Rattle.rd_depend.specs.declared.index.keys.Key.{Key}
 use Rattle.rd_depend.specs.Keys.{is_under}
 use Rattle.rd_depend.specs.Lists.{list_at, capacity_at, one_if, spare_at}
 use Rattle.rd_depend.specs.Tables.{kept_in, capacity_in, spare_in}
+use Rattle.rd_cell.specs.declared.places.Wrote.TheVariants as wrote
 
 -- what a list of positions is kept for: the steps of an actor, or those at a place or a segment,
 -- either all that touched it or only those that wrote it
@@ -28,7 +29,7 @@ touches (Under w k) x = is_under k (reached w x)
 
 -- whether a step that wrote this wrote the value half of its cell
 abbrev pub is_value_written : Wrote → Bool
-is_value_written WrotePlace = true
+is_value_written wrote.Place = true
 is_value_written _ = false
 
 -- the positions of the entries that pass the test, where the first entry is at position n

@@ -3,27 +3,27 @@
 use Rattle.std.specs.Prelude.{ℕ, ◌+◌, ◌*◌, Bool, false, ◌||◌, List, [], ◌∷◌, Option, Some, None, suc, if◌then◌else◌, option_map, option_and_then}
 use Rattle.rd_cell.specs.declared.places.SegName.{SegName}
 use Rattle.rd_cell.specs.declared.places.Place.{Place}
-use Rattle.rd_cell.specs.declared.places.Place.TheVariants.{QHead, QTail, Head, Tail, Next, Cell, Val, Idx, Whole, ArrHead, ArrTail, ArrCell}
-use Rattle.rd_cell.specs.Places.{is_name, is_of, is_place, index_half, root, segment_of}
+use Rattle.rd_cell.specs.declared.places.Place.TheVariants as place
+use Rattle.rd_cell.specs.Places.{name_eq, is_of, place_eq, index_half, root, segment_of}
 use Rattle.rd_depend.specs.declared.index.keys.Key.{Key}
 use Rattle.rd_depend.specs.declared.index.keys.Key.TheVariants.{At, In}
 
 -- whether two keys are equal
-abbrev pub is_key : Key → Key → Bool
-is_key (At p) (At q) = is_place p q
-is_key (In s) (In t) = is_name s t
-is_key _ _ = false
+abbrev pub key_eq : Key → Key → Bool
+key_eq (At p) (At q) = place_eq p q
+key_eq (In s) (In t) = name_eq s t
+key_eq _ _ = false
 
 -- whether the second key, if there is one, is equal to the first
 abbrev pub is_that : Key → Option Key → Bool
 is_that q None = false
-is_that q (Some k) = is_key q k
+is_that q (Some k) = key_eq q k
 
 -- whether a step at place q is kept under the key of place p: the two are equal, or q is the cell
 -- of which p is a half
 abbrev pub is_kept_at : Place → Place → Bool
-is_kept_at p (Cell s i) = is_place p (Idx s i) || is_place p (Val s i)
-is_kept_at p q = is_place p q
+is_kept_at p (place.Cell s i) = place_eq p (place.Idx s i) || place_eq p (place.Val s i)
+is_kept_at p q = place_eq p q
 
 -- whether a step at this place, if it has one, is kept under the key
 abbrev pub is_under : Key → Option Place → Bool
@@ -42,7 +42,7 @@ place_key o = option_map (λ p. At (index_half p)) o
 
 -- the key of the value half of this place, if that is a cell
 abbrev pub value_of_place : Place → Option Key
-value_of_place (Cell s i) = Some (At (Val s i))
+value_of_place (place.Cell s i) = Some (At (place.Val s i))
 value_of_place _ = None
 
 -- the key of the value half of this place, if there is a place and it is a cell
@@ -51,13 +51,13 @@ value_key o = option_and_then value_of_place o
 
 -- the key of the segment to which a place belongs, or of which it is the whole
 abbrev pub segment_of_place : Place → Option Key
-segment_of_place (Head s) = Some (In s)
-segment_of_place (Tail s) = Some (In s)
-segment_of_place (Next s) = Some (In s)
-segment_of_place (Cell s i) = Some (In s)
-segment_of_place (Val s i) = Some (In s)
-segment_of_place (Idx s i) = Some (In s)
-segment_of_place (Whole s) = Some (In s)
+segment_of_place (place.Head s) = Some (In s)
+segment_of_place (place.Tail s) = Some (In s)
+segment_of_place (place.Next s) = Some (In s)
+segment_of_place (place.Cell s i) = Some (In s)
+segment_of_place (place.Val s i) = Some (In s)
+segment_of_place (place.Idx s i) = Some (In s)
+segment_of_place (place.Whole s) = Some (In s)
 segment_of_place _ = None
 
 -- the key of the segment to which a place belongs, or of which it is the whole, if there is one
@@ -67,17 +67,17 @@ segment_key o = option_and_then segment_of_place o
 -- the key of all places that a place names, except the value half of a cell: for the whole of a
 -- segment the segment's, else the place's
 abbrev pub own_key : Place → Key
-own_key (Whole s) = In s
+own_key (place.Whole s) = In s
 own_key p = At (index_half p)
 
 -- the key of the whole of the segment that has a place, if one has it
 abbrev pub whole_key : Place → Option Key
-whole_key p = option_map (λ s. At (Whole s)) (segment_of p)
+whole_key p = option_map (λ s. At (place.Whole s)) (segment_of p)
 
 -- the index of the first of these keys that is equal to this one
 abbrev pub slot_in : List Key → Key → Option ℕ
 slot_in [] k = None
-slot_in (q ∷ qs) k = if is_key k q then Some 0 else option_map (λ i. suc i) (slot_in qs k)
+slot_in (q ∷ qs) k = if key_eq k q then Some 0 else option_map (λ i. suc i) (slot_in qs k)
 
 -- a number for a part of a segment: its kind, the segment's name and an index
 abbrev pub packed : ℕ → SegName → ℕ → ℕ
@@ -85,18 +85,18 @@ packed part s i = ((part * 256 + i) * 256 + s.maker) * 4294967296 + s.n
 
 -- the number as which the key of a place is hashed
 abbrev pub place_number : Place → ℕ
-place_number QHead = 0
-place_number QTail = 1
-place_number (Head s) = packed 2 s 0
-place_number (Tail s) = packed 3 s 0
-place_number (Next s) = packed 4 s 0
-place_number (Cell s i) = packed 5 s i
-place_number (Whole s) = packed 6 s 0
-place_number ArrHead = 7
-place_number ArrTail = 8
-place_number (ArrCell i) = packed 9 root i
-place_number (Val s i) = packed 11 s i
-place_number (Idx s i) = packed 12 s i
+place_number place.QHead = 0
+place_number place.QTail = 1
+place_number (place.Head s) = packed 2 s 0
+place_number (place.Tail s) = packed 3 s 0
+place_number (place.Next s) = packed 4 s 0
+place_number (place.Cell s i) = packed 5 s i
+place_number (place.Whole s) = packed 6 s 0
+place_number place.ArrHead = 7
+place_number place.ArrTail = 8
+place_number (place.ArrCell i) = packed 9 root i
+place_number (place.Val s i) = packed 11 s i
+place_number (place.Idx s i) = packed 12 s i
 
 -- the number as which a key is hashed
 abbrev pub key_number : Key → ℕ

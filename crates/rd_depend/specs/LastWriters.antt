@@ -3,9 +3,9 @@
 use Rattle.std.specs.Prelude.{◌≡◌, ◌<◌, ℕ, suc, max, Bool, true, false, ◌==◌, if◌then◌else◌, List, [], ◌∷◌, Option, Some, None}
 use Rattle.rd_cell.specs.declared.places.SegName.{SegName}
 use Rattle.rd_cell.specs.declared.places.Place.{Place}
-use Rattle.rd_cell.specs.declared.places.Place.TheVariants.{Whole}
+use Rattle.rd_cell.specs.declared.places.Place.TheVariants as place
 use Rattle.rd_cell.specs.declared.places.Wrote.{Wrote}
-use Rattle.rd_cell.specs.Places.{is_name, written}
+use Rattle.rd_cell.specs.Places.{name_eq, written}
 use Rattle.rd_step.specs.declared.entries.Entry.{Entry}
 use Rattle.rd_depend.specs.declared.index.keys.Key.{Key}
 use Rattle.rd_depend.specs.declared.index.keys.Key.TheVariants.{At, In}
@@ -14,7 +14,7 @@ use Rattle.rd_depend.specs.Keys.{is_under, is_that}
 
 -- whether a place, if there is one, is the whole of this segment
 abbrev pub is_whole_of : SegName → Option Place → Bool
-is_whole_of s (Some (Whole t)) = is_name s t
+is_whole_of s (Some (place.Whole t)) = name_eq s t
 is_whole_of s _ = false
 
 -- whether a step at this place that wrote this counts as a write under the key: of a place if it
@@ -26,7 +26,7 @@ wrote_under (In s) place wrote = is_whole_of s place
 
 -- whether a place, if there is one, is the whole of a segment
 abbrev pub is_making : Option Place → Bool
-is_making (Some (Whole t)) = true
+is_making (Some (place.Whole t)) = true
 is_making _ = false
 
 -- the last position after which a step under a key has to be: that of the steps that touched it if

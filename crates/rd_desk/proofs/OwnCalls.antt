@@ -1,5 +1,5 @@
 -- A viewer's own calls, after one call more.
-use Rattle.std.proofs.Common.{◌≡◌, ℕ, ◌+◌, List, [], ◌∷◌, ◌++◌, cond, length, sym, refl, ap, ◌∙◌, Result, Ok, Err, arith, eq-eqb, length-append}
+use Rattle.std.proofs.Common.{◌≡◌, ℕ, ◌+◌, List, [], ◌∷◌, ◌++◌, cond, length, refl, ap, ◌∙◌, Result, Ok, Err, arith, eq-eqb, length-append}
 use Rattle.rd_desk.proofs.Prelude.{BookState, Busy, Call, Command, DeskRefusal, HistoryFull, IsSeen, NotRecorded, Refusal, Reply, TicketsEnded, named, own_grows, own_same, viewer_entry}
 
 module _ (opened : BookState) (viewer : ℕ) (old new : List (ℕ × Call)) (command : Command) where

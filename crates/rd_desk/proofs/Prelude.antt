@@ -12,7 +12,6 @@ pub use Rattle.rd_desk.specs.declared.gates.DeskRefusal.TheVariants.{Busy, Histo
 pub use Rattle.rd_desk.specs.declared.histories.Call.{Call}
 pub use Rattle.rd_desk.specs.declared.threads.Asked.{Asked}
 pub use Rattle.rd_desk.specs.declared.viewers.Ran.{Ran}
-pub use Rattle.rd_desk.specs.declared.viewers.Ran.TheVariants.{Answered}
 pub use Rattle.rd_lock.proofs.Lists.{own_grows, own_same}
 pub use Rattle.rd_lock.specs.Histories.{Adds, Continues, named}
 pub use Rattle.rd_lock.specs.Locks.{HasPut, IsTaken, number, seen}

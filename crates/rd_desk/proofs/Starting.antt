@@ -1,8 +1,9 @@
 -- What holds while the viewers' threads are started, and while they are waited for.
 use Rattle.std.proofs.Common.{◌≡◌, List, [], ◌∷◌, ◌++◌, reverse, refl, sym, ap, ◌∙◌, subst, Option, Some, Result, Ok, Err, IfOk, Vec, append_assoc}
-use Rattle.rd_desk.proofs.Prelude.{AllByRecursion, AllZip, Answer, Answered, Asked, Command, Global, IsChain, IsRan, IsRoomFor, IsStarted, PromisedHandle, Ran, append-nil, result_ok, reverse-append}
+use Rattle.rd_desk.proofs.Prelude.{AllByRecursion, AllZip, Answer, Asked, Command, Global, IsChain, IsRan, IsRoomFor, IsStarted, PromisedHandle, Ran, append-nil, result_ok, reverse-append}
 use Rattle.rd_lock.proofs.PassLists.{every_front, every_back}
 use Rattle.rd_desk.proofs.ChainLemmas.{one_more_pair, last_pair, none_alone, alone}
+use Rattle.rd_desk.specs.declared.viewers.Ran.TheVariants as outcome
 
 last_first : {A : Type 0} (xs : List A) (x : A) → reverse (xs ++ x ∷ []) ≡ x ∷ reverse xs
 last_first xs x = reverse-append xs (x ∷ [])
@@ -94,7 +95,7 @@ module _ {G P T : Type 0} (takes : G → P → Type 0) (told : G → P → Comma
   -- what a thread that kept its promise comes to
   pub done_ran : (handle : PromisedHandle T (Asked G P)) (pass : P) (answers : Vec Answer Global)
       → takes handle.promise.gate.value pass × IsChain (told handle.promise.gate.value) handle.promise.pass.value handle.promise.commands.value.items answers.items pass
-      → (gate : G) (viewer : P × Vec Command Global) → IsStarted gate viewer (Some handle) → IsRan (takes gate) (told gate) viewer (Answered pass answers)
+      → (gate : G) (viewer : P × Vec Command Global) → IsStarted gate viewer (Some handle) → IsRan (takes gate) (told gate) viewer (outcome.Answered pass answers)
   done_ran handle pass answers kept gate viewer s = (
     subst (λ (x : G). takes x pass) s.0 kept.0,
     subst (λ (cs : Vec Command Global). IsChain (told gate) viewer.0 cs.items answers.items pass) s.2

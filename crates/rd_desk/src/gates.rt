@@ -49,7 +49,7 @@ impl<const N: usize> Gate for Desk<N> {
 
     ghost takes = { λ desk pass. IsViewerOf desk pass };
 
-    ghost told = { λ desk pass command answer after. KnowsAfterCall N (opened_state desk) pass after command answer };
+    ghost told = { λ desk pass command answer after. KnowsAfterCall (opened_state desk) pass after command answer };
 
     /// Asks one command as `Desk::ask` does, and returns the answer.
     fn ask<R: Wait>(&self, rt: &R, pass: &mut DeskPass<N>, command: Command) -> Answer {

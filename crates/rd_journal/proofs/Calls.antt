@@ -1,6 +1,6 @@
 -- What the calls of a session answer, over its journal.
 use Rattle.std.proofs.Common.{◌≡◌, ℕ, zero, suc, ◌+◌, ◌-◌, ◌<◌, ◌≤◌, ◌⊎◌, refl, sym, ◌∙◌, ap, subst, List, [], ◌∷◌, ◌++◌, length, take, get_or, ok_or, Result, Ok, Err, IsOk, IfErr, inl, inr, arith, ne_eqb, length-append}
-use Rattle.rd_journal.proofs.Prelude.{result_map, cond-false, map-append, length-map, take-map, slice_get_past, slice_get-get_or, Refusal, NoSuchStep, Stepped, step, IsWellFormed, MOST_STEPS, Event, Entry, model, room, live_entries, ahead_entries, kept_entries, IsIndexOf, whole_journal, journal, state, MayLackMemory, NoMemory, Journal, events, IsRun, entry_of, IsSession, HasRoom, State, state_of, with_event, apply, back_one, forward_one, times, undo, redo, back, forward, IsLengthened, IsMovedBack, IsBeforeLast}
+use Rattle.rd_journal.proofs.Prelude.{result_map, cond-false, map-append, length-map, take-map, slice_get_past, slice_get-get_or, Refusal, Stepped, step, IsWellFormed, MOST_STEPS, Event, Entry, model, room, live_entries, ahead_entries, kept_entries, IsIndexOf, whole_journal, journal, state, MayLackMemory, Journal, events, IsRun, entry_of, IsSession, HasRoom, State, state_of, with_event, apply, back_one, forward_one, times, undo, redo, back, forward, IsLengthened, IsMovedBack, IsBeforeLast}
 use Rattle.rd_journal.specs.Sessions.{IsUnchanged, MayRefuse, capacity, room as session_room, index}
 use Rattle.rd_journal.specs.Room.{IsOutOfMemory}
 use Rattle.rd_journal.specs.declared.entries.Entries.{Entries}
@@ -8,6 +8,7 @@ use Rattle.rd_step.specs.declared.worlds.World.{World as CodeWorld}
 use Rattle.rd_journal.proofs.Ahead.{is_session}
 use Rattle.rd_journal.specs.declared.sessions.Session.{Session}
 use Rattle.rd_journal.proofs.Runs.{step_event, start_stays, now_formed, grown}
+use Rattle.rd_cell.specs.declared.refusal.Refusal.TheVariants as refusal
 
 -- Lengths
 
@@ -46,7 +47,7 @@ before_last n old new moved runs goes = grind (arith, back_start, take-map)
 
 -- Entries by number
 
-pub entry_missing : (j : Journal) (n k : ℕ) → n ≡ length j.live → (k ≡ 0) ⊎ (n < k) → Err (NoSuchStep n) ≡ entry_of j k
+pub entry_missing : (j : Journal) (n k : ℕ) → n ≡ length j.live → (k ≡ 0) ⊎ (n < k) → Err (refusal.NoSuchStep n) ≡ entry_of j k
 entry_missing j n k len h = grind (arith, ok_or, slice_get_past)
 
 pub entry_found : (j : Journal) (k : ℕ) (x : Entry) → 1 ≤ k → k ≤ length j.live → x ≡ get_or j.live (k - 1) x → Ok x ≡ entry_of j k
@@ -133,10 +134,10 @@ may_lack s e out = record {
 
 -- so what is said of the session is said of its state
 pub said_of_state : {R : ℕ} {X : Type 0} (s : Session R) (e : Event) (r : Result X Refusal) → IfErr r (MayRefuse s e)
-    → IfErr r (λ refusal. (apply (state s) e ≡ Err refusal) ⊎ ((refusal ≡ NoMemory) × MayLackMemory (state s) e))
+    → IfErr r (λ cause. (apply (state s) e ≡ Err cause) ⊎ ((cause ≡ refusal.NoMemory) × MayLackMemory (state s) e))
 said_of_state s e (Ok x) h = h
-said_of_state s e (Err refusal) (inl h) = inl h
-said_of_state s e (Err refusal) (inr h) = inr (h.0, may_lack s e h.1)
+said_of_state s e (Err cause) (inl h) = inl h
+said_of_state s e (Err cause) (inr h) = inr (h.0, may_lack s e h.1)
 
 pub apply_refused : (j : Journal) (e : Event) (refusal : Refusal) → IsRun j → length j.live < MOST_STEPS → step j.world e ≡ Err refusal
     → apply (state_of j) e ≡ Err refusal

@@ -1,9 +1,10 @@
 -- Undoing one live step alone, on which no later one depends, over whole journals.
-use Rattle.rd_journal.proofs.Prelude.{common_steps, cases_Bool, cond-true, cond-false, lt-ltb, le-ltb, map-append, take-map, drop-map, take-append-drop, length-map, NoSuchStep, depends, IsFree, first_dependant, MOST_STEPS, Entry, first_from, WasStepped, IsTakenOut, Journal, start_of, IsRun, IsUndoneAlone, answer_unless, answer_at, state_of, undone_alone, undone_alone_unless, undo_at}
+use Rattle.rd_journal.proofs.Prelude.{common_steps, cases_Bool, cond-true, cond-false, lt-ltb, le-ltb, map-append, take-map, drop-map, take-append-drop, length-map, depends, IsFree, first_dependant, MOST_STEPS, Entry, first_from, WasStepped, IsTakenOut, Journal, start_of, IsRun, IsUndoneAlone, answer_unless, answer_at, state_of, undone_alone, undone_alone_unless, undo_at}
 use Rattle.std.proofs.Common.{◌≡◌, nat_lt, ℕ, zero, suc, ◌+◌, ◌-◌, ◌<◌, ◌≤◌, ◌⊎◌, inl, inr, sym, ◌∙◌, ap, subst, arith, List, [], ◌∷◌, ◌++◌, length, take, drop, get_or, Some, None, Err, length-append}
 use Rattle.rd_journal.proofs.ListLemmas.{drop_one_less}
 use Rattle.rd_journal.proofs.Finding.{numbered_in, scan_is}
 use Rattle.rd_journal.proofs.Runs.{MayTakeOut, may_take_out}
+use Rattle.rd_cell.specs.declared.refusal.Refusal.TheVariants as refusal
 
 -- Dependence
 
@@ -83,13 +84,13 @@ undone_alone_state k old new moved start = grind (arith, take-map, drop-map, map
 
 -- The answers
 
-pub answer_missing : (j : Journal) (k n : ℕ) → n ≡ length j.live → (k ≡ 0) ⊎ (n < k) → Err (NoSuchStep n) ≡ answer_at j k
-answer_missing j zero n len h = ap (λ (m : ℕ). Err (NoSuchStep m)) len
+pub answer_missing : (j : Journal) (k n : ℕ) → n ≡ length j.live → (k ≡ 0) ⊎ (n < k) → Err (refusal.NoSuchStep n) ≡ answer_at j k
+answer_missing j zero n len h = ap (λ (m : ℕ). Err (refusal.NoSuchStep m)) len
 answer_missing j (suc i) n len h =
-    ap (λ (m : ℕ). Err (NoSuchStep m)) len
+    ap (λ (m : ℕ). Err (refusal.NoSuchStep m)) len
     ∙ sym (cond-false (nat_lt i (length j.live)) _ _ (le-ltb i (length j.live) (omega (arith, h, len))))
 
-pub undo_at_missing : (j : Journal) (k n : ℕ) → n ≡ length j.live → (k ≡ 0) ⊎ (n < k) → undo_at (state_of j) k ≡ Err (NoSuchStep n)
+pub undo_at_missing : (j : Journal) (k n : ℕ) → n ≡ length j.live → (k ≡ 0) ⊎ (n < k) → undo_at (state_of j) k ≡ Err (refusal.NoSuchStep n)
 undo_at_missing j k n len l = grind (arith, length-map, le-ltb, cond-false)
 
 pub answer_there : (j : Journal) (k : ℕ) → 1 ≤ k → k ≤ length j.live → answer_at j k ≡ answer_unless (first_dependant j.live k)

@@ -22,7 +22,7 @@ pub use Rattle.rd_step.proofs.Steps.{took, with_actor-other}
 pub use Rattle.rd_step.specs.Dependence.{AreLoneUndos, IsInClosure, closure_from, first_from, number_after}
 pub use Rattle.rd_step.specs.Laws.{IsTakenOut, WasStepped}
 pub use Rattle.rd_step.specs.Lists.{numbered}
-pub use Rattle.rd_step.specs.Prelude.{and_then, result_map, Content, IsFree, IsWellFormed, MOST_STEPS, NoMemory, NoSuchStep, Place, Ran, Refusal, SegName, Stepped, World, after, closure, closure_of, depends, depends_on_one, first_dependant, marked, model, room, run, step, unmarked, unstep, without_closure}
+pub use Rattle.rd_step.specs.Prelude.{and_then, result_map, Content, IsFree, IsWellFormed, MOST_STEPS, Place, Ran, Refusal, SegName, Stepped, World, after, closure, closure_of, depends, depends_on_one, first_dependant, marked, model, room, run, step, unmarked, unstep, without_closure}
 pub use Rattle.rd_step.specs.Room.{makes_segment, room_returned, room_used}
 pub use Rattle.rd_step.specs.Run.{preceded_by}
 pub use Rattle.rd_step.specs.declared.entries.Entry.{Entry}

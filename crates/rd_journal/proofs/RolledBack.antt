@@ -1,10 +1,11 @@
 -- Rolling back a live step with all that depends on it, over whole journals.
 use Rattle.std.proofs.Common.{◌≡◌, ℕ, zero, suc, ◌+◌, ◌<◌, ◌≤◌, ◌⊎◌, Bool, true, false, refl, sym, ◌∙◌, ap, subst, arith, List, [], ◌∷◌, ◌++◌, length, take, drop, Ok, Err}
-use Rattle.rd_journal.proofs.Prelude.{cond-true, cond-false, lt-ltb, le-ltb, append_assoc, map-append, take-append-drop, length-map, NoSuchStep, World, run, closure, marked, unmarked, closure_of, without_closure, closure_from, Event, Entry, run-cons, Journal, events, world_before, start_of, IsRun, IsRolledBack, IsWithoutClosure, roll_answer, IsSession, HasRoom, State, state_of, back_one, times, undone_marked, roll, middle}
+use Rattle.rd_journal.proofs.Prelude.{cond-true, cond-false, lt-ltb, le-ltb, append_assoc, map-append, take-append-drop, length-map, World, run, closure, marked, unmarked, closure_of, without_closure, closure_from, Event, Entry, run-cons, Journal, events, world_before, start_of, IsRun, IsRolledBack, IsWithoutClosure, roll_answer, IsSession, HasRoom, State, state_of, back_one, times, undone_marked, roll, middle}
 use Rattle.rd_journal.proofs.Calls.{back_start}
 use Rattle.rd_journal.proofs.Gathering.{cut_at, gathered_run}
 use Rattle.rd_journal.proofs.ListLemmas.{nth, drop_one_less}
 use Rattle.rd_journal.proofs.Runs.{run_joined, goes_back}
+use Rattle.rd_cell.specs.declared.refusal.Refusal.TheVariants as refusal
 
 -- The closure gathered last
 
@@ -105,13 +106,13 @@ rolled_run k old new is start runs = grind (arith, unmarked-map)
 
 -- The answers
 
-pub roll_answer_missing : (j : Journal) (k n : ℕ) → n ≡ length j.live → (k ≡ 0) ⊎ (n < k) → Err (NoSuchStep n) ≡ roll_answer j k
+pub roll_answer_missing : (j : Journal) (k n : ℕ) → n ≡ length j.live → (k ≡ 0) ⊎ (n < k) → Err (refusal.NoSuchStep n) ≡ roll_answer j k
 roll_answer_missing j k n len h = grind arith
 
 pub roll_answer_there : (j : Journal) (k : ℕ) → 1 ≤ k → k ≤ length j.live → Ok tt ≡ roll_answer j k
 roll_answer_there j k some within = grind arith
 
-pub roll_missing : (j : Journal) (k n : ℕ) → n ≡ length j.live → (k ≡ 0) ⊎ (n < k) → roll (state_of j) k ≡ Err (NoSuchStep n)
+pub roll_missing : (j : Journal) (k n : ℕ) → n ≡ length j.live → (k ≡ 0) ⊎ (n < k) → roll (state_of j) k ≡ Err (refusal.NoSuchStep n)
 roll_missing j k n len l = grind (arith, length-map, le-ltb, cond-false)
 
 pub roll_there : (j : Journal) (k : ℕ) → IsRun j → 1 ≤ k → k ≤ length j.live → roll (state_of j) k ≡ Ok (undone_marked (state_of j) (closure j.live k))

@@ -1,8 +1,9 @@
 -- What a session keeps: its world and the entries of its steps, and the run that they are of.
 use Rattle.std.specs.Prelude.{◌≡◌, ℕ, zero, suc, List, [], ◌∷◌, length, ok_or, slice_get, Result, Ok, Err}
-use Rattle.rd_step.specs.Prelude.{Refusal, NoSuchStep, World, unstep, run, IsWellFormed}
+use Rattle.rd_step.specs.Prelude.{Refusal, World, unstep, run, IsWellFormed}
 pub use Rattle.rd_step.specs.Run.{events, run_entries, IsRunFrom}
 use Rattle.rd_step.specs.declared.entries.Entry.{Entry}
+use Rattle.rd_cell.specs.declared.refusal.Refusal.TheVariants as refusal
 
 -- the world, the entries of the live steps in their order, and those of the undone steps, the one
 -- undone last in front
@@ -35,5 +36,5 @@ pub record IsRun (j : Journal) : Type 0 where
 
 -- the entry of the live step of this number, from 1
 abbrev pub entry_of : Journal → ℕ → Result Entry Refusal
-entry_of j zero = Err (NoSuchStep (length j.live))
-entry_of j (suc k) = ok_or (slice_get j.live k) (NoSuchStep (length j.live))
+entry_of j zero = Err (refusal.NoSuchStep (length j.live))
+entry_of j (suc k) = ok_or (slice_get j.live k) (refusal.NoSuchStep (length j.live))

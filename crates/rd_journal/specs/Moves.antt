@@ -1,9 +1,10 @@
 -- How a call changes the entries of a journal.
 use Rattle.std.specs.Prelude.{◌≡◌, ℕ, zero, suc, ◌-◌, nat_lt, if◌then◌else◌, List, [], ◌∷◌, ◌++◌, length, take, drop, Option, Some, None, Result, Ok, Err}
-use Rattle.rd_step.specs.Prelude.{Refusal, NoSuchStep, Depended, step, first_dependant, without, unmarked, closure, closure_of, without_closure, run}
+use Rattle.rd_step.specs.Prelude.{Refusal, step, first_dependant, without, unmarked, closure, closure_of, without_closure, run}
 use Rattle.rd_step.specs.declared.entries.Event.{Event}
 use Rattle.rd_step.specs.declared.entries.Entry.{Entry}
 use Rattle.rd_journal.specs.Journal.{Journal, start_of, events}
+use Rattle.rd_cell.specs.declared.refusal.Refusal.TheVariants as refusal
 
 -- the journal got one more live entry, the last, and none is undone
 pub record IsLengthened (x : Entry) (old new : Journal) : Type 0 where
@@ -46,13 +47,13 @@ IsRunWithout k old new = run (start_of old) (without (events old.live) k) ≡ Ok
 -- the answer to undoing a step alone: done, or `Depended` with the first step that depends on it
 abbrev pub answer_unless : Option ℕ → Result Unit Refusal
 answer_unless None = Ok tt
-answer_unless (Some j) = Err (Depended j)
+answer_unless (Some j) = Err (refusal.Depended j)
 
 -- the answer to undoing the k-th live step alone: `NoSuchStep` if there is no such step, `Depended`
 -- with the first live step that depends on it if there is one, else done
 abbrev pub answer_at : Journal → ℕ → Result Unit Refusal
-answer_at j zero = Err (NoSuchStep (length j.live))
-answer_at j (suc i) = if nat_lt i (length j.live) then answer_unless (first_dependant j.live (suc i)) else Err (NoSuchStep (length j.live))
+answer_at j zero = Err (refusal.NoSuchStep (length j.live))
+answer_at j (suc i) = if nat_lt i (length j.live) then answer_unless (first_dependant j.live (suc i)) else Err (refusal.NoSuchStep (length j.live))
 
 -- the first n live entries stayed, the given ones are after them now, and none is undone
 pub record IsSwitched (n : ℕ) (given : List Entry) (old new : Journal) : Type 0 where
@@ -72,5 +73,5 @@ IsWithoutClosure k old new =
 
 -- the answer to rolling back the k-th live step: `NoSuchStep` if there is no such step, else done
 abbrev pub roll_answer : Journal → ℕ → Result Unit Refusal
-roll_answer j zero = Err (NoSuchStep (length j.live))
-roll_answer j (suc i) = if nat_lt i (length j.live) then Ok tt else Err (NoSuchStep (length j.live))
+roll_answer j zero = Err (refusal.NoSuchStep (length j.live))
+roll_answer j (suc i) = if nat_lt i (length j.live) then Ok tt else Err (refusal.NoSuchStep (length j.live))

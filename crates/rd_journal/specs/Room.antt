@@ -1,13 +1,14 @@
 -- The room that redoing asks for, which is what undoing gave back, and when an event may be out of
 -- memory.
 use Rattle.std.specs.Prelude.{◌≡◌, ℕ, ◌+◌, ◌≤◌, ◌<◌, ◌⊎◌, IsSome, List, [], ◌∷◌, ◌++◌, length, drop, Result, Ok}
-use Rattle.rd_step.specs.Prelude.{Refusal, TooLong, NoMemory, World, Stepped, step, MOST_STEPS}
+use Rattle.rd_step.specs.Prelude.{Refusal, World, Stepped, step, MOST_STEPS}
 use Rattle.rd_step.specs.declared.entries.Event.{Event}
 use Rattle.rd_step.specs.declared.entries.Entry.{Entry}
 use Rattle.rd_step.specs.Room.{makes_segment, room_returned, FindsNoRoom}
 use Rattle.rd_depend.specs.declared.index.DependIndex.{DependIndex}
 use Rattle.rd_depend.specs.Index.{HasRoomInstead}
 use Rattle.rd_journal.specs.Journal.{Journal}
+use Rattle.rd_cell.specs.declared.refusal.Refusal.TheVariants as refusal
 
 -- how much of m's room undoing these entries gave back
 abbrev pub room_returned_by : List Entry → ℕ → ℕ
@@ -43,7 +44,7 @@ pub record IsOutOfMemory (j : Journal) (capacity : ℕ) (room : ℕ → ℕ) (in
 
 -- the refusal of the step itself is answered only where there is room for its entry
 abbrev pub ComesAfterRoom : ℕ → ℕ → Refusal → Type 0
-ComesAfterRoom live capacity refusal = (refusal ≡ TooLong) ⊎ (refusal ≡ NoMemory) ⊎ (live < capacity)
+ComesAfterRoom live capacity cause = (cause ≡ refusal.TooLong) ⊎ (cause ≡ refusal.NoMemory) ⊎ (live < capacity)
 
 -- the room of each maker after these entries were undone
 abbrev pub room_without : List Entry → (ℕ → ℕ) → ℕ → ℕ

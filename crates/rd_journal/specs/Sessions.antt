@@ -1,7 +1,7 @@
 -- The code's session, as its journal, as its state, and with its track, its room and its index:
 -- what public clauses cite.
 use Rattle.std.specs.Prelude.{◌≡◌, ◌⊎◌, ℕ, List, ◌++◌, take, Result, Ok, Err}
-use Rattle.rd_step.specs.Prelude.{Refusal, NoMemory, model, room as world_room}
+use Rattle.rd_step.specs.Prelude.{Refusal, model, room as world_room}
 use Rattle.rd_depend.specs.declared.index.DependIndex.{DependIndex}
 use Rattle.rd_journal.specs.declared.sessions.Session.{Session}
 use Rattle.rd_step.specs.declared.entries.Event.{Event}
@@ -11,6 +11,7 @@ use Rattle.rd_journal.specs.Kept.{journal_of}
 use Rattle.rd_journal.specs.Entries.{ahead_entries, entries_capacity}
 use Rattle.rd_journal.specs.Room.{IsOutOfMemory, LacksRoom}
 use Rattle.rd_journal.specs.State.{State, state_of, apply}
+use Rattle.rd_cell.specs.declared.refusal.Refusal.TheVariants as refusal
 
 -- the session's world and entries
 abbrev pub journal : {R : ℕ} → Session R → Journal
@@ -58,7 +59,7 @@ pub record IsUnchanged {R : ℕ} (old new : Session R) : Type 0 where
 -- a session may refuse an event so: as the event is refused in its state, or for lack of memory
 -- where room is missing
 abbrev pub MayRefuse : {R : ℕ} → Session R → Event → Refusal → Type 0
-MayRefuse s e refusal = (apply (state s) e ≡ Err refusal) ⊎ ((refusal ≡ NoMemory) × IsOutOfMemory (journal s) (capacity s) (room s) (index s) e)
+MayRefuse s e cause = (apply (state s) e ≡ Err cause) ⊎ ((cause ≡ refusal.NoMemory) × IsOutOfMemory (journal s) (capacity s) (room s) (index s) e)
 
 -- a session lacks room for going to these events: for the entries of those after the first ones,
 -- which stay

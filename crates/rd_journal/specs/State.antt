@@ -2,9 +2,10 @@
 -- entry, no old word and no position in a run, and its definitions use only the run of a list.
 use Rattle.std.specs.Prelude.{◌≡◌, ◌⊎◌, ℕ, zero, suc, Bool, ◌-◌, ◌<◌, ◌==◌, nat_lt, if◌then◌else◌, List, [], ◌∷◌, ◌++◌, length, take, drop, Option, Some, None, option_and_then, Result, Ok, Err, IsOk}
 use Rattle.std.specs.Result.{result_ok}
-use Rattle.rd_step.specs.Prelude.{Refusal, TooLong, NothingToUndo, NothingToRedo, NoSuchStep, Depended, OpReply, World, Stepped, step, Ran, run, first_dependant, without, closure, marked, unmarked, MOST_STEPS, and_then, result_map}
+use Rattle.rd_step.specs.Prelude.{Refusal, OpReply, World, Stepped, step, Ran, run, first_dependant, without, closure, marked, unmarked, MOST_STEPS, and_then, result_map}
 use Rattle.rd_step.specs.declared.entries.Event.{Event}
 use Rattle.rd_journal.specs.Journal.{Journal, start_of, events}
+use Rattle.rd_cell.specs.declared.refusal.Refusal.TheVariants as refusal
 
 -- the start, the live events in their order, and the undone events, the one undone last in front
 pub record State : Type 0 where
@@ -36,7 +37,7 @@ with_event s e = record { start = s.start; live = s.live ++ e ∷ []; undone = [
 -- refused in the last world of the live events
 abbrev pub apply : State → Event → Result State Refusal
 apply s e =
-    if length s.live == MOST_STEPS then Err TooLong else result_map (λ stepped. with_event s e) (step_after (run_of s) e)
+    if length s.live == MOST_STEPS then Err refusal.TooLong else result_map (λ stepped. with_event s e) (step_after (run_of s) e)
 
 -- memory may be refused to an event in this state: fewer steps are live than may be, and either none
 -- is undone or nothing else refuses the event
@@ -63,19 +64,19 @@ times (suc n) f s = f (times n f s)
 
 -- the state after undoing the last live step; refused if there is none
 abbrev pub undo : State → Result State Refusal
-undo s = if length s.live == 0 then Err (NothingToUndo 0) else Ok (back_one s)
+undo s = if length s.live == 0 then Err (refusal.NothingToUndo 0) else Ok (back_one s)
 
 -- the state after n undos of the last live step; refused if fewer are live
 abbrev pub back : State → ℕ → Result State Refusal
-back s n = if nat_lt (length s.live) n then Err (NothingToUndo (length s.live)) else Ok (times n back_one s)
+back s n = if nat_lt (length s.live) n then Err (refusal.NothingToUndo (length s.live)) else Ok (times n back_one s)
 
 -- the state after redoing the step that was undone last; refused if there is none
 abbrev pub redo : State → Result State Refusal
-redo s = if length s.undone == 0 then Err NothingToRedo else Ok (forward_one s)
+redo s = if length s.undone == 0 then Err refusal.NothingToRedo else Ok (forward_one s)
 
 -- the state after n redos; refused if fewer steps are undone
 abbrev pub forward : State → ℕ → Result State Refusal
-forward s n = if nat_lt (length s.undone) n then Err NothingToRedo else Ok (times n forward_one s)
+forward s n = if nat_lt (length s.undone) n then Err refusal.NothingToRedo else Ok (times n forward_one s)
 
 -- the state where the k-th of live became the front of undone, and all others stay in their order
 abbrev pub undone_alone : State → ℕ → State
@@ -83,17 +84,17 @@ undone_alone s k = record { start = s.start; live = without s.live k; undone = t
 
 -- the state without the k-th live step, if no later one depends on it
 abbrev pub undone_alone_unless : State → ℕ → Option ℕ → Result State Refusal
-undone_alone_unless s k (Some j) = Err (Depended j)
+undone_alone_unless s k (Some j) = Err (refusal.Depended j)
 undone_alone_unless s k None = Ok (undone_alone s k)
 
 -- the state after undoing the k-th live step alone: refused if there is none, and with the number
 -- of the first live step that depends on it, if there is one
 abbrev pub undo_at : State → ℕ → Result State Refusal
-undo_at s zero = Err (NoSuchStep (length s.live))
+undo_at s zero = Err (refusal.NoSuchStep (length s.live))
 undo_at s (suc i) =
     if nat_lt i (length s.live)
     then and_then (run_of s) (λ ran. undone_alone_unless s (suc i) (first_dependant ran.entries (suc i)))
-    else Err (NoSuchStep (length s.live))
+    else Err (refusal.NoSuchStep (length s.live))
 
 -- the state where the marked live events became the front of undone, in their order, and all others
 -- stay in their order
@@ -103,11 +104,11 @@ undone_marked s marks = record { start = s.start; live = unmarked marks s.live; 
 -- the state after rolling back the k-th live step: it and just the later ones that depend on it,
 -- directly or through others, became the front of undone; refused if there is none
 abbrev pub roll : State → ℕ → Result State Refusal
-roll s zero = Err (NoSuchStep (length s.live))
+roll s zero = Err (refusal.NoSuchStep (length s.live))
 roll s (suc i) =
     if nat_lt i (length s.live)
     then result_map (λ ran. undone_marked s (closure ran.entries (suc i))) (run_of s)
-    else Err (NoSuchStep (length s.live))
+    else Err (refusal.NoSuchStep (length s.live))
 
 -- the state whose live events are the first n from before and then these, with nothing undone
 abbrev pub switch : State → ℕ → List Event → State

@@ -1,6 +1,6 @@
 -- Draws, by a pass that is willing to wait and by one that isn't.
-use Rattle.std.proofs.Common.{◌≡◌, ◌≢◌, ℕ, ◌+◌, ◌^◌, ◌<◌, eqb, List, [], ◌∷◌, set, sym, refl, ap, ◌∙◌, subst, inl, inr, arith, Option, Some, eq-eqb, ne_eqb}
-use Rattle.rd_lock.proofs.Prelude.{Act, AllByRecursion, Allows, Continues, Draws, Facts, HasTicket, Holds, IsAloneAt, IsFound, IsKept, IsPlaced, Lock, LockRule, MemberFits, Out, PassView, Place, Stage, StageFits, Tries, Valid, View, Waits, after_next, away, carried_after, dite, either, get_elem?, home, homes_after, keeps, knows_next, set_else, set_here, single_slot, some, some-injective, some-ne-none, takes, ticket, view_of, ℕ_discrete}
+use Rattle.std.proofs.Common.{◌≡◌, ◌≢◌, ℕ, ◌+◌, ◌^◌, ◌<◌, eqb, List, [], ◌∷◌, set, sym, refl, ap, ◌∙◌, subst, inl, inr, arith, eq-eqb, ne_eqb}
+use Rattle.rd_lock.proofs.Prelude.{AllByRecursion, Allows, Continues, Draws, Facts, HasTicket, Holds, IsAloneAt, IsFound, IsKept, IsPlaced, Lock, LockRule, MemberFits, Out, PassView, Place, Stage, StageFits, Tries, View, Waits, after_next, away, dite, either, get_elem?, home, keeps, knows_next, set_else, set_here, some, some-injective, some-ne-none, ticket, view_of, ℕ_discrete}
 use Rattle.rd_lock.proofs.Lists.{inside}
 use Rattle.rd_lock.proofs.Facts.{put, put_here, put_else}
 use Rattle.rd_lock.proofs.Keeps.{alone_with, moved, allowed, Owed, unmoved, takes_home}

@@ -1,6 +1,6 @@
 -- Histories, and facts of each element of a list.
 use Rattle.rd_lock.proofs.Prelude.{AllByRecursion, AreComparable, Continues, IsPrefix, NamesUpTo, Pairwise, append-nil, common_steps, get_elem?, named, only, signed, some, some-injective, some-ne-none}
-use Rattle.std.proofs.Common.{◌≡◌, ◌≢◌, ℕ, zero, suc, ◌+◌, ◌<◌, ◌≤◌, ◌⊎◌, cond, eqb, List, [], ◌∷◌, ◌++◌, map, length, sym, refl, ap, ◌∙◌, inl, inr, ⊎_elim, arith, append_assoc, add-zero, ne_eqb}
+use Rattle.std.proofs.Common.{◌≡◌, ◌≢◌, ℕ, zero, suc, ◌+◌, ◌<◌, ◌≤◌, ◌⊎◌, List, [], ◌∷◌, ◌++◌, map, length, sym, refl, ap, ◌∙◌, inl, inr, ⊎_elim, arith, append_assoc, add-zero, ne_eqb}
 
 module _ {A : Type 0} where
   pub one_of : (xs : List A) (one : length xs ≡ 1) → xs ≡ only xs one ∷ []

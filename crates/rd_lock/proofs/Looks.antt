@@ -1,6 +1,6 @@
 -- Loads of the words, and draws.
 use Rattle.std.proofs.Common.{◌≡◌, ◌≢◌, ℕ, ◌^◌, ◌≤◌, List, map, set, sym, refl, ap, ◌∙◌, arith, Option}
-use Rattle.rd_lock.proofs.Prelude.{Allows, AreComparable, Facts, Holds, IsAloneAt, IsKept, IsNewestNext, IsNewestServed, LoadsNext, LoadsServed, Lock, LockRule, Me, MemberFits, Out, PassView, Stage, StageFits, View, ViewFits, Waits, after_next, after_served, get_elem?, keeps, knows_next, knows_served, some, view_of}
+use Rattle.rd_lock.proofs.Prelude.{Allows, AreComparable, Facts, Holds, IsAloneAt, IsKept, IsNewestNext, IsNewestServed, LoadsNext, LoadsServed, Lock, LockRule, Me, MemberFits, Out, PassView, Stage, StageFits, View, ViewFits, Waits, after_next, after_served, get_elem?, knows_next, knows_served, some, view_of}
 use Rattle.rd_lock.proofs.Lists.{every_from, every_map, pairwise_from, pairwise_map, pairwise_all, in_order}
 use Rattle.rd_lock.proofs.Keeps.{same_passes, knows_more, allowed, unmoved}
 

@@ -1,7 +1,7 @@
 -- Lists of passes, and the members of their seats.
-use Rattle.rd_lock.proofs.Prelude.{AllByRecursion, Ghosts, IsNewPass, IsSeatOf, Joins, Lock, LockRule, Out, Pass, PassView, Splits, TableId, TicketLock, View, append-nil, common_steps, first_of_members, me, members_of, newcomer, newcomers, number, numbers, only, opened_origin, other_members, seats, view_of}
+use Rattle.rd_lock.proofs.Prelude.{AllByRecursion, Ghosts, IsNewPass, IsSeatOf, Joins, Lock, LockRule, Out, Pass, PassView, Splits, TableId, TicketLock, View, append-nil, common_steps, first_of_members, me, members_of, newcomer, newcomers, number, numbers, opened_origin, other_members, seats, view_of}
 use Rattle.std.proofs.Common.{◌≡◌, ℕ, zero, suc, ◌+◌, ◌-◌, ◌<◌, ◌≤◌, List, [], ◌∷◌, ◌++◌, map, length, sym, refl, ap, ◌∙◌, subst, arith, Result, IfOk, IfErr, IsOk, length-append, append_assoc}
-use Rattle.rd_lock.proofs.Lists.{one_of, only_is}
+use Rattle.rd_lock.proofs.Lists.{one_of}
 use Rattle.rd_lock.proofs.Seats.{joins, splits}
 
 module _ {A : Type 0} where

@@ -1,6 +1,6 @@
 -- The release, which gives the value back.
-use Rattle.rd_lock.proofs.Prelude.{Act, Adds, Allows, Continues, Facts, Holds, IsKept, Lock, LockRule, MemberFits, NamesUpTo, Out, PassView, Place, Releases, Stage, StageFits, Valid, View, away, carried_after, common_steps, get_elem?, gives, has_put, home, homes_after, signed, single_slot, some, some-injective, ticket, view_of}
-use Rattle.std.proofs.Common.{◌≡◌, ◌≢◌, ℕ, ◌+◌, ◌%◌, ◌^◌, ◌<◌, ◌≤◌, List, [], ◌∷◌, ◌++◌, set, sym, refl, ap, ◌∙◌, subst, inr, arith, Option, Some, None}
+use Rattle.rd_lock.proofs.Prelude.{Adds, Allows, Continues, Facts, Holds, IsKept, Lock, LockRule, MemberFits, NamesUpTo, Out, PassView, Place, Releases, Stage, StageFits, View, away, get_elem?, gives, has_put, home, homes_after, signed, single_slot, some, some-injective, ticket, view_of}
+use Rattle.std.proofs.Common.{◌≡◌, ◌≢◌, ℕ, ◌+◌, ◌%◌, ◌^◌, ◌<◌, ◌≤◌, List, [], ◌∷◌, ◌++◌, sym, refl, ap, ◌∙◌, subst, inr, arith, Option, Some, None}
 use Rattle.rd_lock.proofs.Lists.{every_append, continues_same, continues_on, names_signed}
 use Rattle.rd_lock.proofs.Keeps.{moved, allowed, Owed}
 use Rattle.rd_lock.proofs.Looks.{others_fit, one_seat, newest_served}

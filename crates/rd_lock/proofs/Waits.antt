@@ -1,6 +1,6 @@
 -- Loads of served by a pass that waits.
-use Rattle.std.proofs.Common.{◌≡◌, ℕ, List, [], ◌∷◌, set, sym, refl, ap, ◌∙◌, subst, inl, inr, Option, Some, arith}
-use Rattle.rd_lock.proofs.Prelude.{Act, Allows, Facts, Holds, IsKept, IsPlaced, Lock, LockRule, MemberFits, PassView, Place, Polls, Stage, StageFits, Valid, View, Waits, after_served, away, carried_after, dite, get_elem?, home, homes_after, keeps, knows_served, set_here, single_slot, some, some-injective, takes, ticket, view_of, ℕ_discrete}
+use Rattle.std.proofs.Common.{◌≡◌, ℕ, List, [], ◌∷◌, sym, refl, ap, ◌∙◌, subst, inl, inr, arith}
+use Rattle.rd_lock.proofs.Prelude.{Allows, Facts, Holds, IsKept, IsPlaced, Lock, LockRule, MemberFits, PassView, Place, Polls, Stage, StageFits, View, Waits, after_served, away, dite, get_elem?, home, knows_served, set_here, some, some-injective, ticket, view_of, ℕ_discrete}
 use Rattle.rd_lock.proofs.Lists.{inside}
 use Rattle.rd_lock.proofs.Keeps.{moved, allowed, Owed, unmoved, takes_home}
 use Rattle.rd_lock.proofs.Looks.{others_fit, served_suits, newest_served, served_kept}

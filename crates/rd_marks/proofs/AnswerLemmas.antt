@@ -1,7 +1,7 @@
 -- What moves, events and marks are answered, from what the calls say of their results.
 use Rattle.std.proofs.Common.{◌≡◌, ◌⊎◌, ℕ, inl, inr, refl, sym, ap, ◌∙◌, subst, List, length, Option, Result, Ok, Err, OnOk, IfErr}
 use Rattle.std.specs.Result.{IsErrAnd}
-use Rattle.rd_marks.proofs.Prelude.{Refusal, NoMemory, OpReply, World, Event, Entry, IsPrefix, Session, state, track, Journal, State, MayLackMemory, state_of, apply, reply_to, lists_in, here_in, AreRuns, events, Mark, BookState, with_session, Answered, answer_with, move_answer, Happened, length-map, result_map}
+use Rattle.rd_marks.proofs.Prelude.{Refusal, OpReply, World, Event, Entry, IsPrefix, Session, state, track, Journal, State, MayLackMemory, state_of, apply, reply_to, lists_in, here_in, AreRuns, events, Mark, BookState, with_session, Answered, answer_with, move_answer, Happened, length-map, result_map}
 use Rattle.rd_journal.specs.Sessions.{AnswersAs, GoesAlong}
 use Rattle.rd_marks.specs.Commands.{step_counts}
 use Rattle.rd_marks.specs.Events.{as_reply}
@@ -10,6 +10,7 @@ use Rattle.rd_marks.specs.declared.replies.Reply.{Reply}
 use Rattle.rd_marks.specs.declared.replies.Reply.TheVariants.{Applied}
 use Rattle.rd_marks.specs.declared.books.Book.{Book}
 use Rattle.rd_marks.proofs.Starts.{answers_start}
+use Rattle.rd_cell.specs.declared.refusal.Refusal.TheVariants as refusal
 
 -- what a move along the track leaves of the bookmarks
 pub kept_along : {R : ℕ} (book : Book R) (new : Session R) (done : Result (Unit {0}) Refusal) (moved : Result State Refusal)
@@ -71,11 +72,11 @@ module _ (old new : Journal) (marks : List Mark) (e : Event) where
       inl ((λ i. record { answer = Ok (Applied (count i) (sym its i)); state = record { session = state_of new; marks = kept i } }) ∙ sym (ap of_step made))
 
   -- the answer to an event that was refused
-  pub event_refused : (answer : Result EventReply Refusal) (refusal : Refusal) → new ≡ old → IsErrAnd answer (λ e. e ≡ refusal)
-      → (apply (state_of old) e ≡ Err refusal) ⊎ ((refusal ≡ NoMemory) × MayLackMemory (state_of old) e)
+  pub event_refused : (answer : Result EventReply Refusal) (cause : Refusal) → new ≡ old → IsErrAnd answer (λ e. e ≡ cause)
+      → (apply (state_of old) e ≡ Err cause) ⊎ ((cause ≡ refusal.NoMemory) × MayLackMemory (state_of old) e)
       → Happened before e (record { answer = result_map as_reply answer; state = record { session = state_of new; marks = marks } })
-  event_refused answer refusal same is (inl h) =
-      inl ((λ i. record { answer = result_map as_reply (passed_up refusal answer is i); state = record { session = state_of (same i); marks = marks } }) ∙ sym (ap of_step h))
-  event_refused answer refusal same is (inr h) =
-      let said : result_map as_reply answer ≡ Err NoMemory = ap (result_map as_reply) (passed_up refusal answer is) ∙ ap (λ (x : Refusal). Err x) h.0 in
+  event_refused answer cause same is (inl h) =
+      inl ((λ i. record { answer = result_map as_reply (passed_up cause answer is i); state = record { session = state_of (same i); marks = marks } }) ∙ sym (ap of_step h))
+  event_refused answer cause same is (inr h) =
+      let said : result_map as_reply answer ≡ Err refusal.NoMemory = ap (result_map as_reply) (passed_up cause answer is) ∙ ap (λ (x : Refusal). Err x) h.0 in
       inr (h.1, λ i. record { answer = said i; state = record { session = state_of (same i); marks = marks } })

@@ -2,7 +2,8 @@
 use Rattle.std.proofs.Common.{◌≡◌, ℕ, zero, suc, drop, ◌+◌, ◌≤◌, refl, sym, ap, ◌∙◌, List, [], ◌∷◌, ◌++◌, length, take, ◌-◌, ◌⊎◌, inl, Result, Ok, Err, OnOk, IfErr, length-drop, arith}
 use Rattle.rd_journal.specs.Room.{LacksRoom}
 use Rattle.rd_journal.specs.Sessions.{capacity, room, index, LacksRoomFor}
-use Rattle.rd_marks.proofs.Prelude.{take-length, NoMemory, Session, state, journal, Refusal, MOST_STEPS, World, Stepped, step, run, and_then, result_map, preceded_by, Event, take-append-drop, drop-map, Entry, State, state_of, switch, Journal, start_of, AreEntriesOfRun, events, run_entries, IsRunFrom}
+use Rattle.rd_marks.proofs.Prelude.{take-length, Session, state, journal, Refusal, MOST_STEPS, World, Stepped, step, run, and_then, result_map, preceded_by, Event, take-append-drop, drop-map, Entry, State, state_of, switch, Journal, start_of, AreEntriesOfRun, events, run_entries, IsRunFrom}
+use Rattle.rd_cell.specs.declared.refusal.Refusal.TheVariants as refusal
 
 -- A start and its events determine the entries of a run
 
@@ -54,6 +55,6 @@ few_enough n zs ys given h k = omega (arith, ap length given, length-drop n ys)
 
 -- a session that lacked room for a switch lacks it for going to the events after it
 pub lacked : {R : ℕ} {X : Type 0} (r : Result X Refusal) (s : Session R) (n : ℕ) (given : List Entry) (es : List Event) (P : Type 0) → take n (state s).live ++ events given ≡ es
-    → IfErr r (λ e. (e ≡ NoMemory) × LacksRoom n (journal s) given (capacity s) (room s) (index s)) → IfErr r (λ e. (e ≡ NoMemory) × (LacksRoomFor s es ⊎ P))
+    → IfErr r (λ e. (e ≡ refusal.NoMemory) × LacksRoom n (journal s) given (capacity s) (room s) (index s)) → IfErr r (λ e. (e ≡ refusal.NoMemory) × (LacksRoomFor s es ⊎ P))
 lacked (Ok x) s n given es P all h = tt
 lacked (Err e) s n given es P all h = (h.0, inl (record { kept = n; given = given; all = all; lacks = h.1 }))

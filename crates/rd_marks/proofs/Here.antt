@@ -1,8 +1,7 @@
 -- Where the session's track lies among the bookmarks' entries, and what each call leaves of that.
-use Rattle.std.proofs.Common.{◌≡◌, ℕ, zero, suc, ◌-◌, ◌≤◌, Bool, nat_lt, if◌then◌else◌, refl, ap, List, [], ◌∷◌, ◌++◌, length, take, drop, Result, Ok, Err, OnOk, arith}
-use Rattle.rd_marks.proofs.Prelude.{take-append_seam, take-length, take-map, take-take, take-append-le, length-map, length-take, Refusal, closure, unmarked, Event, Entry, IsPrefix, Session, Journal, ahead_entries, journal, state, track, State, undo_at, roll, Place, Stretch, stretch_list, entries_at, IsWithin, IsAlong, events}
+use Rattle.std.proofs.Common.{◌≡◌, ℕ, zero, suc, ◌-◌, ◌≤◌, Bool, nat_lt, if◌then◌else◌, refl, ap, List, [], ◌∷◌, ◌++◌, length, take, drop, Result, Ok, Err, arith}
+use Rattle.rd_marks.proofs.Prelude.{take-append_seam, take-length, take-map, take-take, take-append-le, length-map, length-take, closure, unmarked, Event, Entry, IsPrefix, Session, Journal, ahead_entries, state, track, State, undo_at, roll, Place, Stretch, stretch_list, entries_at, IsWithin, IsAlong, events}
 use Rattle.rd_journal.specs.Moves.{IsLengthened, IsUndoneAlone, IsRolledBack}
-use Rattle.rd_journal.specs.Sessions.{AnswersAs}
 use Rattle.rd_marks.proofs.Starting.{begins_events, begins_shorter, begins_trans, events_length, events_of_first, fewer_begin, entries_length}
 
 -- What a call leaves of the first live entries

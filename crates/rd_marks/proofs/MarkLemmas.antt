@@ -1,11 +1,12 @@
 -- The marks that a list of names with entries is: looking one up, putting one last, taking one
 -- away.
 use Rattle.std.proofs.Common.{inr, ◌↔◌, IsTrue, is_ok, ◌⊎◌, ◌≢◌, suc, Result, Ok, Err, IsOk, IfErr, ne_eqb, ◌≡◌, ℕ, Bool, true, false, cond, map, refl, sym, ap, ◌∙◌, subst, List, [], ◌∷◌, ◌++◌, length, is_some, option_map, ok_or, Option, Some, None, All, slice_get, arith}
-use Rattle.rd_marks.proofs.Prelude.{lookup, remove_entry, insert_entry, All-cons, All-head, All-tail, Entry, Event, MarkName, same_name, eq-eqb, false≢true, length-map, get_or_from_slice_get, slice_get-map, slice_get_within, Refusal, World, NoMark, NoMemory, MarkTaken, TooManyMarks, MOST_MARKS, AreEntriesOfRun, IsPrefix, Mark, BookState, with_marks, marked_events, without_mark, mark, drop_mark, goto_mark, mark_at, mark_events, name_and_length, result_map, MakesSteps, AnswersSame, IsEquivalent, DecidesEquivalence, mark_of, marks_of, events, Place, book_state, entries_in}
+use Rattle.rd_marks.proofs.Prelude.{lookup, remove_entry, insert_entry, All-cons, All-head, All-tail, Entry, Event, MarkName, mark_name_eq, eq-eqb, false≢true, length-map, get_or_from_slice_get, slice_get-map, slice_get_within, Refusal, World, MOST_MARKS, AreEntriesOfRun, IsPrefix, Mark, BookState, with_marks, marked_events, without_mark, mark, drop_mark, goto_mark, mark_at, mark_events, name_and_length, result_map, MakesSteps, AnswersSame, IsEquivalent, DecidesEquivalence, mark_of, marks_of, events, Place, book_state, entries_in}
 use Rattle.rd_journal.specs.Sessions.{LacksRoomFor}
 use Rattle.rd_marks.specs.BookViews.{MayRefuseToGo}
 use Rattle.rd_marks.specs.Kept.{IsInPieces}
 use Rattle.rd_marks.specs.declared.books.Book.{Book}
+use Rattle.rd_cell.specs.declared.refusal.Refusal.TheVariants as refusal
 
 -- taking an entry away, whatever is made of the values
 pub removed_mapped : {K V W : Type 0} (f : V → W) (test : K → Bool) (ms : List (K × V)) → map (λ m. (m.0, f m.1)) (remove_entry test ms) ≡ remove_entry test (map (λ m. (m.0, f m.1)) ms)
@@ -29,26 +30,26 @@ is_some_map f o = grind arith
 
 module _ (name : MarkName) where
   -- what is found under a name is the events of its mark
-  pub found_events : (ls : List (MarkName × List Entry)) → marked_events (marks_of ls) name ≡ option_map (λ xs. events xs) (lookup (same_name name) ls)
+  pub found_events : (ls : List (MarkName × List Entry)) → marked_events (marks_of ls) name ≡ option_map (λ xs. events xs) (lookup (mark_name_eq name) ls)
   found_events [] = refl
   found_events (l ∷ ls) = grind (arith, option_map, cond, found_events ls)
 
   -- something is found exactly if there is a mark of that name
-  pub found_marked : (ls : List (MarkName × List Entry)) → is_some (marked_events (marks_of ls) name) ≡ is_some (lookup (same_name name) ls)
-  found_marked ls = ap is_some (found_events ls) ∙ is_some_map (λ xs. events xs) (lookup (same_name name) ls)
+  pub found_marked : (ls : List (MarkName × List Entry)) → is_some (marked_events (marks_of ls) name) ≡ is_some (lookup (mark_name_eq name) ls)
+  found_marked ls = ap is_some (found_events ls) ∙ is_some_map (λ xs. events xs) (lookup (mark_name_eq name) ls)
 
   -- without the entry of a name, the marks are without its mark
-  pub marks_without : (ls : List (MarkName × List Entry)) → marks_of (remove_entry (same_name name) ls) ≡ without_mark (marks_of ls) name
+  pub marks_without : (ls : List (MarkName × List Entry)) → marks_of (remove_entry (mark_name_eq name) ls) ≡ without_mark (marks_of ls) name
   marks_without [] = refl
   marks_without (l ∷ ls) = grind (arith, cond, marks_without ls)
 
 -- whether something is found
-module _ {X : Type 0} (f : X → List Entry) (name : MarkName) (ls : List (MarkName × List Entry)) (o : Option X) (b : Bool) (found : option_map f o ≡ lookup (same_name name) ls) (is : b ≡ is_some o) where
+module _ {X : Type 0} (f : X → List Entry) (name : MarkName) (ls : List (MarkName × List Entry)) (o : Option X) (b : Bool) (found : option_map f o ≡ lookup (mark_name_eq name) ls) (is : b ≡ is_some o) where
   pub found_at : is_some (marked_events (marks_of ls) name) ≡ b
   found_at = found_marked name ls ∙ ap is_some (sym found) ∙ is_some_map f o ∙ sym is
 
 -- a new name goes last
-pub insert_last : {V : Type 0} (name : MarkName) (v : V) (ms : List (MarkName × V)) → lookup (same_name name) ms ≡ None → insert_entry same_name ms name v ≡ ms ++ (name, v) ∷ []
+pub insert_last : {V : Type 0} (name : MarkName) (v : V) (ms : List (MarkName × V)) → lookup (mark_name_eq name) ms ≡ None → insert_entry mark_name_eq ms name v ≡ ms ++ (name, v) ∷ []
 insert_last name v [] h = refl
 insert_last name v (m ∷ ms) h = grind (arith, cond, insert_last name v ms)
 
@@ -58,12 +59,12 @@ pub mark_goes : (b : BookState) (name : MarkName) → is_some (marked_events b.m
 mark_goes b name new few = rw (new, ne_eqb (length b.marks) MOST_MARKS few) refl
 
 -- a mark is dropped if it is there
-pub drop_goes : (b : BookState) (name : MarkName) (ls left : List (MarkName × List Entry)) → b.marks ≡ marks_of ls → is_some (lookup (same_name name) ls) ≡ true
-    → left ≡ remove_entry (same_name name) ls → drop_mark b name ≡ Ok (with_marks b (marks_of left))
+pub drop_goes : (b : BookState) (name : MarkName) (ls left : List (MarkName × List Entry)) → b.marks ≡ marks_of ls → is_some (lookup (mark_name_eq name) ls) ≡ true
+    → left ≡ remove_entry (mark_name_eq name) ls → drop_mark b name ≡ Ok (with_marks b (marks_of left))
 drop_goes b name ls left same there e =
     rw (same, found_marked name ls, there, e, marks_without name ls) refl
 
-pub drop_missing : (b : BookState) (name : MarkName) (ls : List (MarkName × List Entry)) → b.marks ≡ marks_of ls → is_some (lookup (same_name name) ls) ≡ false → drop_mark b name ≡ Err NoMark
+pub drop_missing : (b : BookState) (name : MarkName) (ls : List (MarkName × List Entry)) → b.marks ≡ marks_of ls → is_some (lookup (mark_name_eq name) ls) ≡ false → drop_mark b name ≡ Err refusal.NoMark
 drop_missing b name ls same none =
     rw (same, found_marked name ls, none) refl
 
@@ -74,8 +75,8 @@ none_removed test (m ∷ ms) h = grind (arith, cond, none_removed test ms)
 
 -- which only memory for its steps can refuse
 pub goto_not_done : {X : Type 0} (P : Type 0) (r : Result X Refusal) (b : BookState) (name : MarkName) (es : List Event) → marked_events b.marks name ≡ Some es
-    → IfErr r (λ refusal. (refusal ≡ NoMemory) × P) → (IsPrefix es b.session.live → IsOk r)
-    → IfErr r (λ refusal. (goto_mark b name ≡ Err refusal) ⊎ ((refusal ≡ NoMemory) × MakesSteps b name))
+    → IfErr r (λ cause. (cause ≡ refusal.NoMemory) × P) → (IsPrefix es b.session.live → IsOk r)
+    → IfErr r (λ cause. (goto_mark b name ≡ Err cause) ⊎ ((cause ≡ refusal.NoMemory) × MakesSteps b name))
 goto_not_done P r b name es there h goes = grind arith
 
 -- The comparison of two marks
@@ -97,8 +98,8 @@ mark_there : (b : BookState) (ls : List (MarkName × List Entry)) (j : ℕ) (o :
 mark_there b ls j o same h = ap (λ (xs : List Mark). slice_get xs j) same ∙ slice_get-map mark_of ls j ∙ ap (option_map mark_of) h
 
 pub mark_said : (b : BookState) (ls : List (MarkName × List Entry)) (i j : ℕ) (o : Option (MarkName × List Entry)) → b.marks ≡ marks_of ls → i ≡ suc j → slice_get ls j ≡ o
-    → mark_at b i ≡ result_map name_and_length (ok_or (option_map mark_of o) NoMark)
-mark_said b ls i j o same e h = ap (mark_at b) e ∙ ap (λ (p : Option Mark). result_map name_and_length (ok_or p NoMark)) (mark_there b ls j o same h)
+    → mark_at b i ≡ result_map name_and_length (ok_or (option_map mark_of o) refusal.NoMark)
+mark_said b ls i j o same e h = ap (mark_at b) e ∙ ap (λ (p : Option Mark). result_map name_and_length (ok_or p refusal.NoMark)) (mark_there b ls j o same h)
 
 pub events_said : (b : BookState) (ls : List (MarkName × List Entry)) (i j : ℕ) (o : Option (MarkName × List Entry)) → b.marks ≡ marks_of ls → i ≡ suc j → slice_get ls j ≡ o
     → mark_events b i ≡ option_map (λ (m : Mark). m.events) (option_map mark_of o)
@@ -107,14 +108,14 @@ events_said b ls i j o same e h = ap (mark_events b) e ∙ ap (option_map (λ (m
 pub no_mark : (b : BookState) (i : ℕ) → i ≡ 0 → mark_events b i ≡ None
 no_mark b i h = ap (mark_events b) h
 
-pub length_said : (name : MarkName) (n : ℕ) (xs : List Entry) → length xs ≡ n → Ok (name, n) ≡ result_map name_and_length (ok_or (Some (mark_of (name, xs))) NoMark)
+pub length_said : (name : MarkName) (n : ℕ) (xs : List Entry) → length xs ≡ n → Ok (name, n) ≡ result_map name_and_length (ok_or (Some (mark_of (name, xs))) refusal.NoMark)
 length_said name n xs long = ap (λ (k : ℕ). Ok (name, k)) (sym long ∙ sym (length-map xs (λ x. x.event)))
 
 -- a mark whose name is taken, or one too many
-pub mark_taken : (b : BookState) (name : MarkName) → is_some (marked_events b.marks name) ≡ true → mark b name ≡ Err MarkTaken
+pub mark_taken : (b : BookState) (name : MarkName) → is_some (marked_events b.marks name) ≡ true → mark b name ≡ Err refusal.MarkTaken
 mark_taken b name h = rw h refl
 
-pub mark_too_many : (b : BookState) (name : MarkName) → is_some (marked_events b.marks name) ≡ false → length b.marks ≡ MOST_MARKS → mark b name ≡ Err TooManyMarks
+pub mark_too_many : (b : BookState) (name : MarkName) → is_some (marked_events b.marks name) ≡ false → length b.marks ≡ MOST_MARKS → mark b name ≡ Err refusal.TooManyMarks
 mark_too_many b name new h = rw (new, eq-eqb (length b.marks) MOST_MARKS h) refl
 
 -- what is refused does not go
@@ -123,9 +124,9 @@ mark_refused b name refusal h goes = absurd (false≢true (sym (ap is_ok h) ∙ 
 
 -- going to a mark that is there is refused memory where room is missing
 pub goto_lacks : {R : ℕ} {X : Type 0} (r : Result X Refusal) (b : Book R) (name : MarkName) (place : Place) → marked_events (book_state b).marks name ≡ Some (events (entries_in b.bookmarks place))
-    → IfErr r (λ refusal. (refusal ≡ NoMemory) × (LacksRoomFor b.session (events (entries_in b.bookmarks place)) ⊎ IsInPieces b.bookmarks place)) → IfErr r (MayRefuseToGo b name)
+    → IfErr r (λ cause. (cause ≡ refusal.NoMemory) × (LacksRoomFor b.session (events (entries_in b.bookmarks place)) ⊎ IsInPieces b.bookmarks place)) → IfErr r (MayRefuseToGo b name)
 goto_lacks (Ok x) b name place its h = tt
-goto_lacks (Err refusal) b name place its h = inr (h.0, record { place = place; its = its; lacks = h.1 })
+goto_lacks (Err cause) b name place its h = inr (h.0, record { place = place; its = its; lacks = h.1 })
 
 -- what is said of an error, where there is one
 pub if_then_for : {X : Type 0} (r : Result X Refusal) (P : Refusal → Type 0) → IfErr r P → (refusal : Refusal) → r ≡ Err refusal → P refusal

@@ -20,7 +20,7 @@ pub use Rattle.rd_journal.specs.State.{State, MayLackMemory, apply, back, back_o
 pub use Rattle.rd_journal.specs.declared.sessions.Session.{Session}
 pub use Rattle.rd_step.proofs.PassedUp.{fact_passed_up}
 pub use Rattle.rd_step.specs.Equivalence.{IsEquivalent}
-pub use Rattle.rd_step.specs.Prelude.{and_then, result_map, MOST_STEPS, MarkTaken, NoMark, NoMemory, OpReply, Refusal, Stepped, TooManyMarks, World, closure, run, step, unmarked}
+pub use Rattle.rd_step.specs.Prelude.{and_then, result_map, MOST_STEPS, OpReply, Refusal, Stepped, World, closure, run, step, unmarked}
 pub use Rattle.rd_step.specs.Run.{events, IsRunFrom, Ran, preceded_by, run_entries}
 pub use Rattle.rd_step.specs.declared.entries.Entry.{Entry}
 pub use Rattle.rd_step.specs.declared.entries.Event.{Event}
@@ -32,7 +32,7 @@ pub use Rattle.rd_marks.specs.Kept.{IsPlaceIn, here_in, lists_in, entries_in}
 pub use Rattle.rd_marks.specs.Layout.{AreRuns, IsKept, IsPruned, AreEntriesOfRun, named_lists, places_of}
 pub use Rattle.rd_marks.specs.Marks.{mark_of, marks_of}
 pub use Rattle.rd_marks.specs.NameBytes.{MOST_MARKS, MOST_NAME_BYTES, is_mark_name, is_name_byte}
-pub use Rattle.rd_marks.specs.Names.{same_name}
+pub use Rattle.rd_marks.specs.Names.{mark_name_eq}
 pub use Rattle.rd_marks.specs.Stretches.{AreFresh, AreNeeded, AreNeededFrom, AreNested, IsAlong, IsDeepest, IsEnd, IsOwn, IsWithin, continued, count_of, greatest_in, list_after, list_before, lowered, needed_at, number_if_in, raised, entries_at, shared_at, stretch_list}
 pub use Rattle.rd_marks.specs.declared.bookmarks.Bookmarks.{Bookmarks}
 pub use Rattle.rd_marks.specs.declared.commands.Command.{Command}

@@ -1,6 +1,6 @@
 -- The rules that the bookmarks of a book keep, from how it keeps them.
 use Rattle.std.proofs.Common.{◌≡◌, ◌≤◌, refl, sym, ap, subst, List, [], ◌∷◌, map, length, Result, Ok, IsOk, arith}
-use Rattle.rd_marks.proofs.Prelude.{IsDistinct, length-map, All-head, All-tail, World, Refusal, run, Ran, Entry, MarkName, MOST_MARKS, same_name, Mark, BookState, AreRuns, AreEntriesOfRun, mark_of, marks_of, run_entries, events}
+use Rattle.rd_marks.proofs.Prelude.{IsDistinct, length-map, All-head, All-tail, World, Refusal, run, Ran, Entry, MarkName, MOST_MARKS, mark_name_eq, Mark, BookState, AreRuns, AreEntriesOfRun, mark_of, marks_of, run_entries, events}
 use Rattle.rd_marks.specs.Rules.{GoThrough, MarksGoThrough, KeepsRules}
 
 -- a run that leaves entries goes through
@@ -20,7 +20,7 @@ names_of [] = refl
 names_of (l ∷ ls) = ap (λ (names : List MarkName). l.0 ∷ names) (names_of ls)
 
 pub keeps_rules : (b : BookState) (ls : List (MarkName × List Entry)) → b.marks ≡ marks_of ls → length ls ≤ MOST_MARKS
-    → AreRuns b.session.start ls → IsDistinct same_name (map (λ l. l.0) ls) → KeepsRules b
+    → AreRuns b.session.start ls → IsDistinct mark_name_eq (map (λ l. l.0) ls) → KeepsRules b
 keeps_rules b ls same few runs distinct = record {
   few = omega (arith, few, ap length same, length-map ls (λ l. mark_of l));
   names =

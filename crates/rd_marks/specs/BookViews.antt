@@ -1,7 +1,7 @@
 -- The code's book as its state: what public clauses cite.
 use Rattle.std.specs.Prelude.{◌≡◌, ◌⊎◌, ℕ, Some, Err}
 use Rattle.indexmap.specs.IndexMap.{spare}
-use Rattle.rd_step.specs.Prelude.{Refusal, NoMemory}
+use Rattle.rd_step.specs.Prelude.{Refusal}
 use Rattle.rd_journal.specs.Journal.{events}
 use Rattle.rd_journal.specs.Sessions.{state, LacksRoomFor}
 use Rattle.rd_journal.specs.declared.sessions.Session.{Session}
@@ -13,6 +13,7 @@ use Rattle.rd_marks.specs.declared.stretches.Place.{Place}
 use Rattle.rd_marks.specs.Books.{BookState, marked_events, goto_mark}
 use Rattle.rd_marks.specs.Kept.{lists_in, entries_in, entries_kept, IsInPieces}
 use Rattle.rd_marks.specs.Marks.{marks_of}
+use Rattle.rd_cell.specs.declared.refusal.Refusal.TheVariants as refusal
 
 -- the state of a book: its session's state, and its marks with their events
 abbrev pub book_state : {R : ℕ} → Book R → BookState
@@ -40,7 +41,7 @@ pub record LacksRoomToGo {R : ℕ} (b : Book R) (name : MarkName) : Type 0 where
 -- a book may refuse to go to a mark so: as that is refused in its state, or for lack of memory where
 -- room is missing
 abbrev pub MayRefuseToGo : {R : ℕ} → Book R → MarkName → Refusal → Type 0
-MayRefuseToGo b name refusal = (goto_mark (book_state b) name ≡ Err refusal) ⊎ ((refusal ≡ NoMemory) × LacksRoomToGo b name)
+MayRefuseToGo b name cause = (goto_mark (book_state b) name ≡ Err cause) ⊎ ((cause ≡ refusal.NoMemory) × LacksRoomToGo b name)
 
 -- a book may refuse a command so, if it is to go to a mark
 abbrev pub MayRefuseAsGoing : {R : ℕ} → Book R → Command → Refusal → Type 0

@@ -1,7 +1,7 @@
 -- What a book is to its callers: its session's state, and a list of marks.
 use Rattle.std.specs.Prelude.{◌≡◌, ◌↔◌, IsTrue, Bool, ℕ, ◌==◌, if◌then◌else◌, is_some, List, [], ◌∷◌, ◌++◌, length, ok_or, option_map, option_and_then, Option, Some, None, Result, Ok, Err, Vec}
 use Rattle.std.specs.Global.{Global}
-use Rattle.rd_step.specs.Prelude.{World, Refusal, NoMark, MarkTaken, TooManyMarks, NoMemory, result_map}
+use Rattle.rd_step.specs.Prelude.{World, Refusal, result_map}
 use Rattle.rd_step.specs.Equivalence.{IsEquivalent}
 use Rattle.rd_step.specs.declared.entries.Event.{Event}
 use Rattle.rd_depend.specs.Beginnings.{IsPrefix, NeitherIsPrefix}
@@ -9,7 +9,8 @@ use Rattle.rd_journal.specs.State.{State}
 use Rattle.rd_step.specs.Lists.{numbered}
 use Rattle.rd_marks.specs.declared.names.MarkName.{MarkName}
 use Rattle.rd_marks.specs.NameBytes.{MOST_MARKS}
-use Rattle.rd_marks.specs.Names.{same_name}
+use Rattle.rd_marks.specs.Names.{mark_name_eq}
+use Rattle.rd_cell.specs.declared.refusal.Refusal.TheVariants as refusal
 
 -- a bookmark: its name, and the events that were live when it was set
 pub record Mark : Type 0 where
@@ -32,24 +33,24 @@ with_marks b ms = record { session = b.session; marks = ms }
 -- the events of the mark of this name, if there is one
 abbrev pub marked_events : List Mark → MarkName → Option (List Event)
 marked_events [] name = None
-marked_events (m ∷ ms) name = if same_name name m.name then Some m.events else marked_events ms name
+marked_events (m ∷ ms) name = if mark_name_eq name m.name then Some m.events else marked_events ms name
 
 -- the marks without that of this name; the others stay in their order
 abbrev pub without_mark : List Mark → MarkName → List Mark
 without_mark [] name = []
-without_mark (m ∷ ms) name = if same_name name m.name then ms else m ∷ without_mark ms name
+without_mark (m ∷ ms) name = if mark_name_eq name m.name then ms else m ∷ without_mark ms name
 
 -- the book after setting a mark, which has the live events and is the last one; refused if there is
 -- a mark of this name, or else if there are as many as there may be
 abbrev pub mark : BookState → MarkName → Result BookState Refusal
 mark b name =
-    if is_some (marked_events b.marks name) then Err MarkTaken
-    else if length b.marks == MOST_MARKS then Err TooManyMarks
+    if is_some (marked_events b.marks name) then Err refusal.MarkTaken
+    else if length b.marks == MOST_MARKS then Err refusal.TooManyMarks
     else Ok (with_marks b (b.marks ++ record { name = name; events = b.session.live } ∷ []))
 
 -- the book after dropping the mark of this name; refused if there is none
 abbrev pub drop_mark : BookState → MarkName → Result BookState Refusal
-drop_mark b name = if is_some (marked_events b.marks name) then Ok (with_marks b (without_mark b.marks name)) else Err NoMark
+drop_mark b name = if is_some (marked_events b.marks name) then Ok (with_marks b (without_mark b.marks name)) else Err refusal.NoMark
 
 -- the book where just these events are live and nothing is undone
 abbrev pub at_events : BookState → List Event → BookState
@@ -58,7 +59,7 @@ at_events b es = with_session b (record { start = b.session.start; live = es; un
 -- the book after going to the mark of this name, whose events are live then; refused if there is
 -- none
 abbrev pub goto_mark : BookState → MarkName → Result BookState Refusal
-goto_mark b name = result_map (at_events b) (ok_or (marked_events b.marks name) NoMark)
+goto_mark b name = result_map (at_events b) (ok_or (marked_events b.marks name) refusal.NoMark)
 
 -- going to the mark of this name makes steps, as its events do not begin the live ones
 abbrev pub MakesSteps : BookState → MarkName → Type 0
@@ -69,9 +70,9 @@ MakesSteps b name = (es : List Event) × (marked_events b.marks name ≡ Some es
 -- refused
 abbrev pub AnswersSame : World → Option (List Event) → Option (List Event) → Result Bool Refusal → Type 0
 AnswersSame start (Some es) (Some fs) (Ok same) = IsTrue same ↔ IsEquivalent start es fs
-AnswersSame start (Some es) (Some fs) (Err refusal) = (refusal ≡ NoMemory) × NeitherIsPrefix es fs
-AnswersSame start (Some es) None said = said ≡ Err NoMark
-AnswersSame start None fs said = said ≡ Err NoMark
+AnswersSame start (Some es) (Some fs) (Err cause) = (cause ≡ refusal.NoMemory) × NeitherIsPrefix es fs
+AnswersSame start (Some es) None said = said ≡ Err refusal.NoMark
+AnswersSame start None fs said = said ≡ Err refusal.NoMark
 
 -- the events of the mark of this number, from 1, if there is one
 abbrev pub mark_events : BookState → ℕ → Option (List Event)
@@ -84,9 +85,9 @@ mark_event b i n = option_and_then (λ es. numbered es n) (mark_events b i)
 -- this may be answered to asking for the events of a mark: these events; that there is no such
 -- mark; or, if it has any, that memory was refused
 abbrev pub AnswersEvents : Option (List Event) → Result (Vec Event Global) Refusal → Type 0
-AnswersEvents None said = said ≡ Err NoMark
+AnswersEvents None said = said ≡ Err refusal.NoMark
 AnswersEvents (Some es) (Ok list) = list.items ≡ es
-AnswersEvents (Some es) (Err refusal) = (refusal ≡ NoMemory) × (es ≡ [] → ⊥)
+AnswersEvents (Some es) (Err cause) = (cause ≡ refusal.NoMemory) × (es ≡ [] → ⊥)
 
 -- the book at its start: nothing is live and nothing is undone
 abbrev pub to_start : BookState → BookState
@@ -99,4 +100,4 @@ name_and_length m = (m.name, length m.events)
 -- the name of the mark of this number, from 1, and the number of its events; refused if there is no
 -- such mark
 abbrev pub mark_at : BookState → ℕ → Result (MarkName × ℕ) Refusal
-mark_at b i = result_map name_and_length (ok_or (numbered b.marks i) NoMark)
+mark_at b i = result_map name_and_length (ok_or (numbered b.marks i) refusal.NoMark)

@@ -1,7 +1,7 @@
 -- What each command answers and leaves, by the state of the book alone. The queries look at the run
 -- of the live events; there is no inverse and no old content here.
 use Rattle.std.specs.Prelude.{◌≡◌, ℕ, ◌<◌, ◌⊎◌, Bool, List, [], ◌∷◌, length, ok_or, Result, Ok, Err, IsOk}
-use Rattle.rd_step.specs.Prelude.{Refusal, NoActor, NoSuchPlace, NoSuchStep, NoMemory, content_at, Act, Ran, numbered, and_then, result_map}
+use Rattle.rd_step.specs.Prelude.{Refusal, content_at, Act, Ran, numbered, and_then, result_map}
 use Rattle.rd_actor.specs.declared.actors.Act.TheVariants as act
 use Rattle.rd_step.specs.declared.entries.Event.{Event}
 use Rattle.rd_journal.specs.State.{State, run_of, apply, reply_to, MayLackMemory, undo, undo_at, roll, back, redo, forward}
@@ -14,6 +14,7 @@ use Rattle.rd_marks.specs.declared.replies.Reply.{Reply}
 use Rattle.rd_marks.specs.declared.replies.Reply.TheVariants as reply
 use Rattle.rd_marks.specs.Beginnings.{NeedsNoEntry}
 use Rattle.rd_marks.specs.Books.{BookState, with_session, marked_events, mark, drop_mark, goto_mark, mark_at, MakesSteps, AnswersSame}
+use Rattle.rd_cell.specs.declared.refusal.Refusal.TheVariants as refusal
 
 -- what a command answers, and the state after it
 pub record Answered : Type 0 where
@@ -56,12 +57,12 @@ happens b e = answer_with b (λ s. reply.Applied (length s.live) (reply_to b.ses
 -- an event may be answered so and leave this state: as it happens, or, where memory may be refused
 -- to it, by NoMemory with nothing changed
 abbrev pub Happened : BookState → Event → Answered → Type 0
-Happened b e answered = (answered ≡ happens b e) ⊎ (MayLackMemory b.session e × (answered ≡ refused b NoMemory))
+Happened b e answered = (answered ≡ happens b e) ⊎ (MayLackMemory b.session e × (answered ≡ refused b refusal.NoMemory))
 
 -- setting or going to a mark may be answered so and leave this state: as it is defined, or, only if
 -- it asks for room, by NoMemory with nothing changed
 abbrev pub IsMade : BookState → (BookState → Reply) → Result BookState Refusal → Type 0 → Answered → Type 0
-IsMade b reply_of made AsksForRoom answered = (answered ≡ answer_with b reply_of (λ c. c) made) ⊎ (AsksForRoom × (answered ≡ refused b NoMemory))
+IsMade b reply_of made AsksForRoom answered = (answered ≡ answer_with b reply_of (λ c. c) made) ⊎ (AsksForRoom × (answered ≡ refused b refusal.NoMemory))
 
 -- a command to set a mark needs no memory: nothing else refuses it, there is room for this many
 -- more names, of which it takes one, and it needs no new entry
@@ -82,9 +83,9 @@ AnswersQuery b (command.MarkAt i) answer = answer ≡ result_map (λ m. reply.Ma
 AnswersQuery b (command.Same one other) answer = IsCompared b one other answer
 AnswersQuery b (command.Origin k) answer = answer ≡ query_reply b reply.Origin (λ ran. origin_in ran.entries k)
 AnswersQuery b (command.Writer place) answer = answer ≡ query_reply b reply.Writer (λ ran. last_writer_in ran place)
-AnswersQuery b (command.Show place) answer = answer ≡ query_reply b reply.Content (λ ran. ok_or (content_at ran.world.at place) NoSuchPlace)
-AnswersQuery b (command.Actor n) answer = answer ≡ query_reply b reply.Actor (λ ran. ok_or (ran.world.actor n) NoActor)
-AnswersQuery b (command.Step k) answer = answer ≡ query_reply b (reply.Step k) (λ ran. ok_or (numbered ran.entries k) (NoSuchStep (length ran.entries)))
+AnswersQuery b (command.Show place) answer = answer ≡ query_reply b reply.Content (λ ran. ok_or (content_at ran.world.at place) refusal.NoSuchPlace)
+AnswersQuery b (command.Actor n) answer = answer ≡ query_reply b reply.Actor (λ ran. ok_or (ran.world.actor n) refusal.NoActor)
+AnswersQuery b (command.Step k) answer = answer ≡ query_reply b (reply.Step k) (λ ran. ok_or (numbered ran.entries k) (refusal.NoSuchStep (length ran.entries)))
 AnswersQuery b command.Len answer = answer ≡ Ok (step_counts b.session)
 AnswersQuery b _ answer = ⊥
 

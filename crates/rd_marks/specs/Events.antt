@@ -1,7 +1,7 @@
 -- Which commands are events, and the reply to one that happened. What an event is answered is in
 -- `Commands.antt`.
 use Rattle.std.specs.Prelude.{Option, Some, None}
-use Rattle.rd_actor.specs.declared.actors.Act.TheVariants.{Enq as CallsEnq, Deq as CallsDeq, AEnq as CallsArrayEnq, ADeq as CallsArrayDeq, Go as GoesOn, Starve as Starves}
+use Rattle.rd_actor.specs.declared.actors.Act.TheVariants as act
 use Rattle.rd_step.specs.declared.entries.Event.{Event}
 use Rattle.rd_marks.specs.declared.commands.Command.{Command}
 use Rattle.rd_marks.specs.declared.commands.Command.TheVariants.{Enq, Deq, ArrayEnq, ArrayDeq, Go, Starve}
@@ -12,12 +12,12 @@ use Rattle.rd_marks.specs.Commands.{event}
 
 -- the event that a command is, if it is one
 abbrev pub as_event : Command → Option Event
-as_event (Enq actor value) = Some (event actor (CallsEnq value))
-as_event (Deq actor) = Some (event actor CallsDeq)
-as_event (ArrayEnq actor value) = Some (event actor (CallsArrayEnq value))
-as_event (ArrayDeq actor) = Some (event actor CallsArrayDeq)
-as_event (Go actor) = Some (event actor GoesOn)
-as_event (Starve actor choice) = Some (event actor (Starves choice))
+as_event (Enq actor value) = Some (event actor (act.Enq value))
+as_event (Deq actor) = Some (event actor act.Deq)
+as_event (ArrayEnq actor value) = Some (event actor (act.AEnq value))
+as_event (ArrayDeq actor) = Some (event actor act.ADeq)
+as_event (Go actor) = Some (event actor act.Go)
+as_event (Starve actor choice) = Some (event actor (act.Starve choice))
 as_event _ = None
 
 -- the reply to a command that is an event, by what the event is answered

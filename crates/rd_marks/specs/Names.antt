@@ -8,5 +8,5 @@ abbrev pub bytes_of : MarkName → List ℕ
 bytes_of name = name.text.bytes
 
 -- whether two names are equal: byte by byte
-abbrev pub same_name : MarkName → MarkName → Bool
-same_name a b = pointwise nat_eq (bytes_of a) (bytes_of b)
+abbrev pub mark_name_eq : MarkName → MarkName → Bool
+mark_name_eq a b = pointwise nat_eq (bytes_of a) (bytes_of b)

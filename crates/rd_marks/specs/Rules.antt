@@ -5,7 +5,7 @@ use Rattle.std.specs.List.{IsDistinct}
 use Rattle.rd_step.specs.Prelude.{World, run, MOST_STEPS}
 use Rattle.rd_step.specs.declared.entries.Event.{Event}
 use Rattle.rd_marks.specs.NameBytes.{MOST_MARKS}
-use Rattle.rd_marks.specs.Names.{same_name}
+use Rattle.rd_marks.specs.Names.{mark_name_eq}
 use Rattle.rd_marks.specs.Books.{Mark, BookState}
 
 -- these events can run from a start: they are no more than may be live, and none is refused
@@ -20,7 +20,7 @@ MarksGoThrough start (m ∷ ms) = GoThrough start m.events × MarksGoThrough sta
 
 -- no two bookmarks have the same name
 abbrev pub HaveDifferentNames : List Mark → Type 0
-HaveDifferentNames ms = IsDistinct same_name (map (λ m. m.name) ms)
+HaveDifferentNames ms = IsDistinct mark_name_eq (map (λ m. m.name) ms)
 
 -- what holds of the bookmarks of a book
 pub record KeepsRules (b : BookState) : Type 0 where

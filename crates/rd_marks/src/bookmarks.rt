@@ -43,7 +43,7 @@ impl Bookmarks {
     ghost use Rattle.rd_marks.specs.Kept.{lists_in, entries_in, entries_kept, here_in, IsPlaceIn};
     ghost use Rattle.rd_marks.specs.Layout.{AreRuns};
     ghost use Rattle.rd_marks.specs.Marks.{marks_of};
-    ghost use Rattle.rd_marks.specs.Names.{same_name};
+    ghost use Rattle.rd_marks.specs.Names.{mark_name_eq};
 
     /// Returns bookmarks with none in them. It takes no memory.
     pub(crate) fn new(alloc: Global) -> Bookmarks
@@ -61,7 +61,7 @@ impl Bookmarks {
     pub(crate) fn len(&self) -> usize
         ensures count { result ≡ length (lists_in self.now) }
         ensures few { result ≤ MOST_MARKS }
-        ensures unique { IsDistinct same_name (map (λ l. l.0) (lists_in self.now)) }
+        ensures unique { IsDistinct mark_name_eq (map (λ l. l.0) (lists_in self.now)) }
     {
         self.names.len()
     }
@@ -76,7 +76,7 @@ impl Bookmarks {
 
     /// Returns the place of the entries of the bookmark of this name, if there is one.
     pub(crate) fn find(&self, name: &MarkName) -> Option<Place>
-        ensures found { option_map (λ place. entries_in self.now place) result ≡ lookup (same_name name.now) (lists_in self.now) }
+        ensures found { option_map (λ place. entries_in self.now place) result ≡ lookup (mark_name_eq name.now) (lists_in self.now) }
         ensures within { IfSome result (λ place. IsPlaceIn self.now place) }
     {
         match self.names.get(name) {
@@ -132,7 +132,7 @@ impl Bookmarks {
         session: &Session<R>,
         name: MarkName,
     ) -> Result<(), AllocError>
-        requires new { lookup (same_name name) (lists_in self.old) ≡ None }
+        requires new { lookup (mark_name_eq name) (lists_in self.old) ≡ None }
         requires few { length (lists_in self.old) < MOST_MARKS }
         requires runs { AreRuns (state session.now).start (lists_in self.old) }
         requires stands { IsPrefix (events (here_in self.old)) (track session.now) }
@@ -154,8 +154,8 @@ impl Bookmarks {
     /// Drops the bookmark of this name, and gives back the entries that no other one has. The
     /// others keep their order. Returns whether there was one. It takes no memory.
     pub(crate) fn drop(&mut self, name: &MarkName) -> bool
-        ensures found { result ≡ is_some (lookup (same_name name.now) (lists_in self.old)) }
-        ensures lists { lists_in self.new ≡ remove_entry (same_name name.now) (lists_in self.old) }
+        ensures found { result ≡ is_some (lookup (mark_name_eq name.now) (lists_in self.old)) }
+        ensures lists { lists_in self.new ≡ remove_entry (mark_name_eq name.now) (lists_in self.old) }
         ensures here { IsPrefix (here_in self.new) (here_in self.old) }
         ensures room { spare self.old.names ≤ spare self.new.names }
     {

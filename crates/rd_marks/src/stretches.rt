@@ -66,7 +66,7 @@ pub(crate) struct Stretches {
 }
 
 impl Stretches {
-    ghost use Rattle.rd_marks.specs.Stretches.{stretch_list, shared_at, entries_at, count_of, greatest_in, IsWithin, IsOwn};
+    ghost use Rattle.rd_marks.specs.Stretches.{shared_at, entries_at, count_of, IsWithin, IsOwn};
 
     /// Returns stretches with none in them. It takes no memory.
     pub(crate) fn new(alloc: Global) -> Stretches

@@ -1,6 +1,6 @@
 -- What is taken is the argument of the call whose put it was.
 use Rattle.std.proofs.Common.{◌≡◌, ℕ, suc, ◌-◌, true, sym, ◌∙◌, ap, subst, append_assoc, List, ◌∷◌, ◌++◌, length, take, option_and_then, Option, Some, Ok, arith}
-use Rattle.rd_origin.proofs.Prelude.{Place, Contents, OpReply, World, Stepped, Ran, run, IsWellFormed, numbered, Dequeued, value_to_put, Event, Entry, events, puts_into, calls_by, argument}
+use Rattle.rd_origin.proofs.Prelude.{Place, Contents, OpReply, World, Stepped, Ran, run, IsWellFormed, numbered, value_to_put, Event, Entry, events, puts_into, calls_by, argument}
 use Rattle.rd_step.proofs.Keeps.{keeps}
 use Rattle.rd_step.proofs.Removal.{run_keeps}
 use Rattle.rd_step.proofs.Equivalence.{run_events}
@@ -15,6 +15,7 @@ use Rattle.rd_origin.proofs.Values.{held_at, HoldsOnly}
 use Rattle.rd_origin.proofs.Puts.{put}
 use Rattle.rd_origin.proofs.Takes.{taken_held}
 use Rattle.rd_origin.proofs.Calls.{IsIn, begun, call_stays_along, value_stays_along}
+use Rattle.rd_actor.specs.declared.actors.OpReply.TheVariants as op_reply
 
 -- What an origin says of the entries
 
@@ -39,7 +40,7 @@ put_in : (xs : List Entry) (p k : ℕ) (place : Option Place) → put_of xs k pl
 put_in xs p k place h = grind arith
 
 -- the value that is handed out
-value_out : (r : Option OpReply) → takes_value r ≡ true → (u : ℕ) × (r ≡ Some (Dequeued u))
+value_out : (r : Option OpReply) → takes_value r ≡ true → (u : ℕ) × (r ≡ Some (op_reply.Value u))
 value_out r h = grind arith
 
 -- The entries taken apart at call, put and take
@@ -62,7 +63,7 @@ record Apart (xs : List Entry) (c p k : ℕ) : Type 0 where
   pub puts : puts_into cell put ≡ true
   pub no_put : NonePasses (puts_into cell) behind
   pub place : taken.place ≡ Some cell
-  pub replies : taken.reply ≡ Some (Dequeued value)
+  pub replies : taken.reply ≡ Some (op_reply.Value value)
 
 -- an element after the beginning has the number after its length
 seam_number : (xs before behind : List Entry) (x : Entry) (j : ℕ) → xs ≡ before ++ x ∷ behind → suc (length before) ≡ j → numbered xs j ≡ Some x

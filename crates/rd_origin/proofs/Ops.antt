@@ -1,18 +1,19 @@
 -- The call that an actor is in: a step keeps it or ends it, and a put is made in it.
 use Rattle.std.proofs.Common.{◌≡◌, ℕ, Bool, true, false, Option, Some, None, arith}
-use Rattle.rd_origin.proofs.Prelude.{Answer, Enq, Deq, AEnq, ADeq, Op, value_to_put, is_call, argument}
+use Rattle.rd_origin.proofs.Prelude.{Answer, Op, value_to_put, is_call, argument}
 use Rattle.rd_actor.specs.declared.actors.Act.{Act}
 use Rattle.rd_actor.specs.declared.actors.Actor.{Actor}
-use Rattle.rd_actor.specs.declared.actors.Op.TheVariants.{Enq as Enqueue, Deq as Dequeue, AEnq as EnqueueInArray, ADeq as DequeueFromArray}
+use Rattle.rd_actor.specs.declared.actors.Op.TheVariants as op
 use Rattle.rd_actor.specs.Table.{after}
 use Rattle.rd_origin.proofs.Rows.{IsStill}
+use Rattle.rd_actor.specs.declared.actors.Act.TheVariants as act
 
 -- the call that an act begins
 abbrev pub called : Act → Option Op
-called (Enq x) = Some (Enqueue x)
-called Deq = Some Dequeue
-called (AEnq x) = Some (EnqueueInArray x)
-called ADeq = Some DequeueFromArray
+called (act.Enq x) = Some (op.Enq x)
+called act.Deq = Some op.Deq
+called (act.AEnq x) = Some (op.AEnq x)
+called act.ADeq = Some op.ADeq
 called _ = None
 
 -- a step that is no call keeps the call or ends it
@@ -25,8 +26,8 @@ after_call R a act answer h = grind arith
 
 -- an enqueue on either queue
 abbrev pub puts_values : Option Op → Bool
-puts_values (Some (Enqueue x)) = true
-puts_values (Some (EnqueueInArray x)) = true
+puts_values (Some (op.Enq x)) = true
+puts_values (Some (op.AEnq x)) = true
 puts_values _ = false
 
 pub argued : (act : Act) (o : Option Op) → puts_values o ≡ true → IsStill (called act) o → argument act ≡ Some (value_to_put o)

@@ -1,8 +1,9 @@
 -- How an actor goes on at each row of the table: it keeps its call or ends it, and hands a value
 -- out where it may take one.
 use Rattle.std.proofs.Common.{◌≡◌, ◌⊎◌, ℕ, Option, Some, None, arith}
-use Rattle.rd_origin.proofs.Prelude.{Answer, OpReply, Op, Dequeued, Pc, Q5, B2, after_at}
+use Rattle.rd_origin.proofs.Prelude.{Answer, OpReply, Op, Pc, Q5, B2, after_at}
 use Rattle.rd_step.specs.Prelude.{Actor}
+use Rattle.rd_actor.specs.declared.actors.OpReply.TheVariants as op_reply
 
 -- this call or none
 abbrev pub IsStill : Option Op → Option Op → Type 0
@@ -10,7 +11,7 @@ IsStill o p = (p ≡ o) ⊎ (p ≡ None)
 
 -- the value that a reply hands out
 abbrev pub value_in : Option OpReply → Option ℕ
-value_in (Some (Dequeued v)) = Some v
+value_in (Some (op_reply.Value v)) = Some v
 value_in _ = None
 
 -- the actor is where it may take a value

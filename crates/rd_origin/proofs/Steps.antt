@@ -1,11 +1,12 @@
 -- A step that is no put into a cell leaves the value there, or none.
 use Rattle.std.proofs.Common.{◌≡◌, ◌⊎◌, ℕ, Bool, false, not, ◌&&◌, sym, ◌∙◌, subst, Option, Result, Ok, IfOk, arith}
-use Rattle.rd_origin.proofs.Prelude.{IfOk-at_ok, Place, Access, Refusal, Contents, is_nothing, Performed, perform, OpReply, need, World, Stepped, step, no_access, Enq, Deq, AEnq, ADeq, Go, Starve, Pc, E8, E12, A2, need_at, Event, took, is_first_cell, puts_into}
+use Rattle.rd_origin.proofs.Prelude.{IfOk-at_ok, Place, Access, Refusal, Contents, is_nothing, Performed, perform, OpReply, need, World, Stepped, step, no_access, Pc, E8, E12, A2, need_at, Event, took, is_first_cell, puts_into}
 use Rattle.rd_step.specs.Prelude.{Actor, Act, after}
 use Rattle.rd_actor.specs.Table.{need_call, need_choice}
 use Rattle.rd_step.specs.Step.{step_outcome}
 use Rattle.rd_origin.specs.Origins.{is_at, puts_at}
 use Rattle.rd_origin.proofs.Values.{HoldsOnly, LeavesOnly, AccessKeeps, kept_access}
+use Rattle.rd_actor.specs.declared.actors.Act.TheVariants as act
 
 -- The rows that put
 
@@ -65,12 +66,12 @@ pub choice_at_none : (R n : ℕ) (at : Contents) (P : Performed → Type 0) → 
 choice_at_none R n at P h pc = grind arith
 
 act_leaves : (v R n : ℕ) (at : Contents) (q : Place) (a : Actor) (act : Act) → HoldsOnly v at q → AtNone R n at (LeavesUnless v at a.pc q) (need R a act)
-act_leaves v R n at q a (Enq x) h = call_at_none R n at (LeavesUnless v at a.pc q) (λ e. h) a.pc
-act_leaves v R n at q a Deq h = call_at_none R n at (LeavesUnless v at a.pc q) (λ e. h) a.pc
-act_leaves v R n at q a (AEnq x) h = call_at_none R n at (LeavesUnless v at a.pc q) (λ e. h) a.pc
-act_leaves v R n at q a ADeq h = call_at_none R n at (LeavesUnless v at a.pc q) (λ e. h) a.pc
-act_leaves v R n at q a Go h = row_leaves v R n at q a a.pc h
-act_leaves v R n at q a (Starve b) h = choice_at_none R n at (LeavesUnless v at a.pc q) (λ e. h) a.pc
+act_leaves v R n at q a (act.Enq x) h = call_at_none R n at (LeavesUnless v at a.pc q) (λ e. h) a.pc
+act_leaves v R n at q a act.Deq h = call_at_none R n at (LeavesUnless v at a.pc q) (λ e. h) a.pc
+act_leaves v R n at q a (act.AEnq x) h = call_at_none R n at (LeavesUnless v at a.pc q) (λ e. h) a.pc
+act_leaves v R n at q a act.ADeq h = call_at_none R n at (LeavesUnless v at a.pc q) (λ e. h) a.pc
+act_leaves v R n at q a act.Go h = row_leaves v R n at q a a.pc h
+act_leaves v R n at q a (act.Starve b) h = choice_at_none R n at (LeavesUnless v at a.pc q) (λ e. h) a.pc
 
 -- a step that puts nothing into the cell leaves the value there, or none
 pub value_stays : (w : World) (e : Event) (s : Stepped) (q : Place) (v : ℕ) → step w e ≡ Ok s → puts_into q s.entry ≡ false

@@ -1,6 +1,6 @@
 -- The value in a cell: no step but a put gives the cell another one.
 use Rattle.std.proofs.Common.{◌≡◌, ◌⊎◌, ℕ, Bool, true, false, inl, inr, refl, sym, subst, Option, Some, None, IfSome, Result, Ok, Err, IfOk, arith}
-use Rattle.rd_origin.proofs.Prelude.{SegName, Place, CellAt, ValAt, ArrCell, WholeOf, Held, Content, CellIs, ValIs, Slot, Access, Refusal, Contents, is_of, operand, Performed, perform, Cas2, Swap, share, after_write, after_write_at, holding, effect_at, operate, result_map}
+use Rattle.rd_origin.proofs.Prelude.{SegName, Place, Content, Access, Refusal, Contents, is_of, operand, Performed, perform, Cas2, Swap, share, after_write, after_write_at, holding, effect_at, operate, result_map}
 use Rattle.std.proofs.lemmas.Bool.{cases_Bool}
 use Rattle.rd_step.specs.Prelude.{Operation, covers, Effect, effect}
 use Rattle.rd_cell.specs.declared.access.Access.TheVariants.{NoPlace, At, Make}
@@ -9,18 +9,21 @@ use Rattle.rd_cell.specs.Operations.{wrote_content, wrote_by}
 use Rattle.rd_cell.specs.Access.{contents_after}
 use Rattle.rd_cell.proofs.AccessLemmas.{is_cell_at, after_write-outside, after_write-inside, operand-covered}
 use Rattle.rd_cell.proofs.EffectLemmas.{not_written}
+use Rattle.rd_cell.specs.declared.places.Place.TheVariants as place
+use Rattle.rd_cell.specs.declared.contents.ArrSlot.TheVariants as slot
+use Rattle.rd_cell.specs.declared.contents.Content.TheVariants as content
 
 -- the value in a content, if there is one
 abbrev pub held : Option Content → Option ℕ
-held (Some (CellIs c)) = c.val
-held (Some (ValIs val)) = val
-held (Some (Slot (Held v))) = Some v
+held (Some (content.Cell c)) = c.val
+held (Some (content.Val val)) = val
+held (Some (content.Slot (slot.Value v))) = Some v
 held _ = None
 
 -- the value in a cell or a slot, if there is one: a cell has it in its value half
 abbrev pub held_at : Contents → Place → Option ℕ
-held_at at (CellAt s i) = held (at (ValAt s i))
-held_at at (ArrCell i) = held (at (ArrCell i))
+held_at at (place.Cell s i) = held (at (place.Val s i))
+held_at at (place.ArrCell i) = held (at (place.ArrCell i))
 held_at at _ = None
 
 -- a content has this value or none
@@ -38,7 +41,7 @@ LeavesOnly v at q did = HoldsOnly v (contents_after did at) q
 -- an operation that writes no value but the one that it found
 abbrev pub KeepsValue : Operation → Type 0
 KeepsValue (Cas2 old new) = (new.val ≡ old.val) ⊎ (new.val ≡ None)
-KeepsValue (Swap (Held v)) = ⊥
+KeepsValue (Swap (slot.Value v)) = ⊥
 KeepsValue _ = Unit {0}
 
 -- What it writes holds no other value
@@ -53,8 +56,8 @@ effect_holds v op c k h = grind arith
 
 -- the places of the map that have values: value halves and slots
 abbrev is_value_place : Place → Bool
-is_value_place (ValAt s i) = true
-is_value_place (ArrCell i) = true
+is_value_place (place.Val s i) = true
+is_value_place (place.ArrCell i) = true
 is_value_place _ = false
 
 not_cell : (r : Place) → is_value_place r ≡ true → is_cell_at r ≡ true → ⊥
@@ -112,13 +115,13 @@ kept_there v p op (Some c) at r found kind k h =
 
 kept_operate : (v : ℕ) (p : Place) (op : Operation) (o : Option Content) (at : Contents) (q : Place) → operand at p ≡ o → KeepsValue op
     → HoldsOnly v at q → IfOk (operate p op o) (LeavesOnly v at q)
-kept_operate v p op o at (CellAt t j) found k h = kept_there v p op o at (ValAt t j) found refl k h
-kept_operate v p op o at (ArrCell i) found k h = kept_there v p op o at (ArrCell i) found refl k h
+kept_operate v p op o at (place.Cell t j) found k h = kept_there v p op o at (place.Val t j) found refl k h
+kept_operate v p op o at (place.ArrCell i) found k h = kept_there v p op o at (place.ArrCell i) found refl k h
 kept_operate v p op o at _ found k h = always_none v (operate p op o)
 
 -- what a making leaves at a cell or a slot is what the new segment has, or what was there
 pub made_leaves : (v R x : ℕ) (s : SegName) (at : Contents) (q : Place) → (is_of s q ≡ true → HoldsOnly v (holding R x) q) → HoldsOnly v at q
-    → HoldsOnly v (after_write (WholeOf s) (holding R x) at) q
+    → HoldsOnly v (after_write (place.Whole s) (holding R x) at) q
 made_leaves v R x s at q inside h = grind arith
 
 -- an access that writes no value but the one that it found

@@ -2,7 +2,7 @@
 use Rattle.std.specs.Prelude.{◌≡◌, ℕ, List, Some}
 use Rattle.rd_step.specs.Lists.{numbered}
 use Rattle.rd_step.specs.declared.entries.Entry.{Entry}
-use Rattle.rd_actor.specs.declared.actors.OpReply.TheVariants.{Value as Dequeued}
+use Rattle.rd_actor.specs.declared.actors.OpReply.TheVariants as op_reply
 use Rattle.rd_origin.specs.Origins.{argument}
 
 -- the step at position k took the value that the call at position c enqueued
@@ -12,5 +12,5 @@ pub record IsHandedOver (entries : List Entry) (c k : ℕ) : Type 0 where
   pub taken : Entry
   pub took : numbered entries k ≡ Some taken
   pub value : ℕ
-  pub replies : taken.reply ≡ Some (Dequeued value)
+  pub replies : taken.reply ≡ Some (op_reply.Value value)
   pub argued : argument call.event.act ≡ Some value

@@ -2,34 +2,36 @@
 -- 2013, in our profile).
 use Rattle.std.specs.Option.{option_map_or}
 use Rattle.std.specs.Prelude.{ℕ, ◌-◌, ◌==◌, ◌&&◌, not, Bool, true, false, if◌then◌else◌, List, length, take, ok_or, option_and_then, Option, Some, None, Result, Ok, Err}
-use Rattle.rd_step.specs.Prelude.{Place, CellAt, WholeOf, is_name, is_place, is_nothing, Refusal, NoSuchStep, NotATake, Act, OpReply, and_then}
+use Rattle.rd_step.specs.Prelude.{Place, name_eq, place_eq, is_nothing, Refusal, Act, OpReply, and_then}
 use Rattle.rd_step.specs.Lists.{numbered}
 use Rattle.rd_step.specs.declared.entries.Entry.{Entry}
-use Rattle.rd_actor.specs.declared.actors.Act.TheVariants.{Enq, AEnq, Go, Starve}
-use Rattle.rd_actor.specs.declared.actors.OpReply.TheVariants.{Value as Dequeued}
+use Rattle.rd_actor.specs.declared.actors.Act.TheVariants as act
+use Rattle.rd_actor.specs.declared.actors.OpReply.TheVariants as op_reply
 use Rattle.rd_actor.specs.declared.actors.Pc.{Pc}
 use Rattle.rd_actor.specs.declared.actors.Pc.TheVariants.{E8, E12, A2}
 use Rattle.rd_origin.specs.declared.origins.Origin.{Origin}
 use Rattle.rd_origin.specs.Positions.{last_position}
+use Rattle.rd_cell.specs.declared.places.Place.TheVariants as place
+use Rattle.rd_cell.specs.declared.refusal.Refusal.TheVariants as refusal
 
 -- whether a reply hands out a value; a step with such a reply is a take
 abbrev pub takes_value : Option OpReply → Bool
-takes_value (Some (Dequeued v)) = true
+takes_value (Some (op_reply.Value v)) = true
 takes_value _ = false
 
 -- whether an act is a call
 abbrev pub is_call : Act → Bool
-is_call Go = false
-is_call (Starve b) = false
+is_call act.Go = false
+is_call (act.Starve b) = false
 is_call _ = true
 
 -- whether the place of an access, if it has one, is this cell
 abbrev pub is_at : Option Place → Place → Bool
-is_at place cell = option_map_or (λ p. is_place p cell) place false
+is_at place cell = option_map_or (λ p. place_eq p cell) place false
 
 -- whether the place is the whole of a segment, and the cell is cell 0 of that segment
 abbrev pub is_first_cell : Option Place → Place → Bool
-is_first_cell (Some (WholeOf s)) (CellAt t i) = is_name s t && (i == 0)
+is_first_cell (Some (place.Whole s)) (place.Cell t i) = name_eq s t && (i == 0)
 is_first_cell _ _ = false
 
 -- whether a step from this control point put a value into the cell: at E8 a compare-and-swap there
@@ -71,11 +73,11 @@ origin_by entries k put = record { call = call_of entries put; put = put; take =
 -- the origin of the value taken at position k, from 1, among these steps, or why there is none
 abbrev pub origin_in : List Entry → ℕ → Result Origin Refusal
 origin_in entries k =
-    and_then (ok_or (numbered entries k) (NoSuchStep (length entries))) (λ x.
-    if takes_value x.reply then Ok (origin_by entries k (put_of entries k x.place)) else Err NotATake)
+    and_then (ok_or (numbered entries k) (refusal.NoSuchStep (length entries))) (λ x.
+    if takes_value x.reply then Ok (origin_by entries k (put_of entries k x.place)) else Err refusal.NotATake)
 
 -- the argument of an act that calls an enqueue, on either queue; none for any other act
 abbrev pub argument : Act → Option ℕ
-argument (Enq x) = Some x
-argument (AEnq x) = Some x
+argument (act.Enq x) = Some x
+argument (act.AEnq x) = Some x
 argument _ = None

@@ -1,7 +1,7 @@
 -- How the program ends after each outcome: its exit status, and what standard error then has.
 use Rattle.std.specs.Prelude.{◌≡◌, ℕ, Bool, true, false, List, ◌++◌, codes, Option, Result, Ok, Err}
 use Rattle.std.specs.Io.KnownBytes.{Appends}
-use Rattle.rd_cell.specs.declared.refusal.Refusal.TheVariants.{NoMemory as OutOfMemory}
+use Rattle.rd_cell.specs.declared.refusal.Refusal.TheVariants as refusal
 use Rattle.rd_script.specs.declared.answers.AnyRefusal.{AnyRefusal}
 use Rattle.rd_script.specs.declared.answers.AnyRefusal.TheVariants as refused
 use Rattle.rd_script.specs.declared.faults.ScriptFault.TheVariants as script
@@ -18,7 +18,7 @@ use Rattle.rd_program.specs.declared.faults.ProgramFault.TheVariants.{NoMemory, 
 
 -- the refusal of a trace that was not loaded
 abbrev pub load_refusal : LoadTraceFault → AnyRefusal
-load_refusal load.NoMemory = refused.Refused OutOfMemory
+load_refusal load.NoMemory = refused.Refused refusal.NoMemory
 load_refusal load.BadTrace = refused.BadTrace
 load_refusal (load.Flawed flaw) = refused.Flawed flaw
 load_refusal (load.TraceMark mark step cause) = refused.TraceMark mark step cause
@@ -26,18 +26,18 @@ load_refusal (load.TraceStep step cause) = refused.TraceStep step cause
 
 -- the refusal of a trace that was not written
 abbrev pub trace_refusal : WriteTraceFault → AnyRefusal
-trace_refusal trace.NoMemory = refused.Refused OutOfMemory
+trace_refusal trace.NoMemory = refused.Refused refusal.NoMemory
 trace_refusal trace.Write = refused.Stopped script.Write
 
 -- the refusal of a view that was not written
 abbrev pub view_refusal : ViewFault → AnyRefusal
-view_refusal view.NoMemory = refused.Refused OutOfMemory
+view_refusal view.NoMemory = refused.Refused refusal.NoMemory
 view_refusal view.Write = refused.Stopped script.Write
 view_refusal (view.Busy words) = refused.Busy words.next words.served
 
 -- the refusal that the program shows for a fault
 abbrev pub refusal_of : ProgramFault → AnyRefusal
-refusal_of NoMemory = refused.Refused OutOfMemory
+refusal_of NoMemory = refused.Refused refusal.NoMemory
 refusal_of Read = refused.Stopped script.Read
 refusal_of (Script fault) = refused.Stopped fault
 refusal_of (Load fault) = load_refusal fault

@@ -1,14 +1,17 @@
 -- An operation at any place of a segment.
-use Rattle.std.proofs.Common.{◌≡◌, ℕ, sym, ◌∙◌, ap, arith, ◌<◌, Option, Some, None, option_map, slice_get, Err}
+use Rattle.std.proofs.Common.{◌≡◌, ℕ, sym, ◌∙◌, ap, arith, ◌<◌, Option, Some, None, option_map, slice_get}
 use Rattle.std.proofs.lemmas.Option.{slice_get_past}
-use Rattle.rd_ring.specs.Prelude.{Cell, SegName, Place, CellAt, Wrote, WroteNothing, Content, ValIs, IdxIs, Operation, Answer, Done, Refusal, is_of, is_of_same_segment, cell_of_halves, operand, operate, Operates}
+use Rattle.rd_ring.specs.Prelude.{Cell, SegName, Place, Wrote, Content, Operation, Answer, Done, is_of, is_of_same_segment, cell_of_halves, operand, Operates}
 use Rattle.rd_cell.specs.Operations.{read_answer}
 use Rattle.rd_ring.specs.declared.segments.Segment.{Segment}
-use Rattle.rd_ring.specs.Segments.{part, OperatesAt, RefusesAt}
+use Rattle.rd_ring.specs.Segments.{part, OperatesAt}
+use Rattle.rd_cell.specs.declared.places.Place.TheVariants as place
+use Rattle.rd_cell.specs.declared.places.Wrote.TheVariants as wrote
+use Rattle.rd_cell.specs.declared.contents.Content.TheVariants as content
 
 -- a read, at whatever place it found its content
 pub reads_at : {R : ℕ} (seg : Segment R) (p : Place) (op : Operation) (c : Content) (a : Answer) (done : Done) → operand (part seg) p ≡ Some c
-    → read_answer op c ≡ Some a → done ≡ record { place = Some p; old = Some c; answer = a; wrote = WroteNothing }
+    → read_answer op c ≡ Some a → done ≡ record { place = Some p; old = Some c; answer = a; wrote = wrote.Nothing }
     → Operates (is_of_same_segment p) p op done (part seg) (part seg)
 reads_at seg p op c a done found answers notes = grind arith
 
@@ -24,10 +27,10 @@ does_at {R} old new place s p op op' c d answer wrote done beside at same found 
 within_cells : {R : ℕ} (seg : Segment R) (i : ℕ) → (slice_get seg.cells i ≡ None → ⊥) → i < R
 within_cells {R} seg i there = grind (arith, slice_get_past)
 
-pub cell_is_within : {R : ℕ} (seg : Segment R) (s : SegName) (i : ℕ) (p : Place) (c : Content) → p ≡ CellAt s i → operand (part seg) p ≡ Some c → i < R
+pub cell_is_within : {R : ℕ} (seg : Segment R) (s : SegName) (i : ℕ) (p : Place) (c : Content) → p ≡ place.Cell s i → operand (part seg) p ≡ Some c → i < R
 cell_is_within seg s i p c at found =
     within_cells seg i (λ none.
-    let read : operand (part seg) (CellAt s i) ≡ Some c = sym (ap (operand (part seg)) at) ∙ found in
-    let e : operand (part seg) (CellAt s i) ≡ None =
-    ap (λ (o : Option Cell). cell_of_halves (option_map (λ x. ValIs x.val) o) (option_map (λ x. IdxIs x.safe x.idx) o)) none in
+    let read : operand (part seg) (place.Cell s i) ≡ Some c = sym (ap (operand (part seg)) at) ∙ found in
+    let e : operand (part seg) (place.Cell s i) ≡ None =
+    ap (λ (o : Option Cell). cell_of_halves (option_map (λ x. content.Val x.val) o) (option_map (λ x. content.Idx x.safe x.idx) o)) none in
     cc)

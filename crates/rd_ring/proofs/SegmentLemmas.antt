@@ -2,20 +2,25 @@
 use Rattle.std.proofs.Common.{◌≡◌, ◌≢◌, ℕ, ◌+◌, ◌<◌, ◌≤◌, Bool, true, refl, sym, ap, ap₂, arith, Option, Some, None, List, [], ◌∷◌, zero, suc, ◌↔◌, ◌∙◌, ◌==◌, ◌&&◌, length, set, eq-eqb, ne_eqb, option_map, slice_get, if◌then◌else◌, Ok}
 use Rattle.std.proofs.lemmas.Bool.{true≢false, false_from_ne_true, cond-true, cond-false, cond_both, and_from, and_right}
 use Rattle.std.specs.Bool.{OnTrue, OnFalse}
-use Rattle.rd_ring.specs.Prelude.{COUNTER_END, Cell, SegName, Place, Head, Tail, Next, CellAt, ValAt, IdxAt, WholeOf, WroteNothing, WrotePlace, Content, Number, TailIs, NextIs, CellIs, ValIs, IdxIs, Operation, Add, Cas2, Answer, Found, Won, CounterEnd, root, is_name, is_of, is_of_cell, half, effect, wrote_cell, operate, operand}
+use Rattle.rd_ring.specs.Prelude.{COUNTER_END, Cell, SegName, Place, Content, Operation, Add, Cas2, Answer, root, name_eq, is_of, is_of_cell, half, effect, wrote_cell, operate, operand}
 use Rattle.rd_cell.specs.Access.{effect_at}
 use Rattle.rd_cell.specs.Results.{result_map}
-use Rattle.rd_cell.proofs.CellLemmas.{is_cell-true}
+use Rattle.rd_cell.proofs.CellLemmas.{cell_eq-true}
 use Rattle.rd_cell.proofs.ListLemmas.{slice_get-set_same, slice_get-set_other}
 use Rattle.rd_ring.specs.declared.segments.Segment.{Segment}
 use Rattle.rd_ring.specs.Segments.{part, swap_answer, swap_wrote, OperatesAt, RefusesAt, RestoresAt}
+use Rattle.rd_cell.specs.declared.places.Place.TheVariants as place
+use Rattle.rd_cell.specs.declared.places.Wrote.TheVariants as wrote
+use Rattle.rd_cell.specs.declared.contents.Content.TheVariants as content
+use Rattle.rd_cell.specs.declared.operations.Answer.TheVariants as answer
+use Rattle.rd_cell.specs.declared.refusal.Refusal.TheVariants as refusal
 
 -- the contents of a cell's two halves
 abbrev value_of : Cell → Content
-value_of c = ValIs c.val
+value_of c = content.Val c.val
 
 abbrev index_of : Cell → Content
-index_of c = IdxIs c.safe c.idx
+index_of c = content.Idx c.safe c.idx
 
 -- what is read of a list after one cell was written
 part_written : (f : Cell → Content) (cells : List Cell) (i : ℕ) (cell : Cell) (b : Bool) → i < length cells → (j : ℕ) → b ≡ true
@@ -24,20 +29,20 @@ part_written f cells i cell b within j h = grind (arith, option_map, slice_get, 
 
 -- two segments that differ in one cell alone
 pub cell_put : {R : ℕ} (old new : Segment R) (i : ℕ) (cell : Cell) → i < length old.cells → new.head ≡ old.head → new.next ≡ old.next
-    → new.cells ≡ set old.cells i cell → new.closed ≡ old.closed → new.tail ≡ old.tail → RestoresAt (λ s. CellAt s i) (CellIs cell) old new
+    → new.cells ≡ set old.cells i cell → new.closed ≡ old.closed → new.tail ≡ old.tail → RestoresAt (λ s. place.Cell s i) (content.Cell cell) old new
 cell_put old new i cell within head next cells bit tail = record { named = at }
   where
     at : (s : SegName) (q : Place) → is_of s q ≡ true
         → part new q ≡ (if is_of_cell s i q then half cell q else part old q)
-    at s (Head t) h = ap (λ (n : ℕ). Some (Number n)) head
-    at s (Tail t) h = ap₂ (λ (b : Bool) (n : ℕ). Some (TailIs b n)) bit tail
-    at s (Next t) h = ap (λ m. Some (NextIs m)) next
-    at s (ValAt t j) h =
-        ap (λ (cs : List Cell). option_map value_of (slice_get cs j)) cells ∙ part_written value_of old.cells i cell (is_name s t) within j h
-    at s (IdxAt t j) h =
-        ap (λ (cs : List Cell). option_map index_of (slice_get cs j)) cells ∙ part_written index_of old.cells i cell (is_name s t) within j h
-    at s (CellAt t j) h = cond_both (is_name s t && (i == j)) None None (λ (o : Option Content). None ≡ o) (λ e. refl) (λ e. refl)
-    at s (WholeOf t) h = refl
+    at s (place.Head t) h = ap (λ (n : ℕ). Some (content.Number n)) head
+    at s (place.Tail t) h = ap₂ (λ (b : Bool) (n : ℕ). Some (content.Tail b n)) bit tail
+    at s (place.Next t) h = ap (λ m. Some (content.Next m)) next
+    at s (place.Val t j) h =
+        ap (λ (cs : List Cell). option_map value_of (slice_get cs j)) cells ∙ part_written value_of old.cells i cell (name_eq s t) within j h
+    at s (place.Idx t j) h =
+        ap (λ (cs : List Cell). option_map index_of (slice_get cs j)) cells ∙ part_written index_of old.cells i cell (name_eq s t) within j h
+    at s (place.Cell t j) h = cond_both (name_eq s t && (i == j)) None None (λ (o : Option Content). None ≡ o) (λ e. refl) (λ e. refl)
+    at s (place.Whole t) h = refl
     at s _ h = cc
 
 -- Operations at a place
@@ -45,7 +50,7 @@ cell_put old new i cell within head next cells bit tail = record { named = at }
 -- an operation that wrote nothing
 read_at : {R : ℕ} (old new : Segment R) (place : SegName → Place) (op : Operation) (found : Content) (answer : Answer)
     → ((s : SegName) → operand (part old) (place s) ≡ Some found) → effect op found ≡ Ok (record { answer = answer; writes = None })
-    → ((q : Place) → part new q ≡ part old q) → OperatesAt place op found answer WroteNothing old new
+    → ((q : Place) → part new q ≡ part old q) → OperatesAt place op found answer wrote.Nothing old new
 read_at old new place op found answer there does same = record {
   named = λ s. record {
     performed = effect_at (place s) found (record { answer = answer; writes = None });
@@ -57,10 +62,10 @@ read_at old new place op found answer there does same = record {
 
 -- Fetch-and-adds
 
-pub head_ended : {R : ℕ} (old : Segment R) → old.head ≡ COUNTER_END → RefusesAt Head Add old CounterEnd
+pub head_ended : {R : ℕ} (old : Segment R) → old.head ≡ COUNTER_END → RefusesAt place.Head Add old refusal.CounterEnd
 head_ended old ended = grind arith
 
-pub tail_ended : {R : ℕ} (old : Segment R) → old.tail ≡ COUNTER_END → RefusesAt Tail Add old CounterEnd
+pub tail_ended : {R : ℕ} (old : Segment R) → old.tail ≡ COUNTER_END → RefusesAt place.Tail Add old refusal.CounterEnd
 tail_ended old ended = grind arith
 
 -- Compare-and-swaps
@@ -77,18 +82,18 @@ set_read (y ∷ xs) zero x h = let e : y ≡ x = cc in ap (λ (z : Cell). z ∷ 
 set_read (y ∷ xs) (suc i) x h = ap (λ (zs : List Cell). y ∷ zs) (set_read xs i x h)
 
 -- what an operation at a cell works on is the cell
-pub cell_found : {R : ℕ} (seg : Segment R) (s : SegName) (i : ℕ) (x : Cell) → slice_get seg.cells i ≡ Some x → operand (part seg) (CellAt s i) ≡ Some (CellIs x)
+pub cell_found : {R : ℕ} (seg : Segment R) (s : SegName) (i : ℕ) (x : Cell) → slice_get seg.cells i ≡ Some x → operand (part seg) (place.Cell s i) ≡ Some (content.Cell x)
 cell_found seg s i x read = grind arith
 
 -- a cell that was swapped for another
 cell_won : {R : ℕ} (old new : Segment R) (i : ℕ) (x from to : Cell) → slice_get old.cells i ≡ Some x → x ≡ from
-    → RestoresAt (λ s. CellAt s i) (CellIs to) old new → OperatesAt (λ s. CellAt s i) (Cas2 from to) (CellIs x) Won (wrote_cell x to) old new
+    → RestoresAt (λ s. place.Cell s i) (content.Cell to) old new → OperatesAt (λ s. place.Cell s i) (Cas2 from to) (content.Cell x) answer.Won (wrote_cell x to) old new
 cell_won old new i x from to read is puts = grind arith
 
 -- a cell that was compared with one and swapped for another
 pub cell_swapped : {R : ℕ} (old new : Segment R) (i : ℕ) (x y from to : Cell) (won : Bool) → i < length old.cells → slice_get old.cells i ≡ Some x
     → new.head ≡ old.head → new.next ≡ old.next → new.cells ≡ set old.cells i y → new.closed ≡ old.closed → new.tail ≡ old.tail
     → (won ≡ true) ↔ (x ≡ from) → OnTrue won (y ≡ to) → OnFalse won (y ≡ x)
-    → (c : Content) → operand (part old) (CellAt root i) ≡ Some c
-    → OperatesAt (λ s. CellAt s i) (Cas2 from to) c (swap_answer won) (swap_wrote won (wrote_cell from to)) old new
-cell_swapped old new i x y from to won within read head next cells bit tail decides h lost c there = grind (arith, cell_found, cell_won, cell_put, set_read, read_at, false_from_ne_true, true≢false, is_cell-true, parts_same)
+    → (c : Content) → operand (part old) (place.Cell root i) ≡ Some c
+    → OperatesAt (λ s. place.Cell s i) (Cas2 from to) c (swap_answer won) (swap_wrote won (wrote_cell from to)) old new
+cell_swapped old new i x y from to won within read head next cells bit tail decides h lost c there = grind (arith, cell_found, cell_won, cell_put, set_read, read_at, false_from_ne_true, true≢false, cell_eq-true, parts_same)

@@ -1,28 +1,22 @@
 -- The words of rd_cell that most definitions need, in one place for this crate and those above:
--- types, variants by one name each, limits, places, contents and accesses. (A crate passes on the
--- generated names of the crates below it, and not its own.)
+-- types, the variants of operations and accesses, limits, places, contents and accesses. (A crate
+-- passes on the generated names of the crates below it, and not its own.)
 pub use Rattle.rd_cell.specs.declared.limits.TheConstants.{COUNTER_END, MOST_SEGMENTS, MOST_CELLS, SLOTS, MOST_ACTORS, MOST_STEPS}
 pub use Rattle.rd_cell.specs.declared.cells.Cell.{Cell}
 pub use Rattle.rd_cell.specs.declared.places.SegName.{SegName}
 pub use Rattle.rd_cell.specs.declared.places.Place.{Place}
-pub use Rattle.rd_cell.specs.declared.places.Place.TheVariants.{QHead, QTail, Head, Tail, Next, Cell as CellAt, Val as ValAt, Idx as IdxAt, Whole as WholeOf, ArrHead, ArrTail, ArrCell}
 pub use Rattle.rd_cell.specs.declared.places.Wrote.{Wrote}
-pub use Rattle.rd_cell.specs.declared.places.Wrote.TheVariants.{Nothing as WroteNothing, Place as WrotePlace, Index as WroteIndex}
 pub use Rattle.rd_cell.specs.declared.contents.ArrSlot.{ArrSlot}
-pub use Rattle.rd_cell.specs.declared.contents.ArrSlot.TheVariants.{Empty, Top, Value as Held}
 pub use Rattle.rd_cell.specs.declared.contents.Content.{Content}
-pub use Rattle.rd_cell.specs.declared.contents.Content.TheVariants.{Name, Number, Tail as TailIs, Next as NextIs, Cell as CellIs, Val as ValIs, Idx as IdxIs, Whole, Slot}
 pub use Rattle.rd_cell.specs.declared.operations.Operation.{Operation}
 pub use Rattle.rd_cell.specs.declared.operations.Operation.TheVariants.{Read, ReadValue, ReadSafeAndIndex, Add, AddArray, Close, CasName, CasNext, CasTail, Cas2, Swap}
 pub use Rattle.rd_cell.specs.declared.operations.Answer.{Answer}
-pub use Rattle.rd_cell.specs.declared.operations.Answer.TheVariants.{Nothing, Found, Value, SafeAndIndex, WasClosed, Won, Lost, Made}
 pub use Rattle.rd_cell.specs.declared.access.Access.{Access}
 pub use Rattle.rd_cell.specs.declared.access.Access.TheVariants.{NoPlace, At, Make}
 pub use Rattle.rd_cell.specs.declared.access.Done.{Done}
 pub use Rattle.rd_cell.specs.declared.refusal.Refusal.{Refusal}
-pub use Rattle.rd_cell.specs.declared.refusal.Refusal.TheVariants.{NoActor, NotIdle, Idle as ActorIdle, NeedsChoice, NoChoice, CounterEnd, SegmentsEnd, ArrayEnd, TooLong, NothingToUndo, NothingToRedo, NoSuchStep, Depended, NoMark, MarkTaken, TooManyMarks, BadName, NotATake, NoSuchPlace, NoMemory}
-pub use Rattle.rd_cell.specs.Places.{root, is_name, is_of, is_of_same_segment, segment_of, is_array, is_of_cell, is_place, covers, overlaps, some_covers, some_overlap, is_nothing, index_half, written, interfere}
-pub use Rattle.rd_cell.specs.Cells.{is_cell, new_cell}
+pub use Rattle.rd_cell.specs.Places.{root, name_eq, is_of, is_of_same_segment, segment_of, is_array, is_of_cell, place_eq, covers, overlaps, some_covers, some_overlap, is_nothing, index_half, written, interfere}
+pub use Rattle.rd_cell.specs.Cells.{cell_eq, new_cell}
 pub use Rattle.rd_cell.specs.Contents.{Contents, after_write, half, cell_of_halves, share, restore, operand, can_hold, is_there, content_at, fresh_segment, holding}
 pub use Rattle.rd_cell.specs.Operations.{Effect, effect, wrote_cell, wrote_content, wrote_by}
 pub use Rattle.rd_cell.specs.Access.{Performed, contents_after, done_of, number_made, operate, make, perform, HasEffect, Operates, OperatesOn, Makes, Restores, RefusesMaking, everywhere}

@@ -1,16 +1,20 @@
 -- What a segment has at each of its places, and what its operations do.
 use Rattle.std.specs.Prelude.{◌≡◌, ℕ, Bool, ◌&&◌, nat_le, if◌then◌else◌, List, Option, Some, None, option_map, slice_get, Err}
-use Rattle.rd_ring.specs.Prelude.{COUNTER_END, Cell, SegName, Place, Head, Tail, Next, ValAt, IdxAt, Wrote, WroteNothing, Content, Number, TailIs, NextIs, ValIs, IdxIs, Operation, Answer, Won, Lost, Refusal, is_of, Contents, operand, operate, Operates, Restores}
+use Rattle.rd_ring.specs.Prelude.{COUNTER_END, Cell, SegName, Place, Wrote, Content, Operation, Answer, Refusal, is_of, Contents, operand, operate, Operates, Restores}
 use Rattle.rd_ring.specs.declared.segments.Segment.{Segment}
 use Rattle.rd_ring.specs.declared.parts.SegmentParts.{SegmentParts}
+use Rattle.rd_cell.specs.declared.places.Place.TheVariants as place
+use Rattle.rd_cell.specs.declared.places.Wrote.TheVariants as wrote
+use Rattle.rd_cell.specs.declared.contents.Content.TheVariants as content
+use Rattle.rd_cell.specs.declared.operations.Answer.TheVariants as answer
 
 -- the content of each place of a segment with these words, whatever the segment's name
 abbrev pub part_with : ℕ → ℕ → Bool → Option SegName → List Cell → Contents
-part_with head tail closed next cells (Head name) = Some (Number head)
-part_with head tail closed next cells (Tail name) = Some (TailIs closed tail)
-part_with head tail closed next cells (Next name) = Some (NextIs next)
-part_with head tail closed next cells (ValAt name i) = option_map (λ c. ValIs c.val) (slice_get cells i)
-part_with head tail closed next cells (IdxAt name i) = option_map (λ c. IdxIs c.safe c.idx) (slice_get cells i)
+part_with head tail closed next cells (place.Head name) = Some (content.Number head)
+part_with head tail closed next cells (place.Tail name) = Some (content.Tail closed tail)
+part_with head tail closed next cells (place.Next name) = Some (content.Next next)
+part_with head tail closed next cells (place.Val name i) = option_map (λ c. content.Val c.val) (slice_get cells i)
+part_with head tail closed next cells (place.Idx name i) = option_map (λ c. content.Idx c.safe c.idx) (slice_get cells i)
 part_with head tail closed next cells _ = None
 
 -- the content of each place of this segment
@@ -50,8 +54,8 @@ pub record RestoresAt {R : ℕ} (place : SegName → Place) (content : Content) 
 
 -- the answer of a compare-and-swap that won, or that lost
 abbrev pub swap_answer : Bool → Answer
-swap_answer won = if won then Won else Lost
+swap_answer won = if won then answer.Won else answer.Lost
 
 -- what a compare-and-swap wrote of its place: this if it won, else nothing
 abbrev pub swap_wrote : Bool → Wrote → Wrote
-swap_wrote won wrote = if won then wrote else WroteNothing
+swap_wrote won written = if won then written else wrote.Nothing

@@ -1,7 +1,9 @@
 //! The segment and its operations.
 
 ghost use Rattle.std.specs.Prelude.{◌≡◌, ℕ, ◌<◌, ◌≤◌, ◌↔◌, true, false, Some, None, Err, IsSome, IsTrue, IfOk, IfErr, OnErr, option_map, slice_get, length};
-ghost use Rattle.rd_ring.specs.Prelude.{COUNTER_END, MOST_CELLS, SegName, Head, Tail, Next, CellAt, ValAt, IdxAt, WrotePlace, Content, Number, TailIs, NextIs, CellIs, ValIs, IdxIs, Add, Close, CasTail, CasNext, Cas2, Found, WasClosed, root, fresh_segment, holding, new_cell, operand, wrote_cell};
+ghost use Rattle.rd_ring.specs.Prelude.{COUNTER_END, MOST_CELLS, SegName, Content, Add, Close, CasTail, CasNext, Cas2, root, fresh_segment, holding, new_cell, operand, wrote_cell};
+ghost use Rattle.rd_cell.specs.declared.operations.Answer.TheVariants as Answer;
+ghost use Rattle.rd_cell.specs.declared.places.Wrote.TheVariants as Wrote;
 
 use super::parts::SegmentParts;
 use rd_cell::limits::COUNTER_END;
@@ -133,16 +135,16 @@ impl<const R: usize> Segment<R> {
 
     /// Returns the name of the segment that follows, or none.
     pub fn next(&self) -> Option<SegName>
-        ensures { (s : SegName) → part self.now (Next s) ≡ Some (NextIs result) }
+        ensures { (s : SegName) → part self.now (Place.Next s) ≡ Some (Content.Next result) }
     {
         self.next
     }
 
     /// Returns the cell of this index, or none if the index is `R` or more.
     pub fn cell(&self, i: u8) -> Option<Cell>
-        ensures value { (s : SegName) → operand (part self.now) (CellAt s i) ≡ option_map CellIs result }
-        ensures value_half { (s : SegName) → part self.now (ValAt s i) ≡ option_map (λ c. ValIs c.val) result }
-        ensures index_half { (s : SegName) → part self.now (IdxAt s i) ≡ option_map (λ c. IdxIs c.safe c.idx) result }
+        ensures value { (s : SegName) → operand (part self.now) (Place.Cell s i) ≡ option_map Content.Cell result }
+        ensures value_half { (s : SegName) → part self.now (Place.Val s i) ≡ option_map (λ c. Content.Val c.val) result }
+        ensures index_half { (s : SegName) → part self.now (Place.Idx s i) ≡ option_map (λ c. Content.Idx c.safe c.idx) result }
         ensures there { IsSome result ↔ (i < R) }
     {
         self.cells.get(i as usize).copied()
@@ -154,8 +156,8 @@ impl<const R: usize> Segment<R> {
     ///
     /// `CounterEnd` exactly if the counter is 2^62; the segment is then as before.
     pub fn add_head(&mut self) -> Result<u64, Refusal>
-        ensures ok { IfOk result (λ n. OperatesAt Head Add (Number n) (Found (Number n)) WrotePlace self.old self.new) }
-        ensures err { IfErr result (λ e. RefusesAt Head Add self.old e) }
+        ensures ok { IfOk result (λ n. OperatesAt Place.Head Add (Content.Number n) (Answer.Found (Content.Number n)) Wrote.Place self.old self.new) }
+        ensures err { IfErr result (λ e. RefusesAt Place.Head Add self.old e) }
         ensures end { (result ≡ Err Refusal.CounterEnd) ↔ (head_count self.old ≡ COUNTER_END) }
         ensures unchanged { OnErr result (self.new ≡ self.old) }
     {
@@ -173,8 +175,8 @@ impl<const R: usize> Segment<R> {
     ///
     /// `CounterEnd` exactly if the counter is 2^62; the segment is then as before.
     pub fn add_tail(&mut self) -> Result<(bool, u64), Refusal>
-        ensures ok { IfOk result (λ old. OperatesAt Tail Add (TailIs old.0 old.1) (Found (TailIs old.0 old.1)) WrotePlace self.old self.new) }
-        ensures err { IfErr result (λ e. RefusesAt Tail Add self.old e) }
+        ensures ok { IfOk result (λ old. OperatesAt Place.Tail Add (Content.Tail old.0 old.1) (Answer.Found (Content.Tail old.0 old.1)) Wrote.Place self.old self.new) }
+        ensures err { IfErr result (λ e. RefusesAt Place.Tail Add self.old e) }
         ensures end { (result ≡ Err Refusal.CounterEnd) ↔ (tail_count self.old ≡ COUNTER_END) }
         ensures unchanged { OnErr result (self.new ≡ self.old) }
     {
@@ -188,7 +190,7 @@ impl<const R: usize> Segment<R> {
 
     /// Test-and-set of the closed bit: returns the old bit.
     pub fn close(&mut self) -> bool
-        ensures { OperatesAt Tail Close (TailIs result (tail_count self.old)) (WasClosed result) WrotePlace self.old self.new }
+        ensures { OperatesAt Place.Tail Close (Content.Tail result (tail_count self.old)) (Answer.WasClosed result) Wrote.Place self.old self.new }
     {
         let old = self.closed;
         self.closed = true;
@@ -199,8 +201,8 @@ impl<const R: usize> Segment<R> {
     /// won.
     pub fn cas_tail(&mut self, old: u64, new: u64) -> bool
         requires { new ≤ COUNTER_END }
-        ensures { (c : Content) → part self.old (Tail root) ≡ Some c
-            → OperatesAt Tail (CasTail old new) c (swap_answer result) (swap_wrote result WrotePlace) self.old self.new }
+        ensures { (c : Content) → part self.old (Place.Tail root) ≡ Some c
+            → OperatesAt Place.Tail (CasTail old new) c (swap_answer result) (swap_wrote result Wrote.Place) self.old self.new }
     {
         let won = !self.closed && self.tail == old;
         if won {
@@ -211,8 +213,8 @@ impl<const R: usize> Segment<R> {
 
     /// Compare-and-swap of the next, from none: returns whether it won.
     pub fn cas_next(&mut self, new: SegName) -> bool
-        ensures { (c : Content) → part self.old (Next root) ≡ Some c
-            → OperatesAt Next (CasNext new) c (swap_answer result) (swap_wrote result WrotePlace) self.old self.new }
+        ensures { (c : Content) → part self.old (Place.Next root) ≡ Some c
+            → OperatesAt Place.Next (CasNext new) c (swap_answer result) (swap_wrote result Wrote.Place) self.old self.new }
     {
         let won = self.next.is_none();
         if won {
@@ -224,8 +226,8 @@ impl<const R: usize> Segment<R> {
     /// Compare-and-swap of a whole cell: returns whether it won.
     pub fn cas2_cell(&mut self, i: u8, old: Cell, new: Cell) -> bool
         requires { i < R }
-        ensures { (c : Content) → operand (part self.old) (CellAt root i) ≡ Some c
-            → OperatesAt (λ s. CellAt s i) (Cas2 old new) c (swap_answer result) (swap_wrote result (wrote_cell old new)) self.old self.new }
+        ensures { (c : Content) → operand (part self.old) (Place.Cell root i) ≡ Some c
+            → OperatesAt (λ s. Place.Cell s i) (Cas2 old new) c (swap_answer result) (swap_wrote result (wrote_cell old new)) self.old self.new }
     {
         let mut cell = self.cells[usize::from(i)];
         let won = cell.cas2(old, new);
@@ -236,7 +238,7 @@ impl<const R: usize> Segment<R> {
     /// Sets the head counter back to this old value: the inverse of what writes the head.
     pub fn restore_head(&mut self, count: u64)
         requires { count ≤ COUNTER_END }
-        ensures { RestoresAt Head (Number count) self.old self.new }
+        ensures { RestoresAt Place.Head (Content.Number count) self.old self.new }
     {
         self.head = count;
     }
@@ -245,7 +247,7 @@ impl<const R: usize> Segment<R> {
     /// the tail.
     pub fn restore_tail(&mut self, closed: bool, count: u64)
         requires { count ≤ COUNTER_END }
-        ensures { RestoresAt Tail (TailIs closed count) self.old self.new }
+        ensures { RestoresAt Place.Tail (Content.Tail closed count) self.old self.new }
     {
         self.closed = closed;
         self.tail = count;
@@ -253,7 +255,7 @@ impl<const R: usize> Segment<R> {
 
     /// Sets the next back to this old name, or to none: the inverse of what writes the next.
     pub fn restore_next(&mut self, next: Option<SegName>)
-        ensures { RestoresAt Next (NextIs next) self.old self.new }
+        ensures { RestoresAt Place.Next (Content.Next next) self.old self.new }
     {
         self.next = next;
     }
@@ -261,7 +263,7 @@ impl<const R: usize> Segment<R> {
     /// Sets the cell of this index back to this old cell: the inverse of what writes a cell.
     pub fn restore_cell(&mut self, i: u8, cell: Cell)
         requires { i < R }
-        ensures { RestoresAt (λ s. CellAt s i) (CellIs cell) self.old self.new }
+        ensures { RestoresAt (λ s. Place.Cell s i) (Content.Cell cell) self.old self.new }
     {
         self.cells[usize::from(i)] = cell;
     }
@@ -269,7 +271,7 @@ impl<const R: usize> Segment<R> {
     /// Sets the value of a cell back to this old one: the inverse of what writes a value half.
     pub fn restore_value(&mut self, i: u8, val: Option<u64>)
         requires { i < R }
-        ensures { RestoresAt (λ s. ValAt s i) (ValIs val) self.old self.new }
+        ensures { RestoresAt (λ s. Place.Val s i) (Content.Val val) self.old self.new }
     {
         self.cells[usize::from(i)].val = val;
     }
@@ -278,7 +280,7 @@ impl<const R: usize> Segment<R> {
     /// an index half.
     pub fn restore_index(&mut self, i: u8, safe: bool, idx: u64)
         requires { i < R }
-        ensures { RestoresAt (λ s. IdxAt s i) (IdxIs safe idx) self.old self.new }
+        ensures { RestoresAt (λ s. Place.Idx s i) (Content.Idx safe idx) self.old self.new }
     {
         let cell = &mut self.cells[usize::from(i)];
         cell.safe = safe;

@@ -1,7 +1,7 @@
 -- What the words of a line say, the line says; and what is said of a line that spells a command.
 use Rattle.std.proofs.Common.{◌≡◌, ◌≢◌, ℕ, ◌<◌, ◌≤◌, ◌==◌, List, [], ◌∷◌, length, drop, Result, Ok, Err, sym, ◌∙◌, ap, subst, arith, slice_index_or}
 use Rattle.rd_script.proofs.Prelude.{slice_split, IsOkAnd, Command, LineFault, Keyword, keyword_text, keyword_of, arguments_of, words_of, names_after, most_line_bytes, spelling, IsInRange, AreOne, NamesBadly, IsMisnamed, Says, ReadsCommand}
-use Rattle.rd_script.specs.declared.faults.LineFault.TheVariants.{BadLine, LineTooLong, BadName}
+use Rattle.rd_script.specs.declared.faults.LineFault.TheVariants as fault
 use Rattle.rd_script.proofs.KeywordLemmas.{one_keyword}
 use Rattle.rd_script.proofs.NameReadLemmas.{not_badly_named}
 use Rattle.rd_script.proofs.OneLemmas.{one_command}
@@ -38,23 +38,23 @@ misnamed_words line h = record {
 }
 
 -- a line is bad if its words are those of no command and of no misnamed line
-bad_line : (line : List ℕ) → length line ≤ most_line_bytes → ((c : Command) → IsInRange c → cut line ≢ keyword_text (keyword_of c) ∷ words_of (arguments_of c)) → (MisnamedWords (cut line) → ⊥) → Says line (Err BadLine)
+bad_line : (line : List ℕ) → length line ≤ most_line_bytes → ((c : Command) → IsInRange c → cut line ≢ keyword_text (keyword_of c) ∷ words_of (arguments_of c)) → (MisnamedWords (cut line) → ⊥) → Says line (Err fault.BadLine)
 bad_line line few none good = (few, (λ c small e. none c small (words_of_line line c small e)), (λ bad. good (misnamed_words line bad)))
 
 -- a line of more than four words is bad
-pub too_many_words : (line : List ℕ) → length line ≤ most_line_bytes → 4 < length (slice_split (λ byte. byte == 32) line) → Says line (Err BadLine)
+pub too_many_words : (line : List ℕ) → length line ≤ most_line_bytes → 4 < length (slice_split (λ byte. byte == 32) line) → Says line (Err fault.BadLine)
 too_many_words line few many = bad_line line few (λ c small e. absurd (omega (arith, many, ap length e, few_arguments c))) (λ bad. absurd (omega (arith, many, ap length bad.whole, bad.few)))
 
 -- what the words after the keyword say, the line says
 pub says_words : (line : List ℕ) (k : Keyword) (words : List (List ℕ)) (r : Result Command LineFault) → length line ≤ most_line_bytes → keyword_text k ∷ words ≡ slice_split (λ byte. byte == 32) line → ReadsCommand k words r → Says line r
 says_words line k words (Ok c) few is reads =
     (few, reads.0, join_of_parts 32 line _ (ap (λ word. keyword_text word ∷ words_of (arguments_of c)) reads.1 ∙ ap (λ ws. keyword_text k ∷ ws) (sym reads.2) ∙ is))
-says_words line k words (Err BadLine) few is reads =
+says_words line k words (Err fault.BadLine) few is reads =
     bad_line line few (λ c small e. let same = is ∙ e in reads.0 c small (sym (one_keyword k (keyword_of c) (ap first_word same))) (ap (drop 1) same))
     (λ bad. let same = is ∙ bad.whole in
     reads.1 (subst (λ word. NamesBadly word words) (sym (one_keyword k bad.keyword (ap first_word same))) (subst (NamesBadly bad.keyword) (sym (ap (drop 1) same)) bad.bad)))
-says_words line k words (Err BadName) few is bad = (few, (k, words, bad, join_of_parts 32 line (keyword_text k ∷ words) is))
-says_words line k words (Err LineTooLong) few is never = absurd never
+says_words line k words (Err fault.BadName) few is bad = (few, (k, words, bad, join_of_parts 32 line (keyword_text k ∷ words) is))
+says_words line k words (Err fault.LineTooLong) few is never = absurd never
 
 -- no misnamed line spells a command
 not_misnamed : (line : List ℕ) → IsMisnamed line → (c : Command) → IsInRange c → line ≡ spelling c → ⊥
@@ -68,6 +68,6 @@ pub one_said : (line : List ℕ) (r : Result Command LineFault) → Says line r 
 one_said line (Ok d) said c few small e =
     let same = sym (words_of_line line c small e) ∙ words_of_line line d said.1 said.2 in
     one_command c d small said.1 (one_keyword (keyword_of c) (keyword_of d) (ap first_word same)) (ap (drop 1) same)
-one_said line (Err BadLine) said c few small e = said.1 c small e
-one_said line (Err BadName) said c few small e = not_misnamed line said.1 c small e
-one_said line (Err LineTooLong) said c few small e = absurd (omega (arith, few, said))
+one_said line (Err fault.BadLine) said c few small e = said.1 c small e
+one_said line (Err fault.BadName) said c few small e = not_misnamed line said.1 c small e
+one_said line (Err fault.LineTooLong) said c few small e = absurd (omega (arith, few, said))

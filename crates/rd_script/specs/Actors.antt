@@ -2,7 +2,7 @@
 use Rattle.std.specs.Prelude.{ℕ, List, ◌++◌, codes, Option, Some, None}
 use Rattle.rd_step.specs.Prelude.{Actor}
 use Rattle.rd_actor.specs.declared.actors.Op.{Op}
-use Rattle.rd_actor.specs.declared.actors.Op.TheVariants.{Enq, Deq, AEnq, ADeq}
+use Rattle.rd_actor.specs.declared.actors.Op.TheVariants as op
 use Rattle.rd_actor.specs.Labels.{label}
 use Rattle.rd_script.specs.Texts.{spaced_number, bit_number}
 use Rattle.rd_script.specs.Contents.{name_words, value_words}
@@ -10,10 +10,10 @@ use Rattle.rd_script.specs.Contents.{name_words, value_words}
 -- the words of the call that an actor is in, or `none`
 abbrev pub op_words : Option Op → List ℕ
 op_words None = codes "none"
-op_words (Some (Enq x)) = codes "enq" ++ spaced_number x
-op_words (Some Deq) = codes "deq"
-op_words (Some (AEnq x)) = codes "aenq" ++ spaced_number x
-op_words (Some ADeq) = codes "adeq"
+op_words (Some (op.Enq x)) = codes "enq" ++ spaced_number x
+op_words (Some op.Deq) = codes "deq"
+op_words (Some (op.AEnq x)) = codes "aenq" ++ spaced_number x
+op_words (Some op.ADeq) = codes "adeq"
 
 -- the words of an actor's control point, and of the call that it is in
 abbrev pub call_words : Actor → List ℕ

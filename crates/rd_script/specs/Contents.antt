@@ -3,8 +3,9 @@ use Rattle.std.specs.Option.{option_map_or}
 use Rattle.std.specs.Prelude.{ℕ, Bool, true, false, List, ◌++◌, codes, Option}
 use Rattle.std.specs.Fmt.{decimal}
 use Rattle.rd_step.specs.Prelude.{SegName, Content, Cell, ArrSlot}
-use Rattle.rd_step.specs.Prelude.{Name, Number, TailIs, NextIs, CellIs, ValIs, IdxIs, Whole, Slot, Empty, Top, Held}
 use Rattle.rd_script.specs.Texts.{spaced_number, bit_number}
+use Rattle.rd_cell.specs.declared.contents.ArrSlot.TheVariants as slot
+use Rattle.rd_cell.specs.declared.contents.Content.TheVariants as content
 
 -- the words of a segment's name: its maker, a full stop, and its number
 abbrev pub name_words : SegName → List ℕ
@@ -33,18 +34,18 @@ index_words safe idx = decimal (bit_number safe) ++ spaced_number idx
 
 -- the words of a slot of the array
 abbrev pub slot_words : ArrSlot → List ℕ
-slot_words Empty = codes "empty"
-slot_words Top = codes "top"
-slot_words (Held x) = codes "value" ++ spaced_number x
+slot_words slot.Empty = codes "empty"
+slot_words slot.Top = codes "top"
+slot_words (slot.Value x) = codes "value" ++ spaced_number x
 
 -- the words of the content of a place
 abbrev pub content_words : Content → List ℕ
-content_words (Name s) = name_words s
-content_words (Number n) = decimal n
-content_words (TailIs closed count) = tail_word closed ++ spaced_number count
-content_words (NextIs next) = next_words next
-content_words (CellIs c) = cell_words c
-content_words (ValIs val) = value_words val
-content_words (IdxIs safe idx) = index_words safe idx
-content_words Whole = codes "exists"
-content_words (Slot slot) = slot_words slot
+content_words (content.Name s) = name_words s
+content_words (content.Number n) = decimal n
+content_words (content.Tail closed count) = tail_word closed ++ spaced_number count
+content_words (content.Next next) = next_words next
+content_words (content.Cell c) = cell_words c
+content_words (content.Val val) = value_words val
+content_words (content.Idx safe idx) = index_words safe idx
+content_words content.Whole = codes "exists"
+content_words (content.Slot slot) = slot_words slot

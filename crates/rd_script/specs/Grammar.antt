@@ -2,7 +2,7 @@
 -- each.
 use Rattle.std.specs.Prelude.{◌≡◌, ℕ, ◌<◌, ◌^◌, Bool, true, List, [], ◌∷◌, codes, map}
 use Rattle.std.specs.Fmt.{decimal}
-use Rattle.rd_step.specs.Prelude.{SegName, Place, QHead, QTail, Head, Tail, Next, CellAt, ValAt, IdxAt, WholeOf, ArrHead, ArrTail, ArrCell}
+use Rattle.rd_step.specs.Prelude.{SegName, Place}
 use Rattle.rd_marks.specs.NameBytes.{is_mark_name}
 use Rattle.rd_marks.specs.Names.{bytes_of}
 use Rattle.rd_marks.specs.declared.commands.Command.{Command}
@@ -13,6 +13,7 @@ use Rattle.rd_script.specs.declared.reading.places.PlaceKind.{PlaceKind}
 use Rattle.rd_script.specs.declared.reading.places.PlaceKind.TheVariants as kind
 use Rattle.rd_script.specs.Texts.{yes_or_no}
 use Rattle.rd_script.specs.Contents.{name_words}
+use Rattle.rd_cell.specs.declared.places.Place.TheVariants as place
 
 -- the text of a keyword
 abbrev pub keyword_text : Keyword → List ℕ
@@ -57,18 +58,18 @@ kind_text kind.ArrCell = codes "acell"
 
 -- the kind of a place
 abbrev pub kind_of : Place → PlaceKind
-kind_of QHead = kind.QHead
-kind_of QTail = kind.QTail
-kind_of (Head s) = kind.Head
-kind_of (Tail s) = kind.Tail
-kind_of (Next s) = kind.Next
-kind_of (CellAt s i) = kind.Cell
-kind_of (ValAt s i) = kind.Value
-kind_of (IdxAt s i) = kind.Index
-kind_of (WholeOf s) = kind.Whole
-kind_of ArrHead = kind.ArrHead
-kind_of ArrTail = kind.ArrTail
-kind_of (ArrCell i) = kind.ArrCell
+kind_of place.QHead = kind.QHead
+kind_of place.QTail = kind.QTail
+kind_of (place.Head s) = kind.Head
+kind_of (place.Tail s) = kind.Tail
+kind_of (place.Next s) = kind.Next
+kind_of (place.Cell s i) = kind.Cell
+kind_of (place.Val s i) = kind.Value
+kind_of (place.Idx s i) = kind.Index
+kind_of (place.Whole s) = kind.Whole
+kind_of place.ArrHead = kind.ArrHead
+kind_of place.ArrTail = kind.ArrTail
+kind_of (place.ArrCell i) = kind.ArrCell
 
 -- an argument of a command: an actor's or a cell's number, any other number, a segment, a choice,
 -- the bytes of a bookmark's name, or a kind of place
@@ -91,14 +92,14 @@ word_of (Kind k) = kind_text k
 
 -- the arguments of a place after its kind
 abbrev pub place_arguments : Place → List Argument
-place_arguments (Head s) = Segment s ∷ []
-place_arguments (Tail s) = Segment s ∷ []
-place_arguments (Next s) = Segment s ∷ []
-place_arguments (CellAt s i) = Segment s ∷ Byte i ∷ []
-place_arguments (ValAt s i) = Segment s ∷ Byte i ∷ []
-place_arguments (IdxAt s i) = Segment s ∷ Byte i ∷ []
-place_arguments (WholeOf s) = Segment s ∷ []
-place_arguments (ArrCell i) = Byte i ∷ []
+place_arguments (place.Head s) = Segment s ∷ []
+place_arguments (place.Tail s) = Segment s ∷ []
+place_arguments (place.Next s) = Segment s ∷ []
+place_arguments (place.Cell s i) = Segment s ∷ Byte i ∷ []
+place_arguments (place.Val s i) = Segment s ∷ Byte i ∷ []
+place_arguments (place.Idx s i) = Segment s ∷ Byte i ∷ []
+place_arguments (place.Whole s) = Segment s ∷ []
+place_arguments (place.ArrCell i) = Byte i ∷ []
 place_arguments _ = []
 
 -- the keyword of a command, and the arguments that follow it

@@ -8,7 +8,7 @@ use Rattle.rd_marks.specs.Names.{bytes_of}
 use Rattle.rd_marks.specs.declared.names.MarkName.{MarkName}
 use Rattle.rd_marks.specs.declared.commands.Command.{Command}
 use Rattle.rd_script.specs.declared.faults.LineFault.{LineFault}
-use Rattle.rd_script.specs.declared.faults.LineFault.TheVariants.{BadLine, LineTooLong, BadName}
+use Rattle.rd_script.specs.declared.faults.LineFault.TheVariants as fault
 use Rattle.rd_script.specs.declared.reading.keywords.Keyword.{Keyword}
 use Rattle.rd_script.specs.declared.reading.places.PlaceKind.{PlaceKind}
 use Rattle.rd_script.specs.Grammar.{keyword_of, arguments_of, kind_text, kind_of, place_arguments, words_of, AreArgumentsInRange, names_after}
@@ -17,16 +17,16 @@ use Rattle.rd_script.specs.Spelling.{IsInRange, NamesBadly, is_word}
 -- the result of reading a word as a bookmark's name
 abbrev pub ReadsName : List ℕ → Result MarkName LineFault → Type 0
 ReadsName word (Ok name) = (is_mark_name word ≡ true) × (bytes_of name ≡ word)
-ReadsName word (Err BadLine) = is_word word ≡ false
-ReadsName word (Err BadName) = (is_word word ≡ true) × (is_mark_name word ≡ false)
-ReadsName word (Err LineTooLong) = ⊥
+ReadsName word (Err fault.BadLine) = is_word word ≡ false
+ReadsName word (Err fault.BadName) = (is_word word ≡ true) × (is_mark_name word ≡ false)
+ReadsName word (Err fault.LineTooLong) = ⊥
 
 -- why these words are not this many bookmarks' names: they are not this many words, or one of them
 -- is no bookmark's name
 abbrev pub AreNoNames : ℕ → List (List ℕ) → LineFault → Type 0
-AreNoNames count words BadLine = length words ≡ count → list_all is_word words ≡ true → ⊥
-AreNoNames count words BadName = (length words ≡ count) × (list_all is_word words ≡ true) × (list_all is_mark_name words ≡ false)
-AreNoNames count words LineTooLong = ⊥
+AreNoNames count words fault.BadLine = length words ≡ count → list_all is_word words ≡ true → ⊥
+AreNoNames count words fault.BadName = (length words ≡ count) × (list_all is_word words ≡ true) × (list_all is_mark_name words ≡ false)
+AreNoNames count words fault.LineTooLong = ⊥
 
 -- the result of reading words as a place
 abbrev pub ReadsPlace : List (List ℕ) → Option Place → Type 0
@@ -41,10 +41,10 @@ ReadsKind kind words None = (place : Place) → AreArgumentsInRange (place_argum
 -- the result of reading the words after a keyword as a command of that keyword
 abbrev pub ReadsCommand : Keyword → List (List ℕ) → Result Command LineFault → Type 0
 ReadsCommand keyword words (Ok command) = IsInRange command × (keyword_of command ≡ keyword) × (words ≡ words_of (arguments_of command))
-ReadsCommand keyword words (Err BadLine) =
+ReadsCommand keyword words (Err fault.BadLine) =
     ((command : Command) → IsInRange command → keyword_of command ≡ keyword → words ≢ words_of (arguments_of command)) × (NamesBadly keyword words → ⊥)
-ReadsCommand keyword words (Err BadName) = NamesBadly keyword words
-ReadsCommand keyword words (Err LineTooLong) = ⊥
+ReadsCommand keyword words (Err fault.BadName) = NamesBadly keyword words
+ReadsCommand keyword words (Err fault.LineTooLong) = ⊥
 
 -- the result of reading the words after a keyword without names as a command of that keyword; none
 -- after a keyword with names

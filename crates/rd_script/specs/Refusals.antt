@@ -1,44 +1,45 @@
 -- The number, the name and the data of each refusal.
 use Rattle.std.specs.Prelude.{ℕ, List, [], ◌++◌, codes}
-use Rattle.rd_step.specs.Prelude.{Refusal, NoActor, NotIdle, ActorIdle as Idle, NeedsChoice, NoChoice, CounterEnd, SegmentsEnd, ArrayEnd, TooLong, NothingToUndo, NothingToRedo, NoSuchStep, Depended, NoMark, MarkTaken, TooManyMarks, BadName, NotATake, NoSuchPlace, NoMemory}
+use Rattle.rd_step.specs.Prelude.{Refusal}
 use Rattle.rd_step.specs.Parts.{flaw_number}
 use Rattle.rd_script.specs.declared.faults.LineFault.{LineFault}
-use Rattle.rd_script.specs.declared.faults.LineFault.TheVariants.{BadLine, LineTooLong, BadName as LineBadName}
+use Rattle.rd_script.specs.declared.faults.LineFault.TheVariants as fault
 use Rattle.rd_script.specs.declared.faults.ScriptFault.{ScriptFault}
 use Rattle.rd_script.specs.declared.faults.ScriptFault.TheVariants.{Read, Write}
 use Rattle.rd_script.specs.declared.answers.AnyRefusal.{AnyRefusal}
 use Rattle.rd_script.specs.declared.answers.AnyRefusal.TheVariants.{Refused, Unread, Stopped, Flawed, HistoryFull, BadTrace, TraceStep, TicketsEnded, Busy, NotRecorded, TraceMark}
 use Rattle.rd_script.specs.Texts.{spaced_number}
+use Rattle.rd_cell.specs.declared.refusal.Refusal.TheVariants as refusal
 
 -- the number and the name of a refusal
 abbrev pub refusal_name : Refusal → List ℕ
-refusal_name NoActor = codes "1 NoActor"
-refusal_name NotIdle = codes "2 NotIdle"
-refusal_name Idle = codes "3 Idle"
-refusal_name NeedsChoice = codes "4 NeedsChoice"
-refusal_name NoChoice = codes "5 NoChoice"
-refusal_name CounterEnd = codes "6 CounterEnd"
-refusal_name SegmentsEnd = codes "7 SegmentsEnd"
-refusal_name ArrayEnd = codes "8 ArrayEnd"
-refusal_name TooLong = codes "9 TooLong"
-refusal_name (NothingToUndo live) = codes "10 NothingToUndo"
-refusal_name NothingToRedo = codes "11 NothingToRedo"
-refusal_name (NoSuchStep live) = codes "12 NoSuchStep"
-refusal_name (Depended step) = codes "13 Depended"
-refusal_name NoMark = codes "14 NoMark"
-refusal_name MarkTaken = codes "15 MarkTaken"
-refusal_name TooManyMarks = codes "16 TooManyMarks"
-refusal_name BadName = codes "17 BadName"
-refusal_name NotATake = codes "18 NotATake"
-refusal_name NoSuchPlace = codes "19 NoSuchPlace"
-refusal_name NoMemory = codes "20 NoMemory"
+refusal_name refusal.NoActor = codes "1 NoActor"
+refusal_name refusal.NotIdle = codes "2 NotIdle"
+refusal_name refusal.Idle = codes "3 Idle"
+refusal_name refusal.NeedsChoice = codes "4 NeedsChoice"
+refusal_name refusal.NoChoice = codes "5 NoChoice"
+refusal_name refusal.CounterEnd = codes "6 CounterEnd"
+refusal_name refusal.SegmentsEnd = codes "7 SegmentsEnd"
+refusal_name refusal.ArrayEnd = codes "8 ArrayEnd"
+refusal_name refusal.TooLong = codes "9 TooLong"
+refusal_name (refusal.NothingToUndo live) = codes "10 NothingToUndo"
+refusal_name refusal.NothingToRedo = codes "11 NothingToRedo"
+refusal_name (refusal.NoSuchStep live) = codes "12 NoSuchStep"
+refusal_name (refusal.Depended step) = codes "13 Depended"
+refusal_name refusal.NoMark = codes "14 NoMark"
+refusal_name refusal.MarkTaken = codes "15 MarkTaken"
+refusal_name refusal.TooManyMarks = codes "16 TooManyMarks"
+refusal_name refusal.BadName = codes "17 BadName"
+refusal_name refusal.NotATake = codes "18 NotATake"
+refusal_name refusal.NoSuchPlace = codes "19 NoSuchPlace"
+refusal_name refusal.NoMemory = codes "20 NoMemory"
 
 -- the words after a refusal's name, each preceded by a space: the number of live steps, or of a
 -- step, if the refusal has one
 abbrev pub refusal_data : Refusal → List ℕ
-refusal_data (NothingToUndo live) = spaced_number live
-refusal_data (NoSuchStep live) = spaced_number live
-refusal_data (Depended step) = spaced_number step
+refusal_data (refusal.NothingToUndo live) = spaced_number live
+refusal_data (refusal.NoSuchStep live) = spaced_number live
+refusal_data (refusal.Depended step) = spaced_number step
 refusal_data _ = []
 
 -- the words of a refusal: its number, its name, and its data
@@ -47,9 +48,9 @@ refusal_words refusal = refusal_name refusal ++ refusal_data refusal
 
 -- the number and the name of the fault of a line
 abbrev pub fault_name : LineFault → List ℕ
-fault_name BadLine = codes "22 BadLine"
-fault_name LineTooLong = codes "23 LineTooLong"
-fault_name LineBadName = codes "17 BadName"
+fault_name fault.BadLine = codes "22 BadLine"
+fault_name fault.LineTooLong = codes "23 LineTooLong"
+fault_name fault.BadName = codes "17 BadName"
 
 -- the number and the name of what stopped a run
 abbrev pub stop_name : ScriptFault → List ℕ

@@ -6,7 +6,7 @@ use Rattle.rd_step.specs.Prelude.{Place}
 use Rattle.rd_marks.specs.NameBytes.{is_mark_name}
 use Rattle.rd_marks.specs.declared.commands.Command.{Command}
 use Rattle.rd_script.specs.declared.faults.LineFault.{LineFault}
-use Rattle.rd_script.specs.declared.faults.LineFault.TheVariants.{BadLine, LineTooLong, BadName}
+use Rattle.rd_script.specs.declared.faults.LineFault.TheVariants as fault
 use Rattle.rd_script.specs.declared.reading.keywords.Keyword.{Keyword}
 use Rattle.rd_script.specs.Grammar.{keyword_text, keyword_of, arguments_of, kind_text, kind_of, place_arguments, words_of, AreArgumentsInRange, names_after}
 
@@ -51,7 +51,7 @@ most_line_bytes = 256
 -- the line spells this command, or has this fault
 abbrev pub Says : List ℕ → Result Command LineFault → Type 0
 Says line (Ok command) = (length line ≤ most_line_bytes) × IsInRange command × (line ≡ spelling command)
-Says line (Err LineTooLong) = most_line_bytes < length line
-Says line (Err BadName) = (length line ≤ most_line_bytes) × IsMisnamed line
-Says line (Err BadLine) =
+Says line (Err fault.LineTooLong) = most_line_bytes < length line
+Says line (Err fault.BadName) = (length line ≤ most_line_bytes) × IsMisnamed line
+Says line (Err fault.BadLine) =
     (length line ≤ most_line_bytes) × ((command : Command) → IsInRange command → line ≢ spelling command) × (IsMisnamed line → ⊥)

@@ -2,14 +2,15 @@
 -- and what its call replied.
 use Rattle.std.specs.Option.{option_map_or}
 use Rattle.std.specs.Prelude.{ℕ, List, ◌++◌, codes, Option, Some, None}
-use Rattle.rd_cell.specs.declared.operations.Answer.TheVariants.{Nothing, Found, Value as ValueRead, SafeAndIndex, WasClosed, Won, Lost, Made}
-use Rattle.rd_actor.specs.declared.actors.OpReply.TheVariants.{Enqueued, Value, Empty}
-use Rattle.rd_step.specs.Prelude.{Answer, OpReply, Place, Wrote, WroteNothing, WrotePlace, WroteIndex}
+use Rattle.rd_cell.specs.declared.operations.Answer.TheVariants as answer
+use Rattle.rd_actor.specs.declared.actors.OpReply.TheVariants as op_reply
+use Rattle.rd_step.specs.Prelude.{Answer, OpReply, Place, Wrote}
 use Rattle.rd_step.specs.declared.entries.Entry.{Entry}
 use Rattle.rd_script.specs.Texts.{spaced_number}
 use Rattle.rd_script.specs.Events.{event_words}
 use Rattle.rd_script.specs.Contents.{name_words, value_words, tail_word, index_words, content_words}
 use Rattle.rd_script.specs.Spelling.{place_words}
+use Rattle.rd_cell.specs.declared.places.Wrote.TheVariants as wrote
 
 -- the words of a step's place, or a hyphen if it has none
 abbrev pub step_place : Option Place → List ℕ
@@ -17,27 +18,27 @@ step_place o = option_map_or place_words o (codes "-")
 
 -- the word for how a step touched its place, if it has one
 abbrev pub access_word : Option Place → Wrote → List ℕ
-access_word None wrote = codes "none"
-access_word (Some place) WroteNothing = codes "read"
-access_word (Some place) WrotePlace = codes "wrote"
-access_word (Some place) WroteIndex = codes "wrote index"
+access_word None written = codes "none"
+access_word (Some place) wrote.Nothing = codes "read"
+access_word (Some place) wrote.Place = codes "wrote"
+access_word (Some place) wrote.Index = codes "wrote index"
 
 -- the words of what an access answered
 abbrev pub access_answer : Answer → List ℕ
-access_answer Nothing = codes "-"
-access_answer (Found content) = content_words content
-access_answer (ValueRead value) = value_words value
-access_answer (SafeAndIndex safe idx) = index_words safe idx
-access_answer (WasClosed closed) = codes "was " ++ tail_word closed
-access_answer Won = codes "won"
-access_answer Lost = codes "lost"
-access_answer (Made s) = codes "made " ++ name_words s
+access_answer answer.Nothing = codes "-"
+access_answer (answer.Found content) = content_words content
+access_answer (answer.Value value) = value_words value
+access_answer (answer.SafeAndIndex safe idx) = index_words safe idx
+access_answer (answer.WasClosed closed) = codes "was " ++ tail_word closed
+access_answer answer.Won = codes "won"
+access_answer answer.Lost = codes "lost"
+access_answer (answer.Made s) = codes "made " ++ name_words s
 
 -- the words of what a call replied
 abbrev pub reply_word : OpReply → List ℕ
-reply_word Enqueued = codes "enqueued"
-reply_word (Value x) = codes "value" ++ spaced_number x
-reply_word Empty = codes "empty"
+reply_word op_reply.Enqueued = codes "enqueued"
+reply_word (op_reply.Value x) = codes "value" ++ spaced_number x
+reply_word op_reply.Empty = codes "empty"
 
 -- the words of what a call replied, if the step ended one, else a hyphen
 abbrev pub step_reply : Option OpReply → List ℕ

@@ -1,73 +1,78 @@
 -- The array's map after an operation on one of its places.
 use Rattle.std.proofs.Common.{◌≡◌, ℕ, ◌+◌, ◌<◌, false, nat_lt, inl, inr, refl, sym, ◌∙◌, ap, subst, List, length, set, get_or, Some, None, option_map, slice_get, Result, IfOk, lt-ltb, le-ltb, arith}
-use Rattle.rd_segments.proofs.Prelude.{cases_lt, cond-true, cond-false, slice_get_past, slice_get-get_or, SLOTS, Place, ArrHead, ArrTail, ArrCell, Empty, WroteNothing, WrotePlace, Number, Slot, Operation, Read, Found, Done, Refusal, is_place, effect, everywhere, Operates, OperatesOn, slice_get-set_same, slice_get-set_other, read_on, place_operates, fresh_array}
+use Rattle.rd_segments.proofs.Prelude.{cases_lt, cond-true, cond-false, slice_get_past, slice_get-get_or, SLOTS, Place, Operation, Read, Done, Refusal, place_eq, effect, everywhere, Operates, OperatesOn, slice_get-set_same, slice_get-set_other, read_on, place_operates, fresh_array}
 use Rattle.std.proofs.Math.ListN.{replicate}
 use Rattle.std.proofs.lemmas.Bool.{eqb-false}
 use Rattle.std.proofs.lemmas.List.{get_or-replicate}
-use Rattle.rd_ring.specs.Prelude.{ArrSlot, AddArray, Swap}
+use Rattle.rd_ring.specs.Prelude.{ArrSlot}
 use Rattle.rd_segments.specs.Array.{array_of}
+use Rattle.rd_cell.specs.declared.places.Place.TheVariants as place
+use Rattle.rd_cell.specs.declared.places.Wrote.TheVariants as wrote
+use Rattle.rd_cell.specs.declared.contents.ArrSlot.TheVariants as slot
+use Rattle.rd_cell.specs.declared.contents.Content.TheVariants as content
+use Rattle.rd_cell.specs.declared.operations.Answer.TheVariants as answer
 
 -- each slot of a fresh array is empty
-fresh_slot : (i : ℕ) → option_map Slot (slice_get (replicate SLOTS Empty) i) ≡ fresh_array (ArrCell i)
+fresh_slot : (i : ℕ) → option_map content.Slot (slice_get (replicate SLOTS slot.Empty) i) ≡ fresh_array (place.ArrCell i)
 fresh_slot i =
     elim (cases_lt i SLOTS) [
       | inl lt ↦
-          ap (option_map Slot) (slice_get-get_or (replicate SLOTS Empty) i Empty lt ∙ ap Some (get_or-replicate SLOTS i Empty Empty lt))
-          ∙ sym (cond-true (nat_lt i SLOTS) (Some (Slot Empty)) None (lt-ltb i SLOTS lt))
+          ap (option_map content.Slot) (slice_get-get_or (replicate SLOTS slot.Empty) i slot.Empty lt ∙ ap Some (get_or-replicate SLOTS i slot.Empty slot.Empty lt))
+          ∙ sym (cond-true (nat_lt i SLOTS) (Some (content.Slot slot.Empty)) None (lt-ltb i SLOTS lt))
       | inr past ↦
-          ap (option_map Slot) (slice_get_past (replicate SLOTS Empty) i past)
-          ∙ sym (cond-false (nat_lt i SLOTS) (Some (Slot Empty)) None (le-ltb i SLOTS past))
+          ap (option_map content.Slot) (slice_get_past (replicate SLOTS slot.Empty) i past)
+          ∙ sym (cond-false (nat_lt i SLOTS) (Some (content.Slot slot.Empty)) None (le-ltb i SLOTS past))
     ]
 
-pub fresh_by : array_of 0 0 (replicate SLOTS Empty) ≡ fresh_array
+pub fresh_by : array_of 0 0 (replicate SLOTS slot.Empty) ≡ fresh_array
 fresh_by = grind (arith, replicate, fresh_slot)
 
 -- A counter and a slot
 
 pub reads_counter : (p : Place) (op : Operation) (n : ℕ) (done : Done) → op ≡ Read
-    → done ≡ record { place = Some p; old = Some (Number n); answer = Found (Number n); wrote = WroteNothing } → OperatesOn p op done (Number n) (Number n)
-reads_counter p op n done is notes = read_on p op (Number n) (Found (Number n)) done (ap (λ (o : Operation). effect o (Number n)) is) notes
+    → done ≡ record { place = Some p; old = Some (content.Number n); answer = answer.Found (content.Number n); wrote = wrote.Nothing } → OperatesOn p op done (content.Number n) (content.Number n)
+reads_counter p op n done is notes = read_on p op (content.Number n) (answer.Found (content.Number n)) done (ap (λ (o : Operation). effect o (content.Number n)) is) notes
 
 -- One place of the array
 
-head_other : (m n tail : ℕ) (cells : List ArrSlot) (q : Place) → is_place ArrHead q ≡ false → array_of n tail cells q ≡ array_of m tail cells q
+head_other : (m n tail : ℕ) (cells : List ArrSlot) (q : Place) → place_eq place.ArrHead q ≡ false → array_of n tail cells q ≡ array_of m tail cells q
 head_other m n tail cells q h = grind arith
 
-tail_other : (head m n : ℕ) (cells : List ArrSlot) (q : Place) → is_place ArrTail q ≡ false → array_of head n cells q ≡ array_of head m cells q
+tail_other : (head m n : ℕ) (cells : List ArrSlot) (q : Place) → place_eq place.ArrTail q ≡ false → array_of head n cells q ≡ array_of head m cells q
 tail_other head m n cells q h = grind arith
 
-slot_other : (head tail : ℕ) (cells : List ArrSlot) (i : ℕ) (slot : ArrSlot) (q : Place) → is_place (ArrCell i) q ≡ false
+slot_other : (head tail : ℕ) (cells : List ArrSlot) (i : ℕ) (slot : ArrSlot) (q : Place) → place_eq (place.ArrCell i) q ≡ false
     → array_of head tail (set cells i slot) q ≡ array_of head tail cells q
 slot_other head tail cells i slot q h = grind (arith, eqb-false, option_map, slice_get-set_other)
 
-pub head_does : (m n tail : ℕ) (cells : List ArrSlot) (p : Place) (op : Operation) → p ≡ ArrHead → (r : Result Done Refusal)
-    → IfOk r (λ done. OperatesOn p op done (Number m) (Number n)) → IfOk r (λ done. Operates everywhere p op done (array_of m tail cells) (array_of n tail cells))
+pub head_does : (m n tail : ℕ) (cells : List ArrSlot) (p : Place) (op : Operation) → p ≡ place.ArrHead → (r : Result Done Refusal)
+    → IfOk r (λ done. OperatesOn p op done (content.Number m) (content.Number n)) → IfOk r (λ done. Operates everywhere p op done (array_of m tail cells) (array_of n tail cells))
 head_does m n tail cells p op at r =
-    subst (λ (x : Place). IfOk r (λ done. OperatesOn x op done (Number m) (Number n))
+    subst (λ (x : Place). IfOk r (λ done. OperatesOn x op done (content.Number m) (content.Number n))
     → IfOk r (λ done. Operates everywhere x op done (array_of m tail cells) (array_of n tail cells))) (sym at)
-    (place_operates ArrHead op (Number m) (Number n) (array_of m tail cells) (array_of n tail cells) (λ q. refl) refl refl refl
+    (place_operates place.ArrHead op (content.Number m) (content.Number n) (array_of m tail cells) (array_of n tail cells) (λ q. refl) refl refl refl
     (λ q e. head_other m n tail cells q e) r)
 
-pub tail_does : (head m n : ℕ) (cells : List ArrSlot) (p : Place) (op : Operation) → p ≡ ArrTail → (r : Result Done Refusal)
-    → IfOk r (λ done. OperatesOn p op done (Number m) (Number n)) → IfOk r (λ done. Operates everywhere p op done (array_of head m cells) (array_of head n cells))
+pub tail_does : (head m n : ℕ) (cells : List ArrSlot) (p : Place) (op : Operation) → p ≡ place.ArrTail → (r : Result Done Refusal)
+    → IfOk r (λ done. OperatesOn p op done (content.Number m) (content.Number n)) → IfOk r (λ done. Operates everywhere p op done (array_of head m cells) (array_of head n cells))
 tail_does head m n cells p op at r =
-    subst (λ (x : Place). IfOk r (λ done. OperatesOn x op done (Number m) (Number n))
+    subst (λ (x : Place). IfOk r (λ done. OperatesOn x op done (content.Number m) (content.Number n))
     → IfOk r (λ done. Operates everywhere x op done (array_of head m cells) (array_of head n cells))) (sym at)
-    (place_operates ArrTail op (Number m) (Number n) (array_of head m cells) (array_of head n cells) (λ q. refl) refl refl refl
+    (place_operates place.ArrTail op (content.Number m) (content.Number n) (array_of head m cells) (array_of head n cells) (λ q. refl) refl refl refl
     (λ q e. tail_other head m n cells q e) r)
 
 slot_does_at : (head tail : ℕ) (cells : List ArrSlot) (i : ℕ) (old new d : ArrSlot) (op : Operation) → i < length cells → old ≡ get_or cells i d
-    → (r : Result Done Refusal) → IfOk r (λ done. OperatesOn (ArrCell i) op done (Slot old) (Slot new))
-    → IfOk r (λ done. Operates everywhere (ArrCell i) op done (array_of head tail cells) (array_of head tail (set cells i new)))
+    → (r : Result Done Refusal) → IfOk r (λ done. OperatesOn (place.ArrCell i) op done (content.Slot old) (content.Slot new))
+    → IfOk r (λ done. Operates everywhere (place.ArrCell i) op done (array_of head tail cells) (array_of head tail (set cells i new)))
 slot_does_at head tail cells i old new d op within read r = grind (arith, slice_get, slice_get-get_or, place_operates, option_map, slice_get-set_same, slot_other)
 
 -- the same at the index of the place
-pub slot_does : (head tail : ℕ) (cells : List ArrSlot) (i j : ℕ) (old new d : ArrSlot) (p : Place) (op : Operation) → p ≡ ArrCell i → j ≡ i
+pub slot_does : (head tail : ℕ) (cells : List ArrSlot) (i j : ℕ) (old new d : ArrSlot) (p : Place) (op : Operation) → p ≡ place.ArrCell i → j ≡ i
     → j < length cells → old ≡ get_or cells j d → (r : Result Done Refusal)
-    → IfOk r (λ done. OperatesOn (ArrCell i) op done (Slot old) (Slot new))
+    → IfOk r (λ done. OperatesOn (place.ArrCell i) op done (content.Slot old) (content.Slot new))
     → IfOk r (λ done. Operates everywhere p op done (array_of head tail cells) (array_of head tail (set cells j new)))
 slot_does head tail cells i j old new d p op at same within read r h =
     subst (λ (x : Place). IfOk r (λ done. Operates everywhere x op done (array_of head tail cells) (array_of head tail (set cells j new))))
-    (ap ArrCell same ∙ sym at)
+    (ap place.ArrCell same ∙ sym at)
     (slot_does_at head tail cells j old new d op within read r
-    (subst (λ (k : ℕ). IfOk r (λ done. OperatesOn (ArrCell k) op done (Slot old) (Slot new))) (sym same) h))
+    (subst (λ (k : ℕ). IfOk r (λ done. OperatesOn (place.ArrCell k) op done (content.Slot old) (content.Slot new))) (sym same) h))

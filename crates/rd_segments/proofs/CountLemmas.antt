@@ -1,9 +1,10 @@
 -- How many segments a maker has made, counted in the map and in its list.
 use Rattle.std.proofs.Common.{◌≡◌, ℕ, zero, suc, ◌+◌, ◌<◌, ◌≤◌, true, false, inl, inr, ◌∙◌, ap, arith, List, Vec, Global, length, Option, is_some, slice_get}
-use Rattle.rd_segments.proofs.Prelude.{cases_lt, cond-true, cond-false, slice_get_past, MOST_SEGMENTS, SegName, Head, Segment, ArrayParts, ListOf, by_number, part_of, count_in, count, contents_of}
+use Rattle.rd_segments.proofs.Prelude.{cases_lt, cond-true, cond-false, slice_get_past, MOST_SEGMENTS, SegName, Segment, ArrayParts, ListOf, by_number, part_of, count_in, count, contents_of}
 use Rattle.std.proofs.lemmas.Option.{slice_get_cases}
 use Rattle.rd_ring.specs.Prelude.{is_there}
 use Rattle.rd_cell.specs.Access.{number_made_from, number_made}
+use Rattle.rd_cell.specs.declared.places.Place.TheVariants as place
 
 pub in_list : {X : Type 0} (xs : List X) (n : ℕ) → n < length xs → is_some (slice_get xs n) ≡ true
 in_list xs n h = elim (slice_get_cases xs n).1 [ inl w ↦ ap is_some w.2 | inr p ↦ absurd (omega (arith, p.0)) ]
@@ -14,7 +15,7 @@ numbered_there o n h = grind (arith, in_list)
 pub numbered_absent : {X : Type 0} (o : Option (Vec X Global)) (n : ℕ) → count_in o ≤ n → is_some (by_number o n) ≡ false
 numbered_absent o n h = grind (arith, is_some, slice_get_past)
 
-head_there : {R : ℕ} (o : Option (Segment R)) (s : SegName) → is_some (part_of o (Head s)) ≡ is_some o
+head_there : {R : ℕ} (o : Option (Segment R)) (s : SegName) → is_some (part_of o (place.Head s)) ≡ is_some o
 head_there o s = grind arith
 
 -- a segment is there if its number is below its maker's count

@@ -1,45 +1,48 @@
 -- When a space is as a fresh one: by its ends, its array and its makers' lists.
 use Rattle.std.proofs.Common.{◌≡◌, ℕ, zero, suc, ◌-◌, ◌<◌, ◌≤◌, ◌&&◌, ◌==◌, if◌then◌else◌, nat_lt, All, List, [], ◌∷◌, length, get_or, take, drop, slice_get, Option, Some, None, option_map, inl, inr, refl, sym, ap, ◌∙◌, arith, lt-ltb, le-ltb, ne_eqb}
-use Rattle.rd_segments.proofs.Prelude.{common_steps, cases_Bool, cases_lt, cond-true, cond-false, and_left, and_right, slice_get-get_or, slice_get_past, fun_ext, is_name-true, SLOTS, SegName, Place, QHead, QTail, Head, Tail, Next, ValAt, IdxAt, ArrHead, ArrTail, ArrCell, Content, Name, Number, Slot, Empty, root, is_name, Contents, fresh_segment, Segment, part, ListOf, by_number, by_name, part_of, IsFresh, IsFreshAlone, ArrayParts, array_part, fresh_array, contents_of, fresh_space}
+use Rattle.rd_segments.proofs.Prelude.{common_steps, cases_Bool, cases_lt, cond-true, cond-false, and_left, and_right, slice_get-get_or, slice_get_past, fun_ext, name_eq-true, SLOTS, SegName, Place, Content, root, name_eq, Contents, fresh_segment, Segment, part, ListOf, by_number, by_name, part_of, IsFresh, IsFreshAlone, ArrayParts, array_part, fresh_array, contents_of, fresh_space}
 use Rattle.std.proofs.lemmas.List.Elements.{All-head, All-tail}
 use Rattle.std.proofs.lemmas.List.{take_rest}
+use Rattle.rd_cell.specs.declared.places.Place.TheVariants as place
+use Rattle.rd_cell.specs.declared.contents.ArrSlot.TheVariants as slot
+use Rattle.rd_cell.specs.declared.contents.Content.TheVariants as content
 
 -- ---- the array
 
-pub array_fresh : (a : ArrayParts) → a.head ≡ 0 → a.tail ≡ 0 → All (λ slot. slot ≡ Empty) a.cells → array_part a ≡ fresh_array
+pub array_fresh : (a : ArrayParts) → a.head ≡ 0 → a.tail ≡ 0 → All (λ x. x ≡ slot.Empty) a.cells → array_part a ≡ fresh_array
 array_fresh a head tail all = fun_ext each
   where
-    slot_at : (i : ℕ) → option_map Slot (slice_get a.cells i) ≡ (if nat_lt i SLOTS then Some (Slot Empty) else None)
+    slot_at : (i : ℕ) → option_map content.Slot (slice_get a.cells i) ≡ (if nat_lt i SLOTS then Some (content.Slot slot.Empty) else None)
     slot_at i =
         elim (cases_lt i SLOTS) [
           | inl h ↦
               let within : i < length a.cells = omega (arith, a.sized) in
-              ap (option_map Slot) (slice_get-get_or a.cells i Empty within ∙ ap Some (all i Empty within))
-              ∙ sym (cond-true (nat_lt i SLOTS) (Some (Slot Empty)) None (lt-ltb i SLOTS h))
+              ap (option_map content.Slot) (slice_get-get_or a.cells i slot.Empty within ∙ ap Some (all i slot.Empty within))
+              ∙ sym (cond-true (nat_lt i SLOTS) (Some (content.Slot slot.Empty)) None (lt-ltb i SLOTS h))
           | inr h ↦
-              ap (option_map Slot) (slice_get_past a.cells i (omega (arith, a.sized)))
-              ∙ sym (cond-false (nat_lt i SLOTS) (Some (Slot Empty)) None (le-ltb i SLOTS h))
+              ap (option_map content.Slot) (slice_get_past a.cells i (omega (arith, a.sized)))
+              ∙ sym (cond-false (nat_lt i SLOTS) (Some (content.Slot slot.Empty)) None (le-ltb i SLOTS h))
         ]
 
     each : (q : Place) → array_part a q ≡ fresh_array q
-    each ArrHead = ap (λ n. Some (Number n)) head
-    each ArrTail = ap (λ n. Some (Number n)) tail
-    each (ArrCell i) = slot_at i
+    each place.ArrHead = ap (λ n. Some (content.Number n)) head
+    each place.ArrTail = ap (λ n. Some (content.Number n)) tail
+    each (place.ArrCell i) = slot_at i
     each _ = refl
 
 -- and back
 module _ (a : ArrayParts) (e : array_part a ≡ fresh_array) where
   pub array_counters : (a.head ≡ 0) × (a.tail ≡ 0)
   array_counters =
-      let h : Some (Number a.head) ≡ Some (Number 0) = ap (λ (f : Contents). f ArrHead) e in
-      let t : Some (Number a.tail) ≡ Some (Number 0) = ap (λ (f : Contents). f ArrTail) e in
+      let h : Some (content.Number a.head) ≡ Some (content.Number 0) = ap (λ (f : Contents). f place.ArrHead) e in
+      let t : Some (content.Number a.tail) ≡ Some (content.Number 0) = ap (λ (f : Contents). f place.ArrTail) e in
       ((cc), (cc))
 
-  pub array_slots : All (λ slot. slot ≡ Empty) a.cells
+  pub array_slots : All (λ x. x ≡ slot.Empty) a.cells
   array_slots k d within =
-      let h : Some (Slot (get_or a.cells k d)) ≡ Some (Slot Empty) =
-      sym (ap (option_map Slot) (slice_get-get_or a.cells k d within)) ∙ ap (λ (f : Contents). f (ArrCell k)) e
-      ∙ cond-true (nat_lt k SLOTS) (Some (Slot Empty)) None (lt-ltb k SLOTS (omega (arith, a.sized))) in
+      let h : Some (content.Slot (get_or a.cells k d)) ≡ Some (content.Slot slot.Empty) =
+      sym (ap (option_map content.Slot) (slice_get-get_or a.cells k d within)) ∙ ap (λ (f : Contents). f (place.ArrCell k)) e
+      ∙ cond-true (nat_lt k SLOTS) (Some (content.Slot slot.Empty)) None (lt-ltb k SLOTS (omega (arith, a.sized))) in
       cc
 
 -- ---- the makers' lists
@@ -67,14 +70,14 @@ module _ {R : ℕ} where
   none_in (list ∷ lists) zero n h = ap (λ ss. slice_get ss n) (All-head (λ l. l.items ≡ []) list lists h)
   none_in (list ∷ lists) (suc m) n h = none_in lists m n (All-tail (λ l. l.items ≡ []) list lists h)
 
-  later_segment : (n : ℕ) (s : Segment R) → (if is_name root (record { maker = 0; n = suc n }) then Some s else None) ≡ None
+  later_segment : (n : ℕ) (s : Segment R) → (if name_eq root (record { maker = 0; n = suc n }) then Some s else None) ≡ None
   later_segment n s = cond-false ((0 == 0) && (0 == suc n)) (Some s) None (and_right (0 == 0) (0 == suc n) (ne_eqb 0 (suc n) (λ e. absurd (omega arith))))
 
-  other_maker : (m n : ℕ) (s : Segment R) → (if is_name root (record { maker = suc m; n = n }) then Some s else None) ≡ None
+  other_maker : (m n : ℕ) (s : Segment R) → (if name_eq root (record { maker = suc m; n = n }) then Some s else None) ≡ None
   other_maker m n s = cond-false ((0 == suc m) && (0 == n)) (Some s) None (and_left (0 == suc m) (0 == n) (ne_eqb 0 (suc m) (λ e. absurd (omega arith))))
 
   root_alone : (first : ListOf R) (lists : List (ListOf R)) (s : Segment R) → first.items ≡ s ∷ [] → All (λ list. list.items ≡ []) lists → (m n : ℕ)
-      → by_number (slice_get (first ∷ lists) m) n ≡ (if is_name root (record { maker = m; n = n }) then Some s else None)
+      → by_number (slice_get (first ∷ lists) m) n ≡ (if name_eq root (record { maker = m; n = n }) then Some s else None)
   root_alone first lists s one none m n = grind (arith, slice_get, later_segment, none_in, other_maker)
 
   pub fresh_lists : (first : ListOf R) (lists : List (ListOf R)) → IsFreshAlone first.items → All (λ list. list.items ≡ []) lists → IsFresh (first ∷ lists)
@@ -112,11 +115,11 @@ module _ {R : ℕ} where
 
 -- ---- the space
 
-some_segment : {R : ℕ} (o : Option (Segment R)) (c : Content) → part_of o (Head root) ≡ Some c → (s : Segment R) × (o ≡ Some s)
+some_segment : {R : ℕ} (o : Option (Segment R)) (c : Content) → part_of o (place.Head root) ≡ Some c → (s : Segment R) × (o ≡ Some s)
 some_segment None c h = absurd (cc)
 some_segment (Some s) c h = (s, refl)
 
-no_segment : {R : ℕ} (o : Option (Segment R)) (t : SegName) → part_of o (Head t) ≡ None → o ≡ None
+no_segment : {R : ℕ} (o : Option (Segment R)) (t : SegName) → part_of o (place.Head t) ≡ None → o ≡ None
 no_segment o t h = grind arith
 
 module _ {R : ℕ} (makers : List (ListOf R)) (qhead qtail : SegName) (array : ArrayParts) (e : contents_of makers qhead qtail array ≡ fresh_space R) where
@@ -125,34 +128,34 @@ module _ {R : ℕ} (makers : List (ListOf R)) (qhead qtail : SegName) (array : A
 
   pub fresh_ends : (qhead ≡ root) × (qtail ≡ root)
   fresh_ends =
-      let h : Some (Name qhead) ≡ Some (Name root) = at QHead in
-      let t : Some (Name qtail) ≡ Some (Name root) = at QTail in
+      let h : Some (content.Name qhead) ≡ Some (content.Name root) = at place.QHead in
+      let t : Some (content.Name qtail) ≡ Some (content.Name root) = at place.QTail in
       ((cc), (cc))
 
   array_at : (q : Place) → array_part array q ≡ fresh_array q
-  array_at ArrHead = at ArrHead
-  array_at ArrTail = at ArrTail
-  array_at (ArrCell i) = at (ArrCell i)
+  array_at place.ArrHead = at place.ArrHead
+  array_at place.ArrTail = at place.ArrTail
+  array_at (place.ArrCell i) = at (place.ArrCell i)
   array_at _ = refl
 
   root_parts : (s : Segment R) → by_name makers root ≡ Some s → (q : Place) → part s q ≡ fresh_segment R q
-  root_parts s is (Head t) = ap (λ o. part_of o (Head root)) (sym is) ∙ at (Head root)
-  root_parts s is (Tail t) = ap (λ o. part_of o (Tail root)) (sym is) ∙ at (Tail root)
-  root_parts s is (Next t) = ap (λ o. part_of o (Next root)) (sym is) ∙ at (Next root)
-  root_parts s is (ValAt t i) = ap (λ o. part_of o (ValAt root i)) (sym is) ∙ at (ValAt root i)
-  root_parts s is (IdxAt t i) = ap (λ o. part_of o (IdxAt root i)) (sym is) ∙ at (IdxAt root i)
+  root_parts s is (place.Head t) = ap (λ o. part_of o (place.Head root)) (sym is) ∙ at (place.Head root)
+  root_parts s is (place.Tail t) = ap (λ o. part_of o (place.Tail root)) (sym is) ∙ at (place.Tail root)
+  root_parts s is (place.Next t) = ap (λ o. part_of o (place.Next root)) (sym is) ∙ at (place.Next root)
+  root_parts s is (place.Val t i) = ap (λ o. part_of o (place.Val root i)) (sym is) ∙ at (place.Val root i)
+  root_parts s is (place.Idx t i) = ap (λ o. part_of o (place.Idx root i)) (sym is) ∙ at (place.Idx root i)
   root_parts s is _ = refl
 
-  by_names : (s : Segment R) → by_name makers root ≡ Some s → (t : SegName) → by_name makers t ≡ (if is_name root t then Some s else None)
+  by_names : (s : Segment R) → by_name makers root ≡ Some s → (t : SegName) → by_name makers t ≡ (if name_eq root t then Some s else None)
   by_names s is t =
-      elim (cases_Bool (is_name root t)) [
-        | inl b ↦ ap (by_name makers) (sym (is_name-true root t b)) ∙ is ∙ sym (cond-true (is_name root t) (Some s) None b)
+      elim (cases_Bool (name_eq root t)) [
+        | inl b ↦ ap (by_name makers) (sym (name_eq-true root t b)) ∙ is ∙ sym (cond-true (name_eq root t) (Some s) None b)
         | inr b ↦
-            no_segment (by_name makers t) t (at (Head t) ∙ cond-false (is_name root t) (Some (Number 0)) None b)
-            ∙ sym (cond-false (is_name root t) (Some s) None b)
+            no_segment (by_name makers t) t (at (place.Head t) ∙ cond-false (name_eq root t) (Some (content.Number 0)) None b)
+            ∙ sym (cond-false (name_eq root t) (Some s) None b)
       ]
 
   pub fresh_inside : (array_part array ≡ fresh_array) × IsFresh makers
   fresh_inside =
-      let found = some_segment (by_name makers root) (Number 0) (at (Head root)) in
+      let found = some_segment (by_name makers root) (content.Number 0) (at (place.Head root)) in
       (fun_ext array_at, record { segment = found.0; fresh_parts = root_parts found.0 found.1; at = by_names found.0 found.1 })

@@ -1,6 +1,6 @@
 -- The makers' lists after a change of one segment.
 use Rattle.std.proofs.Common.{◌≡◌, ◌≢◌, ℕ, ◌+◌, ◌-◌, ◌<◌, ◌≤◌, Bool, true, ◌==◌, ◌&&◌, if◌then◌else◌, ◌⊎◌, sym, ◌∙◌, ap, subst, arith, List, [], ◌∷◌, ◌++◌, take, length, set, get_or, Option, Some, None, is_some, slice_get, eq-eqb, ne_eqb, Result, OnErr, OnOk}
-use Rattle.rd_segments.proofs.Prelude.{with_item, cond-true, cond-false, and_left, and_right, slice_get_past, slice_get-get_or, SegName, Place, root, is_name, operand, slice_get-set_same, slice_get-set_other, Segment, ListOf, by_number, by_name, part_of, count_in, count, Changes, IsLengthened, spare_in, spare}
+use Rattle.rd_segments.proofs.Prelude.{with_item, cond-true, cond-false, and_left, and_right, slice_get_past, slice_get-get_or, SegName, Place, root, name_eq, operand, slice_get-set_same, slice_get-set_other, Segment, ListOf, by_number, by_name, part_of, count_in, count, Changes, IsLengthened, spare_in, spare}
 use Rattle.std.proofs.lemmas.Bool.{and_from}
 use Rattle.std.proofs.lemmas.Option.{slice_get_within}
 use Rattle.std.specs.declared.alloc.AllocError.{AllocError}
@@ -154,7 +154,7 @@ first_at list segment items m n = grind arith
 
 -- a list of one list of one segment has that as the root
 pub first_list : {R : ℕ} (list : ListOf R) (segment : Segment R) → list.items ≡ segment ∷ []
-    → (t : SegName) → by_name (list ∷ []) t ≡ (if is_name root t then Some segment else None)
+    → (t : SegName) → by_name (list ∷ []) t ≡ (if name_eq root t then Some segment else None)
 first_list list segment items t = first_at list segment items t.maker t.n
 
 -- an empty list at the end adds no segment

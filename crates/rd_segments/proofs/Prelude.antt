@@ -7,9 +7,9 @@ pub use Rattle.std.proofs.lemmas.Option.{slice_get-get_or, slice_get_past}
 pub use Rattle.std.specs.Vec.{with_item}
 pub use Rattle.rd_cell.proofs.EffectLemmas.{Agrees, lift_operates, lift_restore, operand_agrees, place_operates, read_on, wrote_on}
 pub use Rattle.rd_cell.proofs.ListLemmas.{slice_get-set_other, slice_get-set_same}
-pub use Rattle.rd_cell.proofs.PlaceLemmas.{is_name-refl, is_name-true}
+pub use Rattle.rd_cell.proofs.PlaceLemmas.{name_eq-refl, name_eq-true}
 pub use Rattle.rd_cell.proofs.TestLemmas.{both_tests, first_test}
-pub use Rattle.rd_ring.specs.Prelude.{ArrCell, ArrHead, ArrTail, CellAt, Content, Contents, Done, Empty, Found, Head, IdxAt, MOST_SEGMENTS, Makes, Name, Next, Number, Operates, OperatesOn, Operation, Place, QHead, QTail, Read, Refusal, Restores, SLOTS, SegName, Slot, Tail, ValAt, WholeOf, WroteNothing, WrotePlace, effect, everywhere, fresh_segment, is_name, is_of, is_place, operand, operate, root, segment_of}
+pub use Rattle.rd_ring.specs.Prelude.{Content, Contents, Done, MOST_SEGMENTS, Makes, Operates, OperatesOn, Operation, Place, Read, Refusal, Restores, SLOTS, SegName, effect, everywhere, fresh_segment, name_eq, is_of, place_eq, operand, operate, root, segment_of}
 pub use Rattle.rd_ring.specs.Segments.{part}
 pub use Rattle.rd_ring.specs.declared.segments.Segment.{Segment}
 pub use Rattle.rd_segments.specs.Array.{array_part, fresh_array}

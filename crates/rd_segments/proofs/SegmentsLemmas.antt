@@ -1,9 +1,12 @@
 -- The segments' places after a change of one segment.
 use Rattle.std.proofs.Common.{◌≡◌, ℕ, ◌-◌, ◌<◌, true, false, nat_lt, if◌then◌else◌, inl, inr, refl, sym, ◌∙◌, ap, arith, List, take, length, set, get_or, Option, Some, None, is_some, slice_get, Result, Ok, Err, IfOk, IfErr, OnErr, lt-ltb, vec_len, vec_capacity}
-use Rattle.rd_segments.proofs.Prelude.{common_steps, with_item, cases_Bool, cond-true, cond-false, fun_ext, MOST_SEGMENTS, SegName, Place, WholeOf, WrotePlace, Content, Operation, Done, Refusal, is_name, is_of, segment_of, Contents, operand, operate, everywhere, Operates, Makes, Restores, is_name-refl, Agrees, operand_agrees, lift_operates, lift_restore, Segment, part, ListOf, by_name, segments_of, count, Changes, IsLengthened, spare}
-use Rattle.rd_ring.specs.Prelude.{Made, is_of_same_segment, holding, RefusesMaking}
+use Rattle.rd_segments.proofs.Prelude.{common_steps, with_item, cases_Bool, cond-true, cond-false, fun_ext, MOST_SEGMENTS, SegName, Place, Content, Operation, Done, Refusal, name_eq, is_of, segment_of, Contents, operand, operate, everywhere, Operates, Makes, Restores, name_eq-refl, Agrees, operand_agrees, lift_operates, lift_restore, Segment, part, ListOf, by_name, segments_of, count, Changes, IsLengthened, spare}
+use Rattle.rd_ring.specs.Prelude.{is_of_same_segment, holding, RefusesMaking}
 use Rattle.rd_cell.proofs.EffectLemmas.{beside_is_of, not_covered_outside}
 use Rattle.rd_segments.proofs.ListsLemmas.{named_is, segment_written, list_read, list_lengthened, list_same, last_taken}
+use Rattle.rd_cell.specs.declared.places.Place.TheVariants as place
+use Rattle.rd_cell.specs.declared.places.Wrote.TheVariants as wrote
+use Rattle.rd_cell.specs.declared.operations.Answer.TheVariants as answer
 
 -- what the segment of a name has at its places is what is there
 pub segments_part : {R : ℕ} (makers : List (ListOf R)) (name : SegName) (segment : Segment R) (q : Place) → by_name makers name ≡ Some segment
@@ -21,7 +24,7 @@ segments_same {R} old new same = grind arith
 
 -- the name of a change has what it says
 changed_here : {R : ℕ} (old new : List (ListOf R)) (name : SegName) (o : Option (Segment R)) → Changes name o old new → by_name new name ≡ o
-changed_here old new name o changes = changes.at name ∙ cond-true (is_name name name) o (by_name old name) (is_name-refl name)
+changed_here old new name o changes = changes.at name ∙ cond-true (name_eq name name) o (by_name old name) (name_eq-refl name)
 
 -- a change of one segment, as one of the segments' places
 segment_agrees : {R : ℕ} (old new : List (ListOf R)) (name : SegName) (before left : Segment R) (p : Place) → by_name old name ≡ Some before
@@ -110,7 +113,7 @@ makes_in {R} makers maker m value list left reads (Ok name) h =
     let changes = list_lengthened makers maker m value name list left reads.maker_is reads.within reads.list_is h in
     let below : name.n < MOST_SEGMENTS = let e = ap (λ (s : SegName). s.n) h.name_is in let b = h.below in omega arith in
     record {
-      performed = record { place = Some (WholeOf name); old = None; answer = Made name; wrote = WrotePlace; given = holding R value };
+      performed = record { place = Some (place.Whole name); old = None; answer = answer.Made name; wrote = wrote.Place; given = holding R value };
       performs = cond-true (nat_lt name.n MOST_SEGMENTS) _ _ (lt-ltb name.n MOST_SEGMENTS below);
       keeps = refl;
       leaves = λ q _.
@@ -136,7 +139,7 @@ making_same makers maker m list left reads r same = grind (arith, segments_same,
 -- the maker's last segment was taken away
 pub unmakes_in : {R : ℕ} (makers : List (ListOf R)) (maker m : ℕ) (list left : ListOf R) → ReadsList makers maker m list
     → left.items ≡ take (length list.items - 1) list.items
-    → Restores everywhere (WholeOf (record { maker = maker; n = count makers maker - 1 })) None (segments_of makers) (segments_of (set makers m left))
+    → Restores everywhere (place.Whole (record { maker = maker; n = count makers maker - 1 })) None (segments_of makers) (segments_of (set makers m left))
 unmakes_in makers maker m list left reads items = λ q _.
     made_at makers (set makers m left) (record { maker = maker; n = count makers maker - 1 }) None (λ x. None) q
     (last_taken makers maker m list left reads.maker_is reads.within reads.list_is items) (λ s x e. cc) (λ e x. refl)

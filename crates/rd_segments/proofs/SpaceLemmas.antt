@@ -1,21 +1,23 @@
 -- The space's map after a change of its segments, of one of the queue's ends, or of the array.
-use Rattle.std.proofs.Common.{◌≡◌, ℕ, true, false, Bool, if◌then◌else◌, refl, sym, ap, subst, List, Option, Some, None, Result, Ok, Err, IfOk, IfErr, OnErr, arith}
-use Rattle.rd_segments.proofs.Prelude.{fun_ext, SegName, Place, QHead, QTail, Head, Tail, Next, CellAt, ValAt, IdxAt, WholeOf, ArrHead, ArrTail, ArrCell, Content, Name, Operation, Done, Refusal, root, is_name, is_of, is_place, segment_of, Contents, fresh_segment, operand, operate, everywhere, Operates, OperatesOn, Makes, Restores, Agrees, lift_operates, lift_restore, place_operates, ListOf, by_name, part_of, segments_of, IsFresh, ArrayParts, array_part, fresh_array, contents_of, fresh_space}
+use Rattle.std.proofs.Common.{◌≡◌, ℕ, true, false, Bool, if◌then◌else◌, refl, sym, ap, subst, List, Option, Some, None, Result, Ok, Err, IfOk, OnErr, arith}
+use Rattle.rd_segments.proofs.Prelude.{fun_ext, SegName, Place, Content, Operation, Done, Refusal, root, name_eq, is_of, place_eq, segment_of, Contents, fresh_segment, operand, operate, everywhere, Operates, OperatesOn, Makes, Agrees, lift_operates, lift_restore, place_operates, ListOf, by_name, part_of, segments_of, IsFresh, ArrayParts, array_part, fresh_array, contents_of, fresh_space}
 use Rattle.std.proofs.lemmas.Bool.{cond_both}
 use Rattle.rd_ring.specs.Prelude.{is_array, restore, make}
 use Rattle.rd_cell.proofs.AccessLemmas.{place-make}
 use Rattle.rd_cell.proofs.EffectLemmas.{lift, narrow}
 use Rattle.rd_segments.specs.SpaceFields.{contents_by}
+use Rattle.rd_cell.specs.declared.places.Place.TheVariants as place
+use Rattle.rd_cell.specs.declared.contents.Content.TheVariants as content
 
 -- Which places are the segments'
 
 -- whether a place is one of some segment's
 abbrev of_segments : Place → Bool
-of_segments QHead = false
-of_segments QTail = false
-of_segments ArrHead = false
-of_segments ArrTail = false
-of_segments (ArrCell i) = false
+of_segments place.QHead = false
+of_segments place.QTail = false
+of_segments place.ArrHead = false
+of_segments place.ArrTail = false
+of_segments (place.ArrCell i) = false
 of_segments _ = true
 
 own_of : (p : Place) (name : SegName) → segment_of p ≡ Some name → of_segments p ≡ true
@@ -56,36 +58,36 @@ pub space_makes : {R : ℕ} (old new : List (ListOf R)) (qhead qtail : SegName) 
     → IfOk r (λ name. Makes R name x (contents_of old qhead qtail array) (contents_of new qhead qtail array))
 space_makes old new qhead qtail array x (Err e) h = tt
 space_makes {R} old new qhead qtail array x (Ok name) h =
-    lift of_segments (WholeOf name) (make R name x) (make R name x) _ (segments_of old) (segments_of new) (contents_of old qhead qtail array) (contents_of new qhead qtail array)
-    refl (place-make R name x) (segments_agree (segments_of old) (segments_of new) qhead qtail array (WholeOf name) refl)
+    lift of_segments (place.Whole name) (make R name x) (make R name x) _ (segments_of old) (segments_of new) (contents_of old qhead qtail array) (contents_of new qhead qtail array)
+    refl (place-make R name x) (segments_agree (segments_of old) (segments_of new) qhead qtail array (place.Whole name) refl)
     (narrow of_segments (make R name x) _ (segments_of old) (segments_of new) h)
 
 -- An operation on one of the queue's ends
 
-head_others : {R : ℕ} (makers : List (ListOf R)) (old new qtail : SegName) (array : ArrayParts) (q : Place) → is_place QHead q ≡ false
+head_others : {R : ℕ} (makers : List (ListOf R)) (old new qtail : SegName) (array : ArrayParts) (q : Place) → place_eq place.QHead q ≡ false
     → contents_of makers new qtail array q ≡ contents_of makers old qtail array q
 head_others makers old new qtail array q h = grind arith
 
-tail_others : {R : ℕ} (makers : List (ListOf R)) (qhead old new : SegName) (array : ArrayParts) (q : Place) → is_place QTail q ≡ false
+tail_others : {R : ℕ} (makers : List (ListOf R)) (qhead old new : SegName) (array : ArrayParts) (q : Place) → place_eq place.QTail q ≡ false
     → contents_of makers qhead new array q ≡ contents_of makers qhead old array q
 tail_others makers qhead old new array q h = grind arith
 
-pub head_operates : {R : ℕ} (makers : List (ListOf R)) (old new qtail : SegName) (array : ArrayParts) (p : Place) (op : Operation) → p ≡ QHead
-    → (r : Result Done Refusal) → IfOk r (λ done. OperatesOn p op done (Name old) (Name new))
+pub head_operates : {R : ℕ} (makers : List (ListOf R)) (old new qtail : SegName) (array : ArrayParts) (p : Place) (op : Operation) → p ≡ place.QHead
+    → (r : Result Done Refusal) → IfOk r (λ done. OperatesOn p op done (content.Name old) (content.Name new))
     → IfOk r (λ done. Operates everywhere p op done (contents_of makers old qtail array) (contents_of makers new qtail array))
 head_operates makers old new qtail array p op at r =
-    subst (λ (x : Place). IfOk r (λ done. OperatesOn x op done (Name old) (Name new))
+    subst (λ (x : Place). IfOk r (λ done. OperatesOn x op done (content.Name old) (content.Name new))
     → IfOk r (λ done. Operates everywhere x op done (contents_of makers old qtail array) (contents_of makers new qtail array))) (sym at)
-    (place_operates QHead op (Name old) (Name new) (contents_of makers old qtail array) (contents_of makers new qtail array) (λ q. refl) refl refl refl
+    (place_operates place.QHead op (content.Name old) (content.Name new) (contents_of makers old qtail array) (contents_of makers new qtail array) (λ q. refl) refl refl refl
     (λ q h. head_others makers old new qtail array q h) r)
 
-pub tail_operates : {R : ℕ} (makers : List (ListOf R)) (qhead old new : SegName) (array : ArrayParts) (p : Place) (op : Operation) → p ≡ QTail
-    → (r : Result Done Refusal) → IfOk r (λ done. OperatesOn p op done (Name old) (Name new))
+pub tail_operates : {R : ℕ} (makers : List (ListOf R)) (qhead old new : SegName) (array : ArrayParts) (p : Place) (op : Operation) → p ≡ place.QTail
+    → (r : Result Done Refusal) → IfOk r (λ done. OperatesOn p op done (content.Name old) (content.Name new))
     → IfOk r (λ done. Operates everywhere p op done (contents_of makers qhead old array) (contents_of makers qhead new array))
 tail_operates makers qhead old new array p op at r =
-    subst (λ (x : Place). IfOk r (λ done. OperatesOn x op done (Name old) (Name new))
+    subst (λ (x : Place). IfOk r (λ done. OperatesOn x op done (content.Name old) (content.Name new))
     → IfOk r (λ done. Operates everywhere x op done (contents_of makers qhead old array) (contents_of makers qhead new array))) (sym at)
-    (place_operates QTail op (Name old) (Name new) (contents_of makers qhead old array) (contents_of makers qhead new array) (λ q. refl) refl refl refl
+    (place_operates place.QTail op (content.Name old) (content.Name new) (contents_of makers qhead old array) (contents_of makers qhead new array) (λ q. refl) refl refl refl
     (λ q h. tail_others makers qhead old new array q h) r)
 
 -- An operation on the array, and what is put back there
@@ -108,9 +110,9 @@ array_unchanged makers qhead qtail old new (Ok done) h = tt
 array_unchanged {R} makers qhead qtail old new (Err e) h = fun_ext each
   where
     each : (q : Place) → contents_of makers qhead qtail new q ≡ contents_of makers qhead qtail old q
-    each ArrHead = ap (λ (at : Contents). at ArrHead) h
-    each ArrTail = ap (λ (at : Contents). at ArrTail) h
-    each (ArrCell i) = ap (λ (at : Contents). at (ArrCell i)) h
+    each place.ArrHead = ap (λ (at : Contents). at place.ArrHead) h
+    each place.ArrTail = ap (λ (at : Contents). at place.ArrTail) h
+    each (place.ArrCell i) = ap (λ (at : Contents). at (place.ArrCell i)) h
     each _ = refl
 
 pub array_restored : {R : ℕ} (makers : List (ListOf R)) (qhead qtail : SegName) (old new : ArrayParts) (p : Place) (c : Content) → is_array p ≡ true
@@ -122,7 +124,7 @@ array_restored makers qhead qtail old new p c own same =
 
 -- A fresh space
 
-fresh_parts : {R : ℕ} (makers : List (ListOf R)) (t : SegName) (q : Place) → IsFresh makers → is_of root q ≡ is_name root t
+fresh_parts : {R : ℕ} (makers : List (ListOf R)) (t : SegName) (q : Place) → IsFresh makers → is_of root q ≡ name_eq root t
     → part_of (by_name makers t) q ≡ (if is_of root q then fresh_segment R q else None)
 fresh_parts {R} makers t q h of = grind arith
 
@@ -131,15 +133,15 @@ pub space_fresh : {R : ℕ} (makers : List (ListOf R)) (array : ArrayParts) → 
 space_fresh {R} makers array h k = fun_ext each
   where
     each : (q : Place) → contents_of makers root root array q ≡ fresh_space R q
-    each QHead = refl
-    each QTail = refl
-    each (Head t) = fresh_parts makers t (Head t) h refl
-    each (Tail t) = fresh_parts makers t (Tail t) h refl
-    each (Next t) = fresh_parts makers t (Next t) h refl
-    each (ValAt t i) = fresh_parts makers t (ValAt t i) h refl
-    each (IdxAt t i) = fresh_parts makers t (IdxAt t i) h refl
-    each (CellAt t i) = sym (cond_both (is_name root t) (fresh_segment R (CellAt t i)) None (λ (x : Option Content). x ≡ None) (λ e. refl) (λ e. refl))
-    each (WholeOf t) = sym (cond_both (is_name root t) (fresh_segment R (WholeOf t)) None (λ (x : Option Content). x ≡ None) (λ e. refl) (λ e. refl))
-    each ArrHead = ap (λ (at : Contents). at ArrHead) k
-    each ArrTail = ap (λ (at : Contents). at ArrTail) k
-    each (ArrCell i) = ap (λ (at : Contents). at (ArrCell i)) k
+    each place.QHead = refl
+    each place.QTail = refl
+    each (place.Head t) = fresh_parts makers t (place.Head t) h refl
+    each (place.Tail t) = fresh_parts makers t (place.Tail t) h refl
+    each (place.Next t) = fresh_parts makers t (place.Next t) h refl
+    each (place.Val t i) = fresh_parts makers t (place.Val t i) h refl
+    each (place.Idx t i) = fresh_parts makers t (place.Idx t i) h refl
+    each (place.Cell t i) = sym (cond_both (name_eq root t) (fresh_segment R (place.Cell t i)) None (λ (x : Option Content). x ≡ None) (λ e. refl) (λ e. refl))
+    each (place.Whole t) = sym (cond_both (name_eq root t) (fresh_segment R (place.Whole t)) None (λ (x : Option Content). x ≡ None) (λ e. refl) (λ e. refl))
+    each place.ArrHead = ap (λ (at : Contents). at place.ArrHead) k
+    each place.ArrTail = ap (λ (at : Contents). at place.ArrTail) k
+    each (place.ArrCell i) = ap (λ (at : Contents). at (place.ArrCell i)) k

@@ -2,9 +2,10 @@
 use Rattle.std.specs.Option.{option_map_or}
 use Rattle.std.specs.Prelude.{◌≡◌, ℕ, ◌<◌, ◌++◌, ◌∷◌, [], List, Vec, Option, Some, None, slice_get, if◌then◌else◌, length, option_and_then}
 use Rattle.std.specs.declared.alloc.Global.{Global}
-use Rattle.rd_ring.specs.Prelude.{MOST_SEGMENTS, SegName, Place, Head, Tail, Next, ValAt, IdxAt, Content, Contents, root, is_name, fresh_segment, holding}
+use Rattle.rd_ring.specs.Prelude.{MOST_SEGMENTS, SegName, Place, Content, Contents, root, name_eq, fresh_segment, holding}
 use Rattle.rd_ring.specs.declared.segments.Segment.{Segment}
 use Rattle.rd_ring.specs.Segments.{part}
+use Rattle.rd_cell.specs.declared.places.Place.TheVariants as place
 
 -- the type of one maker's list of segments, in the order of their making
 abbrev pub ListOf : ℕ → Type 0
@@ -25,11 +26,11 @@ part_of o p = option_and_then (λ s. part s p) o
 -- the contents of the places of all segments, where `segment` gives the contents of the segment of
 -- each name
 abbrev pub segments_by : (SegName → Contents) → Contents
-segments_by segment (Head n) = segment n (Head n)
-segments_by segment (Tail n) = segment n (Tail n)
-segments_by segment (Next n) = segment n (Next n)
-segments_by segment (ValAt n i) = segment n (ValAt n i)
-segments_by segment (IdxAt n i) = segment n (IdxAt n i)
+segments_by segment (place.Head n) = segment n (place.Head n)
+segments_by segment (place.Tail n) = segment n (place.Tail n)
+segments_by segment (place.Next n) = segment n (place.Next n)
+segments_by segment (place.Val n i) = segment n (place.Val n i)
+segments_by segment (place.Idx n i) = segment n (place.Idx n i)
 segments_by segment _ = None
 
 -- the contents of the places of all segments in these lists
@@ -47,7 +48,7 @@ count makers m = count_in (slice_get makers m)
 -- the lists have this segment, or none, under this name now, and under every other name what they
 -- had
 pub record Changes {R : ℕ} (name : SegName) (o : Option (Segment R)) (old new : List (ListOf R)) : Type 0 where
-  pub at : (t : SegName) → by_name new t ≡ (if is_name name t then o else by_name old t)
+  pub at : (t : SegName) → by_name new t ≡ (if name_eq name t then o else by_name old t)
 
 -- a maker's list got one more segment at its end, which holds the value and has the list's old
 -- length as its number
@@ -62,7 +63,7 @@ pub record IsLengthened (R maker value : ℕ) (name : SegName) (old new : ListOf
 pub record IsFresh {R : ℕ} (makers : List (ListOf R)) : Type 0 where
   pub segment : Segment R
   pub fresh_parts : (q : Place) → part segment q ≡ fresh_segment R q
-  pub at : (t : SegName) → by_name makers t ≡ (if is_name root t then Some segment else None)
+  pub at : (t : SegName) → by_name makers t ≡ (if name_eq root t then Some segment else None)
 
 -- there is just one segment, and it is fresh
 pub record IsFreshAlone {R : ℕ} (list : List (Segment R)) : Type 0 where

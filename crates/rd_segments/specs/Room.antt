@@ -1,8 +1,9 @@
 -- Room: how many segments of each maker can be made before its list has to grow.
 use Rattle.std.specs.Option.{option_map_or}
 use Rattle.std.specs.Prelude.{ℕ, ◌-◌, ◌==◌, ◌&&◌, Bool, true, List, Option, Some, None, slice_get, if◌then◌else◌, vec_len, vec_capacity}
-use Rattle.rd_ring.specs.Prelude.{Place, WholeOf, Content}
+use Rattle.rd_ring.specs.Prelude.{Place, Content}
 use Rattle.rd_segments.specs.Lists.{ListOf}
+use Rattle.rd_cell.specs.declared.places.Place.TheVariants as place
 
 -- how many more segments a list has room for, if there is one
 abbrev pub spare_in : {R : ℕ} → Option (ListOf R) → ℕ
@@ -20,7 +21,7 @@ room_used made maker m = if made && (m == maker) then 1 else 0
 -- how much of maker m's room is given back if all places that this place covers are taken away: one
 -- for the whole of a segment of m
 abbrev pub room_of_place : Option Place → ℕ → ℕ
-room_of_place (Some (WholeOf s)) m = room_used true s.maker m
+room_of_place (Some (place.Whole s)) m = room_used true s.maker m
 room_of_place _ m = 0
 
 -- how much of maker m's room is given back if this old content, or none, is put back at a place:

@@ -3,7 +3,7 @@
 
 ghost use Rattle.std.specs.Prelude.{◌≡◌, ◌↔◌, is_some, length, Some, Err, IsTrue, IfOk, IfErr, OnErr};
 ghost use Rattle.std.specs.List.{All};
-ghost use Rattle.rd_ring.specs.Prelude.{SLOTS, Number, Slot, can_hold, operand, operate, restore, everywhere, Operates, OperatesOn};
+ghost use Rattle.rd_ring.specs.Prelude.{SLOTS, can_hold, operand, operate, restore, everywhere, Operates, OperatesOn};
 ghost use Rattle.rd_cell.specs.Operations.{suits_array};
 
 use rd_cell::limits::SLOTS;
@@ -127,8 +127,8 @@ fn operate_on_counter(
     operation: Operation,
 ) -> Result<Done, Refusal>
     requires { IsTrue (suits_array operation) }
-    ensures ok { IfOk result (λ done. OperatesOn place operation done (Number counter.old) (Number counter.new)) }
-    ensures err { IfErr result (λ e. operate place operation (Some (Number counter.old)) ≡ Err e) }
+    ensures ok { IfOk result (λ done. OperatesOn place operation done (Content.Number counter.old) (Content.Number counter.new)) }
+    ensures err { IfErr result (λ e. operate place operation (Some (Content.Number counter.old)) ≡ Err e) }
     ensures unchanged { OnErr result (counter.new ≡ counter.old) }
 {
     let found = Content::Number(*counter);
@@ -148,8 +148,8 @@ fn operate_on_counter(
 /// Does an operation on a slot of the array, a swap, and returns what it did; any other operation
 /// is refused with `NoSuchPlace`.
 fn operate_on_slot(slot: &mut ArrSlot, place: Place, operation: Operation) -> Result<Done, Refusal>
-    ensures ok { IfOk result (λ done. OperatesOn place operation done (Slot slot.old) (Slot slot.new)) }
-    ensures err { IfErr result (λ e. operate place operation (Some (Slot slot.old)) ≡ Err e) }
+    ensures ok { IfOk result (λ done. OperatesOn place operation done (Content.Slot slot.old) (Content.Slot slot.new)) }
+    ensures err { IfErr result (λ e. operate place operation (Some (Content.Slot slot.old)) ≡ Err e) }
     ensures unchanged { OnErr result (slot.new ≡ slot.old) }
 {
     let found = Content::Slot(*slot);

@@ -1,7 +1,7 @@
 //! The names at the queue's two ends.
 
 ghost use Rattle.std.specs.Prelude.{◌≡◌, Some, Err, IfOk, IfErr, OnErr};
-ghost use Rattle.rd_ring.specs.Prelude.{Name, operate, OperatesOn};
+ghost use Rattle.rd_ring.specs.Prelude.{operate, OperatesOn};
 
 use rd_cell::{Answer, Content, Done, Operation, Place, Refusal, SegName, Wrote};
 
@@ -16,8 +16,8 @@ pub fn operate_on_name(
     place: Place,
     operation: Operation,
 ) -> Result<Done, Refusal>
-    ensures ok { IfOk result (λ done. OperatesOn place operation done (Name name.old) (Name name.new)) }
-    ensures err { IfErr result (λ e. operate place operation (Some (Name name.old)) ≡ Err e) }
+    ensures ok { IfOk result (λ done. OperatesOn place operation done (Content.Name name.old) (Content.Name name.new)) }
+    ensures err { IfErr result (λ e. operate place operation (Some (Content.Name name.old)) ≡ Err e) }
     ensures unchanged { OnErr result (name.new ≡ name.old) }
 {
     let found = Content::Name(*name);

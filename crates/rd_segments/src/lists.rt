@@ -1,7 +1,7 @@
 //! The makers' lists of segments: what is done to one segment of one list.
 
 ghost use Rattle.std.specs.Prelude.{◌≡◌, ◌≢◌, ◌+◌, ◌-◌, ◌<◌, ◌≤◌, ℕ, Some, None, Err, is_some, IsTrue, IfOk, IfErr, OnOk, OnErr, MatchOption, take, true, length, is_ok, vec_len, vec_capacity, if◌then◌else◌};
-ghost use Rattle.rd_ring.specs.Prelude.{MOST_CELLS, SegName, Place, WholeOf, segment_of, can_hold, operand, operate, everywhere, Operates, Makes, Restores, RefusesMaking};
+ghost use Rattle.rd_ring.specs.Prelude.{MOST_CELLS, SegName, Place, segment_of, can_hold, operand, operate, everywhere, Operates, Makes, Restores, RefusesMaking};
 ghost use Rattle.rd_cell.specs.Operations.{suits_segments};
 ghost use Rattle.rd_segments.specs.Lists.{by_name, part_of, segments_of, count, IsLengthened};
 ghost use Rattle.rd_segments.specs.Room.{spare, room_used};
@@ -118,7 +118,7 @@ fn make_next<const R: usize>(
 pub fn unmake_in<const R: usize>(makers: &mut Vec<Vec<Segment<R>>>, maker: u8)
     requires small { R ≤ MOST_CELLS }
     requires has_one { 0 < count makers.old.items maker }
-    ensures gone { Restores everywhere (WholeOf (record { maker = maker; n = count makers.old.items maker - 1 })) None (segments_of makers.old.items) (segments_of makers.new.items) }
+    ensures gone { Restores everywhere (Place.Whole (record { maker = maker; n = count makers.old.items maker - 1 })) None (segments_of makers.old.items) (segments_of makers.new.items) }
     ensures room { (m : ℕ) → spare makers.new.items m ≡ spare makers.old.items m + room_used true maker m }
     ensures number { length makers.new.items ≡ length makers.old.items }
     ensures capacity { vec_capacity makers.new ≡ vec_capacity makers.old }

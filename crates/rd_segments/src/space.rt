@@ -1,7 +1,7 @@
 //! The space and what is done to it.
 
 ghost use Rattle.std.specs.Prelude.{◌≡◌, ◌≢◌, ◌+◌, ◌-◌, ◌<◌, ◌≤◌, ◌↔◌, ℕ, suc, true, Some, None, is_ok, is_some, Err, IsTrue, IfOk, IfErr, OnOk, OnErr, length};
-ghost use Rattle.rd_ring.specs.Prelude.{MOST_CELLS, WholeOf, root, content_at, can_hold, operand, operate, restore, everywhere, Operates, Makes, RefusesMaking};
+ghost use Rattle.rd_ring.specs.Prelude.{MOST_CELLS, root, content_at, can_hold, operand, operate, restore, everywhere, Operates, Makes, RefusesMaking};
 ghost use Rattle.rd_cell.specs.Operations.{suits};
 ghost use Rattle.rd_segments.specs.Room.{room_used};
 ghost use Rattle.rd_segments.specs.SpaceFields.{fresh_space};
@@ -219,7 +219,7 @@ impl<const R: usize> Space<R> {
     /// Takes the maker's last segment away, and gives its room back.
     pub fn unmake(&mut self, maker: u8)
         requires { 0 < making_count self.old maker }
-        ensures gone { contents self.new ≡ restore (Some (WholeOf (record { maker = maker; n = making_count self.old maker - 1 }))) None (contents self.old) }
+        ensures gone { contents self.new ≡ restore (Some (Place.Whole (record { maker = maker; n = making_count self.old maker - 1 }))) None (contents self.old) }
         ensures given { (m : ℕ) → room self.new m ≡ room self.old m + room_used true maker m }
         ensures number { lists self.new ≡ lists self.old }
         ensures capacity { capacity self.new ≡ capacity self.old }

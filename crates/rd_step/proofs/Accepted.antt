@@ -1,8 +1,10 @@
 -- Parts with a list for each maker, whose world is well-formed, have no flaw.
 use Rattle.std.proofs.Common.{◌≡◌, ℕ, zero, suc, ◌+◌, ◌≤◌, Bool, true, not, ◌&&◌, nat_lt, nat_le, ◌↔◌, if◌then◌else◌, inl, inr, refl, ◌∙◌, ap, subst, arith, List, [], ◌∷◌, length, slice_get, Option, Some, None, option_map, le-leb, ltb-true, eq-eqb}
-use Rattle.rd_step.proofs.Prelude.{list_all, cases_lt, and_parts, and_from, MOST_ACTORS, MOST_SEGMENTS, COUNTER_END, Cell, SegName, Place, QHead, QTail, Head, Tail, Next, IdxAt, ArrHead, ArrTail, IdxIs, SegmentParts, counters_fit, by_number, by_name, count_in, count, PartsOf, part_of_parts, each_segment, in_list, numbered_there, Actor, words_fit, Parts, Flaw, numbered, Presence, place_fits, next_fits, names_fit, numbers_fit, record_fits, actor_fits, is_actor, IsNumbered, AreMade, IsWellFormed, world_of_parts, has, indexes_fit, first_flaw}
+use Rattle.rd_step.proofs.Prelude.{list_all, cases_lt, and_parts, and_from, MOST_ACTORS, MOST_SEGMENTS, COUNTER_END, Cell, SegName, Place, SegmentParts, counters_fit, by_number, by_name, count_in, count, PartsOf, part_of_parts, each_segment, in_list, numbered_there, Actor, words_fit, Parts, Flaw, numbered, Presence, place_fits, next_fits, names_fit, numbers_fit, record_fits, actor_fits, is_actor, IsNumbered, AreMade, IsWellFormed, world_of_parts, has, indexes_fit, first_flaw}
 use Rattle.rd_ring.specs.Segments.{part_from}
 use Rattle.rd_step.proofs.Assembled.{NoFlaw, within, presence, numbered_below, assembled, lists_right}
+use Rattle.rd_cell.specs.declared.places.Place.TheVariants as place
+use Rattle.rd_cell.specs.declared.contents.Content.TheVariants as content
 
 -- Each condition holds: no flaw
 
@@ -77,14 +79,14 @@ counters_within : (R : ℕ) (p : Parts R) → IsWellFormed (world_of_parts p) �
     → counters_fit x ≡ true
 counters_within R p formed s x e =
     and_from (nat_le x.head COUNTER_END) (nat_le x.tail COUNTER_END)
-    (part_fits R p s x (Head s) e (contents_fit R p formed (Head s)))
-    (part_fits R p s x (Tail s) e (contents_fit R p formed (Tail s)))
+    (part_fits R p s x (place.Head s) e (contents_fit R p formed (place.Head s)))
+    (part_fits R p s x (place.Tail s) e (contents_fit R p formed (place.Tail s)))
 
 cell_within : (R : ℕ) (p : Parts R) → IsWellFormed (world_of_parts p) → (s : SegName) (x : SegmentParts R) → by_name p.segments.items s ≡ Some x
     → (i : ℕ) (c : Cell) → slice_get x.cells i ≡ Some c → nat_le c.idx (COUNTER_END + R) ≡ true
 cell_within R p formed s x e i c at =
-    subst (λ (o : Option Cell). place_fits R (has p) (IdxAt s i) (option_map (λ x. IdxIs x.safe x.idx) o) ≡ true) at
-    (part_fits R p s x (IdxAt s i) e (contents_fit R p formed (IdxAt s i)))
+    subst (λ (o : Option Cell). place_fits R (has p) (place.Idx s i) (option_map (λ x. content.Idx x.safe x.idx) o) ≡ true) at
+    (part_fits R p s x (place.Idx s i) e (contents_fit R p formed (place.Idx s i)))
 
 indexes_within : (R : ℕ) (p : Parts R) → IsWellFormed (world_of_parts p) → (s : SegName) (x : SegmentParts R) → by_name p.segments.items s ≡ Some x
     → indexes_fit (COUNTER_END + R) x ≡ true
@@ -114,14 +116,14 @@ accepted R p lists formed =
       lists = eq-eqb (length p.segments.items) (suc (length p.actors.items)) lists;
       one_root = eq-eqb (count p.segments.items 0) 1 (one_root p made);
       few_segments = all_from (λ list. nat_le (length list.items) MOST_SEGMENTS) p.segments.items (few_segments p made);
-      qhead = fits QHead;
-      qtail = fits QTail;
-      nexts = each_from (λ s. next_fits (has p) s.next) p.segments.items (λ s x e. part_fits R p s x (Next s) e (fits (Next s)));
+      qhead = fits place.QHead;
+      qtail = fits place.QTail;
+      nexts = each_from (λ s. next_fits (has p) s.next) p.segments.items (λ s x e. part_fits R p s x (place.Next s) e (fits (place.Next s)));
       names = all_from (names_fit (has p)) p.actors.items (λ n a e. (actor_within R p formed n a e).names);
       counters = each_from counters_fit p.segments.items (counters_within R p formed);
       indexes = each_from (indexes_fit (COUNTER_END + R)) p.segments.items (indexes_within R p formed);
-      array_head = fits ArrHead;
-      array_tail = fits ArrTail;
+      array_head = fits place.ArrHead;
+      array_tail = fits place.ArrTail;
       numbers = all_from (numbers_fit R) p.actors.items (λ n a e. (actor_within R p formed n a e).numbers);
       words = all_from words_fit p.actors.items (λ n a e. (actor_within R p formed n a e).words);
     })

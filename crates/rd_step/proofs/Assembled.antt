@@ -1,7 +1,9 @@
 -- Parts without a flaw are a well-formed world.
 use Rattle.std.proofs.Common.{◌≡◌, ℕ, zero, suc, ◌+◌, ◌<◌, ◌≤◌, Bool, true, false, not, ◌==◌, ◌&&◌, nat_lt, nat_le, if◌then◌else◌, inl, inr, refl, sym, ◌∙◌, ap, subst, arith, List, [], ◌∷◌, length, slice_get, Option, Some, None, is_some, option_map, lt-ltb, le-ltb, leb-true, eqb-true, eq-eqb}
-use Rattle.rd_step.proofs.Prelude.{list_all, cases_lt, and_parts, and_from, both_ways, slice_get_past, fun_ext, MOST_ACTORS, SLOTS, MOST_SEGMENTS, COUNTER_END, Cell, SegName, Place, QHead, QTail, Head, Tail, Next, CellAt, ValAt, IdxAt, WholeOf, ArrHead, ArrTail, ArrCell, ArrSlot, IdxIs, Slot, is_there, SegmentParts, counters_fit, by_number, by_name, count_in, count, Space, contents, PartsOf, part_of_parts, contents_of_parts, each_segment, in_list, numbered_there, Actor, words_fit, Parts, Flaw, world_of_fields, numbered, Presence, belongs, place_fits, next_fits, names_fit, numbers_fit, actor_fits, is_actor, IsNumbered, AreMade, IsWellFormed, world_of_parts, has, indexes_fit, first_flaw}
+use Rattle.rd_step.proofs.Prelude.{list_all, cases_lt, and_parts, and_from, both_ways, slice_get_past, fun_ext, MOST_ACTORS, SLOTS, MOST_SEGMENTS, COUNTER_END, Cell, SegName, Place, ArrSlot, is_there, SegmentParts, counters_fit, by_number, by_name, count_in, count, Space, contents, PartsOf, part_of_parts, contents_of_parts, each_segment, in_list, numbered_there, Actor, words_fit, Parts, Flaw, world_of_fields, numbered, Presence, belongs, place_fits, next_fits, names_fit, numbers_fit, actor_fits, is_actor, IsNumbered, AreMade, IsWellFormed, world_of_parts, has, indexes_fit, first_flaw}
 use Rattle.rd_segments.proofs.CountLemmas.{numbered_absent}
+use Rattle.rd_cell.specs.declared.places.Place.TheVariants as place
+use Rattle.rd_cell.specs.declared.contents.Content.TheVariants as content
 
 -- No flaw
 
@@ -54,7 +56,7 @@ actors_numbered : (xs : List Actor) → 1 ≤ length xs → length xs ≤ MOST_A
 actors_numbered xs some few = grind (arith, in_list, within)
 
 -- a segment is there if it has its head
-there_if : {R : ℕ} (o : Option (SegmentParts R)) (s : SegName) → is_some (part_of_parts o (Head s)) ≡ is_some o
+there_if : {R : ℕ} (o : Option (SegmentParts R)) (s : SegName) → is_some (part_of_parts o (place.Head s)) ≡ is_some o
 there_if o s = grind arith
 
 pub presence : {R : ℕ} (p : Parts R) → is_there (world_of_parts p).at ≡ has p
@@ -91,60 +93,60 @@ and_false b = grind arith
 and_true : (b : Bool) → b ≡ (b && true)
 and_true b = grind arith
 
-value_there : (R : ℕ) (o : Option (SegmentParts R)) (s : SegName) (i : ℕ) → is_some (part_of_parts o (ValAt s i)) ≡ (nat_lt i R && is_some o)
+value_there : (R : ℕ) (o : Option (SegmentParts R)) (s : SegName) (i : ℕ) → is_some (part_of_parts o (place.Val s i)) ≡ (nat_lt i R && is_some o)
 value_there R o s i = grind (arith, and_false, nat_lt, some_in, and_true)
 
-index_there : (R : ℕ) (o : Option (SegmentParts R)) (s : SegName) (i : ℕ) → is_some (part_of_parts o (IdxAt s i)) ≡ (nat_lt i R && is_some o)
+index_there : (R : ℕ) (o : Option (SegmentParts R)) (s : SegName) (i : ℕ) → is_some (part_of_parts o (place.Idx s i)) ≡ (nat_lt i R && is_some o)
 index_there R o s i = grind (arith, and_false, nat_lt, some_in, and_true)
 
-tail_there : {R : ℕ} (o : Option (SegmentParts R)) (s : SegName) → is_some (part_of_parts o (Tail s)) ≡ is_some o
+tail_there : {R : ℕ} (o : Option (SegmentParts R)) (s : SegName) → is_some (part_of_parts o (place.Tail s)) ≡ is_some o
 tail_there o s = grind arith
 
-next_there : {R : ℕ} (o : Option (SegmentParts R)) (s : SegName) → is_some (part_of_parts o (Next s)) ≡ is_some o
+next_there : {R : ℕ} (o : Option (SegmentParts R)) (s : SegName) → is_some (part_of_parts o (place.Next s)) ≡ is_some o
 next_there o s = grind arith
 
 places_belong : {R : ℕ} (p : Parts R) (q : Place) → is_some ((world_of_parts p).at q) ≡ belongs R (has p) q
-places_belong p QHead = refl
-places_belong p QTail = refl
-places_belong p (Head s) = there_if (by_name p.segments.items s) s
-places_belong p (Tail s) = tail_there (by_name p.segments.items s) s
-places_belong p (Next s) = next_there (by_name p.segments.items s) s
-places_belong {R} p (ValAt s i) = value_there R (by_name p.segments.items s) s i
-places_belong {R} p (IdxAt s i) = index_there R (by_name p.segments.items s) s i
-places_belong p (CellAt s i) = refl
-places_belong p (WholeOf s) = refl
-places_belong p ArrHead = refl
-places_belong p ArrTail = refl
-places_belong p (ArrCell i) = some_in Slot p.array.cells i SLOTS p.array.sized
+places_belong p place.QHead = refl
+places_belong p place.QTail = refl
+places_belong p (place.Head s) = there_if (by_name p.segments.items s) s
+places_belong p (place.Tail s) = tail_there (by_name p.segments.items s) s
+places_belong p (place.Next s) = next_there (by_name p.segments.items s) s
+places_belong {R} p (place.Val s i) = value_there R (by_name p.segments.items s) s i
+places_belong {R} p (place.Idx s i) = index_there R (by_name p.segments.items s) s i
+places_belong p (place.Cell s i) = refl
+places_belong p (place.Whole s) = refl
+places_belong p place.ArrHead = refl
+places_belong p place.ArrTail = refl
+places_belong p (place.ArrCell i) = some_in content.Slot p.array.cells i SLOTS p.array.sized
 
 -- What is there fits
 
 head_fits : {R : ℕ} (p : Parts R) (s : SegName) (o : Option (SegmentParts R)) → NoFlaw p → by_name p.segments.items s ≡ o
-    → place_fits R (has p) (Head s) (part_of_parts o (Head s)) ≡ true
+    → place_fits R (has p) (place.Head s) (part_of_parts o (place.Head s)) ≡ true
 head_fits p s o f e = grind (arith, and_parts, nat_le, each_at)
 
 tail_fits : {R : ℕ} (p : Parts R) (s : SegName) (o : Option (SegmentParts R)) → NoFlaw p → by_name p.segments.items s ≡ o
-    → place_fits R (has p) (Tail s) (part_of_parts o (Tail s)) ≡ true
+    → place_fits R (has p) (place.Tail s) (part_of_parts o (place.Tail s)) ≡ true
 tail_fits p s o f e = grind (arith, and_parts, nat_le, each_at)
 
 link_fits : {R : ℕ} (p : Parts R) (s : SegName) (o : Option (SegmentParts R)) → NoFlaw p → by_name p.segments.items s ≡ o
-    → place_fits R (has p) (Next s) (part_of_parts o (Next s)) ≡ true
+    → place_fits R (has p) (place.Next s) (part_of_parts o (place.Next s)) ≡ true
 link_fits p s o f e = grind (arith, each_at)
 
-value_of_fits : (R : ℕ) (p : Parts R) (s : SegName) (i : ℕ) (o : Option (SegmentParts R)) → place_fits R (has p) (ValAt s i) (part_of_parts o (ValAt s i)) ≡ true
+value_of_fits : (R : ℕ) (p : Parts R) (s : SegName) (i : ℕ) (o : Option (SegmentParts R)) → place_fits R (has p) (place.Val s i) (part_of_parts o (place.Val s i)) ≡ true
 value_of_fits R p s i o = grind arith
 
 index_fits : (R : ℕ) (there : Presence) (s : SegName) (i : ℕ) (cells : List Cell) (o : Option Cell) → list_all (λ c. nat_le c.idx (COUNTER_END + R)) cells ≡ true
-    → slice_get cells i ≡ o → place_fits R there (IdxAt s i) (option_map (λ c. IdxIs c.safe c.idx) o) ≡ true
+    → slice_get cells i ≡ o → place_fits R there (place.Idx s i) (option_map (λ c. content.Idx c.safe c.idx) o) ≡ true
 index_fits R there s i cells o h e = grind (arith, all_at, nat_le)
 
 index_of_fits : (R : ℕ) (p : Parts R) (s : SegName) (i : ℕ) (o : Option (SegmentParts R)) → NoFlaw p → by_name p.segments.items s ≡ o
-    → place_fits R (has p) (IdxAt s i) (part_of_parts o (IdxAt s i)) ≡ true
+    → place_fits R (has p) (place.Idx s i) (part_of_parts o (place.Idx s i)) ≡ true
 index_of_fits R p s i None f e = refl
 index_of_fits R p s i (Some x) f e =
     index_fits R (has p) s i x.cells (slice_get x.cells i) (each_at (indexes_fit (COUNTER_END + R)) p.segments.items s x f.indexes e) refl
 
-slot_fits : (R : ℕ) (there : Presence) (i : ℕ) (o : Option ArrSlot) → place_fits R there (ArrCell i) (option_map Slot o) ≡ true
+slot_fits : (R : ℕ) (there : Presence) (i : ℕ) (o : Option ArrSlot) → place_fits R there (place.ArrCell i) (option_map content.Slot o) ≡ true
 slot_fits R there i o = grind arith
 
 contents_fit : (R : ℕ) (p : Parts R) → NoFlaw p → (q : Place) → place_fits R (has p) q ((world_of_parts p).at q) ≡ true

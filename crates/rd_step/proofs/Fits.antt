@@ -1,7 +1,8 @@
 -- Which accesses and answers fit, and that an actor whose record fits asks for an access that fits.
 use Rattle.std.proofs.Common.{nat_lt, ◌≡◌, ℕ, ◌+◌, Bool, true, not, ◌&&◌, nat_le, arith, Option, Some, IfOk}
-use Rattle.rd_step.proofs.Prelude.{and_parts, SLOTS, COUNTER_END, SegName, Place, Content, Name, Number, TailIs, NextIs, Access, NoPlace, At, Make, Answer, Found, SafeAndIndex, Made, Operation, Add, AddArray, CasName, CasNext, CasTail, Cas2, is_array, Act, Actor, Pc, need, need_at, need_call, need_choice, words_fit, Presence, content_fits, place_fits, names_fit, numbers_fit, record_fits, actor_fits}
-use Rattle.rd_ring.specs.Prelude.{can_hold}
+use Rattle.rd_step.proofs.Prelude.{and_parts, SLOTS, COUNTER_END, SegName, Place, Access, NoPlace, At, Make, Answer, Operation, Add, AddArray, CasName, CasNext, CasTail, Cas2, is_array, Act, Actor, Pc, need, need_at, need_call, need_choice, words_fit, Presence, names_fit, numbers_fit, record_fits, actor_fits}
+use Rattle.rd_cell.specs.declared.contents.Content.TheVariants as content
+use Rattle.rd_cell.specs.declared.operations.Answer.TheVariants as answer
 
 -- A record that fits, by its parts
 
@@ -59,17 +60,17 @@ access_fits R there (Make x) = true
 -- whether an answer fits: the segments that it names are there, and its numbers are within their
 -- ends
 abbrev pub answer_fits : ℕ → Presence → Answer → Bool
-answer_fits R there (Found (Name s)) = there s
-answer_fits R there (Found (Number g)) = nat_le g COUNTER_END
-answer_fits R there (Found (TailIs closed count)) = nat_le count COUNTER_END
-answer_fits R there (Found (NextIs (Some m))) = there m
-answer_fits R there (SafeAndIndex safe idx) = nat_le idx (COUNTER_END + R)
-answer_fits R there (Made s) = there s
+answer_fits R there (answer.Found (content.Name s)) = there s
+answer_fits R there (answer.Found (content.Number g)) = nat_le g COUNTER_END
+answer_fits R there (answer.Found (content.Tail closed count)) = nat_le count COUNTER_END
+answer_fits R there (answer.Found (content.Next (Some m))) = there m
+answer_fits R there (answer.SafeAndIndex safe idx) = nat_le idx (COUNTER_END + R)
+answer_fits R there (answer.Made s) = there s
 answer_fits R there _ = true
 
 -- whether the position that a fetch-and-add on the array drew has a slot
 abbrev pub has_slot : Operation → Answer → Bool
-has_slot AddArray (Found (Number g)) = nat_lt g SLOTS
+has_slot AddArray (answer.Found (content.Number g)) = nat_lt g SLOTS
 has_slot _ _ = true
 
 abbrev pub drew_slot : Access → Answer → Bool

@@ -1,7 +1,9 @@
 -- A cell, as the name of its two halves, in a well-formed world.
 use Rattle.std.proofs.Common.{◌≡◌, ℕ, true, false, ◌&&◌, nat_lt, Bool, ◌∙◌, ap₂, Option, Some, None, is_some, IfSome, arith}
-use Rattle.rd_step.proofs.Prelude.{Cell, SegName, Place, QHead, QTail, Head, Tail, Next, CellAt, ValAt, IdxAt, WholeOf, ArrHead, ArrTail, ArrCell, Content, CellIs, ValIs, IdxIs, covers, share, operand, Contents, is_there, is_cell_at, World, Presence, belongs, content_fits, place_fits, IsWellFormed}
+use Rattle.rd_step.proofs.Prelude.{Cell, SegName, Place, Content, covers, share, operand, Contents, is_there, is_cell_at, World, Presence, belongs, content_fits, place_fits, IsWellFormed}
 use Rattle.rd_ring.specs.Prelude.{half, cell_of_halves}
+use Rattle.rd_cell.specs.declared.places.Place.TheVariants as place
+use Rattle.rd_cell.specs.declared.contents.Content.TheVariants as content
 
 pub nothing_there : (o : Option Content) → is_some o ≡ false → o ≡ None
 nothing_there o h = grind arith
@@ -11,7 +13,7 @@ some_there o h = grind arith
 
 -- a cell is no place of the map
 pub bare_cell : (w : World) → IsWellFormed w → (q : Place) → is_cell_at q ≡ true → w.at q ≡ None
-bare_cell w formed (CellAt s i) h = nothing_there (w.at (CellAt s i)) (formed.places (CellAt s i))
+bare_cell w formed (place.Cell s i) h = nothing_there (w.at (place.Cell s i)) (formed.places (place.Cell s i))
 bare_cell w formed _ h = cc
 
 -- What fits a place
@@ -37,24 +39,24 @@ same_kinds R there p c o q h k = grind arith
 
 -- whether a place is there to work on
 abbrev pub has_place : ℕ → Presence → Place → Bool
-has_place R there (CellAt s i) = nat_lt i R && there s
+has_place R there (place.Cell s i) = nat_lt i R && there s
 has_place R there p = belongs R there p
 
-value_there : (R : ℕ) (there : Presence) (s : SegName) (i : ℕ) (o : Option Content) → is_some o ≡ true → place_fits R there (ValAt s i) o ≡ true
-    → (val : Option ℕ) × (o ≡ Some (ValIs val))
+value_there : (R : ℕ) (there : Presence) (s : SegName) (i : ℕ) (o : Option Content) → is_some o ≡ true → place_fits R there (place.Val s i) o ≡ true
+    → (val : Option ℕ) × (o ≡ Some (content.Val val))
 value_there R there s i o h k = grind arith
 
-index_there : (R : ℕ) (there : Presence) (s : SegName) (i : ℕ) (o : Option Content) → is_some o ≡ true → place_fits R there (IdxAt s i) o ≡ true
-    → (safe : Bool) × (idx : ℕ) × (o ≡ Some (IdxIs safe idx))
+index_there : (R : ℕ) (there : Presence) (s : SegName) (i : ℕ) (o : Option Content) → is_some o ≡ true → place_fits R there (place.Idx s i) o ≡ true
+    → (safe : Bool) × (idx : ℕ) × (o ≡ Some (content.Idx safe idx))
 index_there R there s i o h k = grind arith
 
 -- a cell is there if its halves are
 pub cell_there : (R : ℕ) (there : Presence) (at : Contents) (s : SegName) (i : ℕ) → ((q : Place) → place_fits R there q (at q) ≡ true)
-    → is_some (at (ValAt s i)) ≡ true → is_some (at (IdxAt s i)) ≡ true → (c : Content) × (operand at (CellAt s i) ≡ Some c)
+    → is_some (at (place.Val s i)) ≡ true → is_some (at (place.Idx s i)) ≡ true → (c : Content) × (operand at (place.Cell s i) ≡ Some c)
 cell_there R there at s i fits h k =
-    let v = value_there R there s i (at (ValAt s i)) h (fits (ValAt s i)) in
-    let x = index_there R there s i (at (IdxAt s i)) k (fits (IdxAt s i)) in
-    (CellIs (record { safe = x.0; idx = x.1; val = v.0 }), ap₂ cell_of_halves v.1 x.2)
+    let v = value_there R there s i (at (place.Val s i)) h (fits (place.Val s i)) in
+    let x = index_there R there s i (at (place.Idx s i)) k (fits (place.Idx s i)) in
+    (content.Cell (record { safe = x.0; idx = x.1; val = v.0 }), ap₂ cell_of_halves v.1 x.2)
 
 -- an operation at a place that is there works on something
 pub record HasOperand (w : World) (p : Place) : Type 0 where
@@ -70,17 +72,17 @@ operand_of w p formed found = record {
 }
 
 pub has_operand : (w : World) (p : Place) → IsWellFormed w → has_place w.ring (is_there w.at) p ≡ true → HasOperand w p
-has_operand w (CellAt s i) formed h =
-    operand_of w (CellAt s i) formed
-    (cell_there w.ring (is_there w.at) w.at s i formed.contents (formed.places (ValAt s i) ∙ h) (formed.places (IdxAt s i) ∙ h))
-has_operand w (WholeOf s) formed h = cc
-has_operand w QHead formed h = operand_of w QHead formed (some_there (w.at QHead) (formed.places QHead ∙ h))
-has_operand w QTail formed h = operand_of w QTail formed (some_there (w.at QTail) (formed.places QTail ∙ h))
-has_operand w (Head s) formed h = operand_of w (Head s) formed (some_there (w.at (Head s)) (formed.places (Head s) ∙ h))
-has_operand w (Tail s) formed h = operand_of w (Tail s) formed (some_there (w.at (Tail s)) (formed.places (Tail s) ∙ h))
-has_operand w (Next s) formed h = operand_of w (Next s) formed (some_there (w.at (Next s)) (formed.places (Next s) ∙ h))
-has_operand w (ValAt s i) formed h = operand_of w (ValAt s i) formed (some_there (w.at (ValAt s i)) (formed.places (ValAt s i) ∙ h))
-has_operand w (IdxAt s i) formed h = operand_of w (IdxAt s i) formed (some_there (w.at (IdxAt s i)) (formed.places (IdxAt s i) ∙ h))
-has_operand w ArrHead formed h = operand_of w ArrHead formed (some_there (w.at ArrHead) (formed.places ArrHead ∙ h))
-has_operand w ArrTail formed h = operand_of w ArrTail formed (some_there (w.at ArrTail) (formed.places ArrTail ∙ h))
-has_operand w (ArrCell i) formed h = operand_of w (ArrCell i) formed (some_there (w.at (ArrCell i)) (formed.places (ArrCell i) ∙ h))
+has_operand w (place.Cell s i) formed h =
+    operand_of w (place.Cell s i) formed
+    (cell_there w.ring (is_there w.at) w.at s i formed.contents (formed.places (place.Val s i) ∙ h) (formed.places (place.Idx s i) ∙ h))
+has_operand w (place.Whole s) formed h = cc
+has_operand w place.QHead formed h = operand_of w place.QHead formed (some_there (w.at place.QHead) (formed.places place.QHead ∙ h))
+has_operand w place.QTail formed h = operand_of w place.QTail formed (some_there (w.at place.QTail) (formed.places place.QTail ∙ h))
+has_operand w (place.Head s) formed h = operand_of w (place.Head s) formed (some_there (w.at (place.Head s)) (formed.places (place.Head s) ∙ h))
+has_operand w (place.Tail s) formed h = operand_of w (place.Tail s) formed (some_there (w.at (place.Tail s)) (formed.places (place.Tail s) ∙ h))
+has_operand w (place.Next s) formed h = operand_of w (place.Next s) formed (some_there (w.at (place.Next s)) (formed.places (place.Next s) ∙ h))
+has_operand w (place.Val s i) formed h = operand_of w (place.Val s i) formed (some_there (w.at (place.Val s i)) (formed.places (place.Val s i) ∙ h))
+has_operand w (place.Idx s i) formed h = operand_of w (place.Idx s i) formed (some_there (w.at (place.Idx s i)) (formed.places (place.Idx s i) ∙ h))
+has_operand w place.ArrHead formed h = operand_of w place.ArrHead formed (some_there (w.at place.ArrHead) (formed.places place.ArrHead ∙ h))
+has_operand w place.ArrTail formed h = operand_of w place.ArrTail formed (some_there (w.at place.ArrTail) (formed.places place.ArrTail ∙ h))
+has_operand w (place.ArrCell i) formed h = operand_of w (place.ArrCell i) formed (some_there (w.at (place.ArrCell i)) (formed.places (place.ArrCell i) ∙ h))

@@ -1,12 +1,13 @@
 -- The words that an entry keeps give the world before its step back, and a step on which no later
 -- one depends may be taken out of a run.
 use Rattle.std.proofs.Common.{◌≡◌, ℕ, zero, suc, ◌+◌, ◌<◌, true, false, nat_lt, inl, inr, refl, sym, ◌∙◌, ap, subst, arith, List, ◌∷◌, Option, Some, None, Result, Ok, Err, IfOk, ltb-true}
-use Rattle.rd_step.proofs.Prelude.{cases_Bool, cond-true, cond-false, cond_both, IfOk-at_ok, fun_ext, MOST_SEGMENTS, SegName, Place, WholeOf, Content, Access, NoPlace, At, Make, Operation, Refusal, is_of, covers, written, wrote_by, share, Contents, after_write, operand, restore, is_there, holding, Effect, Performed, contents_after, operate, make, perform, effect_at, number_made_from, result_map, is_cell_at, after_write-outside, Actor, after, World, Event, Stepped, with_actor, step, unstep, Ran, run, Presence, belongs, IsWellFormed}
+use Rattle.rd_step.proofs.Prelude.{cases_Bool, cond-true, cond-false, cond_both, IfOk-at_ok, fun_ext, MOST_SEGMENTS, SegName, Place, Content, Access, NoPlace, At, Make, Operation, Refusal, is_of, covers, written, wrote_by, share, Contents, after_write, operand, restore, is_there, holding, Effect, Performed, contents_after, operate, make, perform, effect_at, number_made_from, result_map, is_cell_at, after_write-outside, Actor, after, World, Event, Stepped, with_actor, step, unstep, Ran, run, Presence, belongs, IsWellFormed}
 use Rattle.rd_cell.specs.Access.{number_made}
 use Rattle.rd_cell.proofs.AccessLemmas.{operand-covered}
 use Rattle.rd_cell.proofs.EffectLemmas.{not_written}
 use Rattle.rd_step.proofs.Halves.{nothing_there, bare_cell}
 use Rattle.rd_step.proofs.Steps.{took}
+use Rattle.rd_cell.specs.declared.places.Place.TheVariants as place
 
 -- the contents that an access left, with what was at its place put back, are those from before it
 abbrev PutsBack : Contents → Performed → Type 0
@@ -58,7 +59,7 @@ back-make actor n x w formed absent =
     let s : SegName = record { maker = actor; n = n } in
     cond_both (nat_lt n MOST_SEGMENTS) _ _ (λ (r : Result Performed Refusal). IfOk r (PutsBack w.at))
     (λ below q.
-    cond_both (is_of s q) None (after_write (WholeOf s) (holding w.ring x) w.at q) (λ (o : Option Content). o ≡ w.at q)
+    cond_both (is_of s q) None (after_write (place.Whole s) (holding w.ring x) w.at q) (λ (o : Option Content). o ≡ w.at q)
     (λ e. sym (nothing_there (w.at q) (formed.places q ∙ absent_place w.ring (is_there w.at) s q (absent (ltb-true n MOST_SEGMENTS below)) e)))
     (λ e. cond-false (is_of s q) (holding w.ring x q) (w.at q) e))
     (λ e. tt)

@@ -1,6 +1,6 @@
 -- A step keeps a world well-formed.
 use Rattle.std.proofs.Common.{◌≡◌, ℕ, Bool, true, ◌==◌, nat_lt, inl, inr, refl, sym, ◌∙◌, ap, subst, subst₂, Option, Some, None, is_some, IfSome, Result, Ok, Err, IfOk, arith}
-use Rattle.rd_step.proofs.Prelude.{cases_Bool, cond_both, IfOk-at_ok, fun_ext, SegName, Place, Head, Content, Access, NoPlace, At, Make, Nothing, Made, Operation, Refusal, MOST_SEGMENTS, root, some_covers, written, share, wrote_by, operand, contents_after, Contents, is_there, Effect, effect, Performed, operate, make, perform, effect_at, result_map, is_name-refl, written-covers, after_write-outside, Actor, need, after, World, Event, Stepped, with_actor, step_outcome, step, Presence, belongs, content_fits, place_fits, record_fits, actor_fits, is_actor, IsNumbered, AreMade, IsWellFormed}
+use Rattle.rd_step.proofs.Prelude.{cases_Bool, cond_both, IfOk-at_ok, fun_ext, SegName, Place, Content, Access, NoPlace, At, Make, Operation, Refusal, MOST_SEGMENTS, root, some_covers, written, share, wrote_by, operand, contents_after, Contents, is_there, Effect, effect, Performed, operate, make, perform, effect_at, result_map, name_eq-refl, written-covers, after_write-outside, Actor, need, after, World, Event, Stepped, with_actor, step_outcome, step, Presence, belongs, content_fits, place_fits, record_fits, actor_fits, is_actor, IsNumbered, AreMade, IsWellFormed}
 use Rattle.rd_ring.specs.Prelude.{wrote_content, number_made}
 use Rattle.rd_cell.specs.Contents.{after_write_at}
 use Rattle.rd_cell.proofs.AccessLemmas.{after_write-inside, after-is_some}
@@ -10,6 +10,8 @@ use Rattle.rd_step.proofs.Fits.{op_fits, access_fits, record_grows, actor_grows,
 use Rattle.rd_step.proofs.Effects.{EffectFits, effect_fits}
 use Rattle.rd_step.proofs.Rows.{after_fits}
 use Rattle.rd_step.proofs.Making.{made-below, laid, laid_new, laid_grows, maker_is, laid_made, laid_places, laid_fits}
+use Rattle.rd_cell.specs.declared.places.Place.TheVariants as place
+use Rattle.rd_cell.specs.declared.operations.Answer.TheVariants as answer
 
 -- giving an actor that is there another record adds no actor
 is_actor-same : (n : ℕ) (a b : Actor) (actors : ℕ → Option Actor) → actors n ≡ Some a
@@ -45,7 +47,7 @@ keeps_by w n a next p c f formed has there_is fits next_fits =
     let here : content_fits w.ring (is_there w.at) p c ≡ true = operand_fits w.ring (is_there w.at) w.at p c formed.contents there_is in
     let some : (q : Place) → is_some (at' q) ≡ is_some (w.at q) =
     λ q. after-is_some p c f w.at q there_is (bare_cell w formed q) (same_kinds w.ring (is_there w.at) p c f.writes q here fits) in
-    let presence : is_there w.at ≡ is_there at' = sym (fun_ext (λ (s : SegName). some (Head s))) in
+    let presence : is_there w.at ≡ is_there at' = sym (fun_ext (λ (s : SegName). some (place.Head s))) in
     let actors : is_actor w.actor ≡ is_actor (with_actor n next w.actor) = sym (is_actor-same n a next w.actor has) in
     let each_actor : (m : ℕ) → actor_fits w.ring (is_there w.at) (with_actor n next w.actor m) ≡ true =
     λ m. cond_both (m == n) (Some next) (w.actor m) (λ (o : Option Actor). actor_fits w.ring (is_there w.at) o ≡ true) (λ e. next_fits) (λ e. formed.actors m) in
@@ -126,8 +128,8 @@ keeps_make w e a v formed has needs fits =
     let more = laid_grows w.ring s v w.at in
     cond_both (nat_lt s.n MOST_SEGMENTS) _ _ (λ (r : Result Performed Refusal). IfOk r (Keeps w e a))
     (λ below.
-    keeps_made w e.actor v a (after w.ring a e.act (Made s)).0 formed has below
-    (after_fits w.ring (is_there at') a e.act (Make v) (Made s) (more root formed.made.rooted) needs (laid_new w.ring s v w.at s (is_name-refl s)) refl
+    keeps_made w e.actor v a (after w.ring a e.act (answer.Made s)).0 formed has below
+    (after_fits w.ring (is_there at') a e.act (Make v) (answer.Made s) (more root formed.made.rooted) needs (laid_new w.ring s v w.at s (name_eq-refl s)) refl
     (record_grows w.ring (is_there w.at) (is_there at') a more fits)))
     (λ e. tt)
 
@@ -135,8 +137,8 @@ keeps_perform : (w : World) (e : Event) (a : Actor) (x : Access) → IsWellForme
     → need w.ring a e.act ≡ Ok x → record_fits w.ring (is_there w.at) a ≡ true → access_fits w.ring (is_there w.at) x ≡ true
     → IfOk (perform w.ring e.actor w.at x) (Keeps w e a)
 keeps_perform w e a NoPlace formed has needs fits good =
-    keeps_actor w e.actor a (after w.ring a e.act Nothing).0 formed has
-    (after_fits w.ring (is_there w.at) a e.act NoPlace Nothing formed.made.rooted needs refl refl fits)
+    keeps_actor w e.actor a (after w.ring a e.act answer.Nothing).0 formed has
+    (after_fits w.ring (is_there w.at) a e.act NoPlace answer.Nothing formed.made.rooted needs refl refl fits)
 keeps_perform w e a (At p op) formed has needs fits good = grind (arith, keeps_operate)
 keeps_perform w e a (Make v) formed has needs fits good = keeps_make w e a v formed has needs fits
 

@@ -1,9 +1,11 @@
 -- A making keeps a world well-formed: the new segment is its maker's next one, and its places are
 -- just those that belong there.
 use Rattle.std.proofs.Common.{◌≡◌, ℕ, zero, suc, ◌+◌, ◌<◌, ◌≤◌, Bool, true, false, not, ◌==◌, nat_lt, inl, inr, sym, ◌∙◌, ap, subst, arith, Some, is_some, eqb-true}
-use Rattle.rd_step.proofs.Prelude.{cases_eq, cases_Bool, cond-true, cond-false, and_parts, MOST_SEGMENTS, SegName, Place, Head, WholeOf, Number, root, is_name, Contents, is_there, after_write, holding, number_made_from, is_name-true, belongs, place_fits, maker_fits, AreMade}
+use Rattle.rd_step.proofs.Prelude.{cases_eq, cases_Bool, cond-true, cond-false, and_parts, MOST_SEGMENTS, SegName, Place, root, name_eq, Contents, is_there, after_write, holding, number_made_from, name_eq-true, belongs, place_fits, maker_fits, AreMade}
 use Rattle.rd_cell.specs.Access.{number_made}
 use Rattle.rd_step.proofs.Fits.{Grows}
+use Rattle.rd_cell.specs.declared.places.Place.TheVariants as place
+use Rattle.rd_cell.specs.declared.contents.Content.TheVariants as content
 
 -- every number below the one that counting ends at names a segment that is there
 made_from-below : (more : ℕ) (at : Contents) (m n k : ℕ) → n ≤ k → k < number_made_from more at m n
@@ -30,15 +32,15 @@ made-below at m k h = made_from-below MOST_SEGMENTS at m 0 k (omega arith) h
 
 -- the contents with a new segment
 abbrev pub laid : ℕ → SegName → ℕ → Contents → Contents
-laid R s x at = after_write (WholeOf s) (holding R x) at
+laid R s x at = after_write (place.Whole s) (holding R x) at
 
 -- the new segment is there, and which others are stays
-pub laid_new : (R : ℕ) (s : SegName) (x : ℕ) (at : Contents) (t : SegName) → is_name s t ≡ true → is_there (laid R s x at) t ≡ true
-laid_new R s x at t e = ap is_some (cond-true (is_name s t) (Some (Number 0)) (at (Head t)) e)
+pub laid_new : (R : ℕ) (s : SegName) (x : ℕ) (at : Contents) (t : SegName) → name_eq s t ≡ true → is_there (laid R s x at) t ≡ true
+laid_new R s x at t e = ap is_some (cond-true (name_eq s t) (Some (content.Number 0)) (at (place.Head t)) e)
 
-pub laid_other : (R : ℕ) (s : SegName) (x : ℕ) (at : Contents) (t : SegName) → is_name s t ≡ false
+pub laid_other : (R : ℕ) (s : SegName) (x : ℕ) (at : Contents) (t : SegName) → name_eq s t ≡ false
     → is_there (laid R s x at) t ≡ is_there at t
-laid_other R s x at t e = ap is_some (cond-false (is_name s t) (Some (Number 0)) (at (Head t)) e)
+laid_other R s x at t e = ap is_some (cond-false (name_eq s t) (Some (content.Number 0)) (at (place.Head t)) e)
 
 pub laid_grows : (R : ℕ) (s : SegName) (x : ℕ) (at : Contents) → Grows (is_there at) (is_there (laid R s x at))
 laid_grows R s x at t h = grind arith
@@ -56,15 +58,15 @@ laid_made R s x at is_actor fits below were = record { rooted = laid_grows R s x
   where
     each : (t : SegName) → is_there (laid R s x at) t ≡ true → maker_fits is_actor t.maker t.n ≡ true
     each t h =
-        elim (cases_Bool (is_name s t)) [
-          | inl e ↦ subst (λ (u : SegName). maker_fits is_actor u.maker u.n ≡ true) (is_name-true s t e) fits
+        elim (cases_Bool (name_eq s t)) [
+          | inl e ↦ subst (λ (u : SegName). maker_fits is_actor u.maker u.n ≡ true) (name_eq-true s t e) fits
           | inr e ↦ were.makers t (sym (laid_other R s x at t e) ∙ h)
         ]
 
     gap : (m n : ℕ) → is_there (laid R s x at) (record { maker = m; n = suc n }) ≡ true
         → is_there (laid R s x at) (record { maker = m; n = n }) ≡ true
     gap m n h =
-        elim (cases_Bool (is_name s (record { maker = m; n = suc n }))) [
+        elim (cases_Bool (name_eq s (record { maker = m; n = suc n }))) [
           | inl e ↦
               let both = and_parts (s.maker == m) (s.n == suc n) e in
               let same : s.n ≡ suc n = eqb-true s.n (suc n) both.1 in

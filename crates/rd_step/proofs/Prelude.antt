@@ -10,21 +10,19 @@ pub use Rattle.rd_actor.specs.Actors.{idle, poised}
 pub use Rattle.rd_actor.specs.Table.{after, after_at, after_swap_in, after_swap_out, after_take, need, need_at, need_call, need_choice, pc_after_empty_pass, with_pc}
 pub use Rattle.rd_actor.specs.Words.{array_dequeues, array_enqueues, pass_fits, words_fit, words_fit_at}
 pub use Rattle.rd_actor.specs.declared.actors.Act.{Act}
-pub use Rattle.rd_actor.specs.declared.actors.Act.TheVariants.{ADeq, AEnq, Deq, Enq, Go, Starve}
 pub use Rattle.rd_actor.specs.declared.actors.Actor.{Actor}
 pub use Rattle.rd_actor.specs.declared.actors.OpReply.{OpReply}
-pub use Rattle.rd_actor.specs.declared.actors.OpReply.TheVariants.{Empty}
 pub use Rattle.rd_actor.specs.declared.actors.Pc.{Pc}
 pub use Rattle.rd_actor.specs.declared.actors.Pc.TheVariants.{A1, A2, B1, B2, B3, E1, E10, E11, E12, E13, E14, E2, E3, E4, E5, E6, E7, E8, E9, Idle, Q1, Q10, Q11, Q12, Q13, Q14, Q2, Q3, Q4, Q5, Q6, Q7, Q8, Q9}
 pub use Rattle.rd_cell.proofs.AccessLemmas.{after_write-outside, is_cell_at}
-pub use Rattle.rd_cell.proofs.PlaceLemmas.{is_name-refl, is_name-true, written-covers}
+pub use Rattle.rd_cell.proofs.PlaceLemmas.{name_eq-refl, name_eq-true, written-covers}
 pub use Rattle.rd_cell.proofs.ResultLemmas.{and_then_ok, ok_or_ok}
 pub use Rattle.rd_cell.specs.Access.{effect_at}
 unfoldable pub use Rattle.rd_cell.specs.Access.{number_made_from}
-pub use Rattle.rd_cell.specs.Cells.{is_bit}
+pub use Rattle.rd_cell.specs.Cells.{bit_eq}
 pub use Rattle.rd_cell.specs.Operations.{adds, swaps}
 pub use Rattle.rd_cell.specs.Results.{result_map}
-pub use Rattle.rd_ring.specs.Prelude.{Access, Add, AddArray, Answer, ArrCell, ArrHead, ArrSlot, ArrTail, ArrayEnd, At, COUNTER_END, Cas2, CasName, CasNext, CasTail, Cell, CellAt, CellIs, Close, Content, Contents, CounterEnd, Done, Effect, Empty as NobodyYet, Found, HasEffect, Head, Held, IdxAt, IdxIs, Lost, MOST_ACTORS, MOST_CELLS, MOST_SEGMENTS, Made, Make, Name, Next, NextIs, NoActor, NoPlace, Nothing, Number, Operation, Performed, Place, QHead, QTail, Read, ReadSafeAndIndex, ReadValue, Refusal, SLOTS, SafeAndIndex, SegName, Slot, Swap, Tail, TailIs, Top, ValAt, ValIs, WholeOf, Won, Wrote, WroteNothing, after_write, contents_after, covers, effect, everywhere, holding, interfere, is_array, is_cell, is_name, is_nothing, is_of, is_there, make, operand, operate, perform, restore, root, share, some_covers, written, wrote_by}
+pub use Rattle.rd_ring.specs.Prelude.{Access, Add, AddArray, Answer, ArrSlot, At, COUNTER_END, Cas2, CasName, CasNext, CasTail, Cell, Close, Content, Contents, Done, Effect, HasEffect, MOST_ACTORS, MOST_CELLS, MOST_SEGMENTS, Make, NoPlace, Operation, Performed, Place, Read, ReadSafeAndIndex, ReadValue, Refusal, SLOTS, SegName, Swap, Wrote, after_write, contents_after, covers, effect, everywhere, holding, interfere, is_array, cell_eq, name_eq, is_nothing, is_of, is_there, make, operand, operate, perform, restore, root, share, some_covers, written, wrote_by}
 pub use Rattle.rd_ring.specs.Segments.{counters_fit}
 pub use Rattle.rd_ring.specs.declared.parts.SegmentParts.{SegmentParts}
 pub use Rattle.rd_segments.proofs.CountLemmas.{in_list, numbered_there}

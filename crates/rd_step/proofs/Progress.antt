@@ -1,52 +1,57 @@
 -- Progress: what an actor of a well-formed world asks for suits what is there, and the answer leads
 -- it to another control point.
 use Rattle.std.proofs.Common.{◌≡◌, ◌≢◌, ℕ, ◌≤◌, Bool, true, false, if◌then◌else◌, nat_lt, nat_le, refl, sym, ◌∙◌, ap, subst, arith, Option, Some, None, is_some, is_none, ok_or, Result, Ok, Err, IfOk}
-use Rattle.rd_step.proofs.Prelude.{common_steps, cond_both, and_parts, IfOk-at_ok, fun_ext, MOST_SEGMENTS, Cell, SegName, Place, QHead, QTail, Head, Tail, Next, CellAt, ValAt, IdxAt, Wrote, ArrHead, ArrTail, ArrCell, ArrSlot, Content, Name, Number, TailIs, NextIs, CellIs, ValIs, IdxIs, Slot, Operation, Found, Won, Lost, Nothing, Made, Access, NoPlace, At, Make, Refusal, NoActor, CounterEnd, ArrayEnd, some_covers, is_nothing, written, Contents, is_there, operand, Effect, effect, Performed, operate, make, perform, swaps, adds, effect_at, result_map, after_write-outside, written-covers, ok_or_ok, Act, Enq, Deq, AEnq, ADeq, Go, Starve, Actor, Pc, Idle, E4, E11, Q5, A2, B2, need, need_at, need_call, need_choice, after_take, after_swap_in, after_swap_out, after_at, after, words_fit_at, World, Event, Stepped, step, Presence, content_fits, record_fits, actor_fits, IsWellFormed}
-use Rattle.rd_ring.specs.Prelude.{NoSuchPlace, number_made}
+use Rattle.rd_step.proofs.Prelude.{common_steps, cond_both, and_parts, IfOk-at_ok, fun_ext, MOST_SEGMENTS, Cell, SegName, Place, Wrote, ArrSlot, Content, Operation, Access, NoPlace, At, Make, Refusal, some_covers, is_nothing, written, Contents, is_there, operand, Effect, effect, Performed, operate, make, perform, swaps, adds, effect_at, result_map, after_write-outside, written-covers, ok_or_ok, Act, Actor, Pc, Idle, E4, E11, Q5, A2, B2, need, need_at, need_call, need_choice, after_take, after_swap_in, after_swap_out, after_at, after, words_fit_at, World, Event, Stepped, step, Presence, content_fits, record_fits, actor_fits, IsWellFormed}
+use Rattle.rd_ring.specs.Prelude.{number_made}
 use Rattle.rd_cell.proofs.ResultLemmas.{and_then_err}
 use Rattle.rd_step.specs.Laws.{IsStepRefusal, SuitsContent, MovesOn, ChangesOnly}
 use Rattle.rd_step.proofs.Halves.{has_place, has_operand}
 use Rattle.rd_step.proofs.Fits.{PartsFit, parts_of, words_of}
 use Rattle.rd_step.proofs.Steps.{took, with_actor-same, with_actor-other}
+use Rattle.rd_cell.specs.declared.places.Place.TheVariants as place
+use Rattle.rd_cell.specs.declared.contents.Content.TheVariants as content
+use Rattle.rd_cell.specs.declared.operations.Answer.TheVariants as answer
+use Rattle.rd_cell.specs.declared.refusal.Refusal.TheVariants as refusal
+use Rattle.rd_actor.specs.declared.actors.Act.TheVariants as act
 
 -- Contents by the kinds of their places
 
-end_kind : (R : ℕ) (there : Presence) (P : Content → Type 0) → ((s : SegName) → P (Name s)) → (c : Content) → content_fits R there QHead c ≡ true → P c
+end_kind : (R : ℕ) (there : Presence) (P : Content → Type 0) → ((s : SegName) → P (content.Name s)) → (c : Content) → content_fits R there place.QHead c ≡ true → P c
 end_kind R there P f c h = grind arith
 
-tail_end_kind : (R : ℕ) (there : Presence) (P : Content → Type 0) → ((s : SegName) → P (Name s)) → (c : Content) → content_fits R there QTail c ≡ true → P c
+tail_end_kind : (R : ℕ) (there : Presence) (P : Content → Type 0) → ((s : SegName) → P (content.Name s)) → (c : Content) → content_fits R there place.QTail c ≡ true → P c
 tail_end_kind R there P f c h = grind arith
 
-head_kind : (R : ℕ) (there : Presence) (s : SegName) (P : Content → Type 0) → ((n : ℕ) → P (Number n)) → (c : Content) → content_fits R there (Head s) c ≡ true → P c
+head_kind : (R : ℕ) (there : Presence) (s : SegName) (P : Content → Type 0) → ((n : ℕ) → P (content.Number n)) → (c : Content) → content_fits R there (place.Head s) c ≡ true → P c
 head_kind R there s P f c h = grind arith
 
-tail_kind : (R : ℕ) (there : Presence) (s : SegName) (P : Content → Type 0) → ((closed : Bool) (n : ℕ) → P (TailIs closed n)) → (c : Content) → content_fits R there (Tail s) c ≡ true → P c
+tail_kind : (R : ℕ) (there : Presence) (s : SegName) (P : Content → Type 0) → ((closed : Bool) (n : ℕ) → P (content.Tail closed n)) → (c : Content) → content_fits R there (place.Tail s) c ≡ true → P c
 tail_kind R there s P f c h = grind arith
 
-next_kind : (R : ℕ) (there : Presence) (s : SegName) (P : Content → Type 0) → P (NextIs None) → ((m : SegName) → P (NextIs (Some m))) → (c : Content)
-    → content_fits R there (Next s) c ≡ true → P c
+next_kind : (R : ℕ) (there : Presence) (s : SegName) (P : Content → Type 0) → P (content.Next None) → ((m : SegName) → P (content.Next (Some m))) → (c : Content)
+    → content_fits R there (place.Next s) c ≡ true → P c
 next_kind R there s P none f c h = grind arith
 
-cell_kind : (R : ℕ) (there : Presence) (s : SegName) (i : ℕ) (P : Content → Type 0) → ((x : Cell) → P (CellIs x)) → (c : Content)
-    → content_fits R there (CellAt s i) c ≡ true → P c
+cell_kind : (R : ℕ) (there : Presence) (s : SegName) (i : ℕ) (P : Content → Type 0) → ((x : Cell) → P (content.Cell x)) → (c : Content)
+    → content_fits R there (place.Cell s i) c ≡ true → P c
 cell_kind R there s i P f c h = grind arith
 
-value_kind : (R : ℕ) (there : Presence) (s : SegName) (i : ℕ) (P : Content → Type 0) → ((val : Option ℕ) → P (ValIs val)) → (c : Content)
-    → content_fits R there (ValAt s i) c ≡ true → P c
+value_kind : (R : ℕ) (there : Presence) (s : SegName) (i : ℕ) (P : Content → Type 0) → ((val : Option ℕ) → P (content.Val val)) → (c : Content)
+    → content_fits R there (place.Val s i) c ≡ true → P c
 value_kind R there s i P f c h = grind arith
 
-index_kind : (R : ℕ) (there : Presence) (s : SegName) (i : ℕ) (P : Content → Type 0) → ((safe : Bool) (idx : ℕ) → P (IdxIs safe idx)) → (c : Content)
-    → content_fits R there (IdxAt s i) c ≡ true → P c
+index_kind : (R : ℕ) (there : Presence) (s : SegName) (i : ℕ) (P : Content → Type 0) → ((safe : Bool) (idx : ℕ) → P (content.Idx safe idx)) → (c : Content)
+    → content_fits R there (place.Idx s i) c ≡ true → P c
 index_kind R there s i P f c h = grind arith
 
-array_head_kind : (R : ℕ) (there : Presence) (P : Content → Type 0) → ((n : ℕ) → P (Number n)) → (c : Content) → content_fits R there ArrHead c ≡ true → P c
+array_head_kind : (R : ℕ) (there : Presence) (P : Content → Type 0) → ((n : ℕ) → P (content.Number n)) → (c : Content) → content_fits R there place.ArrHead c ≡ true → P c
 array_head_kind R there P f c h = grind arith
 
-array_tail_kind : (R : ℕ) (there : Presence) (P : Content → Type 0) → ((n : ℕ) → P (Number n)) → (c : Content) → content_fits R there ArrTail c ≡ true → P c
+array_tail_kind : (R : ℕ) (there : Presence) (P : Content → Type 0) → ((n : ℕ) → P (content.Number n)) → (c : Content) → content_fits R there place.ArrTail c ≡ true → P c
 array_tail_kind R there P f c h = grind arith
 
-slot_kind : (R : ℕ) (there : Presence) (i : ℕ) (P : Content → Type 0) → ((x : ArrSlot) → P (Slot x)) → (c : Content)
-    → content_fits R there (ArrCell i) c ≡ true → P c
+slot_kind : (R : ℕ) (there : Presence) (i : ℕ) (P : Content → Type 0) → ((x : ArrSlot) → P (content.Slot x)) → (c : Content)
+    → content_fits R there (place.ArrCell i) c ≡ true → P c
 slot_kind R there i P f c h = grind arith
 
 -- The rows
@@ -54,30 +59,30 @@ slot_kind R there i P f c h = grind arith
 -- an effect's answer leads to another control point, and it is refused only at the end of a counter
 abbrev Goes : ℕ → Pc → Actor → Result Effect Refusal → Type 0
 Goes R pc a (Ok e) = (after_at R pc a e.answer).0.pc ≢ pc
-Goes R pc a (Err CounterEnd) = Unit {0}
-Goes R pc a (Err ArrayEnd) = Unit {0}
+Goes R pc a (Err refusal.CounterEnd) = Unit {0}
+Goes R pc a (Err refusal.ArrayEnd) = Unit {0}
 Goes R pc a (Err _) = ⊥
 
 -- what the access of a row does leads on
 abbrev Leads : ℕ → Presence → Pc → Actor → Access → Type 0
 Leads R there pc a NoPlace = ⊥
 Leads R there pc a (At p op) = (c : Content) → content_fits R there p c ≡ true → Goes R pc a (effect op c)
-Leads R there pc a (Make x) = (s : SegName) → (after_at R pc a (Made s)).0.pc ≢ pc
+Leads R there pc a (Make x) = (s : SegName) → (after_at R pc a (answer.Made s)).0.pc ≢ pc
 
 -- of two control points that are others than this one, each is
 other : (b : Bool) (x y z : Pc) → x ≢ z → y ≢ z → (if b then x else y) ≢ z
 other b x y z h k = cond_both b x y (λ (pc : Pc). pc ≢ z) (λ e. h) (λ e. k)
 
-swaps_lead : (R : ℕ) (pc : Pc) (a : Actor) (b : Bool) (c : Content) → (after_at R pc a Won).0.pc ≢ pc → (after_at R pc a Lost).0.pc ≢ pc
+swaps_lead : (R : ℕ) (pc : Pc) (a : Actor) (b : Bool) (c : Content) → (after_at R pc a answer.Won).0.pc ≢ pc → (after_at R pc a answer.Lost).0.pc ≢ pc
     → Goes R pc a (swaps b c)
 swaps_lead R pc a b c won lost = grind arith
 
-adds_lead : (R : ℕ) (pc : Pc) (a : Actor) (limit n : ℕ) (old new : Content) → (after_at R pc a (Found old)).0.pc ≢ pc
-    → Goes R pc a (adds limit n CounterEnd old new)
+adds_lead : (R : ℕ) (pc : Pc) (a : Actor) (limit n : ℕ) (old new : Content) → (after_at R pc a (answer.Found old)).0.pc ≢ pc
+    → Goes R pc a (adds limit n refusal.CounterEnd old new)
 adds_lead R pc a limit n old new h = cond_both (nat_lt n limit) _ _ (λ (r : Result Effect Refusal). Goes R pc a r) (λ e. h) (λ e. tt)
 
-array_adds_lead : (R : ℕ) (pc : Pc) (a : Actor) (limit n : ℕ) (old new : Content) → (after_at R pc a (Found old)).0.pc ≢ pc
-    → Goes R pc a (adds limit n ArrayEnd old new)
+array_adds_lead : (R : ℕ) (pc : Pc) (a : Actor) (limit n : ℕ) (old new : Content) → (after_at R pc a (answer.Found old)).0.pc ≢ pc
+    → Goes R pc a (adds limit n refusal.ArrayEnd old new)
 array_adds_lead R pc a limit n old new h = cond_both (nat_lt n limit) _ _ (λ (r : Result Effect Refusal). Goes R pc a r) (λ e. h) (λ e. tt)
 
 take_leads : (a : Actor) (v : Option ℕ) → is_some v ≡ true → (after_take v a).0.pc ≢ Q5
@@ -126,11 +131,11 @@ abbrev Ends : ℕ → Actor → Act → Result Performed Refusal → Type 0
 Ends R a act (Ok did) = (after R a act did.answer).0.pc ≢ a.pc
 Ends R a act (Err refusal) = IsStepRefusal refusal
 
-goes_ends : (R : ℕ) (a : Actor) (p : Place) (c : Content) (r : Result Effect Refusal) → Goes R a.pc a r → Ends R a Go (result_map (effect_at p c) r)
+goes_ends : (R : ℕ) (a : Actor) (p : Place) (c : Content) (r : Result Effect Refusal) → Goes R a.pc a r → Ends R a act.Go (result_map (effect_at p c) r)
 goes_ends R a p c r h = grind arith
 
-make_ends : (R : ℕ) (there : Presence) (a : Actor) (s : SegName) (x : ℕ) → Leads R there a.pc a (Make x) → Ends R a Go (make R s x)
-make_ends R there a s x h = cond_both (nat_lt s.n MOST_SEGMENTS) _ _ (λ (r : Result Performed Refusal). Ends R a Go r) (λ e. h s) (λ e. tt)
+make_ends : (R : ℕ) (there : Presence) (a : Actor) (s : SegName) (x : ℕ) → Leads R there a.pc a (Make x) → Ends R a act.Go (make R s x)
+make_ends R there a s x h = cond_both (nat_lt s.n MOST_SEGMENTS) _ _ (λ (r : Result Performed Refusal). Ends R a act.Go r) (λ e. h s) (λ e. tt)
 
 -- a call goes on from idle, and a choice from the control point of choices
 call_ends : (pc x : Pc) (y : Access) → need_call pc ≡ Ok y → (Idle ≡ x → ⊥) → x ≢ pc
@@ -146,17 +151,17 @@ choice_place : (pc : Pc) (y : Access) → need_choice pc ≡ Ok y → y ≡ NoPl
 choice_place pc y h = grind arith
 
 -- an access that a call or a choice asks for is none
-ends_there : (R actor : ℕ) (at : Contents) (a : Actor) (act : Act) (y : Access) → y ≡ NoPlace → (after R a act Nothing).0.pc ≢ a.pc
+ends_there : (R actor : ℕ) (at : Contents) (a : Actor) (act : Act) (y : Access) → y ≡ NoPlace → (after R a act answer.Nothing).0.pc ≢ a.pc
     → Ends R a act (perform R actor at y)
 ends_there R actor at a act y e h = subst (λ (x : Access). Ends R a act (perform R actor at x)) (sym e) h
 
 go_ends : (actor : ℕ) (w : World) (a : Actor) (y : Access) → 1 ≤ w.ring → IsWellFormed w → record_fits w.ring (is_there w.at) a ≡ true
-    → need_at w.ring a.pc a ≡ Ok y → Ends w.ring a Go (perform w.ring actor w.at y)
+    → need_at w.ring a.pc a ≡ Ok y → Ends w.ring a act.Go (perform w.ring actor w.at y)
 go_ends actor w a NoPlace some formed fits needs = grind arith
 go_ends actor w a (At p op) some formed fits needs =
     let there = is_there w.at in
     let on = works_on w a.pc a p op some formed (parts_of w.ring there a fits) (words_of w.ring there a fits) needs in
-    subst (λ (o : Option Content). Ends w.ring a Go (operate p op o)) (sym on.found) (goes_ends w.ring a p on.content (effect op on.content) on.goes)
+    subst (λ (o : Option Content). Ends w.ring a act.Go (operate p op o)) (sym on.found) (goes_ends w.ring a p on.content (effect op on.content) on.goes)
 go_ends actor w a (Make x) some formed fits needs =
     let there = is_there w.at in
     make_ends w.ring there a (record { maker = actor; n = number_made w.at actor }) x
@@ -175,27 +180,27 @@ need_refused : (R : ℕ) (a : Actor) (act : Act) (refusal : Refusal) → need R 
 need_refused R a act refusal h = grind arith
 
 -- a step is refused in its cases alone
-pub refused_in_cases : (w : World) (e : Event) (refusal : Refusal) → 1 ≤ w.ring → IsWellFormed w → step w e ≡ Err refusal → IsStepRefusal refusal
-refused_in_cases w e refusal some formed h =
-    and_then_err (ok_or (w.actor e.actor) NoActor) _ refusal h (no_actor (w.actor e.actor)) (λ a there h1.
-    let has = ok_or_ok (w.actor e.actor) NoActor a there in
-    and_then_err (need w.ring a e.act) _ refusal h1 (need_refused w.ring a e.act refusal) (λ x needs h2.
-    and_then_err (perform w.ring e.actor w.at x) _ refusal h2
+pub refused_in_cases : (w : World) (e : Event) (cause : Refusal) → 1 ≤ w.ring → IsWellFormed w → step w e ≡ Err cause → IsStepRefusal cause
+refused_in_cases w e cause some formed h =
+    and_then_err (ok_or (w.actor e.actor) refusal.NoActor) _ cause h (no_actor (w.actor e.actor)) (λ a there h1.
+    let has = ok_or_ok (w.actor e.actor) refusal.NoActor a there in
+    and_then_err (need w.ring a e.act) _ cause h1 (need_refused w.ring a e.act cause) (λ x needs h2.
+    and_then_err (perform w.ring e.actor w.at x) _ cause h2
     (λ does. subst (Ends w.ring a e.act) does (access_ends e.actor w a e.act x some formed (fits_here w e.actor a formed has) needs))
     (λ did does h3. cc)))
   where
-    no_actor : (o : Option Actor) → ok_or o NoActor ≡ Err refusal → IsStepRefusal refusal
+    no_actor : (o : Option Actor) → ok_or o refusal.NoActor ≡ Err cause → IsStepRefusal cause
     no_actor o l = grind arith
 
 -- what is asked for suits what is there
-pub suits_content : (w : World) (n : ℕ) (a : Actor) (act : Act) (p : Place) (op : Operation) → 1 ≤ w.ring → IsWellFormed w
-    → w.actor n ≡ Some a → need w.ring a act ≡ Ok (At p op) → SuitsContent w.at p op
-suits_content w n a act p op some formed has needs = by_act act needs
+pub suits_content : (w : World) (n : ℕ) (a : Actor) (x : Act) (p : Place) (op : Operation) → 1 ≤ w.ring → IsWellFormed w
+    → w.actor n ≡ Some a → need w.ring a x ≡ Ok (At p op) → SuitsContent w.at p op
+suits_content w n a x p op some formed has needs = by_act x needs
   where
     there : Presence
     there = is_there w.at
 
-    suit : (r : Result Effect Refusal) → Goes w.ring a.pc a r → r ≡ Err NoSuchPlace → ⊥
+    suit : (r : Result Effect Refusal) → Goes w.ring a.pc a r → r ≡ Err refusal.NoSuchPlace → ⊥
     suit r h k = grind arith
 
     no_call : (pc : Pc) → need_call pc ≡ Ok (At p op) → SuitsContent w.at p op
@@ -205,12 +210,12 @@ suits_content w n a act p op some formed has needs = by_act act needs
     no_choice pc h = grind arith
 
     by_act : (x : Act) → need w.ring a x ≡ Ok (At p op) → SuitsContent w.at p op
-    by_act (Enq v) h = no_call a.pc h
-    by_act Deq h = no_call a.pc h
-    by_act (AEnq v) h = no_call a.pc h
-    by_act ADeq h = no_call a.pc h
-    by_act (Starve b) h = no_choice a.pc h
-    by_act Go h =
+    by_act (act.Enq v) h = no_call a.pc h
+    by_act act.Deq h = no_call a.pc h
+    by_act (act.AEnq v) h = no_call a.pc h
+    by_act act.ADeq h = no_call a.pc h
+    by_act (act.Starve b) h = no_choice a.pc h
+    by_act act.Go h =
         let fits = fits_here w n a formed has in
         let on = works_on w a.pc a p op some formed (parts_of w.ring (is_there w.at) a fits) (words_of w.ring (is_there w.at) a fits) h in
         record { content = on.content; found = on.found; suits = λ k. suit (effect op on.content) on.goes k }

@@ -1,7 +1,7 @@
 -- A step takes nothing away, makes no segment of another actor, and what its entry keeps may be put
 -- back after it.
 use Rattle.std.proofs.Common.{◌≡◌, ◌≢◌, ℕ, suc, ◌+◌, ◌<◌, ◌≤◌, Bool, true, false, not, ◌==◌, nat_lt, refl, ◌∙◌, ap, subst, arith, Option, Some, None, is_some, Result, Ok, IfOk, ltb-true}
-use Rattle.rd_step.proofs.Prelude.{cond_both, and_right, both_ways, IfOk-at_ok, MOST_SEGMENTS, operand, SegName, Place, Head, Content, Access, NoPlace, At, Make, Operation, Refusal, is_of, Contents, is_there, Effect, effect, Performed, contents_after, operate, make, perform, effect_at, result_map, is_name-refl, is_cell_at, Actor, World, Event, Stepped, step, CanPutBack, content_fits, place_fits, IsWellFormed}
+use Rattle.rd_step.proofs.Prelude.{cond_both, and_right, both_ways, IfOk-at_ok, MOST_SEGMENTS, operand, SegName, Place, Content, Access, NoPlace, At, Make, Operation, Refusal, is_of, Contents, is_there, Effect, effect, Performed, contents_after, operate, make, perform, effect_at, result_map, name_eq-refl, is_cell_at, Actor, World, Event, Stepped, step, CanPutBack, content_fits, place_fits, IsWellFormed}
 use Rattle.std.proofs.lemmas.Bool.{ne_eqb, false_from_ne_true}
 use Rattle.rd_ring.specs.Prelude.{number_made}
 use Rattle.rd_cell.proofs.AccessLemmas.{keeps-operate}
@@ -9,6 +9,7 @@ use Rattle.rd_step.proofs.Halves.{bare_cell, operand_fits}
 use Rattle.rd_step.proofs.Steps.{took}
 use Rattle.rd_step.proofs.Making.{laid_new, laid_other}
 use Rattle.rd_step.proofs.Inverse.{number_made-absent, absent_place}
+use Rattle.rd_cell.specs.declared.places.Place.TheVariants as place
 
 -- Which places are there
 
@@ -87,7 +88,7 @@ can-make w n a at x formed has =
     (formed.made.no_gap n m (subst (λ (j : ℕ). is_there w.at (record { maker = n; n = j }) ≡ true) more there))) in
     let other : m ≢ m + 1 = λ e. omega arith in
     record {
-      here = on.stays (Head s) (laid_new w.ring s x w.at s (is_name-refl s));
+      here = on.stays (place.Head s) (laid_new w.ring s x w.at s (name_eq-refl s));
       made = numbered (λ k. is_some (w.actor k)) n formed.numbered.from_one (ap is_some has);
       last = on.made (m + 1) ∙ laid_other w.ring s x w.at next (and_right (n == n) (m == m + 1) (ne_eqb m (m + 1) other)) ∙ not_next;
     })

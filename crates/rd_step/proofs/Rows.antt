@@ -1,14 +1,16 @@
 -- An actor whose record fits goes on, with an answer that fits, to a record that fits: one clause a
 -- row of the table.
 use Rattle.std.proofs.Common.{◌≡◌, ℕ, ◌+◌, Bool, true, ◌&&◌, nat_lt, refl, arith, Option, Some, None, Ok, le-leb}
-use Rattle.rd_step.proofs.Prelude.{and_parts, SLOTS, COUNTER_END, ArrSlot, Name, Number, TailIs, NextIs, Slot, Access, Answer, Found, SafeAndIndex, Won, Lost, Made, root, Act, Enq, Deq, AEnq, ADeq, Go, Starve, Actor, Pc, E1, E2, E3, E4, E5, E6, E7, E8, E9, E11, E12, E13, E14, Q1, Q2, Q3, Q4, Q5, Q6, Q7, Q8, Q9, Q10, Q11, Q12, Q13, Q14, A1, A2, B1, B2, B3, idle, need, need_at, with_pc, after_take, after_swap_out, after_at, after, words_fit, words_fit_at, Presence, record_fits}
-use Rattle.rd_ring.specs.Prelude.{Value}
+use Rattle.rd_step.proofs.Prelude.{and_parts, SLOTS, COUNTER_END, ArrSlot, Access, Answer, root, Act, Actor, Pc, E1, E2, E3, E4, E5, E6, E7, E8, E9, E11, E12, E13, E14, Q1, Q2, Q3, Q4, Q5, Q6, Q7, Q8, Q9, Q10, Q11, Q12, Q13, Q14, A1, A2, B1, B2, B3, idle, need, need_at, with_pc, after_take, after_swap_out, after_at, after, words_fit, words_fit_at, Presence, record_fits}
 use Rattle.rd_actor.specs.declared.actors.Op.{Op}
-use Rattle.rd_actor.specs.declared.actors.Op.TheVariants.{Enq as Enqueue, Deq as Dequeue, AEnq as EnqueueInArray, ADeq as DequeueFromArray}
+use Rattle.rd_actor.specs.declared.actors.Op.TheVariants as op
 use Rattle.rd_actor.specs.Actors.{calling}
 use Rattle.rd_actor.specs.Table.{after_tail_add}
 use Rattle.rd_actor.specs.Words.{enqueue_fits}
 use Rattle.rd_step.proofs.Fits.{PartsFit, parts_of, words_of, together, answer_fits, drew_slot}
+use Rattle.rd_cell.specs.declared.contents.Content.TheVariants as content
+use Rattle.rd_cell.specs.declared.operations.Answer.TheVariants as answer
+use Rattle.rd_actor.specs.declared.actors.Act.TheVariants as act
 
 -- If an actor goes on to one of two control points, its words fit if they fit each in the case in
 -- which it is taken
@@ -48,8 +50,8 @@ swapped_out_fits R there a slot r f w = grind arith
 
 -- whether the position has a slot that an actor which is here drew on the array
 abbrev drew_at : Pc → Answer → Bool
-drew_at A1 (Found (Number u)) = nat_lt u SLOTS
-drew_at B1 (Found (Number g)) = nat_lt g SLOTS
+drew_at A1 (answer.Found (content.Number u)) = nat_lt u SLOTS
+drew_at B1 (answer.Found (content.Number g)) = nat_lt g SLOTS
 drew_at _ _ = true
 
 drew_row : (R : ℕ) (a : Actor) (pc : Pc) (x : Access) (answer : Answer) → need_at R pc a ≡ Ok x → drew_slot x answer ≡ true → drew_at pc answer ≡ true
@@ -59,56 +61,56 @@ drew_row R a pc x answer n d = grind arith
 after_at_fits : (R : ℕ) (there : Presence) (a : Actor) (pc : Pc) (answer : Answer) → there root ≡ true
     → answer_fits R there answer ≡ true → record_fits R there a ≡ true → PartsFit R there a → words_fit_at pc a ≡ true
     → drew_at pc answer ≡ true → record_fits R there (after_at R pc a answer).0 ≡ true
-after_at_fits R there a E1 (Found (Name s)) r h whole f w d = grind arith
-after_at_fits R there a E2 (Found (NextIs (Some m))) r h whole f w d = grind arith
-after_at_fits R there a E2 (Found (NextIs None)) r h whole f w d = moved R there a E4 f w
+after_at_fits R there a E1 (answer.Found (content.Name s)) r h whole f w d = grind arith
+after_at_fits R there a E2 (answer.Found (content.Next (Some m))) r h whole f w d = grind arith
+after_at_fits R there a E2 (answer.Found (content.Next None)) r h whole f w d = moved R there a E4 f w
 after_at_fits R there a E3 answer r h whole f w d = moved R there a E1 f w
-after_at_fits R there a E4 (Found (TailIs closed count)) r h whole f w d = grind arith
-after_at_fits R there a E5 (Value v) r h whole f w d = grind arith
-after_at_fits R there a E6 (SafeAndIndex safe idx) r h whole f w d = grind arith
-after_at_fits R there a E7 (Found (Number g)) r h whole f w d = grind arith
-after_at_fits R there a E8 Won r h whole f w d = idle_record R there r
-after_at_fits R there a E8 Lost r h whole f w d = grind arith
-after_at_fits R there a E9 (Found (Number g)) r h whole f w d = grind arith
+after_at_fits R there a E4 (answer.Found (content.Tail closed count)) r h whole f w d = grind arith
+after_at_fits R there a E5 (answer.Value v) r h whole f w d = grind arith
+after_at_fits R there a E6 (answer.SafeAndIndex safe idx) r h whole f w d = grind arith
+after_at_fits R there a E7 (answer.Found (content.Number g)) r h whole f w d = grind arith
+after_at_fits R there a E8 answer.Won r h whole f w d = idle_record R there r
+after_at_fits R there a E8 answer.Lost r h whole f w d = grind arith
+after_at_fits R there a E9 (answer.Found (content.Number g)) r h whole f w d = grind arith
 after_at_fits R there a E11 answer r h whole f w d = moved R there a E12 f w
-after_at_fits R there a E12 (Made s) r h whole f w d = grind arith
-after_at_fits R there a E13 Won r h whole f w d = moved R there a E14 f w
-after_at_fits R there a E13 Lost r h whole f w d = moved R there a E1 f w
+after_at_fits R there a E12 (answer.Made s) r h whole f w d = grind arith
+after_at_fits R there a E13 answer.Won r h whole f w d = moved R there a E14 f w
+after_at_fits R there a E13 answer.Lost r h whole f w d = moved R there a E1 f w
 after_at_fits R there a E14 answer r h whole f w d = idle_record R there r
-after_at_fits R there a Q1 (Found (Name s)) r h whole f w d = grind arith
-after_at_fits R there a Q2 (Found (Number g)) r h whole f w d = grind arith
-after_at_fits R there a Q3 (Value v) r h whole f w d = grind arith
-after_at_fits R there a Q4 (SafeAndIndex safe idx) r h whole f w d = grind arith
-after_at_fits R there a Q5 Won r h whole f w d = taken_fits R there a a.val r whole
-after_at_fits R there a Q5 Lost r h whole f w d = grind arith
-after_at_fits R there a Q6 Won r h whole f w d = grind arith
-after_at_fits R there a Q6 Lost r h whole f w d = grind arith
-after_at_fits R there a Q7 Won r h whole f w d = grind arith
-after_at_fits R there a Q7 Lost r h whole f w d = grind arith
-after_at_fits R there a Q8 (Found (TailIs closed count)) r h whole f w d = grind arith
-after_at_fits R there a Q9 (Found (TailIs closed count)) r h whole f w d = grind arith
-after_at_fits R there a Q10 (Found (Number g)) r h whole f w d = grind arith
-after_at_fits R there a Q11 (Found (TailIs closed count)) r h whole f w d = grind arith
-after_at_fits R there a Q12 Won r h whole f w d = grind arith
-after_at_fits R there a Q12 Lost r h whole f w d = grind arith
-after_at_fits R there a Q13 (Found (NextIs None)) r h whole f w d = idle_record R there r
-after_at_fits R there a Q13 (Found (NextIs (Some m))) r h whole f w d = grind arith
+after_at_fits R there a Q1 (answer.Found (content.Name s)) r h whole f w d = grind arith
+after_at_fits R there a Q2 (answer.Found (content.Number g)) r h whole f w d = grind arith
+after_at_fits R there a Q3 (answer.Value v) r h whole f w d = grind arith
+after_at_fits R there a Q4 (answer.SafeAndIndex safe idx) r h whole f w d = grind arith
+after_at_fits R there a Q5 answer.Won r h whole f w d = taken_fits R there a a.val r whole
+after_at_fits R there a Q5 answer.Lost r h whole f w d = grind arith
+after_at_fits R there a Q6 answer.Won r h whole f w d = grind arith
+after_at_fits R there a Q6 answer.Lost r h whole f w d = grind arith
+after_at_fits R there a Q7 answer.Won r h whole f w d = grind arith
+after_at_fits R there a Q7 answer.Lost r h whole f w d = grind arith
+after_at_fits R there a Q8 (answer.Found (content.Tail closed count)) r h whole f w d = grind arith
+after_at_fits R there a Q9 (answer.Found (content.Tail closed count)) r h whole f w d = grind arith
+after_at_fits R there a Q10 (answer.Found (content.Number g)) r h whole f w d = grind arith
+after_at_fits R there a Q11 (answer.Found (content.Tail closed count)) r h whole f w d = grind arith
+after_at_fits R there a Q12 answer.Won r h whole f w d = grind arith
+after_at_fits R there a Q12 answer.Lost r h whole f w d = grind arith
+after_at_fits R there a Q13 (answer.Found (content.Next None)) r h whole f w d = idle_record R there r
+after_at_fits R there a Q13 (answer.Found (content.Next (Some m))) r h whole f w d = grind arith
 after_at_fits R there a Q14 answer r h whole f w d = grind arith
-after_at_fits R there a A1 (Found (Number u)) r h whole f w d = grind arith
-after_at_fits R there a A2 (Found (Slot slot)) r h whole f w d = grind arith
-after_at_fits R there a B1 (Found (Number g)) r h whole f w d = grind arith
-after_at_fits R there a B2 (Found (Slot slot)) r h whole f w d = swapped_out_fits R there a slot r f w
-after_at_fits R there a B3 (Found (Number u)) r h whole f w d = grind arith
+after_at_fits R there a A1 (answer.Found (content.Number u)) r h whole f w d = grind arith
+after_at_fits R there a A2 (answer.Found (content.Slot slot)) r h whole f w d = grind arith
+after_at_fits R there a B1 (answer.Found (content.Number g)) r h whole f w d = grind arith
+after_at_fits R there a B2 (answer.Found (content.Slot slot)) r h whole f w d = swapped_out_fits R there a slot r f w
+after_at_fits R there a B3 (answer.Found (content.Number u)) r h whole f w d = grind arith
 after_at_fits R there a _ _ r h whole f w d = whole
 
 -- an actor whose record fits, and that was not refused, goes on to a record that fits
 pub after_fits : (R : ℕ) (there : Presence) (a : Actor) (act : Act) (x : Access) (answer : Answer) → there root ≡ true
     → need R a act ≡ Ok x → answer_fits R there answer ≡ true → drew_slot x answer ≡ true → record_fits R there a ≡ true
     → record_fits R there (after R a act answer).0 ≡ true
-after_fits R there a (Enq v) x answer r n h d whole = calling_fits R there E1 (Enqueue v) r refl
-after_fits R there a Deq x answer r n h d whole = calling_fits R there Q1 Dequeue r refl
-after_fits R there a (AEnq v) x answer r n h d whole = calling_fits R there A1 (EnqueueInArray v) r refl
-after_fits R there a ADeq x answer r n h d whole = calling_fits R there B1 DequeueFromArray r refl
-after_fits R there a Go x answer r n h d whole =
+after_fits R there a (act.Enq v) x answer r n h d whole = calling_fits R there E1 (op.Enq v) r refl
+after_fits R there a act.Deq x answer r n h d whole = calling_fits R there Q1 op.Deq r refl
+after_fits R there a (act.AEnq v) x answer r n h d whole = calling_fits R there A1 (op.AEnq v) r refl
+after_fits R there a act.ADeq x answer r n h d whole = calling_fits R there B1 op.ADeq r refl
+after_fits R there a act.Go x answer r n h d whole =
     after_at_fits R there a a.pc answer r h whole (parts_of R there a whole) (words_of R there a whole) (drew_row R a a.pc x answer n d)
-after_fits R there a (Starve b) x answer r n h d whole = grind arith
+after_fits R there a (act.Starve b) x answer r n h d whole = grind arith

@@ -1,6 +1,7 @@
 -- A step that was not refused, taken apart.
 use Rattle.std.proofs.Common.{◌≡◌, ℕ, ◌==◌, refl, arith, Option, Some, ok_or, Ok, Err, ne_eqb, eq-eqb}
-use Rattle.rd_step.proofs.Prelude.{cond-true, cond-false, and_then_ok, ok_or_ok, Access, Refusal, NoActor, Performed, perform, Actor, need, after, World, Event, Stepped, with_actor, step_outcome, step}
+use Rattle.rd_step.proofs.Prelude.{cond-true, cond-false, and_then_ok, ok_or_ok, Access, Refusal, Performed, perform, Actor, need, after, World, Event, Stepped, with_actor, step_outcome, step}
+use Rattle.rd_cell.specs.declared.refusal.Refusal.TheVariants as refusal
 
 -- the step of e from w: the actor's record, its access and what that did
 pub record Took (w : World) (e : Event) (s : Stepped) : Type 0 where
@@ -15,10 +16,10 @@ pub record Took (w : World) (e : Event) (s : Stepped) : Type 0 where
 -- what a step consists of
 pub took : (w : World) (e : Event) (s : Stepped) → step w e ≡ Ok s → Took w e s
 took w e s m =
-    and_then_ok (ok_or (w.actor e.actor) NoActor) _ s m (λ a has m1.
+    and_then_ok (ok_or (w.actor e.actor) refusal.NoActor) _ s m (λ a has m1.
     and_then_ok (need w.ring a e.act) _ s m1 (λ access needs m2.
     and_then_ok (perform w.ring e.actor w.at access) _ s m2 (λ did does m3.
-    record { a = a; has = ok_or_ok (w.actor e.actor) NoActor a has; access = access; needs = needs; did = did; does = does; ends = cc })))
+    record { a = a; has = ok_or_ok (w.actor e.actor) refusal.NoActor a has; access = access; needs = needs; did = did; does = does; ends = cc })))
 
 -- and back: an actor's record, its access and what that does make a step
 pub step_of : (w : World) (e : Event) (a : Actor) (x : Access) (did : Performed) → w.actor e.actor ≡ Some a

@@ -1,7 +1,7 @@
 -- The code's world, as the model's.
 use Rattle.std.proofs.Common.{◌≡◌, ℕ, zero, suc, ◌-◌, ◌<◌, ◌≤◌, true, false, nat_lt, inl, inr, refl, sym, ◌∙◌, ap, subst, arith, List, [], ◌∷◌, length, set, slice_get, Option, Some, None, is_some, IsSome, is_ok, IsOk, IfOk, OnErr, Result, Ok, Err, lt-ltb, le-ltb, leb-true}
-use Rattle.rd_step.proofs.Prelude.{cases_lt, cond-true, cond-false, COUNTER_END, MOST_SEGMENTS, MOST_CELLS, MOST_ACTORS, SegName, Place, WholeOf, WroteNothing, Access, NoPlace, At, Make, Made, Nothing, Operation, Done, Refusal, Contents, is_there, perform, restore, everywhere, HasEffect, Space, contents, room, lists, Actor, OpReply, need, after, World, Event, Entry, with_actor, step, world_of_fields, numbered, makes, makes_segment, IsRefused, Presence, actor_fits, record_fits, maker_fits, is_actor, IsWellFormed, IfOk-at_ok}
-use Rattle.rd_ring.specs.Prelude.{WrotePlace, number_made, Operates, Makes, RefusesMaking}
+use Rattle.rd_step.proofs.Prelude.{cases_lt, cond-true, cond-false, COUNTER_END, MOST_SEGMENTS, MOST_CELLS, MOST_ACTORS, SegName, Place, Access, Make, Done, Refusal, Contents, is_there, perform, restore, everywhere, HasEffect, Space, contents, room, lists, Actor, OpReply, need, after, World, Event, Entry, with_actor, step, world_of_fields, numbered, makes, makes_segment, IsRefused, Presence, actor_fits, record_fits, maker_fits, is_actor, IsWellFormed, IfOk-at_ok}
+use Rattle.rd_ring.specs.Prelude.{number_made, Makes, RefusesMaking}
 use Rattle.rd_segments.specs.Space.{making_count}
 use Rattle.rd_segments.proofs.CountLemmas.{counts, there_below, absent_from}
 use Rattle.rd_actor.specs.Table.{IsRepresentable}
@@ -12,6 +12,9 @@ use Rattle.rd_step.specs.Touched.{made_at}
 use Rattle.rd_step.proofs.Actors.{numbered-set, numbered-within}
 use Rattle.rd_step.proofs.Fits.{parts_of, words_of, access_fits, need_fits}
 use Rattle.rd_step.proofs.Keeps.{keeps}
+use Rattle.rd_cell.specs.declared.places.Place.TheVariants as place
+use Rattle.rd_cell.specs.declared.places.Wrote.TheVariants as wrote
+use Rattle.rd_cell.specs.declared.operations.Answer.TheVariants as answer
 
 -- Accesses
 
@@ -20,7 +23,7 @@ made_in space m few = counts space.makers.items space.qhead space.qtail space.ar
 
 pub makes_access : {R : ℕ} (old : Space R) (new : Contents) (actor x : ℕ) (name : SegName) (done : Done) → making_count old actor ≤ MOST_SEGMENTS
     → name ≡ record { maker = actor; n = making_count old actor } → Makes R name x (contents old) new
-    → done ≡ record { place = Some (WholeOf name); old = None; answer = Made name; wrote = WrotePlace }
+    → done ≡ record { place = Some (place.Whole name); old = None; answer = answer.Made name; wrote = wrote.Place }
     → HasEffect everywhere (perform R actor (contents old) (Make x)) done (contents old) new
 makes_access {R} old new actor x name done few is m notes = grind (arith, made_in, keeps)
 
@@ -50,12 +53,12 @@ pub last_some : {R : ℕ} (space : Space R) (s : SegName) → IsLast (contents s
 last_some space s h = let k = below_count space s h.here in omega arith
 
 pub last_taken : {R : ℕ} (old : Space R) (new : Contents) (s : SegName) → IsLast (contents old) s
-    → new ≡ restore (Some (WholeOf (record { maker = s.maker; n = making_count old s.maker - 1 }))) None (contents old)
-    → new ≡ restore (Some (WholeOf s)) None (contents old)
+    → new ≡ restore (Some (place.Whole (record { maker = s.maker; n = making_count old s.maker - 1 }))) None (contents old)
+    → new ≡ restore (Some (place.Whole s)) None (contents old)
 last_taken old new s h gone = grind (arith, below_count, at_count)
 
 -- a place with no content to put back is the whole of the segment that was made there
-pub made_whole : (p : Place) (s : SegName) → made_at (Some p) None ≡ Some s → p ≡ WholeOf s
+pub made_whole : (p : Place) (s : SegName) → made_at (Some p) None ≡ Some s → p ≡ place.Whole s
 made_whole p s h = grind arith
 
 -- Actors

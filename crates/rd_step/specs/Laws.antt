@@ -1,6 +1,6 @@
 -- What the laws of the machine state.
 use Rattle.std.specs.Prelude.{◌≡◌, ℕ, true, false, List, Some, Ok, Err}
-use Rattle.rd_ring.specs.Prelude.{Place, Content, Operation, Refusal, NoActor, NotIdle, ActorIdle, NeedsChoice, NoChoice, CounterEnd, ArrayEnd, SegmentsEnd, NoSuchPlace, some_covers, is_nothing, written, Contents, operand, effect}
+use Rattle.rd_ring.specs.Prelude.{Place, Content, Operation, Refusal, some_covers, is_nothing, written, Contents, operand, effect}
 use Rattle.rd_actor.specs.declared.actors.Actor.{Actor}
 use Rattle.rd_step.specs.World.{World}
 use Rattle.rd_step.specs.declared.entries.Event.{Event}
@@ -9,6 +9,7 @@ use Rattle.rd_step.specs.Step.{Stepped, step, unstep}
 use Rattle.rd_step.specs.Run.{Ran, run}
 use Rattle.rd_step.specs.Dependence.{IsFree}
 use Rattle.rd_step.specs.WellFormed.{IsWellFormed}
+use Rattle.rd_cell.specs.declared.refusal.Refusal.TheVariants as refusal
 
 -- the steps of e and f commute: where e leads from w to v and then f to u, f may go first, each
 -- leaves the same entry, and the two lead to the world of u
@@ -53,14 +54,14 @@ pub record IsTakenOut (now left : World) (x : Entry) (was : WasStepped now x) : 
 -- the refusals that a step in a well-formed world may meet; that there is no place, or no content
 -- of the right kind, is not among them
 abbrev pub IsStepRefusal : Refusal → Type 0
-IsStepRefusal NoActor = Unit {0}
-IsStepRefusal NotIdle = Unit {0}
-IsStepRefusal ActorIdle = Unit {0}
-IsStepRefusal NeedsChoice = Unit {0}
-IsStepRefusal NoChoice = Unit {0}
-IsStepRefusal CounterEnd = Unit {0}
-IsStepRefusal ArrayEnd = Unit {0}
-IsStepRefusal SegmentsEnd = Unit {0}
+IsStepRefusal refusal.NoActor = Unit {0}
+IsStepRefusal refusal.NotIdle = Unit {0}
+IsStepRefusal refusal.Idle = Unit {0}
+IsStepRefusal refusal.NeedsChoice = Unit {0}
+IsStepRefusal refusal.NoChoice = Unit {0}
+IsStepRefusal refusal.CounterEnd = Unit {0}
+IsStepRefusal refusal.ArrayEnd = Unit {0}
+IsStepRefusal refusal.SegmentsEnd = Unit {0}
 IsStepRefusal _ = ⊥
 
 -- the place is there, and has a content on which the operation has an effect or is refused only at
@@ -68,7 +69,7 @@ IsStepRefusal _ = ⊥
 pub record SuitsContent (at : Contents) (p : Place) (op : Operation) : Type 0 where
   pub content : Content
   pub found : operand at p ≡ Some content
-  pub suits : effect op content ≡ Err NoSuchPlace → ⊥
+  pub suits : effect op content ≡ Err refusal.NoSuchPlace → ⊥
 
 -- the actor of the event is at another control point after its step
 abbrev pub MovesOn : Event → World → World → Type 0

@@ -13,7 +13,7 @@ use Rattle.rd_step.specs.declared.parts.Parts.{Parts}
 use Rattle.rd_step.specs.declared.flaws.Flaw.{Flaw}
 use Rattle.rd_step.specs.declared.flaws.Flaw.TheVariants.{Makers, PlaceNames, ActorNames, Counters, Indexes, ArrayCounters, ActorNumbers, ActorWords}
 use Rattle.rd_step.specs.declared.flaws.Unassembled.{Unassembled}
-use Rattle.rd_step.specs.declared.flaws.Unassembled.TheVariants.{Flaw as HasFlaw, NoMemory}
+use Rattle.rd_step.specs.declared.flaws.Unassembled.TheVariants as unassembled
 use Rattle.rd_step.specs.Lists.{numbered}
 use Rattle.rd_step.specs.WellFormed.{Presence, next_fits, names_fit, numbers_fit}
 
@@ -77,5 +77,5 @@ flaw_number ActorWords = 8
 -- why no world is put together from these parts: they have this flaw and none before it, or they
 -- have none and memory was refused
 abbrev pub Refuses : {R : ℕ} → Parts R → Unassembled → Type 0
-Refuses p (HasFlaw flaw) = first_flaw p ≡ Some flaw
-Refuses p NoMemory = first_flaw p ≡ None
+Refuses p (unassembled.Flaw flaw) = first_flaw p ≡ Some flaw
+Refuses p unassembled.NoMemory = first_flaw p ≡ None

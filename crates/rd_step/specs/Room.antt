@@ -1,11 +1,12 @@
 -- Which steps make a segment, and so use their actor's room, and how they are refused.
 use Rattle.std.specs.Result.{result_unwrap_or}
 use Rattle.std.specs.Prelude.{◌≡◌, ◌⊎◌, ℕ, ok_or, Bool, true, false, IsTrue, IsOk, Result, Err}
-use Rattle.rd_ring.specs.Prelude.{Access, Make, Refusal, NoActor, NoMemory, and_then, result_map}
+use Rattle.rd_ring.specs.Prelude.{Access, Make, Refusal, and_then, result_map}
 use Rattle.rd_actor.specs.Table.{need}
 use Rattle.rd_step.specs.declared.entries.Event.{Event}
 use Rattle.rd_step.specs.World.{World}
 pub use Rattle.rd_segments.specs.Room.{room_used, room_returned, room_of_place}
+use Rattle.rd_cell.specs.declared.refusal.Refusal.TheVariants as refusal
 
 -- whether the access makes a segment
 abbrev pub makes : Access → Bool
@@ -14,7 +15,7 @@ makes _ = false
 
 -- the access that the event's actor asks for, or why it may not
 abbrev pub access_of : World → Event → Result Access Refusal
-access_of w e = and_then (ok_or (w.actor e.actor) NoActor) (λ a. need w.ring a e.act)
+access_of w e = and_then (ok_or (w.actor e.actor) refusal.NoActor) (λ a. need w.ring a e.act)
 
 -- whether the event is a step that makes a segment; not if it is refused
 abbrev pub makes_segment : World → Event → Bool
@@ -28,4 +29,4 @@ FindsNoRoom does makes room = IsOk does × IsTrue makes × (room ≡ 0)
 -- a step may be refused so: the model refuses it with the same refusal, or it makes a segment, its
 -- actor has no room, and memory was refused
 abbrev pub IsRefused : {X : Type 0} → Result X Refusal → Bool → ℕ → Refusal → Type 0
-IsRefused does makes room refusal = (does ≡ Err refusal) ⊎ ((refusal ≡ NoMemory) × FindsNoRoom does makes room)
+IsRefused does makes room cause = (does ≡ Err cause) ⊎ ((cause ≡ refusal.NoMemory) × FindsNoRoom does makes room)

@@ -1,13 +1,15 @@
 -- The plain step: one event in a world (Morrison and Afek 2013, in our profile of docs/MODEL.md),
 -- and its undoing.
 use Rattle.std.specs.Prelude.{◌≡◌, ℕ, ◌+◌, ◌≤◌, true, false, ◌==◌, if◌then◌else◌, Option, Some, None, is_some, ok_or, IsTrue, Result, Ok}
-use Rattle.rd_ring.specs.Prelude.{SegName, Place, WholeOf, Content, Refusal, NoActor, Contents, operand, restore, is_there, can_hold, Performed, contents_after, perform, and_then}
+use Rattle.rd_ring.specs.Prelude.{SegName, Place, Content, Refusal, Contents, operand, restore, is_there, can_hold, Performed, contents_after, perform, and_then}
 use Rattle.rd_actor.specs.declared.actors.Actor.{Actor}
 use Rattle.rd_actor.specs.declared.actors.OpReply.{OpReply}
 use Rattle.rd_actor.specs.Table.{need, after}
 use Rattle.rd_step.specs.World.{World}
 use Rattle.rd_step.specs.declared.entries.Event.{Event}
 use Rattle.rd_step.specs.declared.entries.Entry.{Entry}
+use Rattle.rd_cell.specs.declared.places.Place.TheVariants as place
+use Rattle.rd_cell.specs.declared.refusal.Refusal.TheVariants as refusal
 
 -- what a step leaves: the world after it, and its entry
 pub record Stepped : Type 0 where
@@ -38,7 +40,7 @@ step_outcome w e a did next = record {
 -- one place, and the actor goes on with the answer. All other places and actors stay
 abbrev pub step : World → Event → Result Stepped Refusal
 step w e =
-    and_then (ok_or (w.actor e.actor) NoActor) (λ a.
+    and_then (ok_or (w.actor e.actor) refusal.NoActor) (λ a.
     and_then (need w.ring a e.act) (λ access.
     and_then (perform w.ring e.actor w.at access) (λ did.
     Ok (step_outcome w e a did (after w.ring a e.act did.answer)))))
@@ -54,7 +56,7 @@ pub record IsLast (at : Contents) (s : SegName) : Type 0 where
 abbrev pub CanPutBack : Contents → Option Place → Option Content → Type 0
 CanPutBack at None None = Unit {0}
 CanPutBack at (Some p) (Some c) = IsTrue (is_some (operand at p)) × IsTrue (can_hold p c)
-CanPutBack at (Some (WholeOf s)) None = IsLast at s
+CanPutBack at (Some (place.Whole s)) None = IsLast at s
 CanPutBack at _ _ = ⊥
 
 -- the world with this record given to the actor, and this content, or none, put back at the place

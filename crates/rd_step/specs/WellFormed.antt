@@ -1,10 +1,12 @@
 -- Well-formed worlds.
 use Rattle.std.specs.Option.{option_map_or}
 use Rattle.std.specs.Prelude.{◌≡◌, ℕ, zero, suc, ◌+◌, ◌≤◌, Bool, true, false, not, ◌==◌, ◌&&◌, nat_lt, nat_le, Option, is_some, IsTrue}
-use Rattle.rd_ring.specs.Prelude.{COUNTER_END, MOST_SEGMENTS, SLOTS, MOST_ACTORS, SegName, Place, QHead, QTail, Head, Tail, Next, CellAt, ValAt, IdxAt, ArrHead, ArrTail, ArrCell, Content, Name, Number, TailIs, NextIs, CellIs, ValIs, IdxIs, Slot, root, is_there}
+use Rattle.rd_ring.specs.Prelude.{COUNTER_END, MOST_SEGMENTS, SLOTS, MOST_ACTORS, SegName, Place, Content, root, is_there}
 use Rattle.rd_actor.specs.declared.actors.Actor.{Actor}
 use Rattle.rd_actor.specs.Words.{words_fit}
 use Rattle.rd_step.specs.World.{World}
+use Rattle.rd_cell.specs.declared.places.Place.TheVariants as place
+use Rattle.rd_cell.specs.declared.contents.Content.TheVariants as content
 
 -- for each segment name, whether the segment is there
 abbrev pub Presence : Type 0
@@ -14,16 +16,16 @@ Presence = SegName → Bool
 -- the array's. A cell and the whole of a segment are names for several places, and no places of the
 -- map
 abbrev pub belongs : ℕ → Presence → Place → Bool
-belongs R there QHead = true
-belongs R there QTail = true
-belongs R there (Head s) = there s
-belongs R there (Tail s) = there s
-belongs R there (Next s) = there s
-belongs R there (ValAt s i) = nat_lt i R && there s
-belongs R there (IdxAt s i) = nat_lt i R && there s
-belongs R there ArrHead = true
-belongs R there ArrTail = true
-belongs R there (ArrCell i) = nat_lt i SLOTS
+belongs R there place.QHead = true
+belongs R there place.QTail = true
+belongs R there (place.Head s) = there s
+belongs R there (place.Tail s) = there s
+belongs R there (place.Next s) = there s
+belongs R there (place.Val s i) = nat_lt i R && there s
+belongs R there (place.Idx s i) = nat_lt i R && there s
+belongs R there place.ArrHead = true
+belongs R there place.ArrTail = true
+belongs R there (place.ArrCell i) = nat_lt i SLOTS
 belongs R there _ = false
 
 -- whether the segment that a next names is there, if it names one
@@ -34,17 +36,17 @@ next_fits there next = option_map_or there next true
 -- there, a segment's counters are at most 2^62 and the array's at most 64, and a cell's index is at
 -- most 2^62 + R
 abbrev pub content_fits : ℕ → Presence → Place → Content → Bool
-content_fits R there QHead (Name s) = there s
-content_fits R there QTail (Name s) = there s
-content_fits R there (Head s) (Number n) = nat_le n COUNTER_END
-content_fits R there (Tail s) (TailIs closed n) = nat_le n COUNTER_END
-content_fits R there (Next s) (NextIs m) = next_fits there m
-content_fits R there (CellAt s i) (CellIs c) = nat_le c.idx (COUNTER_END + R)
-content_fits R there (ValAt s i) (ValIs val) = true
-content_fits R there (IdxAt s i) (IdxIs safe idx) = nat_le idx (COUNTER_END + R)
-content_fits R there ArrHead (Number n) = nat_le n SLOTS
-content_fits R there ArrTail (Number n) = nat_le n SLOTS
-content_fits R there (ArrCell i) (Slot slot) = true
+content_fits R there place.QHead (content.Name s) = there s
+content_fits R there place.QTail (content.Name s) = there s
+content_fits R there (place.Head s) (content.Number n) = nat_le n COUNTER_END
+content_fits R there (place.Tail s) (content.Tail closed n) = nat_le n COUNTER_END
+content_fits R there (place.Next s) (content.Next m) = next_fits there m
+content_fits R there (place.Cell s i) (content.Cell c) = nat_le c.idx (COUNTER_END + R)
+content_fits R there (place.Val s i) (content.Val val) = true
+content_fits R there (place.Idx s i) (content.Idx safe idx) = nat_le idx (COUNTER_END + R)
+content_fits R there place.ArrHead (content.Number n) = nat_le n SLOTS
+content_fits R there place.ArrTail (content.Number n) = nat_le n SLOTS
+content_fits R there (place.ArrCell i) (content.Slot slot) = true
 content_fits R there _ _ = false
 
 -- whether the content of a place, if there is one, fits the place

@@ -2,7 +2,7 @@
 //! is put back.
 
 ghost use Rattle.std.specs.Prelude.{◌≡◌, ◌≢◌, ◌+◌, ◌<◌, ◌≤◌, ◌↔◌, ℕ, true, Some, None, Ok, Err, IsSome, IsTrue, IfOk, IfErr, OnErr, length, vec_capacity};
-ghost use Rattle.rd_ring.specs.Prelude.{MOST_CELLS, MOST_SEGMENTS, Make, Nothing, WroteNothing, perform, restore, everywhere, HasEffect};
+ghost use Rattle.rd_ring.specs.Prelude.{MOST_CELLS, MOST_SEGMENTS, Make, perform, restore, everywhere, HasEffect};
 ghost use Rattle.std.specs.List.{All};
 ghost use Rattle.rd_segments.specs.Room.{room_used, room_returned};
 ghost use Rattle.rd_actor.specs.Actors.{idle};
@@ -120,7 +120,7 @@ pub fn perform<const R: usize>(
 
 /// Returns what a step without an access did: nothing.
 fn nothing_done() -> Done
-    ensures { result ≡ record { place = None; old = None; answer = Nothing; wrote = WroteNothing } }
+    ensures { result ≡ record { place = None; old = None; answer = Answer.Nothing; wrote = Wrote.Nothing } }
 {
     Done {
         place: None,

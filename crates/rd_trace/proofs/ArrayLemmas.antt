@@ -1,8 +1,9 @@
 -- The array as a value: which slots are read, whose positions rise, and its value, which spells it.
 use Rattle.std.proofs.Common.{◌≡◌, ℕ, zero, suc, ◌+◌, ◌<◌, ◌≤◌, List, [], ◌∷◌, ◌++◌, length, set, replicate, take, get_or, Some, None, refl, sym, ap, ap₂, ◌∙◌, subst, arith, append-nil, length-take}
-use Rattle.rd_trace.proofs.Prelude.{length-set, take_more, take_all, Data, view, items_view, SLOTS, ArrSlot, Empty, Top, Held, ArrayParts, Gives, SpellEach, items_by, slot_of_items, slot_of, filled_slots, slot_data, IsArray, array_data}
+use Rattle.rd_trace.proofs.Prelude.{length-set, take_more, take_all, Data, view, items_view, SLOTS, ArrSlot, ArrayParts, Gives, SpellEach, items_by, slot_of_items, slot_of, filled_slots, slot_data, IsArray, array_data}
 use Rattle.serde_json.specs.declared.value.Value.{Value}
 use Rattle.rd_trace.proofs.SpellLemmas.{one_given, same_each, spelled_at, spell_each-more, spell_each-none, items_written}
+use Rattle.rd_cell.specs.declared.contents.ArrSlot.TheVariants as slot
 
 -- ---- reading
 
@@ -14,14 +15,14 @@ no_slot (i ∷ s ∷ []) two = absurd (two refl)
 no_slot (i ∷ s ∷ more ∷ vs) two = refl
 
 abbrev pub IsFilled : ArrSlot → Type 0
-IsFilled Empty = ⊥
-IsFilled Top = Unit {0}
-IsFilled (Held x) = Unit {0}
+IsFilled slot.Empty = ⊥
+IsFilled slot.Top = Unit {0}
+IsFilled (slot.Value x) = Unit {0}
 
 -- all slots from a position on are empty
 abbrev pub AreEmptyFrom : ℕ → List ArrSlot → Type 0
 AreEmptyFrom i [] = Unit {0}
-AreEmptyFrom zero (s ∷ ss) = (s ≡ Empty) × AreEmptyFrom zero ss
+AreEmptyFrom zero (s ∷ ss) = (s ≡ slot.Empty) × AreEmptyFrom zero ss
 AreEmptyFrom (suc i) (s ∷ ss) = AreEmptyFrom i ss
 
 empty_later : (i k : ℕ) (ss : List ArrSlot) → i ≤ k → AreEmptyFrom i ss → AreEmptyFrom k ss
@@ -49,9 +50,9 @@ filled_set i k j [] s at within h filled = absurd (omega arith)
 filled_set i zero j (x ∷ ss) s at within h filled =
     let here : i ≡ j = omega arith in
     filled_first i s ss filled ∙ ap₂ (λ n ps. (n, s) ∷ ps) here (filled_none (suc i) ss h.1) ∙ sym (ap (λ ps. ps ++ (j, s) ∷ []) (filled_none i (x ∷ ss) h))
-filled_set i (suc k) j (Empty ∷ ss) s at within h filled = filled_set (suc i) k j ss s (omega arith) (omega arith) h filled
-filled_set i (suc k) j (Top ∷ ss) s at within h filled = ap (λ ps. (i, Top) ∷ ps) (filled_set (suc i) k j ss s (omega arith) (omega arith) h filled)
-filled_set i (suc k) j (Held x ∷ ss) s at within h filled = ap (λ ps. (i, Held x) ∷ ps) (filled_set (suc i) k j ss s (omega arith) (omega arith) h filled)
+filled_set i (suc k) j (slot.Empty ∷ ss) s at within h filled = filled_set (suc i) k j ss s (omega arith) (omega arith) h filled
+filled_set i (suc k) j (slot.Top ∷ ss) s at within h filled = ap (λ ps. (i, slot.Top) ∷ ps) (filled_set (suc i) k j ss s (omega arith) (omega arith) h filled)
+filled_set i (suc k) j (slot.Value x ∷ ss) s at within h filled = ap (λ ps. (i, slot.Value x) ∷ ps) (filled_set (suc i) k j ss s (omega arith) (omega arith) h filled)
 
 -- the positions rise from the first one, and are below an end
 abbrev pub Rises : ℕ → ℕ → List (ℕ × ArrSlot) → Type 0
@@ -64,9 +65,9 @@ rises_from i k end (p ∷ ps) le h = (omega (arith, h.0), h.1, h.2)
 
 pub filled_rises : (i end : ℕ) (ss : List ArrSlot) → i + length ss ≤ end → Rises i end (filled_slots i ss)
 filled_rises i end [] le = tt
-filled_rises i end (Empty ∷ ss) le = rises_from i (suc i) end (filled_slots (suc i) ss) (omega arith) (filled_rises (suc i) end ss (omega arith))
-filled_rises i end (Top ∷ ss) le = (omega arith, omega arith, filled_rises (suc i) end ss (omega arith))
-filled_rises i end (Held x ∷ ss) le = (omega arith, omega arith, filled_rises (suc i) end ss (omega arith))
+filled_rises i end (slot.Empty ∷ ss) le = rises_from i (suc i) end (filled_slots (suc i) ss) (omega arith) (filled_rises (suc i) end ss (omega arith))
+filled_rises i end (slot.Top ∷ ss) le = (omega arith, omega arith, filled_rises (suc i) end ss (omega arith))
+filled_rises i end (slot.Value x ∷ ss) le = (omega arith, omega arith, filled_rises (suc i) end ss (omega arith))
 
 -- the lowest position that may be after these
 abbrev pub next_position : ℕ → List (ℕ × ArrSlot) → ℕ
@@ -94,7 +95,7 @@ pub record AreReadTo (vs : List Value) (i : ℕ) (slots : List ArrSlot) (free : 
   pub next : free ≡ next_position 0 (filled_slots 0 slots)
   pub empty : AreEmptyFrom free slots
 
-pub none_read : (vs : List Value) → AreReadTo vs 0 (replicate SLOTS Empty) 0
+pub none_read : (vs : List Value) → AreReadTo vs 0 (replicate SLOTS slot.Empty) 0
 none_read vs = grind arith
 
 module _ (vs : List Value) (i : ℕ) (slots : List ArrSlot) (free : ℕ) (h : AreReadTo vs i slots free) (v : Value) (within : i < length vs) (is : v ≡ get_or vs i v) where
@@ -121,30 +122,30 @@ all_read vs i slots free h past = subst (λ ws. SpellEach (Gives slot_of) (items
 
 filled_behind : (i j : ℕ) (xs : List ArrSlot) (s : ArrSlot) → j ≡ i + length xs → filled_slots i (xs ++ s ∷ []) ≡ filled_slots i xs ++ filled_slots j (s ∷ [])
 filled_behind i j [] s at = let here : i ≡ j = omega arith in ap (λ n. filled_slots n (s ∷ [])) here
-filled_behind i j (Empty ∷ xs) s at = filled_behind (suc i) j xs s (omega arith)
-filled_behind i j (Top ∷ xs) s at = ap (λ ps. (i, Top) ∷ ps) (filled_behind (suc i) j xs s (omega arith))
-filled_behind i j (Held x ∷ xs) s at = ap (λ ps. (i, Held x) ∷ ps) (filled_behind (suc i) j xs s (omega arith))
+filled_behind i j (slot.Empty ∷ xs) s at = filled_behind (suc i) j xs s (omega arith)
+filled_behind i j (slot.Top ∷ xs) s at = ap (λ ps. (i, slot.Top) ∷ ps) (filled_behind (suc i) j xs s (omega arith))
+filled_behind i j (slot.Value x ∷ xs) s at = ap (λ ps. (i, slot.Value x) ∷ ps) (filled_behind (suc i) j xs s (omega arith))
 
-not_empty : (s : ArrSlot) → (s ≡ Empty → ⊥) → IsFilled s
+not_empty : (s : ArrSlot) → (s ≡ slot.Empty → ⊥) → IsFilled s
 not_empty s other = grind arith
 
 slots_spelled : (i : ℕ) (ss : List ArrSlot) → SpellEach (Gives slot_of) (items_by slot_data (filled_slots i ss)) (filled_slots i ss)
 slots_spelled i [] = tt
-slots_spelled i (Empty ∷ ss) = slots_spelled (suc i) ss
-slots_spelled i (Top ∷ ss) = (refl, slots_spelled (suc i) ss)
-slots_spelled i (Held x ∷ ss) = (refl, slots_spelled (suc i) ss)
+slots_spelled i (slot.Empty ∷ ss) = slots_spelled (suc i) ss
+slots_spelled i (slot.Top ∷ ss) = (refl, slots_spelled (suc i) ss)
+slots_spelled i (slot.Value x ∷ ss) = (refl, slots_spelled (suc i) ss)
 
 module _ (ss : List ArrSlot) (i : ℕ) (d : ArrSlot) (vs : List Value) (within : i < length ss) (so_far : items_view vs ≡ items_by slot_data (filled_slots 0 (take i ss))) where
   filled_take : filled_slots 0 (take (i + 1) ss) ≡ filled_slots 0 (take i ss) ++ filled_slots i (get_or ss i d ∷ [])
   filled_take = ap (filled_slots 0) (take_more ss i d within) ∙ filled_behind 0 i (take i ss) (get_or ss i d) (omega (arith, length-take i ss))
 
-  pub one_more_value : (v : Value) → (get_or ss i d ≡ Empty → ⊥) → view v ≡ slot_data (i, get_or ss i d) → items_view (vs ++ v ∷ []) ≡ items_by slot_data (filled_slots 0 (take (i + 1) ss))
+  pub one_more_value : (v : Value) → (get_or ss i d ≡ slot.Empty → ⊥) → view v ≡ slot_data (i, get_or ss i d) → items_view (vs ++ v ∷ []) ≡ items_by slot_data (filled_slots 0 (take (i + 1) ss))
   one_more_value v other is =
       let s = get_or ss i d in
       items_written slot_data vs (filled_slots 0 (take i ss)) v (i, s) so_far is
       ∙ ap (items_by slot_data) (ap (λ ps. filled_slots 0 (take i ss) ++ ps) (sym (filled_first i s [] (not_empty s other))) ∙ sym filled_take)
 
-  pub no_more_value : get_or ss i d ≡ Empty → items_view vs ≡ items_by slot_data (filled_slots 0 (take (i + 1) ss))
+  pub no_more_value : get_or ss i d ≡ slot.Empty → items_view vs ≡ items_by slot_data (filled_slots 0 (take (i + 1) ss))
   no_more_value empty =
       so_far ∙ ap (items_by slot_data) (sym (append-nil (filled_slots 0 (take i ss))) ∙ ap (λ s. filled_slots 0 (take i ss) ++ filled_slots i (s ∷ [])) (sym empty) ∙ sym filled_take)
 

@@ -25,14 +25,14 @@ few_marks d t h = grind arith
 ring_of : {R : ℕ} (d : Data) (t : Trace R) → IsEither d t → number_at (codes "ring") d ≡ Some R
 ring_of d t h = grind arith
 
-is_value : {R : ℕ} (text : List ℕ) (d : Data) (t : Trace R) → HasValue text d → IsTraceText text t → IsEither d t
-is_value text d t value is = grind arith
+value_eq : {R : ℕ} (text : List ℕ) (d : Data) (t : Trace R) → HasValue text d → IsTraceText text t → IsEither d t
+value_eq text d t value is = grind arith
 
 module _ (text : List ℕ) (d : Data) (value : HasValue text d) (Q : ℕ) (ring : number_at (codes "ring") d ≡ Some Q) (is_ring : IsTraceRing Q) where
   -- no session over this ring is spelled, and so none at all
   no_session : ((t : Trace Q) → IsEither d t → ⊥) → LoadsTrace text (Err BadTrace)
   no_session none = λ R t is.
-      let its = is_value text d t value is in
+      let its = value_eq text d t value is in
       let same : Q ≡ R = cc (ring, ring_of d t its) in
       subst (λ (n : ℕ). (u : Trace n) → IsEither d u → ⊥) same none t its
 

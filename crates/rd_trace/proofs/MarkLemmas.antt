@@ -1,19 +1,20 @@
 -- Bookmarks as values.
 use Rattle.std.proofs.Common.{◌≡◌, ℕ, nat_eq, nat_lt, zero, suc, ◌+◌, ◌<◌, ◌≤◌, true, false, ◌||◌, List, [], ◌∷◌, ◌++◌, map, length, get_or, take, drop, slice_get, codes, Decides, Option, Some, None, ok_or, option_map, IfSome, Ok, inl, inr, refl, sym, ap, ap₂, ◌∙◌, subst, arith}
-use Rattle.rd_trace.proofs.Prelude.{AllByRecursion, list_any, list_all, IsDistinct, and_parts, or_cases, eqb-true, true≢false, false≢true, same_Some, map_push, take_all, length-take-le, IsDistinct-head, IsDistinct-tail, IsDistinct-push, escape, escape_byte, escape_byte_plain, Data, view, items_view, compact_text, comma_if, MarkName, Event, MOST_MARKS, is_name_byte, is_mark_name, bytes_of, same_name, HaveDifferentNames, Mark, BookState, mark_at, mark_events, name_and_length, result_map, NoMark, Gives, SpellEach, items_by, event_of, event_data, IsMark, AreMarks, saved_mark, mark_data, AreAppended, IsMarkAppended, SavedMark}
+use Rattle.rd_trace.proofs.Prelude.{AllByRecursion, list_any, list_all, IsDistinct, and_parts, or_cases, eqb-true, true≢false, false≢true, same_Some, map_push, take_all, length-take-le, IsDistinct-head, IsDistinct-tail, IsDistinct-push, escape, escape_byte, escape_byte_plain, Data, view, items_view, compact_text, comma_if, MarkName, Event, MOST_MARKS, is_name_byte, is_mark_name, bytes_of, mark_name_eq, HaveDifferentNames, Mark, BookState, mark_at, mark_events, name_and_length, result_map, Gives, SpellEach, items_by, event_of, event_data, IsMark, AreMarks, saved_mark, mark_data, AreAppended, IsMarkAppended, SavedMark}
 use Rattle.std.specs.Cmp.{IsEquivalence}
 use Rattle.std.proofs.lemmas.Slice.Eq.{bytes_eq-Decides}
 use Rattle.serde_json.specs.declared.value.Value.{Value}
 use Rattle.rd_trace.proofs.SpellLemmas.{split_at, spelled_at, spelled_length, spell_each-more}
 use Rattle.rd_trace.proofs.TextLemmas.{each_spelled, list_back, one_more_appended, two_parts, mark_text}
+use Rattle.rd_cell.specs.declared.refusal.Refusal.TheVariants as refusal
 
 -- ---- names
 
 -- two names are equal if their bytes are
-name_decides : (a b : MarkName) → Decides (same_name a b) (bytes_of a ≡ bytes_of b)
+name_decides : (a b : MarkName) → Decides (mark_name_eq a b) (bytes_of a ≡ bytes_of b)
 name_decides a b = bytes_eq-Decides (bytes_of a) (bytes_of b)
 
-name_laws : IsEquivalence same_name
+name_laws : IsEquivalence mark_name_eq
 name_laws = grind (arith, name_decides, nat_eq)
 
 -- a value spells one name at most
@@ -25,7 +26,7 @@ one_name d m n h k = same_Some _ _ (sym h.name.text ∙ k.name.text)
 -- a bookmark that differs by its name from those after it differs from the one that a value among
 -- these spells
 apart_later : (q o : Mark) (xs ws : List Value) (v : Value) → IsMark (view v) o → (ms : List Mark) → SpellEach IsMark (items_view (xs ++ v ∷ ws)) ms
-    → AllByRecursion (λ name. same_name q.name name ≡ false) (map (λ m. m.name) ms) → bytes_of q.name ≡ bytes_of o.name → ⊥
+    → AllByRecursion (λ name. mark_name_eq q.name name ≡ false) (map (λ m. m.name) ms) → bytes_of q.name ≡ bytes_of o.name → ⊥
 apart_later q o [] ws v is [] h apart same = h
 apart_later q o [] ws v is (m ∷ ms) h apart same = true≢false (sym ((name_decides q.name m.name).1 (same ∙ one_name (view v) o m is h.0)) ∙ apart.0)
 apart_later q o (x ∷ xs) ws v is [] h apart same = h
@@ -33,8 +34,8 @@ apart_later q o (x ∷ xs) ws v is (m ∷ ms) h apart same = apart_later q o xs 
 
 -- values of which two spell bookmarks of one name spell no bookmarks with different names
 taken_twice : (xs ws : List Value) (v : Value) (os : List Mark) (o : Mark) → SpellEach IsMark (items_view xs) os → IsMark (view v) o
-    → list_any (λ m. same_name o.name m.name) os ≡ true → (ms : List Mark) → SpellEach IsMark (items_view (xs ++ v ∷ ws)) ms
-    → IsDistinct same_name (map (λ m. m.name) ms) → ⊥
+    → list_any (λ m. mark_name_eq o.name m.name) os ≡ true → (ms : List Mark) → SpellEach IsMark (items_view (xs ++ v ∷ ws)) ms
+    → IsDistinct mark_name_eq (map (λ m. m.name) ms) → ⊥
 taken_twice [] ws v [] o ours is taken ms h distinct = false≢true taken
 taken_twice [] ws v (p ∷ os) o ours is taken ms h distinct = ours
 taken_twice (x ∷ xs) ws v [] o ours is taken ms h distinct = ours
@@ -42,19 +43,19 @@ taken_twice (x ∷ xs) ws v (p ∷ os) o ours is taken [] h distinct = h
 taken_twice (x ∷ xs) ws v (p ∷ os) o ours is taken (m ∷ ms) h distinct =
     elim (or_cases _ _ taken) [
       | inl e ↦
-          apart_later m o xs ws v is ms h.1 (IsDistinct-head same_name m.name (map (λ n. n.name) ms) distinct)
+          apart_later m o xs ws v is ms h.1 (IsDistinct-head mark_name_eq m.name (map (λ n. n.name) ms) distinct)
           (one_name (view x) m p h.0 ours.0 ∙ sym ((name_decides o.name p.name).0 e))
-      | inr e ↦ taken_twice xs ws v os o ours.1 is e ms h.1 (IsDistinct-tail same_name m.name (map (λ n. n.name) ms) distinct)
+      | inr e ↦ taken_twice xs ws v os o ours.1 is e ms h.1 (IsDistinct-tail mark_name_eq m.name (map (λ n. n.name) ms) distinct)
     ]
 
 any_saved : (name : MarkName) (marks : List SavedMark)
-    → list_any (λ m. same_name name m.name) (map saved_mark marks) ≡ list_any (λ m. same_name name m.name) marks
+    → list_any (λ m. mark_name_eq name m.name) (map saved_mark marks) ≡ list_any (λ m. mark_name_eq name m.name) marks
 any_saved name [] = refl
-any_saved name (m ∷ marks) = ap (λ b. same_name name m.name || b) (any_saved name marks)
+any_saved name (m ∷ marks) = ap (λ b. mark_name_eq name m.name || b) (any_saved name marks)
 
-any_named : (name : MarkName) (ms : List Mark) → list_any (same_name name) (map (λ m. m.name) ms) ≡ list_any (λ m. same_name name m.name) ms
+any_named : (name : MarkName) (ms : List Mark) → list_any (mark_name_eq name) (map (λ m. m.name) ms) ≡ list_any (λ m. mark_name_eq name m.name) ms
 any_named name [] = refl
-any_named name (m ∷ ms) = ap (λ b. same_name name m.name || b) (any_named name ms)
+any_named name (m ∷ ms) = ap (λ b. mark_name_eq name m.name || b) (any_named name ms)
 
 -- the bookmarks that the first values of a list spell
 pub record AreRead (vs : List Value) (i : ℕ) (marks : List SavedMark) : Type 0 where
@@ -72,13 +73,13 @@ module _ (vs : List Value) (i : ℕ) (v : Value) (within : i < length vs) (is : 
 
   module _ (marks : List SavedMark) (so_far : AreRead vs i marks) (m : SavedMark) (spells : IsMark (view v) (saved_mark m)) where
     -- one whose name is taken
-    pub name_taken : list_any (λ o. same_name m.name o.name) marks ≡ true → (ms : List Mark) → AreMarks (items_view vs) ms → ⊥
+    pub name_taken : list_any (λ o. mark_name_eq m.name o.name) marks ≡ true → (ms : List Mark) → AreMarks (items_view vs) ms → ⊥
     name_taken taken ms k =
         taken_twice (take i vs) (drop (i + 1) vs) v (map saved_mark marks) (saved_mark m) so_far.each spells (any_saved m.name marks ∙ taken) ms
         (subst (λ (xs : List Value). SpellEach IsMark (items_view xs) ms) (split_at vs i v within is) k.each) k.names
 
     -- one whose name isn't
-    pub one_more_mark : list_any (λ o. same_name m.name o.name) marks ≡ false → AreRead vs (i + 1) (marks ++ m ∷ [])
+    pub one_more_mark : list_any (λ o. mark_name_eq m.name o.name) marks ≡ false → AreRead vs (i + 1) (marks ++ m ∷ [])
     one_more_mark free =
         let saved = map_push saved_mark marks m in
         let names = map_push (λ (n : Mark). n.name) (map saved_mark marks) (saved_mark m) in
@@ -87,7 +88,7 @@ module _ (vs : List Value) (i : ℕ) (v : Value) (within : i < length vs) (is : 
               grind (arith, spell_each-more);
           names =
               subst (λ (ms : List Mark). HaveDifferentNames ms) (sym saved)
-              (subst (λ (ns : List MarkName). IsDistinct same_name ns) (sym names)
+              (subst (λ (ns : List MarkName). IsDistinct mark_name_eq ns) (sym names)
               (IsDistinct-push name_laws (map (λ n. n.name) (map saved_mark marks)) m.name so_far.names
               (any_named m.name (map saved_mark marks) ∙ any_saved m.name marks ∙ free)));
         }
@@ -120,7 +121,7 @@ within_bound (n ∷ ms) (suc i) m h = omega (arith, within_bound ms i m h)
 
 module _ (ms : List Mark) (i : ℕ) (name : MarkName) (len : ℕ) (old mid comma new : List ℕ) (so_far : AreAppended IsMark mark_data (take i ms) old mid)
     (more : comma ≡ mid ++ comma_if (nat_lt 0 i)) where
-  next_appended_of : (o : Option Mark) → slice_get ms i ≡ o → result_map name_and_length (ok_or o NoMark) ≡ Ok (name, len)
+  next_appended_of : (o : Option Mark) → slice_get ms i ≡ o → result_map name_and_length (ok_or o refusal.NoMark) ≡ Ok (name, len)
       → IfSome (option_map (λ m. m.events) o) (λ es. IsMarkAppended (record { name = name; events = es }) comma new) → AreAppended IsMark mark_data (take (suc i) ms) old new
   next_appended_of None there found h = absurd (cc)
   next_appended_of (Some m) there found h =
@@ -144,7 +145,7 @@ module _ (b : BookState) (i n : ℕ) (next : n ≡ suc i) where
   -- there is one at each number
   pub some_mark : i < length b.marks → ((name : MarkName) (len : ℕ) → mark_at b n ≡ Ok (name, len) → ⊥) → ⊥
   some_mark within none =
-      next_there b.marks i within (λ m h. none m.name (length m.events) (ap (mark_at b) next ∙ ap (λ (o : Option Mark). result_map name_and_length (ok_or o NoMark)) h))
+      next_there b.marks i within (λ m h. none m.name (length m.events) (ap (mark_at b) next ∙ ap (λ (o : Option Mark). result_map name_and_length (ok_or o refusal.NoMark)) h))
 
 plain_byte : (x : ℕ) → is_name_byte x ≡ true → escape_byte x ≡ x ∷ []
 plain_byte x h = grind (arith, or_cases, eqb-true, escape_byte_plain)

@@ -1,6 +1,6 @@
 -- Loading a text has one answer, memory aside.
 use Rattle.std.proofs.Common.{◌≡◌, ◌⊎◌, inl, inr, ℕ, ◌+◌, List, [], ◌∷◌, ◌++◌, map, length, Option, Some, None, Result, Ok, Err, refl, sym, ap, ap₂, ◌∙◌, subst, subst₂, arith}
-use Rattle.rd_trace.proofs.Prelude.{length-map, map-append, World, Refusal, Event, Flaw, apply, Mark, GoThrough, start_world, start_flaw, Trace, IsTraceText, loaded_state, seen_mark, IsSameBook, session_at, IsRefusedAt, IsMarkRefusedAt, IsBookIn, IsPlayable, Replays, LoadsTrace, IsSameAnswer, AnyBook, LoadTraceFault, BadTrace, Flawed, TraceMark, TraceStep, LoadsAgain, BookState, IsTextOf, IsTraceRing}
+use Rattle.rd_trace.proofs.Prelude.{length-map, map-append, World, Refusal, Event, Flaw, apply, Mark, GoThrough, start_world, Trace, IsTraceText, loaded_state, seen_mark, IsSameBook, session_at, IsRefusedAt, IsMarkRefusedAt, IsBookIn, IsPlayable, Replays, LoadsTrace, IsSameAnswer, AnyBook, LoadTraceFault, BadTrace, Flawed, TraceMark, TraceStep, LoadsAgain, BookState, IsTextOf, IsTraceRing}
 use Rattle.rd_trace.specs.declared.faults.LoadTraceFault.TheVariants.{NoMemory}
 use Rattle.rd_trace.proofs.OneTrace.{Seen, seen, SeenGoThrough, seen_go, same_trace, same_book}
 use Rattle.rd_trace.proofs.ReplayLemmas.{none_refused}

@@ -1,10 +1,10 @@
 -- A text is one trace at most.
 use Rattle.std.proofs.Common.{◌≡◌, ◌≢◌, ℕ, suc, ◌+◌, ◌≤◌, Bool, not, ◌&&◌, ◌==◌, nat_le, if◌then◌else◌, List, [], ◌∷◌, map, length, slice_get, codes, Option, Some, None, is_some, option_map, Vec, Global, inl, inr, refl, sym, ap, ap₂, ◌∙◌, subst, arith}
-use Rattle.rd_trace.proofs.Prelude.{length-map, slice_get-map, list_all, Data, get, as_array, read, SegName, ArrSlot, Empty, Top, Actor, SLOTS, SegmentParts, ArrayParts, World, MOST_ACTORS, Event, fresh_world, numbered, world_of_parts, first_flaw, indexes_fit, array_fits, Parts, Flaw, bytes_of, Mark, GoThrough, MarksGoThrough, member_count, number_at, items_at, Gives, SpellEachAt, event_of, IsActor, slot_of, filled_slots, IsArray, cell_of, IsSegment, IsSegmentList, IsMark, IsParts, IsStart, start_world, start_flaw, Start, Fresh, OfParts, Trace, IsFirstTrace, IsSecondTrace, IsEither, IsTraceText, loaded_state, seen_mark, IsSameBook}
+use Rattle.rd_trace.proofs.Prelude.{length-map, slice_get-map, list_all, Data, get, as_array, read, SegName, ArrSlot, Actor, SLOTS, SegmentParts, ArrayParts, World, MOST_ACTORS, Event, fresh_world, numbered, world_of_parts, first_flaw, indexes_fit, array_fits, Parts, Flaw, bytes_of, Mark, GoThrough, MarksGoThrough, member_count, number_at, items_at, Gives, SpellEachAt, event_of, IsActor, slot_of, filled_slots, IsArray, cell_of, IsSegment, IsSegmentList, IsMark, IsParts, IsStart, start_world, start_flaw, Start, Trace, IsFirstTrace, IsSecondTrace, IsEither, IsTraceText, loaded_state, seen_mark, IsSameBook}
 use Rattle.std.proofs.Props.{props}
 use Rattle.std.proofs.lemmas.List.Folds.{list_all-map}
 use mathlib.Core.HLevel.{is_prop→PathP}
-use Rattle.rd_cell.specs.declared.contents.ArrSlot.TheVariants.{Value}
+use Rattle.rd_cell.specs.declared.contents.ArrSlot.TheVariants as slot
 use Rattle.rd_ring.specs.Prelude.{COUNTER_END, MOST_SEGMENTS, MOST_CELLS}
 use Rattle.rd_ring.specs.Segments.{counters_fit}
 use Rattle.rd_segments.specs.Lists.{by_number, by_name, count_in, count, segments_by}
@@ -14,6 +14,7 @@ use Rattle.rd_actor.specs.Words.{words_fit}
 use Rattle.rd_step.specs.WellFormed.{next_fits, names_fit, numbers_fit}
 use Rattle.rd_step.specs.declared.flaws.Flaw.TheVariants.{Makers, PlaceNames, ActorNames, Counters, Indexes, ArrayCounters, ActorNumbers, ActorWords}
 use Rattle.rd_trace.proofs.SpellLemmas.{one_given, same_each_at, same_seen_at}
+use Rattle.rd_trace.specs.declared.starts.Start.TheVariants as start
 
 pub some_same : {A : Type 0} (o : Option A) (a b : A) → o ≡ Some a → o ≡ Some b → a ≡ b
 some_same o a b h k = let both : Some a ≡ Some b = sym h ∙ k in cc
@@ -31,7 +32,7 @@ front_number [] = 0
 front_number (s ∷ ss) = s.0
 
 abbrev front_slot : List (ℕ × ArrSlot) → ArrSlot
-front_slot [] = Empty
+front_slot [] = slot.Empty
 front_slot (s ∷ ss) = s.1
 
 abbrev behind_front : List (ℕ × ArrSlot) → List (ℕ × ArrSlot)
@@ -41,9 +42,9 @@ behind_front (s ∷ ss) = ss
 -- none has a position before the first one's
 later_slot : (j : ℕ) (slots : List ArrSlot) (i : ℕ) (s : ArrSlot) (rest : List (ℕ × ArrSlot)) → filled_slots j slots ≡ (i, s) ∷ rest → j ≤ i
 later_slot j [] i s rest h = absurd (cc)
-later_slot j (Empty ∷ slots) i s rest h = let k = later_slot (suc j) slots i s rest h in omega (arith, k)
-later_slot j (Top ∷ slots) i s rest h = let e = ap front_number h in omega (arith, e)
-later_slot j (Value x ∷ slots) i s rest h = let e = ap front_number h in omega (arith, e)
+later_slot j (slot.Empty ∷ slots) i s rest h = let k = later_slot (suc j) slots i s rest h in omega (arith, k)
+later_slot j (slot.Top ∷ slots) i s rest h = let e = ap front_number h in omega (arith, e)
+later_slot j (slot.Value x ∷ slots) i s rest h = let e = ap front_number h in omega (arith, e)
 
 none_before : (i : ℕ) (slots : List ArrSlot) (s : ArrSlot) (rest : List (ℕ × ArrSlot)) → filled_slots (suc i) slots ≡ (i, s) ∷ rest → ⊥
 none_before i slots s rest h = let k = later_slot (suc i) slots i s rest h in omega (arith, k)
@@ -55,15 +56,15 @@ same_slots : (i : ℕ) (xs ys : List ArrSlot) → length xs ≡ length ys → fi
 same_slots i [] [] n h = refl
 same_slots i [] (b ∷ ys) n h = absurd (omega (arith, n))
 same_slots i (a ∷ xs) [] n h = absurd (omega (arith, n))
-same_slots i (Empty ∷ xs) (Empty ∷ ys) n h = ap (λ l. Empty ∷ l) (same_slots (suc i) xs ys (fewer Empty Empty xs ys n) h)
-same_slots i (Empty ∷ xs) (Top ∷ ys) n h = absurd (none_before i xs Top (filled_slots (suc i) ys) h)
-same_slots i (Empty ∷ xs) (Value y ∷ ys) n h = absurd (none_before i xs (Value y) (filled_slots (suc i) ys) h)
-same_slots i (Top ∷ xs) (Empty ∷ ys) n h = absurd (none_before i ys Top (filled_slots (suc i) xs) (sym h))
-same_slots i (Top ∷ xs) (Top ∷ ys) n h = ap (λ l. Top ∷ l) (same_slots (suc i) xs ys (fewer Top Top xs ys n) (ap behind_front h))
-same_slots i (Top ∷ xs) (Value y ∷ ys) n h = let e : Top ≡ Value y = ap front_slot h in absurd (cc)
-same_slots i (Value x ∷ xs) (Empty ∷ ys) n h = absurd (none_before i ys (Value x) (filled_slots (suc i) xs) (sym h))
-same_slots i (Value x ∷ xs) (Top ∷ ys) n h = let e : Value x ≡ Top = ap front_slot h in absurd (cc)
-same_slots i (Value x ∷ xs) (Value y ∷ ys) n h = ap₂ (λ s l. s ∷ l) (ap front_slot h) (same_slots (suc i) xs ys (fewer (Value x) (Value y) xs ys n) (ap behind_front h))
+same_slots i (slot.Empty ∷ xs) (slot.Empty ∷ ys) n h = ap (λ l. slot.Empty ∷ l) (same_slots (suc i) xs ys (fewer slot.Empty slot.Empty xs ys n) h)
+same_slots i (slot.Empty ∷ xs) (slot.Top ∷ ys) n h = absurd (none_before i xs slot.Top (filled_slots (suc i) ys) h)
+same_slots i (slot.Empty ∷ xs) (slot.Value y ∷ ys) n h = absurd (none_before i xs (slot.Value y) (filled_slots (suc i) ys) h)
+same_slots i (slot.Top ∷ xs) (slot.Empty ∷ ys) n h = absurd (none_before i ys slot.Top (filled_slots (suc i) xs) (sym h))
+same_slots i (slot.Top ∷ xs) (slot.Top ∷ ys) n h = ap (λ l. slot.Top ∷ l) (same_slots (suc i) xs ys (fewer slot.Top slot.Top xs ys n) (ap behind_front h))
+same_slots i (slot.Top ∷ xs) (slot.Value y ∷ ys) n h = let e : slot.Top ≡ slot.Value y = ap front_slot h in absurd (cc)
+same_slots i (slot.Value x ∷ xs) (slot.Empty ∷ ys) n h = absurd (none_before i ys (slot.Value x) (filled_slots (suc i) xs) (sym h))
+same_slots i (slot.Value x ∷ xs) (slot.Top ∷ ys) n h = let e : slot.Value x ≡ slot.Top = ap front_slot h in absurd (cc)
+same_slots i (slot.Value x ∷ xs) (slot.Value y ∷ ys) n h = ap₂ (λ s l. s ∷ l) (ap front_slot h) (same_slots (suc i) xs ys (fewer (slot.Value x) (slot.Value y) xs ys n) (ap behind_front h))
 
 same_array : (d : Data) (a b : ArrayParts) → IsArray d a → IsArray d b → a ≡ b
 same_array d a b h k =
@@ -136,8 +137,8 @@ module _ {X : Type 0} (vs ws : List (Vec X Global)) (same : map items vs ≡ map
   same_count : (m : ℕ) → count vs m ≡ count ws m
   same_count m = counted (slice_get vs m) ∙ ap count_of (same_at m) ∙ sym (counted (slice_get ws m))
 
-  same_name : (s : SegName) → by_name vs s ≡ by_name ws s
-  same_name s = one_by_number (slice_get vs s.maker) s.n ∙ ap (λ o. one_of o s.n) (same_at s.maker) ∙ sym (one_by_number (slice_get ws s.maker) s.n)
+  mark_name_eq : (s : SegName) → by_name vs s ≡ by_name ws s
+  mark_name_eq s = one_by_number (slice_get vs s.maker) s.n ∙ ap (λ o. one_of o s.n) (same_at s.maker) ∙ sym (one_by_number (slice_get ws s.maker) s.n)
 
 -- ---- starts
 
@@ -162,7 +163,7 @@ module _ (R : ℕ) (d : Data) (p q : Parts R) (h : IsParts d p) (k : IsParts d q
   makers_same = same_makers R d p.segments.items q.segments.items h.segments k.segments
 
   names_same : (s : SegName) → by_name p.segments.items s ≡ by_name q.segments.items s
-  names_same = same_name p.segments.items q.segments.items makers_same
+  names_same = mark_name_eq p.segments.items q.segments.items makers_same
 
   qhead_same : p.qhead ≡ q.qhead
   qhead_same = some_same _ p.qhead q.qhead h.qhead k.qhead
@@ -195,10 +196,10 @@ two_counts : (d : Data) (n m : ℕ) → n ≢ m → member_count d ≡ Some n �
 two_counts d n m apart h k = apart (some_same (member_count d) n m h k)
 
 one_start : (R : ℕ) (d : Data) (s r : Start R) → IsStart d s → IsStart d r → (start_flaw s ≡ start_flaw r) × (start_world s ≡ start_world r)
-one_start R d (Fresh n) (Fresh m) h k = (refl, ap (fresh_world R) (some_same _ n m h.fresh.number k.fresh.number))
-one_start R d (Fresh n) (OfParts q) h k = absurd (two_counts d 1 5 (λ e. omega (arith, e)) h.members k.members)
-one_start R d (OfParts p) (Fresh m) h k = absurd (two_counts d 5 1 (λ e. omega (arith, e)) h.members k.members)
-one_start R d (OfParts p) (OfParts q) h k = (one_flaw R d p q h k, one_world R d p q h k)
+one_start R d (start.Fresh n) (start.Fresh m) h k = (refl, ap (fresh_world R) (some_same _ n m h.fresh.number k.fresh.number))
+one_start R d (start.Fresh n) (start.Parts q) h k = absurd (two_counts d 1 5 (λ e. omega (arith, e)) h.members k.members)
+one_start R d (start.Parts p) (start.Fresh m) h k = absurd (two_counts d 5 1 (λ e. omega (arith, e)) h.members k.members)
+one_start R d (start.Parts p) (start.Parts q) h k = (one_flaw R d p q h k, one_world R d p q h k)
 
 -- ---- bookmarks
 

@@ -24,22 +24,20 @@ pub use Rattle.serde_json.specs.Written.{IsInOrder, comma_if, compact_text, has_
 pub use Rattle.rd_actor.specs.declared.actors.Actor.{Actor}
 pub use Rattle.rd_cell.specs.declared.cells.Cell.{Cell}
 pub use Rattle.rd_cell.specs.declared.contents.ArrSlot.{ArrSlot}
-pub use Rattle.rd_cell.specs.declared.contents.ArrSlot.TheVariants.{Empty, Top, Value as Held}
 pub use Rattle.rd_cell.specs.declared.places.SegName.{SegName}
-pub use Rattle.rd_cell.specs.declared.refusal.Refusal.TheVariants.{NoMemory as OutOfMemory}
 pub use Rattle.rd_journal.specs.Sessions.{journal, state}
 pub use Rattle.rd_journal.specs.State.{State, apply, back, back_one, reply_to, state_of, step_after, times, with_event}
 pub use Rattle.rd_marks.specs.BookViews.{book_state}
 pub use Rattle.rd_marks.specs.Books.{AnswersEvents, BookState, Mark, mark, mark_at, mark_events, marked_events, name_and_length, with_marks, with_session}
 pub use Rattle.rd_marks.specs.NameBytes.{MOST_MARKS, is_mark_name, is_name_byte}
-pub use Rattle.rd_marks.specs.Names.{bytes_of, same_name}
+pub use Rattle.rd_marks.specs.Names.{bytes_of, mark_name_eq}
 pub use Rattle.rd_marks.specs.Rules.{GoThrough, HaveDifferentNames, KeepsRules, MarksGoThrough}
 pub use Rattle.rd_marks.specs.declared.names.MarkName.{MarkName}
 pub use Rattle.rd_ring.specs.declared.parts.SegmentParts.{SegmentParts}
 pub use Rattle.rd_segments.specs.declared.array.ArrayParts.{ArrayParts}
 pub use Rattle.rd_step.specs.Lists.{numbered}
 pub use Rattle.rd_step.specs.Parts.{array_fits, first_flaw, indexes_fit, world_of_parts}
-pub use Rattle.rd_step.specs.Prelude.{and_then, result_map, NoMark, Act, MOST_ACTORS, MOST_STEPS, MarkTaken, OpReply, Ran, Refusal, SLOTS, Stepped, TooLong, TooManyMarks, World, run, step}
+pub use Rattle.rd_step.specs.Prelude.{and_then, result_map, Act, MOST_ACTORS, MOST_STEPS, OpReply, Ran, Refusal, SLOTS, Stepped, World, run, step}
 pub use Rattle.rd_step.specs.Run.{preceded_by, run_entries}
 pub use Rattle.rd_step.specs.Starts.{fresh_world}
 pub use Rattle.rd_step.specs.declared.entries.Entry.{Entry}
@@ -64,8 +62,6 @@ pub use Rattle.rd_trace.specs.Writing.{IsTextOf}
 pub use Rattle.rd_trace.specs.declared.any_book.AnyBook.{AnyBook}
 pub use Rattle.rd_trace.specs.declared.bookmarks.SavedMark.{SavedMark}
 pub use Rattle.rd_trace.specs.declared.faults.FormFault.{FormFault}
-pub use Rattle.rd_trace.specs.declared.faults.FormFault.TheVariants.{BadForm}
 pub use Rattle.rd_trace.specs.declared.faults.LoadTraceFault.{LoadTraceFault}
 pub use Rattle.rd_trace.specs.declared.faults.LoadTraceFault.TheVariants.{BadTrace, Flawed, TraceMark, TraceStep}
 pub use Rattle.rd_trace.specs.declared.starts.Start.{Start}
-pub use Rattle.rd_trace.specs.declared.starts.Start.TheVariants.{Fresh, Parts as OfParts}

@@ -1,5 +1,5 @@
 -- Steps that are made again: what goes through, and what is refused.
-use Rattle.rd_trace.proofs.Prelude.{common_steps, AllByRecursion, cond-false, IsDistinct-head, IsDistinct-tail, take-append_seam, drop-append_seam, append-nil, length-map, map-append, map_more, get_or-map, take_more, take_all, drop_all, take-take, take-append-drop, drop-append-le, length-take-le, length-drop, OutOfMemory, World, Refusal, TooLong, MarkTaken, TooManyMarks, Stepped, step, Ran, run, MOST_STEPS, preceded_by, and_then, result_map, Entry, Event, State, step_after, with_event, apply, back_one, times, back, MarkName, MOST_MARKS, bytes_of, same_name, Mark, BookState, with_session, with_marks, marked_events, mark, GoThrough, MarksGoThrough, HaveDifferentNames, SavedMark, LoadTraceFault, saved_mark, start_world, start_flaw, Trace, loaded_state, session_at, IsRefusedAt, IsMarkRefusedAt, HasMarks, IsPlayable, Replays, IsAt, RefusesOne, GoesTo, MakesLive, SetsMarks, IsFaultOfStep, IsFaultOfMark}
+use Rattle.rd_trace.proofs.Prelude.{common_steps, AllByRecursion, cond-false, IsDistinct-head, IsDistinct-tail, take-append_seam, drop-append_seam, append-nil, length-map, map-append, map_more, get_or-map, take_more, take_all, drop_all, take-take, take-append-drop, drop-append-le, length-take-le, length-drop, World, Refusal, Stepped, step, Ran, run, MOST_STEPS, preceded_by, and_then, result_map, Entry, Event, State, step_after, with_event, apply, back_one, times, back, MarkName, MOST_MARKS, bytes_of, mark_name_eq, Mark, BookState, with_session, with_marks, marked_events, mark, GoThrough, MarksGoThrough, HaveDifferentNames, SavedMark, LoadTraceFault, saved_mark, start_world, start_flaw, Trace, loaded_state, session_at, IsRefusedAt, IsMarkRefusedAt, HasMarks, IsPlayable, Replays, IsAt, RefusesOne, GoesTo, MakesLive, SetsMarks, IsFaultOfStep, IsFaultOfMark}
 use Rattle.std.proofs.Common.{◌≡◌, ◌≢◌, ◌⊎◌, inl, inr, ℕ, zero, suc, ◌+◌, ◌-◌, ◌<◌, ◌≤◌, ◌==◌, if◌then◌else◌, Bool, false, List, [], ◌∷◌, ◌++◌, length, take, drop, get_or, map, Some, None, is_some, Result, Ok, Err, IsOk, refl, sym, ap, ap₂, ◌∙◌, subst, arith, append_assoc, length-append, ne_eqb, eq-eqb}
 use Rattle.std.proofs.lemmas.Cmp.{nat_list_eq_equiv}
 use Rattle.rd_step.specs.Run.{events}
@@ -9,6 +9,7 @@ use Rattle.rd_marks.specs.Books.{at_events}
 use Rattle.rd_marks.specs.Commands.{Answered, answer_with, Happened}
 use Rattle.rd_trace.specs.declared.replay.RefusedEvent.{RefusedEvent}
 use Rattle.rd_trace.proofs.SpellLemmas.{split_at, take_item}
+use Rattle.rd_cell.specs.declared.refusal.Refusal.TheVariants as refusal
 
 -- Books and lists
 
@@ -43,7 +44,7 @@ run_last w (x ∷ es) e h = run_on es e (λ v k. run_last v es e k) (step w x) h
 -- One event
 
 -- what an event that happened leaves, and what it shows of its step
-applied_parts : (s after : State) (e : Event) (full : Bool) (o : Result Stepped Refusal) → (if full then Err TooLong else result_map (λ stepped. with_event s e) o) ≡ Ok after
+applied_parts : (s after : State) (e : Event) (full : Bool) (o : Result Stepped Refusal) → (if full then Err refusal.TooLong else result_map (λ stepped. with_event s e) o) ≡ Ok after
     → (full ≡ false) × IsOk o × (after ≡ record { start = s.start; live = s.live ++ e ∷ []; undone = [] })
 applied_parts s after e full o h = grind arith
 
@@ -51,8 +52,8 @@ not_full : (n : ℕ) → n ≤ MOST_STEPS → (n == MOST_STEPS) ≡ false → n 
 not_full n few other = let apart : n ≢ MOST_STEPS = λ e. cc (eq-eqb n MOST_STEPS e, other) in omega (arith, few, apart)
 
 -- whether it was memory that was refused
-is_memory : (refusal : Refusal) → (refusal ≡ OutOfMemory) ⊎ (refusal ≢ OutOfMemory)
-is_memory refusal = grind arith
+is_memory : (cause : Refusal) → (cause ≡ refusal.NoMemory) ⊎ (cause ≢ refusal.NoMemory)
+is_memory cause = grind arith
 
 pub none_stepped : (b : BookState) → GoThrough b.session.start b.session.live → b.session.undone ≡ [] → GoesTo b (b.session.live ++ []) b (Ok tt)
 none_stepped b through none =
@@ -90,7 +91,7 @@ module _ (old now : BookState) (es : List Event) (i : ℕ) (e : Event) (within :
     refused = sym at_now ∙ h;
   }
 
-  pub one_refused : (n : ℕ) (cause : Refusal) → n ≡ length now.session.live + 1 → (apply now.session e ≡ Err cause) ⊎ (cause ≡ OutOfMemory)
+  pub one_refused : (n : ℕ) (cause : Refusal) → n ≡ length now.session.live + 1 → (apply now.session e ≡ Err cause) ⊎ (cause ≡ refusal.NoMemory)
       → RefusesOne old.session.start (old.session.live ++ es) (record { step = n; cause = cause })
   one_refused n cause number (inr memory) = inl memory
   one_refused n cause number (inl h) = elim (is_memory cause) [
@@ -113,7 +114,7 @@ pub happened : (b after : BookState) (e : Event) (reply : Reply) → Happened b 
 happened b after e reply k = grind (arith, common_steps)
 
 pub not_happened : (b after : BookState) (e : Event) (cause : Refusal) → Happened b e (record { answer = Err cause; state = after })
-    → (apply b.session e ≡ Err cause) ⊎ (cause ≡ OutOfMemory)
+    → (apply b.session e ≡ Err cause) ⊎ (cause ≡ refusal.NoMemory)
 not_happened b after e cause (inl h) = inl (event_not_made b after cause _ (apply b.session e) h)
 not_happened b after e cause (inr h) = inr (cc (ap (λ (a : Answered). a.answer) h.1))
 
@@ -218,15 +219,15 @@ one_more_goes : (w : World) (ms : List Mark) (m : Mark) → MarksGoThrough w ms 
 one_more_goes w [] m h k = (k, tt)
 one_more_goes w (x ∷ ms) m h k = (h.0, one_more_goes w ms m h.1 k)
 
-mark_set : (after x : BookState) (taken full : Bool) → (if taken then Err MarkTaken else if full then Err TooManyMarks else Ok x) ≡ Ok after → after ≡ x
+mark_set : (after x : BookState) (taken full : Bool) → (if taken then Err refusal.MarkTaken else if full then Err refusal.TooManyMarks else Ok x) ≡ Ok after → after ≡ x
 mark_set after x taken full h = grind arith
 
-mark_not_refused : (taken full : Bool) (x : BookState) (refusal : Refusal) → taken ≡ false → full ≡ false
-    → (if taken then Err MarkTaken else if full then Err TooManyMarks else Ok x) ≡ Err refusal → ⊥
-mark_not_refused taken full x refusal free few h = grind arith
+mark_not_refused : (taken full : Bool) (x : BookState) (cause : Refusal) → taken ≡ false → full ≡ false
+    → (if taken then Err refusal.MarkTaken else if full then Err refusal.TooManyMarks else Ok x) ≡ Err cause → ⊥
+mark_not_refused taken full x cause free few h = grind arith
 
-differs : (x : Mark) (before : List Mark) (m : Mark) (later : List Mark) → AllByRecursion (λ y. same_name x.name y ≡ false) (map (λ y. y.name) (before ++ m ∷ later))
-    → same_name x.name m.name ≡ false
+differs : (x : Mark) (before : List Mark) (m : Mark) (later : List Mark) → AllByRecursion (λ y. mark_name_eq x.name y ≡ false) (map (λ y. y.name) (before ++ m ∷ later))
+    → mark_name_eq x.name m.name ≡ false
 differs x [] m later h = h.0
 differs x (y ∷ before) m later h = differs x before m later h.1
 
@@ -235,10 +236,10 @@ none_taken : (before : List Mark) (m : Mark) (later : List Mark) → HaveDiffere
 none_taken [] m later h = refl
 none_taken (x ∷ before) m later h =
     let names : List MarkName = map (λ (y : Mark). y.name) (before ++ m ∷ later) in
-    let apart : same_name m.name x.name ≡ false =
-    nat_list_eq_equiv.symm (bytes_of m.name) (bytes_of x.name) ∙ differs x before m later (IsDistinct-head same_name x.name names h) in
-    cond-false (same_name m.name x.name) (Some x.events) (marked_events before m.name) apart
-    ∙ none_taken before m later (IsDistinct-tail same_name x.name names h)
+    let apart : mark_name_eq m.name x.name ≡ false =
+    nat_list_eq_equiv.symm (bytes_of m.name) (bytes_of x.name) ∙ differs x before m later (IsDistinct-head mark_name_eq x.name names h) in
+    cond-false (mark_name_eq m.name x.name) (Some x.events) (marked_events before m.name) apart
+    ∙ none_taken before m later (IsDistinct-tail mark_name_eq x.name names h)
 
 module _ (old now : BookState) (ms : List SavedMark) (i : ℕ) (m : SavedMark) (within : i < length ms) (is : m ≡ get_or ms i m) (so_far : HasSet old now (map saved_mark (take i ms))) where
   pub one_set : (mid after : BookState) → GoesTo now m.events.items mid (Ok tt) → mark mid m.name ≡ Ok after → HasSet old after (map saved_mark (take (i + 1) ms))
@@ -260,16 +261,16 @@ module _ (old now : BookState) (ms : List SavedMark) (i : ℕ) (m : SavedMark) (
   placed = ap (map saved_mark) (split_at ms i m within is) ∙ map-append saved_mark (take i ms) (m ∷ drop (i + 1) ms)
 
   -- there is room for this one, and none has its name
-  pub can_mark : (mid : BookState) (refusal : Refusal) → GoesTo now m.events.items mid (Ok tt) → HaveDifferentNames (map saved_mark ms) → length ms ≤ MOST_MARKS
-      → (refusal ≡ OutOfMemory → ⊥) → (mark mid m.name ≡ Err refusal) ⊎ ((refusal ≡ OutOfMemory) × IsOk (mark mid m.name)) → ⊥
-  can_mark mid refusal goes names few other (inl h) =
+  pub can_mark : (mid : BookState) (cause : Refusal) → GoesTo now m.events.items mid (Ok tt) → HaveDifferentNames (map saved_mark ms) → length ms ≤ MOST_MARKS
+      → (cause ≡ refusal.NoMemory → ⊥) → (mark mid m.name ≡ Err cause) ⊎ ((cause ≡ refusal.NoMemory) × IsOk (mark mid m.name)) → ⊥
+  can_mark mid cause goes names few other (inl h) =
       let set : mid.marks ≡ map saved_mark (take i ms) = ap (λ (b : BookState). b.marks) goes.0 ∙ so_far.marks in
       let free : is_some (marked_events mid.marks m.name) ≡ false =
       ap (λ (done : List Mark). is_some (marked_events done m.name)) set
       ∙ ap is_some (none_taken (map saved_mark (take i ms)) (saved_mark m) (map saved_mark (drop (i + 1) ms)) (subst (λ (xs : List Mark). HaveDifferentNames xs) placed names)) in
       let few_so_far : length mid.marks ≡ i = omega (arith, ap length set, length-map (take i ms) saved_mark, length-take-le i ms (omega arith)) in
-      mark_not_refused _ _ _ refusal free (ne_eqb (length mid.marks) MOST_MARKS (omega arith)) h
-  can_mark mid refusal goes names few other (inr h) = other h.0
+      mark_not_refused _ _ _ cause free (ne_eqb (length mid.marks) MOST_MARKS (omega arith)) h
+  can_mark mid cause goes names few other (inr h) = other h.0
 
   -- an event of this one was refused
   mark_refused_at : (n : ℕ) (cause : Refusal) → IsRefusedAt now.session.start m.events.items n cause → IsMarkRefusedAt old.session.start (map saved_mark ms) (i + 1) n cause
@@ -341,7 +342,7 @@ happens_in : (w : World) (before : List Event) (e : Event) (later : List Event) 
 happens_in w [] e later h = of_first later (step w e) h
 happens_in w (x ∷ before) e later h = in_rest before e later (λ v k. happens_in v before e later k) (step w x) h
 
-not_refused : (s : State) (e : Event) (cause : Refusal) (full : Bool) (o : Result Stepped Refusal) → full ≡ false → IsOk o → (if full then Err TooLong else result_map (λ stepped. with_event s e) o) ≡ Err cause → ⊥
+not_refused : (s : State) (e : Event) (cause : Refusal) (full : Bool) (o : Result Stepped Refusal) → full ≡ false → IsOk o → (if full then Err refusal.TooLong else result_map (λ stepped. with_event s e) o) ≡ Err cause → ⊥
 not_refused s e cause full o room ok h = grind arith
 
 room_left : (n m : ℕ) → n + suc m ≤ MOST_STEPS → (n == MOST_STEPS) ≡ false
@@ -349,11 +350,3 @@ room_left n m h = ne_eqb n MOST_STEPS (omega arith)
 
 pub none_refused : (w : World) (es : List Event) (n : ℕ) (cause : Refusal) → GoThrough w es → IsRefusedAt w es n cause → ⊥
 none_refused w es n cause goes at = grind (arith, not_refused, room_left, length-append, happens_in)
-
-goes_among : (w : World) (before : List Mark) (m : Mark) (later : List Mark) → MarksGoThrough w (before ++ m ∷ later) → GoThrough w m.events
-goes_among w [] m later h = h.0
-goes_among w (x ∷ before) m later h = goes_among w before m later h.1
-
-pub no_mark_refused : (w : World) (ms : List Mark) (m n : ℕ) (cause : Refusal) → MarksGoThrough w ms → IsMarkRefusedAt w ms m n cause → ⊥
-no_mark_refused w ms m n cause go at =
-    none_refused w at.mark.events n cause (goes_among w at.before at.mark at.later (subst (λ (xs : List Mark). MarksGoThrough w xs) at.all go)) at.refused

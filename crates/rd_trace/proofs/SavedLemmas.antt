@@ -1,10 +1,10 @@
 -- Whole sessions as values.
-use Rattle.std.proofs.Common.{◌≡◌, ℕ, zero, suc, ◌+◌, ◌<◌, ◌≤◌, List, [], ◌∷◌, ◌++◌, length, take, get_or, slice_get, Some, None, Result, Ok, Err, IsOk, inl, inr, refl, sym, ap, ◌∙◌, subst, arith, length-append, rules}
-use Rattle.rd_trace.proofs.Prelude.{length-map, map-append, take_more, get_or-map, same_Some, Data, Refusal, run, MOST_STEPS, Ran, run_entries, Entry, Event, state_of, numbered, BookState, GoThrough, Reads, Gives, SpellEach, items_by, event_of, event_data, SpellsWorld, AreMarks, mark_data, member_count, Trace, IsFirstTrace, IsSecondTrace, IsEither, loaded_state, saved_trace, book_data, FormFault, BadForm, start_flaw}
+use Rattle.std.proofs.Common.{◌≡◌, ℕ, zero, suc, ◌+◌, ◌<◌, ◌≤◌, List, [], ◌∷◌, ◌++◌, length, take, get_or, slice_get, Some, None, Result, Ok, Err, IsOk, inl, inr, refl, sym, ap, ◌∙◌, subst, arith, length-append}
+use Rattle.rd_trace.proofs.Prelude.{length-map, map-append, take_more, get_or-map, same_Some, Data, Refusal, run, MOST_STEPS, Ran, run_entries, Entry, Event, state_of, numbered, BookState, GoThrough, Reads, Gives, SpellEach, items_by, event_of, event_data, SpellsWorld, AreMarks, mark_data, member_count, Trace, IsFirstTrace, IsSecondTrace, IsEither, loaded_state, saved_trace, book_data, FormFault, start_flaw}
 use Rattle.rd_journal.specs.Journal.{Journal, IsRun, start_of, events}
 use Rattle.rd_journal.proofs.RedoneLast.{one_run}
 use Rattle.rd_trace.specs.declared.saved.SavedSession.{SavedSession}
-use Rattle.rd_trace.specs.declared.faults.FormFault.TheVariants.{NoMemory}
+use Rattle.rd_trace.specs.declared.faults.FormFault.TheVariants as form
 
 -- ---- what is read
 
@@ -19,13 +19,13 @@ no_second d six none t (inr k) = none t k
 -- a value of this many members is a trace of one version at most
 pub first_read : {R : ℕ} (d : Data) → member_count d ≡ Some 4 → (r : Result (SavedSession R) FormFault) → Reads saved_trace (IsFirstTrace d) r → Reads saved_trace (IsEither d) r
 first_read d four (Ok s) h = inl h
-first_read d four (Err NoMemory) h = tt
-first_read d four (Err BadForm) h = no_first d four h
+first_read d four (Err form.NoMemory) h = tt
+first_read d four (Err form.BadForm) h = no_first d four h
 
 pub second_read : {R : ℕ} (d : Data) → member_count d ≡ Some 6 → (r : Result (SavedSession R) FormFault) → Reads saved_trace (IsSecondTrace d) r → Reads saved_trace (IsEither d) r
 second_read d six (Ok s) h = inr h
-second_read d six (Err NoMemory) h = tt
-second_read d six (Err BadForm) h = no_second d six h
+second_read d six (Err form.NoMemory) h = tt
+second_read d six (Err form.BadForm) h = no_second d six h
 
 -- ---- what is written
 

@@ -1,8 +1,9 @@
 -- What is read of a value by what is read of a part of it; and lists of values: what they spell,
 -- and how many they are.
 use Rattle.std.proofs.Common.{◌≡◌, ℕ, suc, ◌+◌, ◌<◌, List, [], ◌∷◌, ◌++◌, length, take, drop, get_or, Option, Some, IfSome, IfNone, ok_or, Result, Err, Vec, Global, refl, sym, ap, ap₂, ◌∙◌, subst, map, map-id, arith}
-use Rattle.rd_trace.proofs.Prelude.{IsErrAnd, same_Some, take_more, drop_more, take-append-drop, Data, Items, no_items, item, view, items_view, items_at, Reads, itself, elements, Gives, SpellEach, SpellEachAt, items_by, AreSpelled, FormFault, BadForm}
+use Rattle.rd_trace.proofs.Prelude.{IsErrAnd, same_Some, take_more, drop_more, take-append-drop, Data, Items, no_items, item, view, items_view, items_at, Reads, itself, elements, Gives, SpellEach, SpellEachAt, items_by, AreSpelled, FormFault}
 use Rattle.serde_json.specs.declared.value.Value.{Value}
+use Rattle.rd_trace.specs.declared.faults.FormFault.TheVariants as form
 
 -- ---- faults
 
@@ -20,7 +21,7 @@ module _ {V W X Y : Type 0} (part : V → X) (whole : W → Y) (IsPart : X → T
   part_passed_up fault r is h = passed_up (Reads whole IsWhole) r fault is (no_part fault h)
 
 -- an option that is read
-module _ {X : Type 0} (o : Option X) (r : Result X FormFault) (is : r ≡ ok_or o BadForm) where
+module _ {X : Type 0} (o : Option X) (r : Result X FormFault) (is : r ≡ ok_or o form.BadForm) where
   pub read_or_bad : (P : X → Type 0) → IfSome o P → IfNone o ((x : X) → P x → ⊥) → Reads itself P r
   read_or_bad P some none = grind arith
 

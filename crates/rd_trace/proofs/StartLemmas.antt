@@ -1,7 +1,8 @@
 -- The start of a session as a value, and when it is the fresh world.
 use Rattle.std.proofs.Common.{◌≡◌, ℕ, ◌≤◌, Some, None, Result, inl, inr, refl, sym, ap, ◌∙◌, subst, arith}
-use Rattle.rd_trace.proofs.Prelude.{IfOk, OnOk, Data, MOST_ACTORS, World, fresh_world, world_of_parts, first_flaw, Parts, SpellEach, items_by, name_of, name_data, IsActor, actor_data, array_data, IsSegmentList, list_data, IsFreshStart, IsParts, IsStartData, SpellsWorld, fresh_data, parts_data, Fresh, OfParts}
+use Rattle.rd_trace.proofs.Prelude.{IfOk, OnOk, Data, MOST_ACTORS, World, fresh_world, world_of_parts, first_flaw, Parts, SpellEach, items_by, name_of, name_data, IsActor, actor_data, array_data, IsSegmentList, list_data, IsFreshStart, IsParts, IsStartData, SpellsWorld, fresh_data, parts_data}
 use Rattle.rd_trace.proofs.ArrayLemmas.{array_spelled}
+use Rattle.rd_trace.specs.declared.starts.Start.TheVariants as start
 
 -- what holds holds if a call succeeds
 pub on_ok : {T E P : Type 0} (r : Result T E) → P → OnOk r P
@@ -41,7 +42,7 @@ module _ (w : World) where
     starts_fresh some few = inl (n, fresh_by, some, few, is)
 
     pub spells_fresh : 1 ≤ n → n ≤ MOST_ACTORS → SpellsWorld w d
-    spells_fresh some few = (Fresh n, subst (λ x. IsFreshStart x n) (sym is) (fresh_spelled n some few), refl, sym fresh_by)
+    spells_fresh some few = (start.Fresh n, subst (λ x. IsFreshStart x n) (sym is) (fresh_spelled n some few), refl, sym fresh_by)
 
   -- and another one as its parts
   module _ (p : Parts w.ring) (parts : world_of_parts p ≡ w) (flawless : first_flaw p ≡ None) (d : Data) (is : d ≡ parts_data p) where
@@ -49,4 +50,4 @@ module _ (w : World) where
     starts_parts other = inr ((λ count e. other (count, e)), p, flawless, parts, is)
 
     pub spells_parts : IsParts (parts_data p) p → SpellsWorld w d
-    spells_parts h = (OfParts p, subst (λ x. IsParts x p) (sym is) h, flawless, parts)
+    spells_parts h = (start.Parts p, subst (λ x. IsParts x p) (sym is) h, flawless, parts)

@@ -5,7 +5,7 @@ use Rattle.serde_json.specs.Data.{Data, null, boolean, number, string, array, ob
 use Rattle.serde_json.specs.Find.{get, as_str, as_u64}
 use Rattle.rd_actor.specs.declared.actors.Actor.{Actor}
 use Rattle.rd_actor.specs.declared.actors.Op.{Op}
-use Rattle.rd_actor.specs.declared.actors.Op.TheVariants.{Enq, Deq, AEnq, ADeq}
+use Rattle.rd_actor.specs.declared.actors.Op.TheVariants as op
 use Rattle.rd_actor.specs.Labels.{label}
 use Rattle.rd_trace.specs.Numbers.{whole_number, member_count, number_at, byte_at, bit_at, text_at}
 use Rattle.rd_trace.specs.Names.{name_at, name_data}
@@ -24,15 +24,15 @@ value_data o = option_map_or (λ x. number (unsigned x)) o null
 -- the call that a word spells without a number
 abbrev pub short_op : List ℕ → Option (Option Op)
 short_op word =
-    if bytes_eq word (codes "deq") then Some (Some Deq)
-    else if bytes_eq word (codes "adeq") then Some (Some ADeq)
+    if bytes_eq word (codes "deq") then Some (Some op.Deq)
+    else if bytes_eq word (codes "adeq") then Some (Some op.ADeq)
     else None
 
 -- the call that a word and a number spell
 abbrev pub long_op : List ℕ → ℕ → Option (Option Op)
 long_op word x =
-    if bytes_eq word (codes "enq") then Some (Some (Enq x))
-    else if bytes_eq word (codes "aenq") then Some (Some (AEnq x))
+    if bytes_eq word (codes "enq") then Some (Some (op.Enq x))
+    else if bytes_eq word (codes "aenq") then Some (Some (op.AEnq x))
     else None
 
 -- the call that the items of a list spell: a word, or a word and a number
@@ -50,10 +50,10 @@ op_of _ = None
 -- the value as which a call, or none, is written
 abbrev pub op_data : Option Op → Data
 op_data None = null
-op_data (Some (Enq x)) = array (item (string (codes "enq")) (item (number (unsigned x)) no_items))
-op_data (Some Deq) = array (item (string (codes "deq")) no_items)
-op_data (Some (AEnq x)) = array (item (string (codes "aenq")) (item (number (unsigned x)) no_items))
-op_data (Some ADeq) = array (item (string (codes "adeq")) no_items)
+op_data (Some (op.Enq x)) = array (item (string (codes "enq")) (item (number (unsigned x)) no_items))
+op_data (Some op.Deq) = array (item (string (codes "deq")) no_items)
+op_data (Some (op.AEnq x)) = array (item (string (codes "aenq")) (item (number (unsigned x)) no_items))
+op_data (Some op.ADeq) = array (item (string (codes "adeq")) no_items)
 
 -- a value spells an actor: it is an object of just twelve members, one for each word of the actor
 pub record IsActor (d : Data) (a : Actor) : Type 0 where

@@ -4,15 +4,15 @@ use Rattle.std.specs.Prelude.{◌≡◌, ℕ, suc, List, [], ◌∷◌, codes, b
 use Rattle.serde_json.specs.Data.{Data, null, number, string, array, object, unsigned, Items, no_items, item, no_members, member}
 use Rattle.serde_json.specs.Find.{as_array, as_u64}
 use Rattle.rd_cell.specs.declared.contents.ArrSlot.{ArrSlot}
-use Rattle.rd_cell.specs.declared.contents.ArrSlot.TheVariants.{Empty, Top, Value}
+use Rattle.rd_cell.specs.declared.contents.ArrSlot.TheVariants as slot
 use Rattle.rd_segments.specs.declared.array.ArrayParts.{ArrayParts}
 use Rattle.rd_trace.specs.Numbers.{whole_number, member_count, number_at}
 use Rattle.rd_trace.specs.Spelled.{Gives, SpellEachAt, items_by}
 
 -- the content that a value spells of a slot that isn't empty
 abbrev pub slot_content : Data → Option ArrSlot
-slot_content (number n) = option_map Value (as_u64 n)
-slot_content (string s) = if bytes_eq s (codes "top") then Some Top else None
+slot_content (number n) = option_map slot.Value (as_u64 n)
+slot_content (string s) = if bytes_eq s (codes "top") then Some slot.Top else None
 slot_content _ = None
 
 -- the position and the slot that the items of a list spell
@@ -27,9 +27,9 @@ slot_of d = option_and_then slot_of_items (as_array d)
 -- the slots that aren't empty, each with its position, where the first slot is at position i
 abbrev pub filled_slots : ℕ → List ArrSlot → List (ℕ × ArrSlot)
 filled_slots i [] = []
-filled_slots i (Empty ∷ slots) = filled_slots (suc i) slots
-filled_slots i (Top ∷ slots) = (i, Top) ∷ filled_slots (suc i) slots
-filled_slots i (Value x ∷ slots) = (i, Value x) ∷ filled_slots (suc i) slots
+filled_slots i (slot.Empty ∷ slots) = filled_slots (suc i) slots
+filled_slots i (slot.Top ∷ slots) = (i, slot.Top) ∷ filled_slots (suc i) slots
+filled_slots i (slot.Value x ∷ slots) = (i, slot.Value x) ∷ filled_slots (suc i) slots
 
 -- a value spells the array: it is an object of three members, the two counters, and the slots that
 -- aren't empty by ascending positions
@@ -41,9 +41,9 @@ pub record IsArray (d : Data) (a : ArrayParts) : Type 0 where
 
 -- the value as which the content of a slot is written; empty slots are not written
 abbrev pub content_data : ArrSlot → Data
-content_data Empty = null
-content_data Top = string (codes "top")
-content_data (Value x) = number (unsigned x)
+content_data slot.Empty = null
+content_data slot.Top = string (codes "top")
+content_data (slot.Value x) = number (unsigned x)
 
 -- the value of a slot with its position
 abbrev pub slot_data : ℕ × ArrSlot → Data

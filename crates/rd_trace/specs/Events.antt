@@ -3,24 +3,24 @@ use Rattle.std.specs.Prelude.{ℕ, List, codes, bytes_eq, if◌then◌else◌, O
 use Rattle.serde_json.specs.Data.{Data, boolean, number, string, array, unsigned, Items, no_items, item}
 use Rattle.serde_json.specs.Find.{as_bool, as_str, as_array}
 use Rattle.rd_step.specs.Prelude.{Act}
-use Rattle.rd_actor.specs.declared.actors.Act.TheVariants.{Enq, Deq, AEnq, ADeq, Go, Starve}
+use Rattle.rd_actor.specs.declared.actors.Act.TheVariants as act
 use Rattle.rd_step.specs.declared.entries.Event.{Event}
 use Rattle.rd_trace.specs.Numbers.{whole_number, byte_number}
 
 -- the act that a word spells without a value after it
 abbrev pub act_of_word : List ℕ → Option Act
 act_of_word word =
-    if bytes_eq word (codes "go") then Some Go
-    else if bytes_eq word (codes "deq") then Some Deq
-    else if bytes_eq word (codes "adeq") then Some ADeq
+    if bytes_eq word (codes "go") then Some act.Go
+    else if bytes_eq word (codes "deq") then Some act.Deq
+    else if bytes_eq word (codes "adeq") then Some act.ADeq
     else None
 
 -- the act that a word and a value spell, where the value is the number to enqueue or the choice
 abbrev pub act_with : List ℕ → Data → Option Act
 act_with word d =
-    if bytes_eq word (codes "enq") then option_map Enq (whole_number d)
-    else if bytes_eq word (codes "aenq") then option_map AEnq (whole_number d)
-    else if bytes_eq word (codes "starve") then option_map Starve (as_bool d)
+    if bytes_eq word (codes "enq") then option_map act.Enq (whole_number d)
+    else if bytes_eq word (codes "aenq") then option_map act.AEnq (whole_number d)
+    else if bytes_eq word (codes "starve") then option_map act.Starve (as_bool d)
     else None
 
 -- the event of this act and this actor, if both are there
@@ -48,12 +48,12 @@ long_data word actor d = array (item (string word) (item (number (unsigned actor
 
 -- the value of an act of an actor
 abbrev pub act_data : ℕ → Act → Data
-act_data actor (Enq x) = long_data (codes "enq") actor (number (unsigned x))
-act_data actor Deq = short_data (codes "deq") actor
-act_data actor (AEnq x) = long_data (codes "aenq") actor (number (unsigned x))
-act_data actor ADeq = short_data (codes "adeq") actor
-act_data actor Go = short_data (codes "go") actor
-act_data actor (Starve choice) = long_data (codes "starve") actor (boolean choice)
+act_data actor (act.Enq x) = long_data (codes "enq") actor (number (unsigned x))
+act_data actor act.Deq = short_data (codes "deq") actor
+act_data actor (act.AEnq x) = long_data (codes "aenq") actor (number (unsigned x))
+act_data actor act.ADeq = short_data (codes "adeq") actor
+act_data actor act.Go = short_data (codes "go") actor
+act_data actor (act.Starve choice) = long_data (codes "starve") actor (boolean choice)
 
 -- the value as which an event is written
 abbrev pub event_data : Event → Data

@@ -7,7 +7,7 @@ use Rattle.rd_trace.specs.declared.any_book.AnyBook.TheVariants.{Two, Four, Eigh
 use Rattle.rd_trace.specs.declared.faults.LoadTraceFault.{LoadTraceFault}
 use Rattle.rd_trace.specs.declared.faults.LoadTraceFault.TheVariants.{NoMemory, BadTrace, Flawed, TraceMark, TraceStep}
 use Rattle.rd_trace.specs.declared.faults.FormFault.{FormFault}
-use Rattle.rd_trace.specs.declared.faults.FormFault.TheVariants.{NoMemory as FormNoMemory, BadForm}
+use Rattle.rd_trace.specs.declared.faults.FormFault.TheVariants as form
 use Rattle.rd_step.specs.Starts.{fresh_world}
 use Rattle.rd_trace.specs.Starts.{start_world, start_flaw}
 use Rattle.rd_trace.specs.Saved.{Trace, IsTraceText, loaded_state, IsSameBook}
@@ -22,8 +22,8 @@ any_state (Eight book) = book_state book
 
 -- the fault of loading where a value is not read
 abbrev pub form_fault : FormFault → LoadTraceFault
-form_fault FormNoMemory = NoMemory
-form_fault BadForm = BadTrace
+form_fault form.NoMemory = NoMemory
+form_fault form.BadForm = BadTrace
 
 -- the state of a book in which nothing was done yet, over the fresh world
 abbrev pub fresh_state : ℕ → ℕ → BookState

@@ -1,6 +1,6 @@
 -- Whole sessions as values and as texts: version 1, which is only read, and version 2, which is
 -- read and written.
-use Rattle.std.specs.Prelude.{◌≡◌, ◌⊎◌, ℕ, List, [], ◌∷◌, ◌++◌, map, codes, Some, None, IsUtf8}
+use Rattle.std.specs.Prelude.{◌≡◌, ◌⊎◌, ℕ, List, [], ◌∷◌, ◌++◌, map, codes, Some, IsUtf8}
 use Rattle.serde_json.specs.Data.{Data, number, array, object, unsigned, Items, no_members, member}
 use Rattle.serde_json.specs.Find.{get}
 use Rattle.serde_json.specs.Read.{read}
@@ -15,7 +15,7 @@ use Rattle.rd_trace.specs.Starts.{IsStart, IsActorCount, IsStartData, start_worl
 use Rattle.rd_trace.specs.Bookmarks.{AreMarks, mark_data, saved_mark}
 use Rattle.rd_trace.specs.Traces.{IsTraceRing}
 use Rattle.rd_trace.specs.declared.starts.Start.{Start}
-use Rattle.rd_trace.specs.declared.starts.Start.TheVariants.{Fresh}
+use Rattle.rd_trace.specs.declared.starts.Start.TheVariants as start
 use Rattle.rd_trace.specs.declared.saved.SavedSession.{SavedSession}
 
 -- a session over rings of R cells, as a trace has it: its start, its bookmarks, its live and its
@@ -54,7 +54,7 @@ pub record IsFirstTrace {R : ℕ} (d : Data) (t : Trace R) : Type 0 where
   pub members : member_count d ≡ Some 4
   pub version : number_at (codes "version") d ≡ Some 1
   pub ring : number_at (codes "ring") d ≡ Some R
-  pub actors : (count : ℕ) × IsActorCount (codes "actors") d count × (t.start ≡ Fresh count)
+  pub actors : (count : ℕ) × IsActorCount (codes "actors") d count × (t.start ≡ start.Fresh count)
   pub live : SpellEachAt (Gives event_of) (codes "events") d t.live
   pub marks : t.marks ≡ []
   pub undone : t.undone ≡ []

@@ -16,7 +16,7 @@ use Rattle.rd_trace.specs.Actors.{IsActor, actor_data}
 use Rattle.rd_trace.specs.Segments.{IsSegmentList, list_data}
 use Rattle.rd_trace.specs.Arrays.{IsArray, array_data}
 use Rattle.rd_trace.specs.declared.starts.Start.{Start}
-use Rattle.rd_trace.specs.declared.starts.Start.TheVariants.{Fresh, Parts as OfParts}
+use Rattle.rd_trace.specs.declared.starts.Start.TheVariants as start
 
 -- an object has this number of actors, 1 to 16, at this key
 pub record IsActorCount (key : List ℕ) (d : Data) (count : ℕ) : Type 0 where
@@ -32,8 +32,8 @@ pub record IsFreshStart (d : Data) (count : ℕ) : Type 0 where
 
 -- the start, if it is fresh, has 1 to 16 actors
 abbrev pub HasActorCount : {R : ℕ} → Start R → Type 0
-HasActorCount (Fresh count) = (1 ≤ count) × (count ≤ MOST_ACTORS)
-HasActorCount (OfParts p) = Unit {0}
+HasActorCount (start.Fresh count) = (1 ≤ count) × (count ≤ MOST_ACTORS)
+HasActorCount (start.Parts p) = Unit {0}
 
 -- an object has the array at the key `array`
 abbrev pub IsArrayAt : Data → ArrayParts → Type 0
@@ -50,18 +50,18 @@ pub record IsParts {R : ℕ} (d : Data) (p : Parts R) : Type 0 where
 
 -- a value spells a start
 abbrev pub IsStart : {R : ℕ} → Data → Start R → Type 0
-IsStart d (Fresh count) = IsFreshStart d count
-IsStart d (OfParts p) = IsParts d p
+IsStart d (start.Fresh count) = IsFreshStart d count
+IsStart d (start.Parts p) = IsParts d p
 
 -- the world of a start
 abbrev pub start_world : {R : ℕ} → Start R → World
-start_world {R} (Fresh count) = fresh_world R count
-start_world (OfParts p) = world_of_parts p
+start_world {R} (start.Fresh count) = fresh_world R count
+start_world (start.Parts p) = world_of_parts p
 
 -- the first condition of a well-formed world that a start fails, if it fails one
 abbrev pub start_flaw : {R : ℕ} → Start R → Option Flaw
-start_flaw (Fresh count) = None
-start_flaw (OfParts p) = first_flaw p
+start_flaw (start.Fresh count) = None
+start_flaw (start.Parts p) = first_flaw p
 
 -- a value spells a start that has no flaw, and whose world is this one
 abbrev pub SpellsWorld : World → Data → Type 0

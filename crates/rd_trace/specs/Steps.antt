@@ -2,7 +2,7 @@
 -- them.
 use Rattle.std.specs.Prelude.{◌≡◌, ◌≢◌, ◌⊎◌, ◌++◌, ℕ, List, Some, None, Result, Ok, Err}
 use Rattle.rd_step.specs.Prelude.{World, model}
-use Rattle.rd_cell.specs.declared.refusal.Refusal.TheVariants.{NoMemory as NoMemoryRefused}
+use Rattle.rd_cell.specs.declared.refusal.Refusal.TheVariants as refusal
 use Rattle.rd_step.specs.declared.worlds.World.{World as CodeWorld}
 use Rattle.rd_step.specs.declared.entries.Event.{Event}
 use Rattle.serde_json.specs.Data.{Data}
@@ -36,7 +36,7 @@ IsAt old live new = new ≡ with_session old (session_at old.session.start live)
 -- an event was refused: for memory, or else it is the first of these events that is refused from
 -- the start
 abbrev pub RefusesOne : World → List Event → RefusedEvent → Type 0
-RefusesOne start events refused = (refused.cause ≡ NoMemoryRefused) ⊎ ((refused.cause ≢ NoMemoryRefused) × IsRefusedAt start events refused.step refused.cause)
+RefusesOne start events refused = (refused.cause ≡ refusal.NoMemory) ⊎ ((refused.cause ≢ refusal.NoMemory) × IsRefusedAt start events refused.step refused.cause)
 
 -- just these events were made live, or one was refused
 abbrev pub GoesTo : BookState → List Event → BookState → Result (Unit {0}) RefusedEvent → Type 0
@@ -68,9 +68,9 @@ SetsMarks old marks new (Err (TraceStep n cause)) = ⊥
 -- the fault to which a refused event of the live or undone ones leads
 abbrev pub IsFaultOfStep : RefusedEvent → LoadTraceFault → Type 0
 IsFaultOfStep refused fault =
-    ((refused.cause ≡ NoMemoryRefused) × (fault ≡ NoMemory)) ⊎ ((refused.cause ≢ NoMemoryRefused) × (fault ≡ TraceStep refused.step refused.cause))
+    ((refused.cause ≡ refusal.NoMemory) × (fault ≡ NoMemory)) ⊎ ((refused.cause ≢ refusal.NoMemory) × (fault ≡ TraceStep refused.step refused.cause))
 
 -- the fault to which a refused event of the bookmark of this number leads
 abbrev pub IsFaultOfMark : RefusedEvent → ℕ → LoadTraceFault → Type 0
 IsFaultOfMark refused m fault =
-    ((refused.cause ≡ NoMemoryRefused) × (fault ≡ NoMemory)) ⊎ ((refused.cause ≢ NoMemoryRefused) × (fault ≡ TraceMark m refused.step refused.cause))
+    ((refused.cause ≡ refusal.NoMemory) × (fault ≡ NoMemory)) ⊎ ((refused.cause ≢ refusal.NoMemory) × (fault ≡ TraceMark m refused.step refused.cause))

@@ -5,7 +5,7 @@ ghost use Rattle.std.specs.List.{list_any};
 ghost use Rattle.serde_json.specs.View.{view, items_view};
 ghost use Rattle.rd_marks.specs.BookViews.{book_state};
 ghost use Rattle.rd_marks.specs.Books.{mark_events};
-ghost use Rattle.rd_marks.specs.Names.{same_name};
+ghost use Rattle.rd_marks.specs.Names.{mark_name_eq};
 ghost use Rattle.rd_marks.specs.Rules.{KeepsRules};
 ghost use Rattle.rd_marks.specs.declared.names.MarkName.{MarkName};
 ghost use Rattle.rd_trace.specs.Spelled.{Reads};
@@ -60,7 +60,7 @@ pub fn marks_in(alloc: Global, list: &Vec<Value>) -> Result<Vec<SavedMark>, Form
 
 /// Whether one of these bookmarks has this name.
 fn is_taken(marks: &[SavedMark], name: MarkName) -> bool
-    ensures { result ≡ list_any (λ mark. same_name name mark.name) marks.now }
+    ensures { result ≡ list_any (λ mark. mark_name_eq name mark.name) marks.now }
 {
     marks.iter().any(|mark| name == mark.name)
 }

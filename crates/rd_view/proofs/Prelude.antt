@@ -12,7 +12,6 @@ pub use Rattle.rd_desk.specs.declared.histories.Call.{Call}
 pub use Rattle.rd_desk.specs.declared.histories.History.{History}
 pub use Rattle.rd_desk.specs.declared.recording.BookWithHistory.{BookWithHistory}
 pub use Rattle.rd_desk.specs.declared.viewers.Ran.{Ran}
-pub use Rattle.rd_desk.specs.declared.viewers.Ran.TheVariants.{Answered, NoMemory as NotStarted}
 pub use Rattle.rd_lock.proofs.Lists.{own_same}
 pub use Rattle.rd_lock.specs.Histories.{Continues, NamesUpTo, named, numbers}
 pub use Rattle.rd_lock.specs.Locks.{next_seen, number, seen}
@@ -32,7 +31,6 @@ pub use Rattle.rd_script.specs.declared.writing.headings.Heading.TheVariants.{Vi
 pub use Rattle.rd_view.specs.Viewing.{AreAnswered, AreRead, IsUnviewed, IsViewed, StaysEnded, Views, ViewsScripts, WasAnswered, answers_of, calls_of, commands_of, passes_of, text_of_views}
 pub use Rattle.rd_view.specs.Views.{desk_answer, replies_text, report_text, view_text, viewer_text}
 pub use Rattle.rd_view.specs.declared.faults.ViewFault.{ViewFault}
-pub use Rattle.rd_view.specs.declared.faults.ViewFault.TheVariants.{Busy, NoMemory, Write}
 pub use Rattle.std.proofs.Crossing.{crosses}
 pub use Rattle.std.proofs.Math.ListN.{drop_of_length-le}
 pub use Rattle.std.proofs.Math.Seq.{drop-cons}

@@ -1,6 +1,7 @@
 -- How a view ends.
 use Rattle.std.proofs.Common.{◌≡◌, ◌∙◌, ℕ, suc, Bool, true, false, List, [], ◌∷◌, Option, Result, Ok, Err, Vec, length, refl, sym, ap, subst}
-use Rattle.rd_view.proofs.Prelude.{Answer, AreAnswered, BookState, Busy, Call, Command, Global, History, IsErrAnd, IsUnviewed, LineFault, NoMemory, TakesBeginning, ViewFault, Views, ViewsScripts, Write, text_of_views, view_text}
+use Rattle.rd_view.proofs.Prelude.{Answer, AreAnswered, BookState, Call, Command, Global, History, IsErrAnd, IsUnviewed, LineFault, TakesBeginning, ViewFault, Views, ViewsScripts, text_of_views, view_text}
+use Rattle.rd_view.specs.declared.faults.ViewFault.TheVariants as view
 
 module _ (opened : BookState) where
   -- there are as many answers as scripts
@@ -13,9 +14,9 @@ module _ (opened : BookState) where
   -- nothing was written where the scripts were not viewed
   unviewed : (scripts : List (Vec ℕ Global)) (old : Option (List ℕ)) (failed : Bool) (fault : ViewFault) → IsUnviewed fault → failed ≡ false
       → ViewsScripts opened scripts old old failed (Err fault)
-  unviewed scripts old failed NoMemory is works = (refl, works)
-  unviewed scripts old failed Write is works = absurd is
-  unviewed scripts old failed (Busy words) is works = (refl, works, is)
+  unviewed scripts old failed view.NoMemory is works = (refl, works)
+  unviewed scripts old failed view.Write is works = absurd is
+  unviewed scripts old failed (view.Busy words) is works = (refl, works, is)
 
   pub not_viewed : (scripts : List (Vec ℕ Global)) (old : Option (List ℕ)) (failed : Bool) (r : Result History ViewFault) (fault : ViewFault) → IsErrAnd r (λ e. e ≡ fault) → IsUnviewed fault
       → failed ≡ false → ViewsScripts opened scripts old old failed r
@@ -25,7 +26,7 @@ module _ (opened : BookState) where
 
   -- a beginning of the text was written where the writer failed
   pub not_written : (scripts : List (Vec ℕ Global)) (old new : Option (List ℕ)) (failed : Bool) (r : Result History ViewFault) (history : List (ℕ × Call)) (views : Views opened scripts history)
-      → IsErrAnd r (λ e. e ≡ Write) → TakesBeginning old new (text_of_views opened views) → failed ≡ true → ViewsScripts opened scripts old new failed r
+      → IsErrAnd r (λ e. e ≡ view.Write) → TakesBeginning old new (text_of_views opened views) → failed ≡ true → ViewsScripts opened scripts old new failed r
   not_written scripts old new failed (Ok h) history views never took fails = absurd never
   not_written scripts old new failed (Err e) history views same took fails =
       subst (λ x. ViewsScripts opened scripts old new failed (Err x)) (sym same) (history, views, took, fails)

@@ -1,6 +1,7 @@
 -- What passes know after a chain of calls, and how that stands to the history that leaves the desk.
 use Rattle.std.proofs.Common.{◌≡◌, ◌∙◌, ◌^◌, ℕ, zero, suc, List, [], ◌∷◌, ◌++◌, Result, Ok, Err, IfErr, Vec, map, drop, length, slice_index_or, arith, refl, sym, ap, subst, append_assoc}
-use Rattle.rd_view.proofs.Prelude.{AllByRecursion, AllZip, Answer, Answered, AreAnswered, Book, BookState, BookWithHistory, Call, Command, Continues, Desk, Ghosts, Global, History, IsChain, IsNewViewer, IsNotBusy, IsRan, IsSeen, IsViewerOf, KnowsAfterCall, KnowsWords, LineFault, NotStarted, Pass, Ran, StaysEnded, TicketsEnded, WasAnswered, answers_of, append-nil, calls_of, commands_of, entries, map-append, named, next_seen, number, numbers, opened_state, own_answered, own_refused, own_same, passes_of, seen}
+use Rattle.rd_view.proofs.Prelude.{AllByRecursion, AllZip, Answer, AreAnswered, Book, BookState, BookWithHistory, Call, Command, Continues, Desk, Ghosts, Global, History, IsChain, IsNewViewer, IsNotBusy, IsRan, IsSeen, IsViewerOf, KnowsAfterCall, KnowsWords, LineFault, Pass, Ran, StaysEnded, TicketsEnded, WasAnswered, answers_of, append-nil, calls_of, commands_of, entries, map-append, named, next_seen, number, numbers, opened_state, own_answered, own_refused, own_same, passes_of, seen}
+use Rattle.rd_desk.specs.declared.viewers.Ran.TheVariants as outcome
 
 -- no list is one with an element before it
 no_cons : {A : Type 0} (x : A) (xs : List A) → [] ≡ x ∷ xs → ⊥
@@ -82,8 +83,8 @@ module _ (R : ℕ) (K : Ghosts (BookWithHistory R) Call (Book R)) (desk : Desk R
   pub own_passes : (work : List (Pass (BookWithHistory R) Call (Book R) K × Vec Command Global)) (rans : List (Ran (Pass (BookWithHistory R) Call (Book R) K)))
       → AllZip (IsRan takes tells) work rans → AllByRecursion takes (passes_of rans)
   own_passes [] [] pairs = tt
-  own_passes (viewer ∷ work) (Answered pass answers ∷ rans) pairs = (pairs.0.0, own_passes work rans pairs.1)
-  own_passes (viewer ∷ work) (NotStarted ∷ rans) pairs = own_passes work rans pairs.1
+  own_passes (viewer ∷ work) (outcome.Answered pass answers ∷ rans) pairs = (pairs.0.0, own_passes work rans pairs.1)
+  own_passes (viewer ∷ work) (outcome.NoMemory ∷ rans) pairs = own_passes work rans pairs.1
   own_passes _ _ pairs = absurd pairs
 
   -- new viewers may ask
@@ -119,19 +120,19 @@ module _ (R : ℕ) (K : Ghosts (BookWithHistory R) Call (Book R)) (desk : Desk R
   all_answered history n [] (ran ∷ rans) said pairs new is read knows = absurd pairs
   all_answered history n (viewer ∷ work) [] said pairs new is read knows = absurd pairs
   all_answered history n (viewer ∷ work) (ran ∷ rans) [] pairs new is read knows = absurd (no_cons _ _ (sym read))
-  all_answered history n (viewer ∷ work) (Answered pass answers ∷ rans) (lines ∷ said) pairs new is read knows = (
+  all_answered history n (viewer ∷ work) (outcome.Answered pass answers ∷ rans) (lines ∷ said) pairs new is read knows = (
     subst (λ commands. WasAnswered (opened_state desk) (entries history) n commands answers.items) (head_same _ _ _ _ read)
         (was_answered history n viewer.0 pass viewer.1.items answers.items new.0 (head_same _ _ _ _ is) pairs.0.1 knows.0),
     all_answered history (suc n) work rans said pairs.1 new.1 (tail_same _ _ _ _ is) (tail_same _ _ _ _ read) knows.1,
   )
-  all_answered history n (viewer ∷ work) (NotStarted ∷ rans) (lines ∷ said) pairs new is read knows =
+  all_answered history n (viewer ∷ work) (outcome.NoMemory ∷ rans) (lines ∷ said) pairs new is read knows =
       (tt, all_answered history (suc n) work rans said pairs.1 new.1 (tail_same _ _ _ _ is) (tail_same _ _ _ _ read) knows)
 
 -- the passes of one viewer more
 pub one_ran_more : {P : Type 0} (rans : List (Ran P)) (ran : Ran P) → passes_of (rans ++ ran ∷ []) ≡ passes_of rans ++ passes_of (ran ∷ [])
 one_ran_more [] ran = refl
-one_ran_more (Answered pass answers ∷ rans) ran = ap (λ ps. pass ∷ ps) (one_ran_more rans ran)
-one_ran_more (NotStarted ∷ rans) ran = one_ran_more rans ran
+one_ran_more (outcome.Answered pass answers ∷ rans) ran = ap (λ ps. pass ∷ ps) (one_ran_more rans ran)
+one_ran_more (outcome.NoMemory ∷ rans) ran = one_ran_more rans ran
 
 -- this many numbers there are
 pub length-numbers : (k n : ℕ) → length (numbers k n) ≡ n

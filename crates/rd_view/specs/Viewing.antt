@@ -10,7 +10,7 @@ use Rattle.rd_desk.specs.declared.gates.DeskRefusal.TheVariants.{TicketsEnded}
 use Rattle.rd_desk.specs.declared.histories.Call.{Call}
 use Rattle.rd_desk.specs.declared.histories.History.{History}
 use Rattle.rd_desk.specs.declared.viewers.Ran.{Ran}
-use Rattle.rd_desk.specs.declared.viewers.Ran.TheVariants.{Answered, NoMemory as NotStarted}
+use Rattle.rd_desk.specs.declared.viewers.Ran.TheVariants as outcome
 use Rattle.rd_desk.specs.Histories.{Answer, entries, IsLegal}
 use Rattle.rd_desk.specs.Asking.{IsSeen, IsNotBusy}
 use Rattle.rd_desk.specs.Viewers.{IsChain}
@@ -19,7 +19,7 @@ use Rattle.rd_script.specs.declared.faults.LineFault.{LineFault}
 use Rattle.rd_script.specs.Device.{TakesBeginning}
 use Rattle.rd_script.specs.Lines.{lines_of, AreSaid}
 use Rattle.rd_view.specs.declared.faults.ViewFault.{ViewFault}
-use Rattle.rd_view.specs.declared.faults.ViewFault.TheVariants.{NoMemory, Write, Busy as CannotClose}
+use Rattle.rd_view.specs.declared.faults.ViewFault.TheVariants as view
 use Rattle.rd_view.specs.Views.{view_text}
 
 -- the commands among what lines spell, in their order
@@ -42,20 +42,20 @@ calls_of (command ∷ commands) [] = []
 
 -- why the scripts were not viewed: memory was refused, or the desk could not be closed
 abbrev pub IsUnviewed : ViewFault → Type 0
-IsUnviewed NoMemory = Unit {0}
-IsUnviewed Write = ⊥
-IsUnviewed (CannotClose words) = words.served < words.next
+IsUnviewed view.NoMemory = Unit {0}
+IsUnviewed view.Write = ⊥
+IsUnviewed (view.Busy words) = words.served < words.next
 
 -- the passes of the viewers whose threads were started
 abbrev pub passes_of : {P : Type 0} → List (Ran P) → List P
 passes_of [] = []
-passes_of (Answered pass answers ∷ rans) = pass ∷ passes_of rans
-passes_of (NotStarted ∷ rans) = passes_of rans
+passes_of (outcome.Answered pass answers ∷ rans) = pass ∷ passes_of rans
+passes_of (outcome.NoMemory ∷ rans) = passes_of rans
 
 -- the answers to a viewer, if its thread was started
 abbrev pub answers_of : {P : Type 0} → Ran P → Option (Vec Answer Global)
-answers_of (Answered pass answers) = Some answers
-answers_of NotStarted = None
+answers_of (outcome.Answered pass answers) = Some answers
+answers_of outcome.NoMemory = None
 
 -- after the first answer that the tickets have ended there is no other answer
 abbrev pub StaysEnded : List Answer → Type 0
@@ -109,6 +109,6 @@ module _ (opened : BookState) where
   -- beginning of it, or nothing was written
   abbrev pub ViewsScripts : List (Vec ℕ Global) → Option (List ℕ) → Option (List ℕ) → Bool → Result History ViewFault → Type 0
   ViewsScripts scripts old new failed (Ok history) = (views : Views scripts (entries history)) × Appends old new (text_of_views views) × (failed ≡ false)
-  ViewsScripts scripts old new failed (Err Write) = (history : List (ℕ × Call)) × (views : Views scripts history) × TakesBeginning old new (text_of_views views) × (failed ≡ true)
-  ViewsScripts scripts old new failed (Err NoMemory) = (new ≡ old) × (failed ≡ false)
-  ViewsScripts scripts old new failed (Err (CannotClose words)) = (new ≡ old) × (failed ≡ false) × (words.served < words.next)
+  ViewsScripts scripts old new failed (Err view.Write) = (history : List (ℕ × Call)) × (views : Views scripts history) × TakesBeginning old new (text_of_views views) × (failed ≡ true)
+  ViewsScripts scripts old new failed (Err view.NoMemory) = (new ≡ old) × (failed ≡ false)
+  ViewsScripts scripts old new failed (Err (view.Busy words)) = (new ≡ old) × (failed ≡ false) × (words.served < words.next)

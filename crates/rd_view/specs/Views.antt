@@ -2,7 +2,6 @@
 -- of recorded calls.
 use Rattle.std.specs.Prelude.{ℕ, ◌+◌, List, [], ◌∷◌, ◌++◌, Option, Some, None, Result, Ok, Err, Vec}
 use Rattle.std.specs.Global.{Global}
-use Rattle.rd_step.specs.Prelude.{NoMemory}
 use Rattle.rd_marks.specs.declared.commands.Command.{Command}
 use Rattle.rd_desk.specs.declared.gates.DeskRefusal.TheVariants as desk
 use Rattle.rd_desk.specs.Histories.{Answer}
@@ -11,6 +10,7 @@ use Rattle.rd_script.specs.declared.faults.LineFault.{LineFault}
 use Rattle.rd_script.specs.declared.writing.headings.Heading.TheVariants.{Viewer, History}
 use Rattle.rd_script.specs.Headings.{heading_text}
 use Rattle.rd_script.specs.Replies.{LineAnswer, text_of}
+use Rattle.rd_cell.specs.declared.refusal.Refusal.TheVariants as refusal
 
 -- the answer to a line, by what the desk answered to its command
 abbrev pub desk_answer : Answer → LineAnswer
@@ -33,7 +33,7 @@ report_text (Ok command ∷ said) [] = []
 -- memory was refused
 abbrev pub replies_text : List (Result Command LineFault) → Option (Vec Answer Global) → List ℕ
 replies_text said (Some answers) = report_text said answers.items
-replies_text said None = text_of (Err (Refused NoMemory))
+replies_text said None = text_of (Err (Refused refusal.NoMemory))
 
 -- the text for one viewer: its heading, and the answers to its lines
 abbrev pub viewer_text : ℕ → List (Result Command LineFault) → Option (Vec Answer Global) → List ℕ

@@ -6,7 +6,7 @@
 ghost use Rattle.std.specs.Prelude.{◌≡◌, ◌+◌, ◌*◌, ◌<◌, Some, None};
 ghost use Rattle.std.specs.Hash as fed;
 ghost use Rattle.std.specs.Cmp.{partial_equiv_from_equiv};
-ghost use Rattle.rd_depend.specs.Keys.{is_key, key_number, own_key, place_number, packed, segment_of_place, whole_key};
+ghost use Rattle.rd_depend.specs.Keys.{key_eq, key_number, own_key, place_number, packed, segment_of_place, whole_key};
 ghost use Rattle.rd_depend.specs.KeyLaws.{key_equiv, key_number-same};
 
 use rd_cell::{Place, SegName};
@@ -103,7 +103,7 @@ fn packed(part: u8, name: SegName, index: u8) -> u64
 }
 
 impl PartialEq for Key {
-    ghost eq = { is_key };
+    ghost eq = { key_eq };
 
     ghost laws = { partial_equiv_from_equiv key_equiv };
 

@@ -7,7 +7,7 @@ ghost use Rattle.std.specs.Map.{lookup};
 ghost use Rattle.indexmap.specs.IndexMap.{spare};
 ghost use Rattle.rd_marks.specs.Changes.{shifted, IsLow};
 ghost use Rattle.rd_marks.specs.Layout.{places_of, IsPruned};
-ghost use Rattle.rd_marks.specs.Names.{same_name};
+ghost use Rattle.rd_marks.specs.Names.{mark_name_eq};
 ghost use Rattle.rd_marks.specs.Stretches.{greatest_in, number_if_in, IsWithin, AreNeededFrom};
 
 use super::super::names::MarkName;
@@ -16,7 +16,7 @@ use indexmap::IndexMap;
 
 /// Puts a bookmark of this name, which none has, last, in the room that was made.
 pub(super) fn put(names: &mut IndexMap<MarkName, Place>, name: MarkName, grown: Grown)
-    requires new { lookup (same_name name) names.old.entries ≡ None }
+    requires new { lookup (mark_name_eq name) names.old.entries ≡ None }
     requires room { 0 < spare names.old }
     requires low { All (λ m. IsLow m.1) names.old.entries }
     ensures { names.new.entries ≡ map (λ m. (m.0, shifted grown.shift m.1)) names.old.entries ++ (name, grown.place) ∷ [] }

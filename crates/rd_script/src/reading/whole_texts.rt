@@ -2,7 +2,6 @@
 
 ghost use Rattle.std.specs.Prelude.{◌≡◌, ◌≢◌, ◌==◌, [], IfOk, IfErr, IsOk};
 ghost use Rattle.std.specs.List.{slice_split};
-ghost use Rattle.rd_cell.specs.declared.refusal.Refusal.TheVariants.{NoMemory};
 ghost use Rattle.rd_script.specs.Lines.{lines_of, AreSaid};
 
 use super::commands::command_in;
@@ -19,7 +18,7 @@ use std::alloc::Global;
 /// `NoMemory` if the room for them was refused. Never if the text is empty.
 pub fn lines(alloc: Global, text: &[u8]) -> Result<Vec<Result<Command, LineFault>>, Refusal>
     ensures ok { IfOk result (λ said. AreSaid (lines_of text.now) said.items) }
-    ensures err { IfErr result (λ refusal. refusal ≡ NoMemory) }
+    ensures err { IfErr result (λ refusal. refusal ≡ Refusal.NoMemory) }
     ensures succeeds { text.now ≡ [] → IsOk result }
 {
     if text.is_empty() {

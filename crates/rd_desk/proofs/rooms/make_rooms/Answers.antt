@@ -1,5 +1,5 @@
-use Rattle.std.proofs.Common.{◌≡◌, ◌∙◌, ◌+◌, ap, sym, subst, [], ◌∷◌, ◌++◌, take, add-one, arith}
-use Rattle.rd_desk.proofs.Prelude.{AllZip, IsRoomFor, take-suc, take_all}
+use Rattle.std.proofs.Common.{◌≡◌, ◌∙◌, ◌+◌, sym, subst, [], ◌∷◌, ◌++◌, take, arith}
+use Rattle.rd_desk.proofs.Prelude.{AllZip, IsRoomFor, take_all}
 use Rattle.rd_desk.proofs.ChainLemmas.{one_more_pair, taken_with}
 use Rattle.rd_desk.proofs.rooms.make_rooms.Goals as goal
 

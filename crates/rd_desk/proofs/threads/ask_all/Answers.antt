@@ -1,5 +1,5 @@
-use Rattle.std.proofs.Common.{◌≡◌, ◌∙◌, ◌+◌, ap, sym, subst, [], ◌∷◌, ◌++◌, take, add-one, arith}
-use Rattle.rd_desk.proofs.Prelude.{IsChain, take-suc}
+use Rattle.std.proofs.Common.{◌≡◌, ◌∙◌, ◌+◌, sym, subst, [], ◌∷◌, ◌++◌, take, arith}
+use Rattle.rd_desk.proofs.Prelude.{IsChain}
 use Rattle.rd_desk.proofs.ChainLemmas.{one_more_told, taken_with}
 use Rattle.rd_desk.proofs.threads.ask_all.Goals as goal
 

@@ -1,4 +1,4 @@
-use Rattle.rd_trace.proofs.Prelude.{common_steps, list_any, view, items_view, same_name, IsMark, AreMarks, saved_mark, saved_marks, SavedMark}
+use Rattle.rd_trace.proofs.Prelude.{common_steps, list_any, view, items_view, mark_name_eq, IsMark, AreMarks, saved_mark, saved_marks, SavedMark}
 use Rattle.std.proofs.Common.{◌≡◌, ◌+◌, true, false, List, length, sym, ap, ◌∙◌, subst, arith}
 use Rattle.serde_json.specs.declared.value.Value.{Value}
 use Rattle.rd_trace.proofs.SpellLemmas.{part_passed_up}
@@ -22,16 +22,16 @@ returns-in_err-mark c =
 pub returns-then-is_taken : goal.returns-then-is_taken
 returns-then-is_taken c = λ ms k.
     let m = c.in_ok-mark.mark in
-    let taken : list_any (λ o. same_name m.name o.name) c.loop-value.marks.items ≡ true =
-    ap (λ (os : List SavedMark). list_any (λ o. same_name m.name o.name) os) (sym c.deref.ensures.value) ∙ sym c.is_taken.ensures ∙ c.if-is_taken.true in
+    let taken : list_any (λ o. mark_name_eq m.name o.name) c.loop-value.marks.items ≡ true =
+    ap (λ (os : List SavedMark). list_any (λ o. mark_name_eq m.name o.name) os) (sym c.deref.ensures.value) ∙ sym c.is_taken.ensures ∙ c.if-is_taken.true in
     name_taken c.deref-value-items.result.now c.loop-value.value-index c.value-item.result (omega arith) c.value-item.is c.loop-value.marks.items c.loop-value.invariant.0 m
     c.in_ok-mark.ensures taken ms (subst (λ (ws : List Value). AreMarks (items_view ws) ms) (sym c.deref-value-items.ensures.value) k)
 
 pub loop-value-preserved : goal.loop-value-preserved
 loop-value-preserved c =
     let m = c.in_ok-mark.mark in
-    let free : list_any (λ o. same_name m.name o.name) c.loop-value.marks.items ≡ false =
-    ap (λ (os : List SavedMark). list_any (λ o. same_name m.name o.name) os) (sym c.deref.ensures.value) ∙ sym c.is_taken.ensures ∙ c.if-is_taken.false in (
+    let free : list_any (λ o. mark_name_eq m.name o.name) c.loop-value.marks.items ≡ false =
+    ap (λ (os : List SavedMark). list_any (λ o. mark_name_eq m.name o.name) os) (sym c.deref.ensures.value) ∙ sym c.is_taken.ensures ∙ c.if-is_taken.false in (
       subst (λ (os : List SavedMark). AreRead c.deref-value-items.result.now (c.loop-value.value-index + 1) os) (sym c.push_reserved.ensures.items)
           (one_more_mark c.deref-value-items.result.now c.loop-value.value-index c.value-item.result (omega arith) c.value-item.is c.loop-value.marks.items c.loop-value.invariant.0 m
           c.in_ok-mark.ensures free),

@@ -1,5 +1,5 @@
-use Rattle.std.proofs.Common.{◌≡◌, take, subst, ap, arith}
-use Rattle.rd_trace.proofs.Prelude.{common_steps, State, BookState, book_state}
+use Rattle.std.proofs.Common.{◌≡◌, take, subst, arith}
+use Rattle.rd_trace.proofs.Prelude.{common_steps, State, book_state}
 use Rattle.rd_trace.proofs.ReplayLemmas.{rest_of, goes_to}
 use Rattle.rd_trace.proofs.replay.go_to.Goals as goal
 

@@ -1,7 +1,8 @@
 use Rattle.std.proofs.Common.{◌≡◌, ◌⊎◌, Ok, Err, IsOk, ap, sym, subst, ◌∙◌, arith}
-use Rattle.rd_trace.proofs.Prelude.{book_state, get_or_default, OutOfMemory, mark, SavedMark, RefusesOne, GoesTo}
+use Rattle.rd_trace.proofs.Prelude.{book_state, get_or_default, mark, SavedMark, RefusesOne, GoesTo}
 use Rattle.rd_trace.proofs.ReplayLemmas.{none_set, one_set, can_mark, mark_refused, all_set}
 use Rattle.rd_trace.proofs.replay.set_marks.Goals as goal
+use Rattle.rd_cell.specs.declared.refusal.Refusal.TheVariants as refusal
 
 pub loop-i-init : goal.loop-i-init
 loop-i-init g c = none_set (book_state c.args.book.now) c.requires.none
@@ -21,14 +22,14 @@ pub unreachable-requires : goal.unreachable-requires
 unreachable-requires g c =
     let now = book_state c.loop-i.book in
     let mid = book_state c.go_to.new.book in
-    let refusal = c.in-Err-mark.refusal in
+    let cause = c.in-Err-mark.refusal in
     let m = c.index-marks-i.result in
     let its = c.deref.ensures.value ∙ ap (λ (x : SavedMark). x.events.items) (sym c.index-marks-i.is) in
     let goes = subst (λ es. GoesTo now es mid (Ok tt)) its c.in_default.ensures in
     let named = get_or_default c.args.marks.now c.loop-i.i _ _ c.loop-i-test.true ∙ sym c.index-marks-i.is in
-    can_mark (book_state c.args.book.now) now c.args.marks.now c.loop-i.i m c.loop-i-test.true c.index-marks-i.is c.loop-i.invariant mid refusal goes c.requires.names c.requires.few
+    can_mark (book_state c.args.book.now) now c.args.marks.now c.loop-i.i m c.loop-i-test.true c.index-marks-i.is c.loop-i.invariant mid cause goes c.requires.names c.requires.few
     c.in_default-refusal.not-NoMemory
-    (subst (λ (x : SavedMark). (mark mid x.name ≡ Err refusal) ⊎ ((refusal ≡ OutOfMemory) × IsOk (mark mid x.name))) named c.in-Err-mark.ensures.err)
+    (subst (λ (x : SavedMark). (mark mid x.name ≡ Err cause) ⊎ ((cause ≡ refusal.NoMemory) × IsOk (mark mid x.name))) named c.in-Err-mark.ensures.err)
 
 pub loop-i-preserved : goal.loop-i-preserved
 loop-i-preserved g c =

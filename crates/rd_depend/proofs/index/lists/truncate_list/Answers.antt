@@ -1,7 +1,7 @@
 use Rattle.rd_depend.proofs.Prelude.{common_steps}
 use Rattle.std.proofs.Common.{arith}
 use Rattle.rd_depend.proofs.IndexCuts.{up_to-fewer, up_to-all}
-use Rattle.rd_depend.proofs.index.lists.truncate_list.Goals.{then-falling-test+else-index-n, else-falling-test}
+use Rattle.rd_depend.proofs.index.lists.truncate_list.Goals.{then-falling-test+else-index-n}
 use Rattle.rd_depend.proofs.index.lists.truncate_list.Goals as goal
 
 pub falling-preserved : goal.falling-preserved

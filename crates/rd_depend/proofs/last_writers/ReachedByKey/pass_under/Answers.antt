@@ -1,5 +1,5 @@
 use Rattle.std.proofs.Common.{◌≡◌, Option, Some, None, IsSome, cond, refl, sym, ap, subst, ◌∙◌}
-use Rattle.rd_depend.proofs.Prelude.{Key, Reached, is_key, passed, moved_under, reached_of, reached_or_nothing}
+use Rattle.rd_depend.proofs.Prelude.{Key, Reached, key_eq, passed, moved_under, reached_of, reached_or_nothing}
 use Rattle.indexmap.specs.IndexMap.{get}
 use Rattle.rd_depend.proofs.LastWritersLemmas.{written_down}
 use Rattle.rd_depend.proofs.last_writers.ReachedByKey.pass_under.Goals as goal
@@ -9,8 +9,8 @@ returns-in-Some-get_mut-clause-reached c k =
     let m = c.args.self.now.reached in
     let key = c.in-Some.key in
     let r = c.pass.new.self in
-    let was : get is_key m key ≡ Some c.in-Some-get_mut.reached.now = sym c.in-Some-get_mut.ensures.value in
-    written_down (get is_key m) (get is_key (c.get_mut.follows.lender r)) key r c.args.wrote c.args.at
+    let was : get key_eq m key ≡ Some c.in-Some-get_mut.reached.now = sym c.in-Some-get_mut.ensures.value in
+    written_down (get key_eq m) (get key_eq (c.get_mut.follows.lender r)) key r c.args.wrote c.args.at
     ((c.get_mut.follows.holds r).3 (subst (λ (o : Option Reached). IsSome o) (sym was) refl)).0
     (c.pass.ensures.reached ∙ ap (λ (o : Option Reached). passed (reached_or_nothing key o) c.args.wrote c.args.at) (sym was))
     k
@@ -21,9 +21,9 @@ returns-in-Ok-clause-reached c k =
     let m = c.args.self.now.reached in
     let key = c.in-Some.key in
     let r = c.pass-order.new.self in
-    let was : get is_key m key ≡ None = sym c.in_default-get_mut.ensures.value in
-    written_down (get is_key m) (get is_key c.insert.new.self) key r c.args.wrote c.args.at
-    (λ q. c.in-Ok.ensures.updates.0 q ∙ (λ j. cond (is_key key q) (Some r) (get is_key (c.get_mut.follows.holds-at-none j) q)))
+    let was : get key_eq m key ≡ None = sym c.in_default-get_mut.ensures.value in
+    written_down (get key_eq m) (get key_eq c.insert.new.self) key r c.args.wrote c.args.at
+    (λ q. c.in-Ok.ensures.updates.0 q ∙ (λ j. cond (key_eq key q) (Some r) (get key_eq (c.get_mut.follows.holds-at-none j) q)))
     (c.pass-order.ensures.reached ∙ ap (λ (o : Option Reached). passed (reached_or_nothing key o) c.args.wrote c.args.at) (sym was))
     k
     ∙ ap (λ (o : Option Key). moved_under o c.args.wrote c.args.at (reached_of c.args.self.now) k) (sym c.in-Some.is)

@@ -1,5 +1,5 @@
 use Rattle.std.proofs.Common.{ℕ, Err, ◌≡◌, ◌∙◌, ◌<◌, List, [], ◌∷◌, ◌++◌, length, take, drop, inl, inr, refl, sym, ap, subst, arith}
-use Rattle.rd_journal.proofs.Prelude.{append-nil, take_all, take-append-le, drop-append_seam, Entry, HasRoomInstead, kept_entries, NoMemory, model, room, MOST_STEPS, error_passed_up, fact_passed_up, ok_then, IsLengthened, whole_journal, journal_of, live_entries, ahead_entries, journal}
+use Rattle.rd_journal.proofs.Prelude.{append-nil, take_all, take-append-le, drop-append_seam, Entry, HasRoomInstead, kept_entries, model, room, MOST_STEPS, error_passed_up, fact_passed_up, ok_then, IsLengthened, whole_journal, journal_of, live_entries, ahead_entries, journal}
 use Rattle.rd_journal.proofs.Ahead.{is_session, none_taken}
 use Rattle.rd_journal.proofs.Calls.{apply_refused, apply_goes, longer_session, still, unchanged, said_of_state}
 use Rattle.rd_journal.proofs.Outcomes.{err_then}
@@ -8,6 +8,7 @@ use Rattle.rd_journal.proofs.IndexRoom.{lacks_fewer}
 use Rattle.rd_journal.proofs.RoomLemmas.{stepped_back}
 use Rattle.rd_journal.proofs.Runs.{now_formed, just_stepped}
 use Rattle.rd_journal.proofs.sessions.Session.apply.Goals as goal
+use Rattle.rd_cell.specs.declared.refusal.Refusal.TheVariants as refusal
 
 pub invariant_of-self : goal.invariant_of-self
 invariant_of-self g c =
@@ -19,7 +20,7 @@ returns-in_err-make_room_for-clause-memory g c =
     let self = c.args.self.now in
     let less : length (journal self).live < MOST_STEPS = omega (arith, c.live_len.ensures, self.kept.few) in
     let full = full_entries self.entries (omega (arith, c.in_err-make_room_for.ensures.err, c.live_len-live.ensures)) in
-    error_passed_up _ NoMemory c.from_residual.result c.from_residual.ensures.1
+    error_passed_up _ refusal.NoMemory c.from_residual.result c.from_residual.ensures.1
     (inr (refl, record { not_full = less; asked = inl (none_taken self.undone (ahead_entries self.entries) full.none, full.filled) }))
 
 pub returns-in_err-make_room_for-clause-err : goal.returns-in_err-make_room_for-clause-err
@@ -98,7 +99,7 @@ returns-then-is_err-clause-memory g c =
     )
 
 pub returns-then-is_err-clause-err : goal.returns-then-is_err-clause-err
-returns-then-is_err-clause-err g c = said_of_state {X = ℕ × Entry} c.args.self.now c.args.event (Err NoMemory) (returns-then-is_err-clause-memory g c)
+returns-then-is_err-clause-err g c = said_of_state {X = ℕ × Entry} c.args.self.now c.args.event (Err refusal.NoMemory) (returns-then-is_err-clause-memory g c)
 
 pub returns-then-is_err-clause-unchanged : goal.returns-then-is_err-clause-unchanged
 returns-then-is_err-clause-unchanged g c =

@@ -1,10 +1,11 @@
 use Rattle.std.proofs.Common.{◌≡◌, ◌∙◌, ◌≤◌, Ok, List, ◌++◌, length, take, drop, refl, sym, ap, subst, arith}
-use Rattle.rd_journal.proofs.Prelude.{append-nil, length-take-le, take-append-le, drop_at, drop-append-le, NoMemory, error_passed_up, HasRoomInstead, model, room, run, Entry, IsIndexOf, events, start_of, IsRunFrom, LeadsTo, whole_journal, journal_of, IsSwitched, live_entries, ahead_entries, HasRoom, room_without, journal}
+use Rattle.rd_journal.proofs.Prelude.{append-nil, length-take-le, take-append-le, drop_at, drop-append-le, error_passed_up, HasRoomInstead, model, room, run, Entry, IsIndexOf, events, start_of, IsRunFrom, LeadsTo, whole_journal, journal_of, IsSwitched, live_entries, ahead_entries, HasRoom, room_without, journal}
 use Rattle.rd_journal.proofs.Ahead.{is_session}
 use Rattle.rd_journal.proofs.IndexRoom.{lacks_fewer}
 use Rattle.rd_journal.proofs.Starting.{live_lead}
 use Rattle.rd_journal.proofs.Switching.{room_for_all, room_given, runs_on, exchanged, switched_state}
 use Rattle.rd_journal.proofs.sessions.Session.exchange.Goals as goal
+use Rattle.rd_cell.specs.declared.refusal.Refusal.TheVariants as refusal
 
 pub returns-in_err-index_instead-clause-err : goal.returns-in_err-index_instead-clause-err
 returns-in_err-index_instead-clause-err g c =
@@ -14,7 +15,7 @@ returns-in_err-index_instead-clause-err g c =
     let ahead = ahead_entries self.entries in
     let gone : drop n (live ++ ahead) ≡ drop n live ++ ahead = drop-append-le n live ahead (omega (arith, c.requires.within)) in
     let lacks = subst (λ (es : List Entry). HasRoomInstead self.index es c.args.given.now → ⊥) gone c.in_err-index_instead.ensures.lacks in
-    error_passed_up _ NoMemory c.from_residual.result c.from_residual.ensures.1 (refl, lacks_fewer self.index self.undone (drop n live) ahead c.args.given.now lacks)
+    error_passed_up _ refusal.NoMemory c.from_residual.result c.from_residual.ensures.1 (refl, lacks_fewer self.index self.undone (drop n live) ahead c.args.given.now lacks)
 
 pub undo_behind-requires : goal.undo_behind-requires
 undo_behind-requires g c =

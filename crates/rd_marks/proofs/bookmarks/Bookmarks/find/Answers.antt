@@ -1,15 +1,15 @@
 use Rattle.std.proofs.Common.{sym, option_map, arith}
-use Rattle.rd_marks.proofs.Prelude.{lookup-map_values, entries_in, same_name, IsWithin}
+use Rattle.rd_marks.proofs.Prelude.{lookup-map_values, entries_in, mark_name_eq, IsWithin}
 use Rattle.rd_marks.proofs.MarkLemmas.{all_found}
 use Rattle.rd_marks.proofs.bookmarks.Bookmarks.find.Goals as goal
 
 pub returns-in-None-clause-found : goal.returns-in-None-clause-found
-returns-in-None-clause-found c = grind (arith, option_map, c.in-None.ensures.value, lookup-map_values (entries_in c.args.self.now) (same_name c.args.name.now) c.args.self.now.names.entries)
+returns-in-None-clause-found c = grind (arith, option_map, c.in-None.ensures.value, lookup-map_values (entries_in c.args.self.now) (mark_name_eq c.args.name.now) c.args.self.now.names.entries)
 
 pub returns-in-Some-clause-found : goal.returns-in-Some-clause-found
-returns-in-Some-clause-found c = grind (arith, option_map, c.in-Some.ensures.value, lookup-map_values (entries_in c.args.self.now) (same_name c.args.name.now) c.args.self.now.names.entries)
+returns-in-Some-clause-found c = grind (arith, option_map, c.in-Some.ensures.value, lookup-map_values (entries_in c.args.self.now) (mark_name_eq c.args.name.now) c.args.self.now.names.entries)
 
 pub returns-in-Some-clause-within : goal.returns-in-Some-clause-within
 returns-in-Some-clause-within c =
     let b = c.args.self.now in
-    all_found (same_name c.args.name.now) (IsWithin b.stretches.list.items) b.names.entries c.in-Some.place.now b.kept.within (sym c.in-Some.ensures.value)
+    all_found (mark_name_eq c.args.name.now) (IsWithin b.stretches.list.items) b.names.entries c.in-Some.place.now b.kept.within (sym c.in-Some.ensures.value)

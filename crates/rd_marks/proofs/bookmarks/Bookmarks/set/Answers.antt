@@ -1,5 +1,5 @@
 use Rattle.std.proofs.Common.{◌≡◌, ◌++◌, ◌∙◌, [], ◌∷◌, List, sym, ap, subst, arith}
-use Rattle.rd_marks.proofs.Prelude.{length-map, lookup-map_values, fact_passed_up, Entry, IsPrefix, state, track, MarkName, IsLow, lists_in, here_in, AreRuns, IsKept, named_lists, same_name, entries_at, IsWithin, events}
+use Rattle.rd_marks.proofs.Prelude.{length-map, lookup-map_values, fact_passed_up, Entry, IsPrefix, state, track, MarkName, IsLow, lists_in, here_in, AreRuns, IsKept, named_lists, mark_name_eq, entries_at, IsWithin, events}
 use Rattle.rd_marks.proofs.Counting.{all_along}
 use Rattle.rd_marks.proofs.Here.{live_along, live_begin}
 use Rattle.rd_marks.proofs.Putting.{IsSet, each, is_set, kept_same, none_named}
@@ -15,7 +15,7 @@ follow-at-requires-clause-along g c =
 pub put-requires-clause-new : goal.put-requires-clause-new
 put-requires-clause-new g c =
     let f = entries_at c.args.self.now.stretches.list.items in
-    rw c.reserve.ensures.entries (none_named f _ (sym (lookup-map_values f (same_name c.args.name) c.args.self.now.names.entries) ∙ c.requires.new))
+    rw c.reserve.ensures.entries (none_named f _ (sym (lookup-map_values f (mark_name_eq c.args.name) c.args.self.now.names.entries) ∙ c.requires.new))
 
 pub put-requires-clause-low : goal.put-requires-clause-low
 put-requires-clause-low g c =

@@ -1,12 +1,12 @@
 use Rattle.std.proofs.Common.{◌∙◌, List, refl, sym, arith}
-use Rattle.rd_marks.proofs.Prelude.{Entry, state, MarkName, book_state, lists_in, AreEntriesOfRun, same_name}
+use Rattle.rd_marks.proofs.Prelude.{Entry, state, MarkName, book_state, lists_in, AreEntriesOfRun, mark_name_eq}
 use Rattle.rd_marks.proofs.Here.{still_begins}
 use Rattle.rd_marks.proofs.MarkLemmas.{all_without, drop_goes, drop_missing, none_removed}
 use Rattle.rd_marks.proofs.books.Book.drop_mark.Goals as goal
 
 pub invariant_of-self : goal.invariant_of-self
 invariant_of-self g c = record {
-  runs = rw c.drop.ensures.lists (all_without (same_name c.args.name) (λ (l : MarkName × List Entry). AreEntriesOfRun (state c.args.self.now.session).start l.1) _ c.args.self.now.runs);
+  runs = rw c.drop.ensures.lists (all_without (mark_name_eq c.args.name) (λ (l : MarkName × List Entry). AreEntriesOfRun (state c.args.self.now.session).start l.1) _ c.args.self.now.runs);
   stands = still_begins _ _ c.drop.ensures.here _ c.args.self.now.stands;
 }
 

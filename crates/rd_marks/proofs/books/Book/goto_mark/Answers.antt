@@ -1,5 +1,5 @@
 use Rattle.std.proofs.Common.{List, sym, ap, ◌∙◌, option_map, arith}
-use Rattle.rd_marks.proofs.Prelude.{Entry, state, book_state, lists_in, entries_in, AreEntriesOfRun, same_name, events}
+use Rattle.rd_marks.proofs.Prelude.{Entry, state, book_state, lists_in, entries_in, AreEntriesOfRun, mark_name_eq, events}
 use Rattle.rd_marks.proofs.MarkLemmas.{all_found, found_events, goto_not_done, goto_lacks}
 use Rattle.rd_marks.proofs.Starts.{runs_stay, start_kept}
 use Rattle.rd_marks.proofs.books.Book.goto_mark.Goals as goal
@@ -9,7 +9,7 @@ returns-in_default-clause-err g c = grind (arith, found_events, option_map)
 
 pub go_to-requires : goal.go_to-requires
 go_to-requires g c =
-    let fact = all_found (same_name c.args.name) (λ (xs : List Entry). AreEntriesOfRun (state c.args.self.now.session).start xs) (lists_in c.args.self.now.bookmarks)
+    let fact = all_found (mark_name_eq c.args.name) (λ (xs : List Entry). AreEntriesOfRun (state c.args.self.now.session).start xs) (lists_in c.args.self.now.bookmarks)
     (entries_in c.args.self.now.bookmarks c.in-Some.place) c.args.self.now.runs in
     grind (arith, c.args.self.now.stands, c.in-Some.ensures.within, fact)
 

@@ -1,5 +1,5 @@
 use Rattle.std.proofs.Common.{Ok, List, sym, ap, ◌∙◌, option_map, arith}
-use Rattle.rd_marks.proofs.Prelude.{Entry, state, AreEntriesOfRun, same_name, events}
+use Rattle.rd_marks.proofs.Prelude.{Entry, state, AreEntriesOfRun, mark_name_eq, events}
 use Rattle.rd_marks.proofs.MarkLemmas.{all_found, found_events, both_there, decided}
 use Rattle.rd_marks.proofs.books.Book.same.Goals as goal
 
@@ -18,5 +18,5 @@ returns-in-Ok g c =
     let runs = λ (xs : List Entry). AreEntriesOfRun (state book.session).start xs in
     both_there _ _ _ _ _ (Ok c.in-Ok.same) (found_events c.args.one _ ∙ ap (option_map events) (sym c.in-Some.ensures.found))
     (found_events c.args.other _ ∙ ap (option_map events) (sym c.in-Some-find.ensures.found))
-    (decided _ _ _ c.in-Ok.same (all_found (same_name c.args.one) runs _ _ book.runs (sym c.in-Some.ensures.found))
-    (all_found (same_name c.args.other) runs _ _ book.runs (sym c.in-Some-find.ensures.found)) c.in-Ok.ensures.answer)
+    (decided _ _ _ c.in-Ok.same (all_found (mark_name_eq c.args.one) runs _ _ book.runs (sym c.in-Some.ensures.found))
+    (all_found (mark_name_eq c.args.other) runs _ _ book.runs (sym c.in-Some-find.ensures.found)) c.in-Ok.ensures.answer)

@@ -1,8 +1,11 @@
 use Rattle.std.proofs.Common.{sym, ◌∙◌, ap, arith, refl, Some, if◌then◌else◌}
-use Rattle.rd_ring.specs.Prelude.{Tail, Next, CellAt, Content, Wrote, WroteNothing, WrotePlace, Won, Lost, WasClosed, operand}
+use Rattle.rd_ring.specs.Prelude.{Content, Wrote, operand}
 use Rattle.rd_ring.specs.Segments.{part}
 use Rattle.rd_ring.proofs.OperationLemmas.{reads_at, does_at, cell_is_within}
 use Rattle.rd_ring.proofs.segments.Segment.operate.Goals as goal
+use Rattle.rd_cell.specs.declared.places.Place.TheVariants as place
+use Rattle.rd_cell.specs.declared.places.Wrote.TheVariants as wrote
+use Rattle.rd_cell.specs.declared.operations.Answer.TheVariants as answer
 
 pub returns-in-Some-read-clause-ok : goal.returns-in-Some-read-clause-ok
 returns-in-Some-read-clause-ok g c =
@@ -29,27 +32,27 @@ returns-in-Ok-add_tail-clause-ok g c = grind arith
 
 pub returns-in-Tail-Close-clause-ok : goal.returns-in-Tail-Close-clause-ok
 returns-in-Tail-Close-clause-ok g c =
-    does_at c.args.self.now _ (λ s. Tail s) _ c.args.place _ c.args.operation _ c.in-Some.found _ _ c.at-in-Tail-Close.result (λ q. refl)
+    does_at c.args.self.now _ (λ s. place.Tail s) _ c.args.place _ c.args.operation _ c.in-Some.found _ _ c.at-in-Tail-Close.result (λ q. refl)
     c.in-Tail-Close.is-0 c.in-Tail-Close.is-1 (sym c.in-Some.ensures) c.close-closed.ensures
-    (λ e. c.at-in-Tail-Close.ensures ∙ ap (λ (x : Content). record { place = Some c.args.place; old = Some x; answer = WasClosed c.close-closed.result; wrote = WrotePlace }) e)
+    (λ e. c.at-in-Tail-Close.ensures ∙ ap (λ (x : Content). record { place = Some c.args.place; old = Some x; answer = answer.WasClosed c.close-closed.result; wrote = wrote.Place }) e)
 
 pub returns-in-Tail-CasTail-clause-ok : goal.returns-in-Tail-CasTail-clause-ok
 returns-in-Tail-CasTail-clause-ok g c =
     let there = sym (ap (operand (part c.args.self.now)) c.in-Tail-CasTail.is-0) ∙ sym c.in-Some.ensures in
-    does_at c.args.self.now _ (λ s. Tail s) _ c.args.place _ c.args.operation _ c.in-Some.found _ _ c.swapped.result (λ q. refl)
+    does_at c.args.self.now _ (λ s. place.Tail s) _ c.args.place _ c.args.operation _ c.in-Some.found _ _ c.swapped.result (λ q. refl)
     c.in-Tail-CasTail.is-0 c.in-Tail-CasTail.is-1 (sym c.in-Some.ensures) (c.cas_tail-won.ensures c.in-Some.found there) (λ e. c.swapped.ensures)
 
 pub returns-in-Next-CasNext-clause-ok : goal.returns-in-Next-CasNext-clause-ok
 returns-in-Next-CasNext-clause-ok g c =
     let there = sym (ap (operand (part c.args.self.now)) c.in-Next-CasNext.is-0) ∙ sym c.in-Some.ensures in
-    does_at c.args.self.now _ (λ s. Next s) _ c.args.place _ c.args.operation _ c.in-Some.found _ _ c.swapped-in-Next-CasNext.result (λ q. refl)
+    does_at c.args.self.now _ (λ s. place.Next s) _ c.args.place _ c.args.operation _ c.in-Some.found _ _ c.swapped-in-Next-CasNext.result (λ q. refl)
     c.in-Next-CasNext.is-0 c.in-Next-CasNext.is-1 (sym c.in-Some.ensures) (c.cas_next-won.ensures c.in-Some.found there) (λ e. c.swapped-in-Next-CasNext.ensures)
 
 pub returns-in-Cell-Cas2-clause-ok : goal.returns-in-Cell-Cas2-clause-ok
 returns-in-Cell-Cas2-clause-ok g c =
     let there = sym (ap (operand (part c.args.self.now)) c.in-Cell-Cas2.is-0) ∙ sym c.in-Some.ensures in
-    does_at c.args.self.now _ (λ s. CellAt s c.in-Cell-Cas2.i) _ c.args.place _ c.args.operation _ c.in-Some.found _ _ c.swapped-in-Cell-Cas2.result (λ q. refl)
+    does_at c.args.self.now _ (λ s. place.Cell s c.in-Cell-Cas2.i) _ c.args.place _ c.args.operation _ c.in-Some.found _ _ c.swapped-in-Cell-Cas2.result (λ q. refl)
     c.in-Cell-Cas2.is-0 c.in-Cell-Cas2.is-1 (sym c.in-Some.ensures) (c.cas2_cell-won.ensures c.in-Some.found there)
     (λ e.
     c.swapped-in-Cell-Cas2.ensures
-    ∙ ap (λ (w : Wrote). record { place = Some c.args.place; old = Some c.in-Some.found; answer = if c.cas2_cell-won.result then Won else Lost; wrote = if c.cas2_cell-won.result then w else WroteNothing }) c.wrote.ensures)
+    ∙ ap (λ (w : Wrote). record { place = Some c.args.place; old = Some c.in-Some.found; answer = if c.cas2_cell-won.result then answer.Won else answer.Lost; wrote = if c.cas2_cell-won.result then w else wrote.Nothing }) c.wrote.ensures)

@@ -1,9 +1,10 @@
 use Rattle.std.proofs.Common.{◌≡◌, ap, ◌∙◌, arith}
-use Rattle.rd_depend.proofs.Prelude.{SegName, Place, Whole, index_half, At, own_key}
+use Rattle.rd_depend.proofs.Prelude.{SegName, Place, index_half, At, own_key}
 use Rattle.rd_depend.proofs.index.keys.Key.of_place.Goals as goal
+use Rattle.rd_cell.specs.declared.places.Place.TheVariants as place
 
 -- any place but the whole of a segment
-other : (p : Place) → ((t : SegName) → p ≡ Whole t → ⊥) → At (index_half p) ≡ own_key p
+other : (p : Place) → ((t : SegName) → p ≡ place.Whole t → ⊥) → At (index_half p) ≡ own_key p
 other p h = grind arith
 
 pub returns-in_default : goal.returns-in_default

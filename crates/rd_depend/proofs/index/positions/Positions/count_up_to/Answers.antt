@@ -1,6 +1,5 @@
 use Rattle.std.proofs.Common.{arith}
 use Rattle.rd_depend.proofs.IndexLists.{halved, number-above, number-below, number-within}
-use Rattle.rd_depend.proofs.index.positions.Positions.count_up_to.Goals.{then-look-k, else-look-k}
 use Rattle.rd_depend.proofs.index.positions.Positions.count_up_to.Goals as goal
 
 pub loop-round-init : goal.loop-round-init
