@@ -15,7 +15,7 @@ use Rattle.rd_cell.specs.declared.access.Access.{Access}
 use Rattle.rd_cell.specs.declared.access.Access.TheVariants.{NoPlace, At, Make}
 use Rattle.rd_cell.specs.declared.refusal.Refusal.{Refusal}
 use Rattle.rd_cell.specs.Places.{name_eq, covers, some_covers, some_overlap, written, interfere}
-use Rattle.rd_cell.specs.Contents.{Contents, half, cell_of_halves, share, after_write_at, operand}
+use Rattle.rd_cell.specs.Contents.{Contents, half, cell_of_halves, share, after_write_at, operand, holding}
 use Rattle.rd_cell.specs.Operations.{Effect, effect, wrote_content, wrote_by}
 use Rattle.rd_cell.specs.Access.{Performed, contents_after, number_made_from, number_made, effect_at, operate, make, perform}
 use Rattle.rd_cell.specs.Results.{result_map}
@@ -162,16 +162,16 @@ keeps-operate p op o at q h bare = grind (arith, keeps-effect, effect_kind)
 other_maker : (a b m n : ℕ) → (a ≡ b → ⊥) → name_eq (record { maker = a; n = m }) (record { maker = b; n = n }) ≡ false
 other_maker a b m n ne = and_left (a == b) (m == n) (ne_eqb a b ne)
 
-keeps-make : (R : ℕ) (actor n : ℕ) (x : ℕ) (at : Contents) (maker k : ℕ) → (actor ≡ maker → ⊥)
-    → IfOk (make R (record { maker = actor; n = n }) x) (λ did. is_some (contents_after did at (place.Head (record { maker = maker; n = k }))) ≡ is_some (at (place.Head (record { maker = maker; n = k }))))
-keeps-make R actor n x at maker k ne = grind arith
+keeps-make : (actor n : ℕ) (given at : Contents) (maker k : ℕ) → (actor ≡ maker → ⊥)
+    → IfOk (make (record { maker = actor; n = n }) given) (λ did. is_some (contents_after did at (place.Head (record { maker = maker; n = k }))) ≡ is_some (at (place.Head (record { maker = maker; n = k }))))
+keeps-make actor n given at maker k ne = grind arith
 
 -- an access by one actor keeps which segments of another are there
 pub keeps-perform : (R actor : ℕ) (at : Contents) (x : Access) (maker k : ℕ) → (actor ≡ maker → ⊥)
     → IfOk (perform R actor at x) (λ did. is_some (contents_after did at (place.Head (record { maker = maker; n = k }))) ≡ is_some (at (place.Head (record { maker = maker; n = k }))))
 keeps-perform R actor at NoPlace maker k ne = refl
 keeps-perform R actor at (At p op) maker k ne = keeps-operate p op (operand at p) at (place.Head (record { maker = maker; n = k })) refl (λ e. cc)
-keeps-perform R actor at (Make x) maker k ne = keeps-make R actor (number_made at actor) x at maker k ne
+keeps-perform R actor at (Make x) maker k ne = keeps-make actor (number_made at actor) (holding R x) at maker k ne
 
 -- an access by one actor leaves the number of segments that another has made
 pub number_made-after : (R actor : ℕ) (at : Contents) (x : Access) (did : Performed) (maker : ℕ) → (actor ≡ maker → ⊥)
@@ -199,8 +199,8 @@ perform_same R actor at at' x same count = grind arith
 pub place-operate : (p : Place) (op : Operation) (o : Option Content) → IfOk (operate p op o) (λ did. did.place ≡ Some p)
 place-operate p op o = grind arith
 
-pub place-make : (R : ℕ) (s : SegName) (x : ℕ) → IfOk (make R s x) (λ did. did.place ≡ Some (place.Whole s))
-place-make R s x = grind arith
+pub place-make : (s : SegName) (given : Contents) → IfOk (make s given) (λ did. did.place ≡ Some (place.Whole s))
+place-make s given = grind arith
 
 -- what an access did was at its place
 pub place_performed : (R actor : ℕ) (at : Contents) (x : Access) (did : Performed) (p : Place) → perform R actor at x ≡ Ok did

@@ -60,19 +60,19 @@ effect_at p c e = record { place = Some p; old = Some c; answer = e.answer; wrot
 abbrev pub operate : Place → Operation → Option Content → Result Performed Refusal
 operate p op o = and_then (ok_or o refusal.NoSuchPlace) (λ c. result_map (effect_at p c) (effect op c))
 
--- what the making of this segment does: it writes all places of the segment, which has R cells and
--- holds x; refused if a maker may have no segment of this number
-abbrev pub make : ℕ → SegName → ℕ → Result Performed Refusal
-make R s x =
+-- what the making of this segment does: it writes all places of the segment, which are given these
+-- contents; refused if a maker may have no segment of this number
+abbrev pub make : SegName → Contents → Result Performed Refusal
+make s given =
     if nat_lt s.n MOST_SEGMENTS
-    then Ok (record { place = Some (place.Whole s); old = None; answer = answer.Made s; wrote = wrote.Place; given = holding R x })
+    then Ok (record { place = Some (place.Whole s); old = None; answer = answer.Made s; wrote = wrote.Place; given = given })
     else Err refusal.SegmentsEnd
 
 -- what an access by this actor does, over rings of R cells, where `at` is the content of each place
 abbrev pub perform : ℕ → ℕ → Contents → Access → Result Performed Refusal
 perform R actor at NoPlace = Ok no_access
 perform R actor at (At p op) = operate p op (operand at p)
-perform R actor at (Make x) = make R (record { maker = actor; n = number_made at actor }) x
+perform R actor at (Make x) = make (record { maker = actor; n = number_made at actor }) (holding R x)
 
 -- an access that does this took place: each place that is looked at has now what the access leaves
 -- there, and `done` is what the entry of its step records
@@ -95,10 +95,10 @@ Operates looked_at p op done old new = HasEffect looked_at (operate p op (operan
 abbrev pub OperatesOn : Place → Operation → Done → Content → Content → Type 0
 OperatesOn p op done old new = HasEffect (place_eq p) (operate p op (Some old)) done (λ q. Some old) (λ q. Some new)
 
--- this segment was made, with R cells and x enqueued already, and no other place changed
-abbrev pub Makes : ℕ → SegName → ℕ → Contents → Contents → Type 0
-Makes R s x old new =
-    HasEffect everywhere (make R s x) (record { place = Some (place.Whole s); old = None; answer = answer.Made s; wrote = wrote.Place }) old new
+-- this segment was made, its places have what they are given, and no other place changed
+abbrev pub Makes : SegName → Contents → Contents → Contents → Type 0
+Makes s given old new =
+    HasEffect everywhere (make s given) (record { place = Some (place.Whole s); old = None; answer = answer.Made s; wrote = wrote.Place }) old new
 
 -- this old content was put back at the place, or, if it is none, the places that this place covers
 -- were taken away, as seen at the places that are looked at

@@ -99,11 +99,9 @@ fresh_segment R (place.Val s u) = if nat_lt u R then Some (content.Val None) els
 fresh_segment R (place.Idx s u) = if nat_lt u R then Some (content.Idx true u) else None
 fresh_segment R _ = None
 
--- the content of each place of a new segment with R cells into which x was enqueued already
+-- the content of each place of a new segment with R cells into which x was enqueued already: that
+-- of a fresh one, except that its tail is 1 and x is in cell 0
 abbrev pub holding : ℕ → ℕ → Contents
-holding R x (place.Head s) = Some (content.Number 0)
 holding R x (place.Tail s) = Some (content.Tail false 1)
-holding R x (place.Next s) = Some (content.Next None)
 holding R x (place.Val s u) = if nat_lt u R then Some (content.Val (value_in_cell x u)) else None
-holding R x (place.Idx s u) = if nat_lt u R then Some (content.Idx true u) else None
-holding R x _ = None
+holding R x p = fresh_segment R p

@@ -15,16 +15,20 @@ root = record { maker = 0; n = 0 }
 abbrev pub name_eq : SegName → SegName → Bool
 name_eq s t = (s.maker == t.maker) && (s.n == t.n)
 
+-- the segment that a place names, if it names one: its own, or that of which it is the whole
+abbrev pub named : Place → Option SegName
+named (place.Head s) = Some s
+named (place.Tail s) = Some s
+named (place.Next s) = Some s
+named (place.Cell s i) = Some s
+named (place.Val s i) = Some s
+named (place.Idx s i) = Some s
+named (place.Whole s) = Some s
+named _ = None
+
 -- whether a place belongs to this segment, or is the whole of it
 abbrev pub is_of : SegName → Place → Bool
-is_of s (place.Head t) = name_eq s t
-is_of s (place.Tail t) = name_eq s t
-is_of s (place.Next t) = name_eq s t
-is_of s (place.Cell t i) = name_eq s t
-is_of s (place.Val t i) = name_eq s t
-is_of s (place.Idx t i) = name_eq s t
-is_of s (place.Whole t) = name_eq s t
-is_of s _ = false
+is_of s p = option_map_or (name_eq s) (named p) false
 
 -- whether a place is one of this cell's two halves, or the cell itself
 abbrev pub is_of_cell : SegName → ℕ → Place → Bool
@@ -35,24 +39,12 @@ is_of_cell s i _ = false
 
 -- whether the second place belongs to the segment to which the first belongs
 abbrev pub is_of_same_segment : Place → Place → Bool
-is_of_same_segment (place.Head s) q = is_of s q
-is_of_same_segment (place.Tail s) q = is_of s q
-is_of_same_segment (place.Next s) q = is_of s q
-is_of_same_segment (place.Cell s i) q = is_of s q
-is_of_same_segment (place.Val s i) q = is_of s q
-is_of_same_segment (place.Idx s i) q = is_of s q
-is_of_same_segment (place.Whole s) q = is_of s q
-is_of_same_segment _ q = false
+is_of_same_segment p q = option_map_or (λ s. is_of s q) (named p) false
 
 -- the segment that has a place, if one does; the whole of a segment is none of its places
 abbrev pub segment_of : Place → Option SegName
-segment_of (place.Head s) = Some s
-segment_of (place.Tail s) = Some s
-segment_of (place.Next s) = Some s
-segment_of (place.Cell s i) = Some s
-segment_of (place.Val s i) = Some s
-segment_of (place.Idx s i) = Some s
-segment_of _ = None
+segment_of (place.Whole s) = None
+segment_of p = named p
 
 -- whether a place is one of the array's
 abbrev pub is_array : Place → Bool

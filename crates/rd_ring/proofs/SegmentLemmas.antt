@@ -1,5 +1,5 @@
 -- What an operation leaves at each place of a segment.
-use Rattle.std.proofs.Common.{◌≡◌, ◌≢◌, ℕ, ◌+◌, ◌<◌, ◌≤◌, Bool, true, refl, sym, ap, ap₂, arith, Option, Some, None, List, [], ◌∷◌, zero, suc, ◌↔◌, ◌∙◌, ◌==◌, ◌&&◌, length, set, eq-eqb, ne_eqb, option_map, slice_get, if◌then◌else◌, Ok}
+use Rattle.std.proofs.Common.{◌≡◌, ℕ, ◌<◌, Bool, true, refl, sym, ap, ap₂, arith, Option, Some, None, List, [], ◌∷◌, zero, suc, ◌↔◌, ◌∙◌, ◌==◌, ◌&&◌, length, set, eq-eqb, ne_eqb, option_map, slice_get, if◌then◌else◌, Ok}
 use Rattle.std.proofs.lemmas.Bool.{true≢false, false_from_ne_true, cond-true, cond-false, cond_both, and_from, and_right}
 use Rattle.std.specs.Bool.{OnTrue, OnFalse}
 use Rattle.rd_ring.specs.Prelude.{COUNTER_END, Cell, SegName, Place, Content, Operation, Add, Cas2, Answer, root, name_eq, is_of, is_of_cell, half, effect, wrote_cell, operate, operand}

@@ -1,5 +1,5 @@
 -- The array's map after an operation on one of its places.
-use Rattle.std.proofs.Common.{◌≡◌, ℕ, ◌+◌, ◌<◌, false, nat_lt, inl, inr, refl, sym, ◌∙◌, ap, subst, List, length, set, get_or, Some, None, option_map, slice_get, Result, IfOk, lt-ltb, le-ltb, arith}
+use Rattle.std.proofs.Common.{◌≡◌, ℕ, ◌<◌, false, nat_lt, inl, inr, refl, sym, ◌∙◌, ap, subst, List, length, set, get_or, Some, None, option_map, slice_get, Result, IfOk, lt-ltb, le-ltb, arith}
 use Rattle.rd_segments.proofs.Prelude.{cases_lt, cond-true, cond-false, slice_get_past, slice_get-get_or, SLOTS, Place, Operation, Read, Done, Refusal, place_eq, effect, everywhere, Operates, OperatesOn, slice_get-set_same, slice_get-set_other, read_on, place_operates, fresh_array}
 use Rattle.std.proofs.Math.ListN.{replicate}
 use Rattle.std.proofs.lemmas.Bool.{eqb-false}

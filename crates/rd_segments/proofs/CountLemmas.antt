@@ -19,15 +19,15 @@ head_there : {R : ℕ} (o : Option (Segment R)) (s : SegName) → is_some (part_
 head_there o s = grind arith
 
 -- a segment is there if its number is below its maker's count
-pub there_below : {R : ℕ} (makers : List (ListOf R)) (qhead qtail : SegName) (array : ArrayParts) (m n : ℕ) → n < count makers m
+pub there_below : {R : ℕ} (makers : List (ListOf (Segment R))) (qhead qtail : SegName) (array : ArrayParts) (m n : ℕ) → n < count makers m
     → is_there (contents_of makers qhead qtail array) (record { maker = m; n = n }) ≡ true
 there_below makers qhead qtail array m n h = grind (arith, head_there, numbered_there, slice_get)
 
-pub absent_from : {R : ℕ} (makers : List (ListOf R)) (qhead qtail : SegName) (array : ArrayParts) (m n : ℕ) → count makers m ≤ n
+pub absent_from : {R : ℕ} (makers : List (ListOf (Segment R))) (qhead qtail : SegName) (array : ArrayParts) (m n : ℕ) → count makers m ≤ n
     → is_there (contents_of makers qhead qtail array) (record { maker = m; n = n }) ≡ false
 absent_from makers qhead qtail array m n h = grind (arith, head_there, numbered_absent, slice_get)
 
-counts_from : {R : ℕ} (makers : List (ListOf R)) (qhead qtail : SegName) (array : ArrayParts) (more m n : ℕ) → n ≤ count makers m → count makers m ≤ n + more
+counts_from : {R : ℕ} (makers : List (ListOf (Segment R))) (qhead qtail : SegName) (array : ArrayParts) (more m n : ℕ) → n ≤ count makers m → count makers m ≤ n + more
     → number_made_from more (contents_of makers qhead qtail array) m n ≡ count makers m
 unfolding number_made_from
 counts_from makers qhead qtail array zero m n low high = omega arith
@@ -41,7 +41,7 @@ counts_from makers qhead qtail array (suc more) m n low high =
     ]
 
 -- the map and the list count the same
-pub counts : {R : ℕ} (makers : List (ListOf R)) (qhead qtail : SegName) (array : ArrayParts) (m : ℕ) → count makers m ≤ MOST_SEGMENTS
+pub counts : {R : ℕ} (makers : List (ListOf (Segment R))) (qhead qtail : SegName) (array : ArrayParts) (m : ℕ) → count makers m ≤ MOST_SEGMENTS
     → number_made (contents_of makers qhead qtail array) m ≡ count makers m
 unfolding number_made
 counts makers qhead qtail array m h = counts_from makers qhead qtail array MOST_SEGMENTS m 0 (omega arith) h

@@ -61,11 +61,11 @@ module _ {R : ℕ} where
   not_alone ss other h = other (ap length h.alone)
 
   -- the first list, and the others
-  pub first_and_others : (makers : List (ListOf R)) (first : ListOf R) → 1 ≤ length makers → first ≡ get_or makers 0 first
+  pub first_and_others : (makers : List (ListOf (Segment R))) (first : ListOf (Segment R)) → 1 ≤ length makers → first ≡ get_or makers 0 first
       → makers ≡ first ∷ take (length makers - 1) (drop 1 makers)
   first_and_others makers first some is = grind (arith, common_steps, take_rest)
 
-  none_in : (lists : List (ListOf R)) (m n : ℕ) → All (λ list. list.items ≡ []) lists → by_number (slice_get lists m) n ≡ None
+  none_in : (lists : List (ListOf (Segment R))) (m n : ℕ) → All (λ list. list.items ≡ []) lists → by_number (slice_get lists m) n ≡ None
   none_in [] m n h = refl
   none_in (list ∷ lists) zero n h = ap (λ ss. slice_get ss n) (All-head (λ l. l.items ≡ []) list lists h)
   none_in (list ∷ lists) (suc m) n h = none_in lists m n (All-tail (λ l. l.items ≡ []) list lists h)
@@ -76,11 +76,11 @@ module _ {R : ℕ} where
   other_maker : (m n : ℕ) (s : Segment R) → (if name_eq root (record { maker = suc m; n = n }) then Some s else None) ≡ None
   other_maker m n s = cond-false ((0 == suc m) && (0 == n)) (Some s) None (and_left (0 == suc m) (0 == n) (ne_eqb 0 (suc m) (λ e. absurd (omega arith))))
 
-  root_alone : (first : ListOf R) (lists : List (ListOf R)) (s : Segment R) → first.items ≡ s ∷ [] → All (λ list. list.items ≡ []) lists → (m n : ℕ)
+  root_alone : (first : ListOf (Segment R)) (lists : List (ListOf (Segment R))) (s : Segment R) → first.items ≡ s ∷ [] → All (λ list. list.items ≡ []) lists → (m n : ℕ)
       → by_number (slice_get (first ∷ lists) m) n ≡ (if name_eq root (record { maker = m; n = n }) then Some s else None)
   root_alone first lists s one none m n = grind (arith, slice_get, later_segment, none_in, other_maker)
 
-  pub fresh_lists : (first : ListOf R) (lists : List (ListOf R)) → IsFreshAlone first.items → All (λ list. list.items ≡ []) lists → IsFresh (first ∷ lists)
+  pub fresh_lists : (first : ListOf (Segment R)) (lists : List (ListOf (Segment R))) → IsFreshAlone first.items → All (λ list. list.items ≡ []) lists → IsFresh (first ∷ lists)
   fresh_lists first lists h none = record {
     segment = h.segment;
     fresh_parts = h.fresh_parts;
@@ -88,7 +88,7 @@ module _ {R : ℕ} where
   }
 
   -- and back
-  pub no_lists : (makers : List (ListOf R)) → makers ≡ [] → IsFresh makers → ⊥
+  pub no_lists : (makers : List (ListOf (Segment R))) → makers ≡ [] → IsFresh makers → ⊥
   no_lists [] e h = let no : None ≡ Some h.segment = h.at root in cc
   no_lists (first ∷ lists) e h = cc
 
@@ -101,7 +101,7 @@ module _ {R : ℕ} where
   no_first [] h = refl
   no_first (s ∷ ss) h = absurd (cc)
 
-  module _ (first : ListOf R) (lists : List (ListOf R)) (h : IsFresh (first ∷ lists)) where
+  module _ (first : ListOf (Segment R)) (lists : List (ListOf (Segment R))) (h : IsFresh (first ∷ lists)) where
     pub first_alone : IsFreshAlone first.items
     first_alone = record {
       segment = h.segment;
@@ -122,7 +122,7 @@ some_segment (Some s) c h = (s, refl)
 no_segment : {R : ℕ} (o : Option (Segment R)) (t : SegName) → part_of o (place.Head t) ≡ None → o ≡ None
 no_segment o t h = grind arith
 
-module _ {R : ℕ} (makers : List (ListOf R)) (qhead qtail : SegName) (array : ArrayParts) (e : contents_of makers qhead qtail array ≡ fresh_space R) where
+module _ {R : ℕ} (makers : List (ListOf (Segment R))) (qhead qtail : SegName) (array : ArrayParts) (e : contents_of makers qhead qtail array ≡ fresh_space R) where
   at : (q : Place) → contents_of makers qhead qtail array q ≡ fresh_space R q
   at q = ap (λ (f : Contents). f q) e
 

@@ -8,28 +8,28 @@ use Rattle.rd_cell.proofs.ListLemmas.{slice_get-push_same, slice_get-push_other,
 use Rattle.rd_segments.specs.Room.{room_used}
 
 -- a maker's list was changed at one number
-pub list_changed : {R : ℕ} (old : List (ListOf R)) (m n : ℕ) (was now : ListOf R) (o : Option (Segment R)) → slice_get old m ≡ Some was
+pub list_changed : {R : ℕ} (old : List (ListOf (Segment R))) (m n : ℕ) (was now : ListOf (Segment R)) (o : Option (Segment R)) → slice_get old m ≡ Some was
     → ((k : ℕ) → k ≢ n → slice_get now.items k ≡ slice_get was.items k) → slice_get now.items n ≡ o
     → Changes (record { maker = m; n = n }) o old (set old m now)
 list_changed {R} old m n was now o there others here = grind (arith, slice_get, slice_get-set_same, slice_get_within, cond-true, and_from, eq-eqb, cond-false, and_right, ne_eqb, slice_get-set_other, and_left)
 
 -- a list that is read at a maker whose segment is there is that maker's
-maker_list : {R : ℕ} (makers : List (ListOf R)) (m n : ℕ) (list : ListOf R) → is_some (by_number (slice_get makers m) n) ≡ true
+maker_list : {R : ℕ} (makers : List (ListOf (Segment R))) (m n : ℕ) (list : ListOf (Segment R)) → is_some (by_number (slice_get makers m) n) ≡ true
     → list ≡ get_or makers m list → slice_get makers m ≡ Some list
 maker_list makers m n list there read = grind (arith, slice_get-get_or, is_some, slice_get_past)
 
 -- and the number is one of the list's
-number_within : {R : ℕ} (makers : List (ListOf R)) (name : SegName) (list : ListOf R) → slice_get makers name.maker ≡ Some list
+number_within : {R : ℕ} (makers : List (ListOf (Segment R))) (name : SegName) (list : ListOf (Segment R)) → slice_get makers name.maker ≡ Some list
     → is_some (by_name makers name) ≡ true → name.n < length list.items
 number_within makers name list found there = grind (arith, is_some, slice_get_past)
 
 -- the segment that is read there is the one of the name
-pub named_is : {R : ℕ} (makers : List (ListOf R)) (name : SegName) (m : ℕ) (list : ListOf R) (segment : Segment R) → m ≡ name.maker
+pub named_is : {R : ℕ} (makers : List (ListOf (Segment R))) (name : SegName) (m : ℕ) (list : ListOf (Segment R)) (segment : Segment R) → m ≡ name.maker
     → is_some (by_name makers name) ≡ true → list ≡ get_or makers m list → segment ≡ get_or list.items name.n segment → by_name makers name ≡ Some segment
 named_is makers name m list segment is there read held = grind (arith, maker_list, get_or, slice_get-get_or, number_within)
 
 -- the segment of a name was written
-pub segment_written : {R : ℕ} (makers : List (ListOf R)) (name : SegName) (m : ℕ) (list : ListOf R) (segment : Segment R) → m ≡ name.maker
+pub segment_written : {R : ℕ} (makers : List (ListOf (Segment R))) (name : SegName) (m : ℕ) (list : ListOf (Segment R)) (segment : Segment R) → m ≡ name.maker
     → is_some (by_name makers name) ≡ true → list ≡ get_or makers m list
     → Changes name (Some segment) makers (set makers m (with_item list name.n segment))
 segment_written {R} makers name m list segment is there read =
@@ -40,22 +40,22 @@ segment_written {R} makers name m list segment is there read =
     (λ k ne. slice_get-set_other list.items name.n k segment ne) (slice_get-set_same list.items name.n segment within))
 
 -- a list with one element written has the room that it had
-pub spare_written : {R : ℕ} (makers : List (ListOf R)) (m n : ℕ) (list : ListOf R) (segment : Segment R) → m < length makers → list ≡ get_or makers m list
+pub spare_written : {R : ℕ} (makers : List (ListOf (Segment R))) (m n : ℕ) (list : ListOf (Segment R)) (segment : Segment R) → m < length makers → list ≡ get_or makers m list
     → (k : ℕ) → spare (set makers m (with_item list n segment)) k ≡ spare makers k
 spare_written makers m n list segment within read k = grind (arith, slice_get, slice_get-set_same, slice_get-get_or, slice_get-set_other)
 
-pub maker_within : {R : ℕ} (makers : List (ListOf R)) (name : SegName) → is_some (by_name makers name) ≡ true → name.maker < length makers
+pub maker_within : {R : ℕ} (makers : List (ListOf (Segment R))) (name : SegName) → is_some (by_name makers name) ≡ true → name.maker < length makers
 maker_within makers name there = grind (arith, is_some, slice_get_past)
 
 pub segment_there : {R : ℕ} (o : Option (Segment R)) (p : Place) → is_some (operand (part_of o) p) ≡ true → is_some o ≡ true
 segment_there o p h = grind arith
 
 -- a maker's list is read at its number
-pub list_read : {R : ℕ} (makers : List (ListOf R)) (m : ℕ) (list : ListOf R) → m < length makers → list ≡ get_or makers m list → slice_get makers m ≡ Some list
+pub list_read : {R : ℕ} (makers : List (ListOf (Segment R))) (m : ℕ) (list : ListOf (Segment R)) → m < length makers → list ≡ get_or makers m list → slice_get makers m ≡ Some list
 list_read makers m list within read = slice_get-get_or makers m list within ∙ ap Some (sym read)
 
 -- a list that another took the place of, at one maker
-spare_replaced : {R : ℕ} (makers : List (ListOf R)) (m : ℕ) (list left : ListOf R) → m < length makers → list ≡ get_or makers m list
+spare_replaced : {R : ℕ} (makers : List (ListOf (Segment R))) (m : ℕ) (list left : ListOf (Segment R)) → m < length makers → list ≡ get_or makers m list
     → (k : ℕ) → ((k ≡ m) × (spare (set makers m left) k ≡ spare_in (Some left)) × (spare makers k ≡ spare_in (Some list)))
     ⊎ ((k ≡ m → ⊥) × (spare (set makers m left) k ≡ spare makers k))
 spare_replaced makers m list left within read k = grind (arith, slice_get, slice_get-set_same, list_read, slice_get-set_other)
@@ -67,8 +67,8 @@ room_used-other : (made : Bool) (maker k : ℕ) → (k ≡ maker → ⊥) → ro
 room_used-other made maker k ne = grind arith
 
 -- a maker's list was lengthened
-pub list_lengthened : {R : ℕ} (makers : List (ListOf R)) (maker m value : ℕ) (name : SegName) (list left : ListOf R) → m ≡ maker → maker < length makers
-    → list ≡ get_or makers m list → (h : IsLengthened R maker value name list left) → Changes name (Some h.segment) makers (set makers m left)
+pub list_lengthened : {R : ℕ} (makers : List (ListOf (Segment R))) (maker m value : ℕ) (name : SegName) (list left : ListOf (Segment R)) → m ≡ maker → maker < length makers
+    → list ≡ get_or makers m list → (h : IsLengthened maker value name list left) → Changes name (Some h.segment) makers (set makers m left)
 list_lengthened {R} makers maker m value name list left is within read h =
     let found : slice_get makers maker ≡ Some list = list_read makers maker list within (read ∙ ap (λ (k : ℕ). get_or makers k list) is) in
     let new_name : SegName = record { maker = maker; n = length list.items } in
@@ -80,53 +80,53 @@ list_lengthened {R} makers maker m value name list left is within read h =
     (subst (λ (s : SegName). Changes s (Some h.segment) makers (set makers maker left)) (sym h.name_is) changed)
 
 -- a list that was left with the same segments leaves the names as they were
-pub list_same : {R : ℕ} (makers : List (ListOf R)) (maker m : ℕ) (list left : ListOf R) → m ≡ maker → maker < length makers
+pub list_same : {R : ℕ} (makers : List (ListOf (Segment R))) (maker m : ℕ) (list left : ListOf (Segment R)) → m ≡ maker → maker < length makers
     → list ≡ get_or makers m list → left.items ≡ list.items → (t : SegName) → by_name (set makers m left) t ≡ by_name makers t
 list_same makers maker m list left is within read same t = grind (arith, slice_get, slice_get-set_same, list_read, slice_get-set_other)
 
 -- the room after a list took another's place
-pub spare_lessened : {R : ℕ} (makers : List (ListOf R)) (maker m : ℕ) (list left : ListOf R) (made : Bool) → m ≡ maker → maker < length makers
+pub spare_lessened : {R : ℕ} (makers : List (ListOf (Segment R))) (maker m : ℕ) (list left : ListOf (Segment R)) (made : Bool) → m ≡ maker → maker < length makers
     → list ≡ get_or makers m list → spare_in (Some list) ≤ spare_in (Some left) + (if made then 1 else 0)
     → (k : ℕ) → spare makers k ≤ spare (set makers m left) k + room_used made maker k
 spare_lessened makers maker m list left made is within read room k = grind (arith, spare_replaced, room_used-same)
 
-pub spare_kept : {R : ℕ} (makers : List (ListOf R)) (maker m : ℕ) (list left : ListOf R) → m ≡ maker → maker < length makers
+pub spare_kept : {R : ℕ} (makers : List (ListOf (Segment R))) (maker m : ℕ) (list left : ListOf (Segment R)) → m ≡ maker → maker < length makers
     → list ≡ get_or makers m list → spare_in (Some list) ≤ spare_in (Some left) → (k : ℕ) → spare makers k ≤ spare (set makers m left) k
 spare_kept makers maker m list left is within read room k = grind (arith, spare_replaced)
 
-pub spare_same : {R : ℕ} (makers : List (ListOf R)) (maker m : ℕ) (list left : ListOf R) → m ≡ maker → maker < length makers
+pub spare_same : {R : ℕ} (makers : List (ListOf (Segment R))) (maker m : ℕ) (list left : ListOf (Segment R)) → m ≡ maker → maker < length makers
     → list ≡ get_or makers m list → spare_in (Some left) ≡ spare_in (Some list) → (k : ℕ) → spare (set makers m left) k ≡ spare makers k
 spare_same makers maker m list left is within read room k = grind (arith, spare_replaced)
 
 -- the room of another maker
-pub spare_others : {R : ℕ} (makers : List (ListOf R)) (maker m : ℕ) (left : ListOf R) → m ≡ maker
+pub spare_others : {R : ℕ} (makers : List (ListOf (Segment R))) (maker m : ℕ) (left : ListOf (Segment R)) → m ≡ maker
     → (k : ℕ) → k ≢ maker → spare (set makers m left) k ≡ spare makers k
 spare_others makers maker m left is k ne = ap spare_in (slice_get-set_other makers m k left (λ e. ne (e ∙ is)))
 
-pub spare_given : {R : ℕ} (makers : List (ListOf R)) (maker m : ℕ) (list left : ListOf R) → m ≡ maker → maker < length makers
+pub spare_given : {R : ℕ} (makers : List (ListOf (Segment R))) (maker m : ℕ) (list left : ListOf (Segment R)) → m ≡ maker → maker < length makers
     → list ≡ get_or makers m list → spare_in (Some left) ≡ spare_in (Some list) + 1
     → (k : ℕ) → spare (set makers m left) k ≡ spare makers k + room_used true maker k
 spare_given makers maker m list left is within read room k = grind (arith, spare_replaced, room_used-same, room_used-other)
 
 -- the room at the maker's own list
-pub spare_here : {R : ℕ} (makers : List (ListOf R)) (maker m : ℕ) (left : ListOf R) → m ≡ maker → maker < length makers
+pub spare_here : {R : ℕ} (makers : List (ListOf (Segment R))) (maker m : ℕ) (left : ListOf (Segment R)) → m ≡ maker → maker < length makers
     → spare (set makers m left) maker ≡ spare_in (Some left)
 spare_here makers maker m left is within = grind (arith, slice_get, slice_get-set_same)
 
-pub spare_read : {R : ℕ} (makers : List (ListOf R)) (maker m : ℕ) (list : ListOf R) → m ≡ maker → maker < length makers
+pub spare_read : {R : ℕ} (makers : List (ListOf (Segment R))) (maker m : ℕ) (list : ListOf (Segment R)) → m ≡ maker → maker < length makers
     → list ≡ get_or makers m list → spare makers maker ≡ spare_in (Some list)
 spare_read makers maker m list is within read = ap spare_in (list_read makers maker list within (read ∙ ap (λ (k : ℕ). get_or makers k list) is))
 
 -- a maker that has a segment has a list
-pub count_within : {R : ℕ} (makers : List (ListOf R)) (m : ℕ) → 0 < count makers m → m < length makers
+pub count_within : {R : ℕ} (makers : List (ListOf (Segment R))) (m : ℕ) → 0 < count makers m → m < length makers
 count_within makers m h = grind (arith, slice_get_past)
 
-pub count_read : {R : ℕ} (makers : List (ListOf R)) (maker m : ℕ) (list : ListOf R) → m ≡ maker → maker < length makers
+pub count_read : {R : ℕ} (makers : List (ListOf (Segment R))) (maker m : ℕ) (list : ListOf (Segment R)) → m ≡ maker → maker < length makers
     → list ≡ get_or makers m list → count makers maker ≡ length list.items
 count_read makers maker m list is within read = ap count_in (list_read makers maker list within (read ∙ ap (λ (k : ℕ). get_or makers k list) is))
 
 -- the maker's last segment was taken away
-pub last_taken : {R : ℕ} (makers : List (ListOf R)) (maker m : ℕ) (list left : ListOf R) → m ≡ maker → maker < length makers
+pub last_taken : {R : ℕ} (makers : List (ListOf (Segment R))) (maker m : ℕ) (list left : ListOf (Segment R)) → m ≡ maker → maker < length makers
     → list ≡ get_or makers m list → left.items ≡ take (length list.items - 1) list.items
     → Changes (record { maker = maker; n = count makers maker - 1 }) None makers (set makers m left)
 last_taken {R} makers maker m list left is within read items =
@@ -138,26 +138,26 @@ last_taken {R} makers maker m list left is within read items =
     (λ k ne. ap (λ xs. slice_get xs k) items ∙ slice_get-take_other list.items (length list.items - 1) k (omega arith) ne)
     (ap (λ xs. slice_get xs (length list.items - 1)) items ∙ slice_get-take_same list.items (length list.items - 1))))
 
-pub room_made : {R : ℕ} (makers : List (ListOf R)) (maker m : ℕ) (left : ListOf R) (more : ℕ) → m ≡ maker → maker < length makers
+pub room_made : {R : ℕ} (makers : List (ListOf (Segment R))) (maker m : ℕ) (left : ListOf (Segment R)) (more : ℕ) → m ≡ maker → maker < length makers
     → (r : Result (Unit {0}) AllocError) → OnOk r (more ≤ spare_in (Some left)) → OnOk r (more ≤ spare (set makers m left) maker)
 room_made makers maker m left more is within r h = grind (arith, spare_here)
 
-pub room_refused : {R : ℕ} (makers : List (ListOf R)) (maker m : ℕ) (list : ListOf R) (more : ℕ) → m ≡ maker → maker < length makers
+pub room_refused : {R : ℕ} (makers : List (ListOf (Segment R))) (maker m : ℕ) (list : ListOf (Segment R)) (more : ℕ) → m ≡ maker → maker < length makers
     → list ≡ get_or makers m list → (r : Result (Unit {0}) AllocError) → OnErr r (spare_in (Some list) < more) → OnErr r (spare makers maker < more)
 room_refused makers maker m list more is within read r h = grind (arith, spare_read)
 
 -- The lists of a fresh space
 
-first_at : {R : ℕ} (list : ListOf R) (segment : Segment R) → list.items ≡ segment ∷ [] → (m n : ℕ)
+first_at : {R : ℕ} (list : ListOf (Segment R)) (segment : Segment R) → list.items ≡ segment ∷ [] → (m n : ℕ)
     → by_number (slice_get (list ∷ []) m) n ≡ (if (0 == m) && (0 == n) then Some segment else None)
 first_at list segment items m n = grind arith
 
 -- a list of one list of one segment has that as the root
-pub first_list : {R : ℕ} (list : ListOf R) (segment : Segment R) → list.items ≡ segment ∷ []
+pub first_list : {R : ℕ} (list : ListOf (Segment R)) (segment : Segment R) → list.items ≡ segment ∷ []
     → (t : SegName) → by_name (list ∷ []) t ≡ (if name_eq root t then Some segment else None)
 first_list list segment items t = first_at list segment items t.maker t.n
 
 -- an empty list at the end adds no segment
-pub empty_pushed : {R : ℕ} (makers : List (ListOf R)) (empty : ListOf R) → empty.items ≡ [] → (t : SegName)
+pub empty_pushed : {R : ℕ} (makers : List (ListOf (Segment R))) (empty : ListOf (Segment R)) → empty.items ≡ [] → (t : SegName)
     → by_name (makers ++ empty ∷ []) t ≡ by_name makers t
 empty_pushed makers empty none t = grind (arith, slice_get, slice_get-push_same, slice_get_past, slice_get-push_other)

@@ -9,43 +9,43 @@ use Rattle.rd_cell.specs.declared.places.Wrote.TheVariants as wrote
 use Rattle.rd_cell.specs.declared.operations.Answer.TheVariants as answer
 
 -- what the segment of a name has at its places is what is there
-pub segments_part : {R : ℕ} (makers : List (ListOf R)) (name : SegName) (segment : Segment R) (q : Place) → by_name makers name ≡ Some segment
+pub segments_part : {R : ℕ} (makers : List (ListOf (Segment R))) (name : SegName) (segment : Segment R) (q : Place) → by_name makers name ≡ Some segment
     → is_of name q ≡ true → part segment q ≡ segments_of makers q
 segments_part {R} makers name segment q there h = grind arith
 
 -- the places of the other segments have what they had
-pub segments_other : {R : ℕ} (old new : List (ListOf R)) (name : SegName) (o : Option (Segment R)) (q : Place) → Changes name o old new
+pub segments_other : {R : ℕ} (old new : List (ListOf (Segment R))) (name : SegName) (o : Option (Segment R)) (q : Place) → Changes name o old new
     → is_of name q ≡ false → segments_of new q ≡ segments_of old q
 segments_other {R} old new name o q changes h = grind arith
 
 -- the places are those of the names alone
-pub segments_same : {R : ℕ} (old new : List (ListOf R)) → ((t : SegName) → by_name new t ≡ by_name old t) → segments_of new ≡ segments_of old
+pub segments_same : {R : ℕ} (old new : List (ListOf (Segment R))) → ((t : SegName) → by_name new t ≡ by_name old t) → segments_of new ≡ segments_of old
 segments_same {R} old new same = grind arith
 
 -- the name of a change has what it says
-changed_here : {R : ℕ} (old new : List (ListOf R)) (name : SegName) (o : Option (Segment R)) → Changes name o old new → by_name new name ≡ o
+changed_here : {R : ℕ} (old new : List (ListOf (Segment R))) (name : SegName) (o : Option (Segment R)) → Changes name o old new → by_name new name ≡ o
 changed_here old new name o changes = changes.at name ∙ cond-true (name_eq name name) o (by_name old name) (name_eq-refl name)
 
 -- a change of one segment, as one of the segments' places
-segment_agrees : {R : ℕ} (old new : List (ListOf R)) (name : SegName) (before left : Segment R) (p : Place) → by_name old name ≡ Some before
+segment_agrees : {R : ℕ} (old new : List (ListOf (Segment R))) (name : SegName) (before left : Segment R) (p : Place) → by_name old name ≡ Some before
     → Changes name (Some left) old new → segment_of p ≡ Some name
     → Agrees (is_of_same_segment p) p (part before) (part left) (segments_of old) (segments_of new)
 segment_agrees old new name before left p there changes own = grind (arith, segments_part, beside_is_of, changed_here, not_covered_outside, segments_other)
 
 -- the segment that an operation or a restore at a place goes to, as it is read in its list
-pub record Reads {R : ℕ} (makers : List (ListOf R)) (name : SegName) (m : ℕ) (list : ListOf R) (before : Segment R) (p : Place) : Type 0 where
+pub record Reads {R : ℕ} (makers : List (ListOf (Segment R))) (name : SegName) (m : ℕ) (list : ListOf (Segment R)) (before : Segment R) (p : Place) : Type 0 where
   pub maker : m ≡ name.maker
   pub there : is_some (by_name makers name) ≡ true
   pub list_is : list ≡ get_or makers m list
   pub segment_is : before ≡ get_or list.items name.n before
   pub own : segment_of p ≡ Some name
 
-reads_agree : {R : ℕ} (makers : List (ListOf R)) (name : SegName) (m : ℕ) (list : ListOf R) (before left : Segment R) (p : Place)
+reads_agree : {R : ℕ} (makers : List (ListOf (Segment R))) (name : SegName) (m : ℕ) (list : ListOf (Segment R)) (before left : Segment R) (p : Place)
     → Reads makers name m list before p
     → Agrees (is_of_same_segment p) p (part before) (part left) (segments_of makers) (segments_of (set makers m (with_item list name.n left)))
 reads_agree makers name m list before left p h = grind (arith, common_steps, segment_agrees, named_is, segment_written)
 
-pub operates_in : {R : ℕ} (makers : List (ListOf R)) (name : SegName) (m : ℕ) (list : ListOf R) (before left : Segment R) (p : Place) (op : Operation)
+pub operates_in : {R : ℕ} (makers : List (ListOf (Segment R))) (name : SegName) (m : ℕ) (list : ListOf (Segment R)) (before left : Segment R) (p : Place) (op : Operation)
     → Reads makers name m list before p → (r : Result Done Refusal) → IfOk r (λ done. Operates (is_of_same_segment p) p op done (part before) (part left))
     → IfOk r (λ done. Operates everywhere p op done (segments_of makers) (segments_of (set makers m (with_item list name.n left))))
 operates_in makers name m list before left p op reads (Err e) h = tt
@@ -53,7 +53,7 @@ operates_in makers name m list before left p op reads (Ok done) h =
     lift_operates (is_of_same_segment p) p op done (part before) (part left) (segments_of makers) (segments_of (set makers m (with_item list name.n left)))
     (reads_agree makers name m list before left p reads) h
 
-pub refuses_in : {R : ℕ} (makers : List (ListOf R)) (name : SegName) (m : ℕ) (list : ListOf R) (before left : Segment R) (p : Place) (op : Operation)
+pub refuses_in : {R : ℕ} (makers : List (ListOf (Segment R))) (name : SegName) (m : ℕ) (list : ListOf (Segment R)) (before left : Segment R) (p : Place) (op : Operation)
     → Reads makers name m list before p → (r : Result Done Refusal) → IfErr r (λ e. operate p op (operand (part before) p) ≡ Err e)
     → IfErr r (λ e. operate p op (operand (segments_of makers) p) ≡ Err e)
 refuses_in makers name m list before left p op reads (Ok done) h = tt
@@ -63,7 +63,7 @@ refuses_in makers name m list before left p op reads (Err e) h =
     (reads_agree makers name m list before left p reads)) ∙ h
 
 -- a segment that was left as it was leaves the places as they were
-pub unchanged_in : {R : ℕ} (makers : List (ListOf R)) (name : SegName) (m : ℕ) (list : ListOf R) (before left : Segment R) (p : Place)
+pub unchanged_in : {R : ℕ} (makers : List (ListOf (Segment R))) (name : SegName) (m : ℕ) (list : ListOf (Segment R)) (before left : Segment R) (p : Place)
     → Reads makers name m list before p → (r : Result Done Refusal) → OnErr r (left ≡ before)
     → OnErr r (segments_of (set makers m (with_item list name.n left)) ≡ segments_of makers)
 unchanged_in makers name m list before left p reads (Ok done) same = tt
@@ -75,7 +75,7 @@ unchanged_in {R} makers name m list before left p reads (Err e) same = fun_ext e
         elim (cases_Bool (is_of_same_segment p q))
         [ inl h ↦ sym (agrees.new_inside q h) ∙ ap (λ (s : Segment R). part s q) same ∙ agrees.old_inside q h | inr h ↦ agrees.outside q h ]
 
-pub restores_in : {R : ℕ} (makers : List (ListOf R)) (name : SegName) (m : ℕ) (list : ListOf R) (before left : Segment R) (p : Place) (c : Content)
+pub restores_in : {R : ℕ} (makers : List (ListOf (Segment R))) (name : SegName) (m : ℕ) (list : ListOf (Segment R)) (before left : Segment R) (p : Place) (c : Content)
     → Reads makers name m list before p → Restores (is_of_same_segment p) p (Some c) (part before) (part left)
     → Restores everywhere p (Some c) (segments_of makers) (segments_of (set makers m (with_item list name.n left)))
 restores_in makers name m list before left p c reads h = λ q _.
@@ -84,7 +84,7 @@ restores_in makers name m list before left p c reads h = λ q _.
 
 -- Makings
 
-made_at : {R : ℕ} (old new : List (ListOf R)) (name : SegName) (o : Option (Segment R)) (news : Contents) (q : Place) → Changes name o old new
+made_at : {R : ℕ} (old new : List (ListOf (Segment R))) (name : SegName) (o : Option (Segment R)) (news : Contents) (q : Place) → Changes name o old new
     → ((s : Segment R) (x : Place) → o ≡ Some s → part s x ≡ news x) → (o ≡ None → (x : Place) → news x ≡ None)
     → segments_of new q ≡ (if is_of name q then news q else segments_of old q)
 made_at old new name (Some s) news q changes holds none =
@@ -97,17 +97,17 @@ made_at old new name (Some s) news q changes holds none =
 made_at old new name None news q changes holds none = grind arith
 
 -- a maker's list as it is read
-pub record ReadsList {R : ℕ} (makers : List (ListOf R)) (maker m : ℕ) (list : ListOf R) : Type 0 where
+pub record ReadsList {R : ℕ} (makers : List (ListOf (Segment R))) (maker m : ℕ) (list : ListOf (Segment R)) : Type 0 where
   pub maker_is : m ≡ maker
   pub within : maker < length makers
   pub list_is : list ≡ get_or makers m list
 
-list_found : {R : ℕ} (makers : List (ListOf R)) (maker m : ℕ) (list : ListOf R) → ReadsList makers maker m list → slice_get makers maker ≡ Some list
+list_found : {R : ℕ} (makers : List (ListOf (Segment R))) (maker m : ℕ) (list : ListOf (Segment R)) → ReadsList makers maker m list → slice_get makers maker ≡ Some list
 list_found makers maker m list h = list_read makers maker list h.within (h.list_is ∙ ap (λ (k : ℕ). get_or makers k list) h.maker_is)
 
-pub makes_in : {R : ℕ} (makers : List (ListOf R)) (maker m value : ℕ) (list left : ListOf R) → ReadsList makers maker m list
-    → (r : Result SegName Refusal) → IfOk r (λ name. IsLengthened R maker value name list left)
-    → IfOk r (λ name. Makes R name value (segments_of makers) (segments_of (set makers m left)))
+pub makes_in : {R : ℕ} (makers : List (ListOf (Segment R))) (maker m value : ℕ) (list left : ListOf (Segment R)) → ReadsList makers maker m list
+    → (r : Result SegName Refusal) → IfOk r (λ name. IsLengthened maker value name list left)
+    → IfOk r (λ name. Makes name (holding R value) (segments_of makers) (segments_of (set makers m left)))
 makes_in makers maker m value list left reads (Err e) h = tt
 makes_in {R} makers maker m value list left reads (Ok name) h =
     let changes = list_lengthened makers maker m value name list left reads.maker_is reads.within reads.list_is h in
@@ -121,23 +121,23 @@ makes_in {R} makers maker m value list left reads (Ok name) h =
           (λ s x e. let same : h.segment ≡ s = cc in ap (λ (y : Segment R). part y x) (sym same) ∙ h.holds x) (λ e. cc);
     }
 
-pub named_in : {R : ℕ} (makers : List (ListOf R)) (maker m value : ℕ) (list left : ListOf R) → ReadsList makers maker m list
-    → (r : Result SegName Refusal) → IfOk r (λ name. IsLengthened R maker value name list left)
+pub named_in : {R : ℕ} (makers : List (ListOf (Segment R))) (maker m value : ℕ) (list left : ListOf (Segment R)) → ReadsList makers maker m list
+    → (r : Result SegName Refusal) → IfOk r (λ name. IsLengthened maker value name list left)
     → IfOk r (λ name. name ≡ record { maker = maker; n = count makers maker })
 named_in makers maker m value list left reads r h = grind (arith, list_found)
 
-pub refuses_making : {R : ℕ} (makers : List (ListOf R)) (maker m : ℕ) (list : ListOf R) → ReadsList makers maker m list
+pub refuses_making : {R : ℕ} (makers : List (ListOf (Segment R))) (maker m : ℕ) (list : ListOf (Segment R)) → ReadsList makers maker m list
     → (r : Result SegName Refusal) → IfErr r (λ e. RefusesMaking (length list.items) (vec_capacity list - vec_len list) e)
     → IfErr r (λ e. RefusesMaking (count makers maker) (spare makers maker) e)
 refuses_making makers maker m list reads (Ok name) h = tt
 refuses_making {R} makers maker m list reads (Err e) h = grind (arith, list_found)
 
-pub making_same : {R : ℕ} (makers : List (ListOf R)) (maker m : ℕ) (list left : ListOf R) → ReadsList makers maker m list
+pub making_same : {R : ℕ} (makers : List (ListOf (Segment R))) (maker m : ℕ) (list left : ListOf (Segment R)) → ReadsList makers maker m list
     → (r : Result SegName Refusal) → OnErr r (left.items ≡ list.items) → OnErr r (segments_of (set makers m left) ≡ segments_of makers)
 making_same makers maker m list left reads r same = grind (arith, segments_same, list_same)
 
 -- the maker's last segment was taken away
-pub unmakes_in : {R : ℕ} (makers : List (ListOf R)) (maker m : ℕ) (list left : ListOf R) → ReadsList makers maker m list
+pub unmakes_in : {R : ℕ} (makers : List (ListOf (Segment R))) (maker m : ℕ) (list left : ListOf (Segment R)) → ReadsList makers maker m list
     → left.items ≡ take (length list.items - 1) list.items
     → Restores everywhere (place.Whole (record { maker = maker; n = count makers maker - 1 })) None (segments_of makers) (segments_of (set makers m left))
 unmakes_in makers maker m list left reads items = λ q _.

@@ -1,8 +1,7 @@
 -- The space's map after a change of its segments, of one of the queue's ends, or of the array.
-use Rattle.std.proofs.Common.{◌≡◌, ℕ, true, false, Bool, if◌then◌else◌, refl, sym, ap, subst, List, Option, Some, None, Result, Ok, Err, IfOk, OnErr, arith}
-use Rattle.rd_segments.proofs.Prelude.{fun_ext, SegName, Place, Content, Operation, Done, Refusal, root, name_eq, is_of, place_eq, segment_of, Contents, fresh_segment, operand, operate, everywhere, Operates, OperatesOn, Makes, Agrees, lift_operates, lift_restore, place_operates, ListOf, by_name, part_of, segments_of, IsFresh, ArrayParts, array_part, fresh_array, contents_of, fresh_space}
-use Rattle.std.proofs.lemmas.Bool.{cond_both}
-use Rattle.rd_ring.specs.Prelude.{is_array, restore, make}
+use Rattle.std.proofs.Common.{◌≡◌, ℕ, true, false, Bool, if◌then◌else◌, refl, sym, ap, subst, List, Some, None, Result, Ok, Err, IfOk, OnErr, arith}
+use Rattle.rd_segments.proofs.Prelude.{fun_ext, SegName, Place, Content, Operation, Done, Refusal, root, name_eq, is_of, place_eq, segment_of, Contents, fresh_segment, operand, operate, everywhere, Operates, OperatesOn, Makes, Restores, Agrees, lift_operates, lift_restore, place_operates, Segment, ListOf, by_name, part_of, segments_of, IsFresh, ArrayParts, array_part, fresh_array, contents_of, fresh_space}
+use Rattle.rd_ring.specs.Prelude.{is_array, restore, make, holding}
 use Rattle.rd_cell.proofs.AccessLemmas.{place-make}
 use Rattle.rd_cell.proofs.EffectLemmas.{lift, narrow}
 use Rattle.rd_segments.specs.SpaceFields.{contents_by}
@@ -24,55 +23,62 @@ own_of : (p : Place) (name : SegName) → segment_of p ≡ Some name → of_segm
 own_of p name h = grind arith
 
 -- the segments' places are those of the space
-segments_agree : (old new : Contents) (qhead qtail : SegName) (array : ArrayParts) (p : Place) → of_segments p ≡ true
+segments_agree : (old new : Contents) (qhead qtail : SegName) (array : Contents) (p : Place) → of_segments p ≡ true
     → Agrees of_segments p old new (contents_by old qhead qtail array) (contents_by new qhead qtail array)
 segments_agree old new qhead qtail array p own = grind arith
 
 -- An operation on a segment, and what is put back there
 
-pub space_operates : {R : ℕ} (old new : List (ListOf R)) (qhead qtail : SegName) (array : ArrayParts) (name : SegName) (p : Place) (op : Operation) → segment_of p ≡ Some name
+pub space_operates : {R : ℕ} (old new : List (ListOf (Segment R))) (qhead qtail : SegName) (array : ArrayParts) (name : SegName) (p : Place) (op : Operation) → segment_of p ≡ Some name
     → (r : Result Done Refusal) → IfOk r (λ done. Operates everywhere p op done (segments_of old) (segments_of new))
     → IfOk r (λ done. Operates everywhere p op done (contents_of old qhead qtail array) (contents_of new qhead qtail array))
 space_operates old new qhead qtail array name p op own (Err e) h = tt
 space_operates old new qhead qtail array name p op own (Ok done) h =
     lift_operates of_segments p op done (segments_of old) (segments_of new) (contents_of old qhead qtail array) (contents_of new qhead qtail array)
-    (segments_agree (segments_of old) (segments_of new) qhead qtail array p (own_of p name own))
+    (segments_agree (segments_of old) (segments_of new) qhead qtail (array_part array) p (own_of p name own))
     (narrow of_segments (operate p op (operand (segments_of old) p)) done (segments_of old) (segments_of new) h)
 
+pub space_restored : {R : ℕ} (old new : List (ListOf (Segment R))) (qhead qtail : SegName) (array : ArrayParts) (name : SegName) (p : Place) (c : Content) → segment_of p ≡ Some name
+    → Restores everywhere p (Some c) (segments_of old) (segments_of new)
+    → contents_of new qhead qtail array ≡ restore (Some p) (Some c) (contents_of old qhead qtail array)
+space_restored old new qhead qtail array name p c own h =
+    fun_ext (lift_restore of_segments p (Some c) (segments_of old) (segments_of new) (contents_of old qhead qtail array) (contents_of new qhead qtail array)
+    (segments_agree (segments_of old) (segments_of new) qhead qtail (array_part array) p (own_of p name own)) (λ q _. h q refl))
+
 -- what an operation at a place of a segment works on is what the segment has there
-pub at_segment : {R : ℕ} (makers : List (ListOf R)) (qhead qtail : SegName) (array : ArrayParts) (p : Place) (name : SegName) → segment_of p ≡ Some name
+pub at_segment : {R : ℕ} (makers : List (ListOf (Segment R))) (qhead qtail : SegName) (array : ArrayParts) (p : Place) (name : SegName) → segment_of p ≡ Some name
     → operand (contents_of makers qhead qtail array) p ≡ operand (part_of (by_name makers name)) p
 at_segment makers qhead qtail array p name h = grind arith
 
 -- the map is that of the segments' places
-pub unchanged_fields : {R : ℕ} (old new : List (ListOf R)) (qhead qtail : SegName) (array : ArrayParts) {T : Type 0} → (r : Result T Refusal)
+pub unchanged_fields : {R : ℕ} (old new : List (ListOf (Segment R))) (qhead qtail : SegName) (array : ArrayParts) {T : Type 0} → (r : Result T Refusal)
     → OnErr r (segments_of new ≡ segments_of old) → OnErr r (contents_of new qhead qtail array ≡ contents_of old qhead qtail array)
 unchanged_fields old new qhead qtail array r h = grind arith
 
-pub same_fields : {R : ℕ} (old new : List (ListOf R)) (qhead qtail : SegName) (array : ArrayParts) → segments_of new ≡ segments_of old
+pub same_fields : {R : ℕ} (old new : List (ListOf (Segment R))) (qhead qtail : SegName) (array : ArrayParts) → segments_of new ≡ segments_of old
     → contents_of new qhead qtail array ≡ contents_of old qhead qtail array
-same_fields old new qhead qtail array h = ap (λ (at : Contents). contents_by at qhead qtail array) h
+same_fields old new qhead qtail array h = ap (λ (at : Contents). contents_by at qhead qtail (array_part array)) h
 
-pub space_makes : {R : ℕ} (old new : List (ListOf R)) (qhead qtail : SegName) (array : ArrayParts) (x : ℕ) (r : Result SegName Refusal)
-    → IfOk r (λ name. Makes R name x (segments_of old) (segments_of new))
-    → IfOk r (λ name. Makes R name x (contents_of old qhead qtail array) (contents_of new qhead qtail array))
+pub space_makes : {R : ℕ} (old new : List (ListOf (Segment R))) (qhead qtail : SegName) (array : ArrayParts) (x : ℕ) (r : Result SegName Refusal)
+    → IfOk r (λ name. Makes name (holding R x) (segments_of old) (segments_of new))
+    → IfOk r (λ name. Makes name (holding R x) (contents_of old qhead qtail array) (contents_of new qhead qtail array))
 space_makes old new qhead qtail array x (Err e) h = tt
 space_makes {R} old new qhead qtail array x (Ok name) h =
-    lift of_segments (place.Whole name) (make R name x) (make R name x) _ (segments_of old) (segments_of new) (contents_of old qhead qtail array) (contents_of new qhead qtail array)
-    refl (place-make R name x) (segments_agree (segments_of old) (segments_of new) qhead qtail array (place.Whole name) refl)
-    (narrow of_segments (make R name x) _ (segments_of old) (segments_of new) h)
+    lift of_segments (place.Whole name) (make name (holding R x)) (make name (holding R x)) _ (segments_of old) (segments_of new) (contents_of old qhead qtail array) (contents_of new qhead qtail array)
+    refl (place-make name (holding R x)) (segments_agree (segments_of old) (segments_of new) qhead qtail (array_part array) (place.Whole name) refl)
+    (narrow of_segments (make name (holding R x)) _ (segments_of old) (segments_of new) h)
 
 -- An operation on one of the queue's ends
 
-head_others : {R : ℕ} (makers : List (ListOf R)) (old new qtail : SegName) (array : ArrayParts) (q : Place) → place_eq place.QHead q ≡ false
+head_others : {R : ℕ} (makers : List (ListOf (Segment R))) (old new qtail : SegName) (array : ArrayParts) (q : Place) → place_eq place.QHead q ≡ false
     → contents_of makers new qtail array q ≡ contents_of makers old qtail array q
 head_others makers old new qtail array q h = grind arith
 
-tail_others : {R : ℕ} (makers : List (ListOf R)) (qhead old new : SegName) (array : ArrayParts) (q : Place) → place_eq place.QTail q ≡ false
+tail_others : {R : ℕ} (makers : List (ListOf (Segment R))) (qhead old new : SegName) (array : ArrayParts) (q : Place) → place_eq place.QTail q ≡ false
     → contents_of makers qhead new array q ≡ contents_of makers qhead old array q
 tail_others makers qhead old new array q h = grind arith
 
-pub head_operates : {R : ℕ} (makers : List (ListOf R)) (old new qtail : SegName) (array : ArrayParts) (p : Place) (op : Operation) → p ≡ place.QHead
+pub head_operates : {R : ℕ} (makers : List (ListOf (Segment R))) (old new qtail : SegName) (array : ArrayParts) (p : Place) (op : Operation) → p ≡ place.QHead
     → (r : Result Done Refusal) → IfOk r (λ done. OperatesOn p op done (content.Name old) (content.Name new))
     → IfOk r (λ done. Operates everywhere p op done (contents_of makers old qtail array) (contents_of makers new qtail array))
 head_operates makers old new qtail array p op at r =
@@ -81,7 +87,7 @@ head_operates makers old new qtail array p op at r =
     (place_operates place.QHead op (content.Name old) (content.Name new) (contents_of makers old qtail array) (contents_of makers new qtail array) (λ q. refl) refl refl refl
     (λ q h. head_others makers old new qtail array q h) r)
 
-pub tail_operates : {R : ℕ} (makers : List (ListOf R)) (qhead old new : SegName) (array : ArrayParts) (p : Place) (op : Operation) → p ≡ place.QTail
+pub tail_operates : {R : ℕ} (makers : List (ListOf (Segment R))) (qhead old new : SegName) (array : ArrayParts) (p : Place) (op : Operation) → p ≡ place.QTail
     → (r : Result Done Refusal) → IfOk r (λ done. OperatesOn p op done (content.Name old) (content.Name new))
     → IfOk r (λ done. Operates everywhere p op done (contents_of makers qhead old array) (contents_of makers qhead new array))
 tail_operates makers qhead old new array p op at r =
@@ -92,11 +98,11 @@ tail_operates makers qhead old new array p op at r =
 
 -- An operation on the array, and what is put back there
 
-array_agrees : {R : ℕ} (makers : List (ListOf R)) (qhead qtail : SegName) (old new : ArrayParts) (p : Place) → is_array p ≡ true
+array_agrees : {R : ℕ} (makers : List (ListOf (Segment R))) (qhead qtail : SegName) (old new : ArrayParts) (p : Place) → is_array p ≡ true
     → Agrees is_array p (array_part old) (array_part new) (contents_of makers qhead qtail old) (contents_of makers qhead qtail new)
 array_agrees makers qhead qtail old new p own = grind arith
 
-pub array_operates : {R : ℕ} (makers : List (ListOf R)) (qhead qtail : SegName) (old new : ArrayParts) (p : Place) (op : Operation) → is_array p ≡ true
+pub array_operates : {R : ℕ} (makers : List (ListOf (Segment R))) (qhead qtail : SegName) (old new : ArrayParts) (p : Place) (op : Operation) → is_array p ≡ true
     → (r : Result Done Refusal) → IfOk r (λ done. Operates everywhere p op done (array_part old) (array_part new))
     → IfOk r (λ done. Operates everywhere p op done (contents_of makers qhead qtail old) (contents_of makers qhead qtail new))
 array_operates makers qhead qtail old new p op own (Err e) h = tt
@@ -104,7 +110,7 @@ array_operates makers qhead qtail old new p op own (Ok done) h =
     lift_operates is_array p op done (array_part old) (array_part new) (contents_of makers qhead qtail old) (contents_of makers qhead qtail new)
     (array_agrees makers qhead qtail old new p own) (narrow is_array (operate p op (operand (array_part old) p)) done (array_part old) (array_part new) h)
 
-pub array_unchanged : {R : ℕ} (makers : List (ListOf R)) (qhead qtail : SegName) (old new : ArrayParts) {T : Type 0} → (r : Result T Refusal)
+pub array_unchanged : {R : ℕ} (makers : List (ListOf (Segment R))) (qhead qtail : SegName) (old new : ArrayParts) {T : Type 0} → (r : Result T Refusal)
     → OnErr r (array_part new ≡ array_part old) → OnErr r (contents_of makers qhead qtail new ≡ contents_of makers qhead qtail old)
 array_unchanged makers qhead qtail old new (Ok done) h = tt
 array_unchanged {R} makers qhead qtail old new (Err e) h = fun_ext each
@@ -115,7 +121,7 @@ array_unchanged {R} makers qhead qtail old new (Err e) h = fun_ext each
     each (place.ArrCell i) = ap (λ (at : Contents). at (place.ArrCell i)) h
     each _ = refl
 
-pub array_restored : {R : ℕ} (makers : List (ListOf R)) (qhead qtail : SegName) (old new : ArrayParts) (p : Place) (c : Content) → is_array p ≡ true
+pub array_restored : {R : ℕ} (makers : List (ListOf (Segment R))) (qhead qtail : SegName) (old new : ArrayParts) (p : Place) (c : Content) → is_array p ≡ true
     → array_part new ≡ restore (Some p) (Some c) (array_part old)
     → contents_of makers qhead qtail new ≡ restore (Some p) (Some c) (contents_of makers qhead qtail old)
 array_restored makers qhead qtail old new p c own same =
@@ -124,11 +130,11 @@ array_restored makers qhead qtail old new p c own same =
 
 -- A fresh space
 
-fresh_parts : {R : ℕ} (makers : List (ListOf R)) (t : SegName) (q : Place) → IsFresh makers → is_of root q ≡ name_eq root t
+fresh_parts : {R : ℕ} (makers : List (ListOf (Segment R))) (t : SegName) (q : Place) → IsFresh makers → is_of root q ≡ name_eq root t
     → part_of (by_name makers t) q ≡ (if is_of root q then fresh_segment R q else None)
 fresh_parts {R} makers t q h of = grind arith
 
-pub space_fresh : {R : ℕ} (makers : List (ListOf R)) (array : ArrayParts) → IsFresh makers → array_part array ≡ fresh_array
+pub space_fresh : {R : ℕ} (makers : List (ListOf (Segment R))) (array : ArrayParts) → IsFresh makers → array_part array ≡ fresh_array
     → contents_of makers root root array ≡ fresh_space R
 space_fresh {R} makers array h k = fun_ext each
   where
@@ -140,8 +146,8 @@ space_fresh {R} makers array h k = fun_ext each
     each (place.Next t) = fresh_parts makers t (place.Next t) h refl
     each (place.Val t i) = fresh_parts makers t (place.Val t i) h refl
     each (place.Idx t i) = fresh_parts makers t (place.Idx t i) h refl
-    each (place.Cell t i) = sym (cond_both (name_eq root t) (fresh_segment R (place.Cell t i)) None (λ (x : Option Content). x ≡ None) (λ e. refl) (λ e. refl))
-    each (place.Whole t) = sym (cond_both (name_eq root t) (fresh_segment R (place.Whole t)) None (λ (x : Option Content). x ≡ None) (λ e. refl) (λ e. refl))
+    each (place.Cell t i) = fresh_parts makers t (place.Cell t i) h refl
+    each (place.Whole t) = fresh_parts makers t (place.Whole t) h refl
     each place.ArrHead = ap (λ (at : Contents). at place.ArrHead) k
     each place.ArrTail = ap (λ (at : Contents). at place.ArrTail) k
     each (place.ArrCell i) = ap (λ (at : Contents). at (place.ArrCell i)) k

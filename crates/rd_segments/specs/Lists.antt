@@ -2,21 +2,20 @@
 use Rattle.std.specs.Option.{option_map_or}
 use Rattle.std.specs.Prelude.{◌≡◌, ℕ, ◌<◌, ◌++◌, ◌∷◌, [], List, Vec, Option, Some, None, slice_get, if◌then◌else◌, length, option_and_then}
 use Rattle.std.specs.declared.alloc.Global.{Global}
-use Rattle.rd_ring.specs.Prelude.{MOST_SEGMENTS, SegName, Place, Content, Contents, root, name_eq, fresh_segment, holding}
+use Rattle.rd_ring.specs.Prelude.{MOST_SEGMENTS, SegName, Place, Content, Contents, root, name_eq, named, fresh_segment, holding}
 use Rattle.rd_ring.specs.declared.segments.Segment.{Segment}
 use Rattle.rd_ring.specs.Segments.{part}
-use Rattle.rd_cell.specs.declared.places.Place.TheVariants as place
 
--- the type of one maker's list of segments, in the order of their making
-abbrev pub ListOf : ℕ → Type 0
-ListOf R = Vec (Segment R) Global
+-- the type of one maker's list, with an element for each segment, in the order of their making
+abbrev pub ListOf : Type 0 → Type 0
+ListOf X = Vec X Global
 
 -- the element n, from 0, of a maker's list; none if there is no list
-abbrev pub by_number : {X : Type 0} → Option (Vec X Global) → ℕ → Option X
+abbrev pub by_number : {X : Type 0} → Option (ListOf X) → ℕ → Option X
 by_number o n = option_and_then (λ list. slice_get list.items n) o
 
 -- the element of this name in the makers' lists, if there is one
-abbrev pub by_name : {X : Type 0} → List (Vec X Global) → SegName → Option X
+abbrev pub by_name : {X : Type 0} → List (ListOf X) → SegName → Option X
 by_name makers s = by_number (slice_get makers s.maker) s.n
 
 -- the content of a segment's place, or none if there is no segment
@@ -26,33 +25,28 @@ part_of o p = option_and_then (λ s. part s p) o
 -- the contents of the places of all segments, where `segment` gives the contents of the segment of
 -- each name
 abbrev pub segments_by : (SegName → Contents) → Contents
-segments_by segment (place.Head n) = segment n (place.Head n)
-segments_by segment (place.Tail n) = segment n (place.Tail n)
-segments_by segment (place.Next n) = segment n (place.Next n)
-segments_by segment (place.Val n i) = segment n (place.Val n i)
-segments_by segment (place.Idx n i) = segment n (place.Idx n i)
-segments_by segment _ = None
+segments_by segment p = option_and_then (λ s. segment s p) (named p)
 
 -- the contents of the places of all segments in these lists
-abbrev pub segments_of : {R : ℕ} → List (ListOf R) → Contents
+abbrev pub segments_of : {R : ℕ} → List (ListOf (Segment R)) → Contents
 segments_of makers = segments_by (λ n. part_of (by_name makers n))
 
 -- how many segments there are in a list, if there is one
-abbrev pub count_in : {X : Type 0} → Option (Vec X Global) → ℕ
+abbrev pub count_in : {X : Type 0} → Option (ListOf X) → ℕ
 count_in o = option_map_or (λ list. length list.items) o 0
 
 -- how many segments this maker has in the lists
-abbrev pub count : {X : Type 0} → List (Vec X Global) → ℕ → ℕ
+abbrev pub count : {X : Type 0} → List (ListOf X) → ℕ → ℕ
 count makers m = count_in (slice_get makers m)
 
 -- the lists have this segment, or none, under this name now, and under every other name what they
 -- had
-pub record Changes {R : ℕ} (name : SegName) (o : Option (Segment R)) (old new : List (ListOf R)) : Type 0 where
+pub record Changes {R : ℕ} (name : SegName) (o : Option (Segment R)) (old new : List (ListOf (Segment R))) : Type 0 where
   pub at : (t : SegName) → by_name new t ≡ (if name_eq name t then o else by_name old t)
 
 -- a maker's list got one more segment at its end, which holds the value and has the list's old
 -- length as its number
-pub record IsLengthened (R maker value : ℕ) (name : SegName) (old new : ListOf R) : Type 0 where
+pub record IsLengthened {R : ℕ} (maker value : ℕ) (name : SegName) (old new : ListOf (Segment R)) : Type 0 where
   pub name_is : name ≡ record { maker = maker; n = length old.items }
   pub below : length old.items < MOST_SEGMENTS
   pub segment : Segment R
@@ -60,7 +54,7 @@ pub record IsLengthened (R maker value : ℕ) (name : SegName) (old new : ListOf
   pub pushed : new.items ≡ old.items ++ segment ∷ []
 
 -- the lists of a fresh space: the root is there, fresh, and no other segment
-pub record IsFresh {R : ℕ} (makers : List (ListOf R)) : Type 0 where
+pub record IsFresh {R : ℕ} (makers : List (ListOf (Segment R))) : Type 0 where
   pub segment : Segment R
   pub fresh_parts : (q : Place) → part segment q ≡ fresh_segment R q
   pub at : (t : SegName) → by_name makers t ≡ (if name_eq root t then Some segment else None)

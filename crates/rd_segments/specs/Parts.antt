@@ -1,30 +1,27 @@
 -- A space, as it is put together from parts.
-use Rattle.std.specs.Prelude.{◌≡◌, ℕ, Bool, List, Vec, Option, slice_get, option_and_then}
+use Rattle.std.specs.Prelude.{◌≡◌, ℕ, Bool, List, Option, slice_get, option_and_then}
 use Rattle.std.specs.List.{list_all}
-use Rattle.std.specs.declared.alloc.Global.{Global}
 use Rattle.rd_ring.specs.Prelude.{SegName, Place, Contents}
+use Rattle.rd_ring.specs.declared.segments.Segment.{Segment}
 use Rattle.rd_ring.specs.declared.parts.SegmentParts.{SegmentParts}
 use Rattle.rd_ring.specs.Segments.{part_from}
 use Rattle.rd_segments.specs.declared.array.ArrayParts.{ArrayParts}
+use Rattle.rd_segments.specs.Array.{array_part}
 use Rattle.rd_segments.specs.Lists.{ListOf, by_name, part_of, segments_by}
 use Rattle.rd_segments.specs.SpaceFields.{contents_by}
-
--- the type of the parts of one maker's list, an element for each segment
-abbrev pub PartsOf : ℕ → Type 0
-PartsOf R = Vec (SegmentParts R) Global
 
 -- the content of each place of a segment with these words, or none if there is no segment
 abbrev pub part_of_parts : {R : ℕ} → Option (SegmentParts R) → Contents
 part_of_parts o p = option_and_then (λ s. part_from s p) o
 
 -- the content of each place of a space that is put together from these parts
-abbrev pub contents_of_parts : {R : ℕ} → List (PartsOf R) → SegName → SegName → ArrayParts → Contents
-contents_of_parts makers = contents_by (segments_by (λ n. part_of_parts (by_name makers n)))
+abbrev pub contents_of_parts : {R : ℕ} → List (ListOf (SegmentParts R)) → SegName → SegName → ArrayParts → Contents
+contents_of_parts makers qhead qtail array = contents_by (segments_by (λ n. part_of_parts (by_name makers n))) qhead qtail (array_part array)
 
 -- whether a test holds of each segment of each maker's list
-abbrev pub each_segment : {R : ℕ} → (SegmentParts R → Bool) → List (PartsOf R) → Bool
+abbrev pub each_segment : {R : ℕ} → (SegmentParts R → Bool) → List (ListOf (SegmentParts R)) → Bool
 each_segment test makers = list_all (λ list. list_all test list.items) makers
 
 -- the list has the segments that these parts describe, in their order
-pub record IsOfParts {R : ℕ} (parts : PartsOf R) (list : ListOf R) : Type 0 where
+pub record IsOfParts {R : ℕ} (parts : ListOf (SegmentParts R)) (list : ListOf (Segment R)) : Type 0 where
   pub at : (n : ℕ) (q : Place) → part_of (slice_get list.items n) q ≡ part_of_parts (slice_get parts.items n) q

@@ -2,15 +2,16 @@
 use Rattle.std.specs.Option.{option_map_or}
 use Rattle.std.specs.Prelude.{ℕ, ◌-◌, ◌==◌, ◌&&◌, Bool, true, List, Option, Some, None, slice_get, if◌then◌else◌, vec_len, vec_capacity}
 use Rattle.rd_ring.specs.Prelude.{Place, Content}
+use Rattle.rd_ring.specs.declared.segments.Segment.{Segment}
 use Rattle.rd_segments.specs.Lists.{ListOf}
 use Rattle.rd_cell.specs.declared.places.Place.TheVariants as place
 
 -- how many more segments a list has room for, if there is one
-abbrev pub spare_in : {R : ℕ} → Option (ListOf R) → ℕ
+abbrev pub spare_in : {R : ℕ} → Option (ListOf (Segment R)) → ℕ
 spare_in o = option_map_or (λ list. vec_capacity list - vec_len list) o 0
 
 -- how many more segments this maker's list has room for
-abbrev pub spare : {R : ℕ} → List (ListOf R) → ℕ → ℕ
+abbrev pub spare : {R : ℕ} → List (ListOf (Segment R)) → ℕ → ℕ
 spare makers m = spare_in (slice_get makers m)
 
 -- how much of maker m's room a making by `maker` uses: one if it succeeded and the two are one

@@ -1,6 +1,7 @@
 -- The space's fields as one map from places to contents.
 use Rattle.std.specs.Prelude.{ℕ, List, Some, None, if◌then◌else◌}
 use Rattle.rd_ring.specs.Prelude.{SegName, root, is_of, Contents, fresh_segment}
+use Rattle.rd_ring.specs.declared.segments.Segment.{Segment}
 use Rattle.rd_segments.specs.declared.array.ArrayParts.{ArrayParts}
 use Rattle.rd_segments.specs.Lists.{ListOf, segments_of}
 use Rattle.rd_segments.specs.Array.{array_part, fresh_array}
@@ -8,26 +9,21 @@ use Rattle.rd_cell.specs.declared.places.Place.TheVariants as place
 use Rattle.rd_cell.specs.declared.contents.Content.TheVariants as content
 
 -- the content of each place of a space with these contents of the segments, these names at the
--- queue's ends and this array
-abbrev pub contents_by : Contents → SegName → SegName → ArrayParts → Contents
+-- queue's ends and these contents of the array
+abbrev pub contents_by : Contents → SegName → SegName → Contents → Contents
 contents_by segments qhead qtail array place.QHead = Some (content.Name qhead)
 contents_by segments qhead qtail array place.QTail = Some (content.Name qtail)
-contents_by segments qhead qtail array place.ArrHead = array_part array place.ArrHead
-contents_by segments qhead qtail array place.ArrTail = array_part array place.ArrTail
-contents_by segments qhead qtail array (place.ArrCell i) = array_part array (place.ArrCell i)
+contents_by segments qhead qtail array place.ArrHead = array place.ArrHead
+contents_by segments qhead qtail array place.ArrTail = array place.ArrTail
+contents_by segments qhead qtail array (place.ArrCell i) = array (place.ArrCell i)
 contents_by segments qhead qtail array p = segments p
 
 -- the content of each place of a space with these lists of segments, these names at the queue's
 -- ends and this array
-abbrev pub contents_of : {R : ℕ} → List (ListOf R) → SegName → SegName → ArrayParts → Contents
-contents_of makers = contents_by (segments_of makers)
+abbrev pub contents_of : {R : ℕ} → List (ListOf (Segment R)) → SegName → SegName → ArrayParts → Contents
+contents_of makers qhead qtail array = contents_by (segments_of makers) qhead qtail (array_part array)
 
 -- the contents of a fresh space of rings of R cells: the root alone is there, it is fresh, the
 -- queue's ends name it, and the array is fresh
 abbrev pub fresh_space : ℕ → Contents
-fresh_space R place.QHead = Some (content.Name root)
-fresh_space R place.QTail = Some (content.Name root)
-fresh_space R place.ArrHead = fresh_array place.ArrHead
-fresh_space R place.ArrTail = fresh_array place.ArrTail
-fresh_space R (place.ArrCell i) = fresh_array (place.ArrCell i)
-fresh_space R q = if is_of root q then fresh_segment R q else None
+fresh_space R = contents_by (λ p. if is_of root p then fresh_segment R p else None) root root fresh_array

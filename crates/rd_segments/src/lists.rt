@@ -1,7 +1,7 @@
 //! The makers' lists of segments: what is done to one segment of one list.
 
 ghost use Rattle.std.specs.Prelude.{◌≡◌, ◌≢◌, ◌+◌, ◌-◌, ◌<◌, ◌≤◌, ℕ, Some, None, Err, is_some, IsTrue, IfOk, IfErr, OnOk, OnErr, MatchOption, take, true, length, is_ok, vec_len, vec_capacity, if◌then◌else◌};
-ghost use Rattle.rd_ring.specs.Prelude.{MOST_CELLS, SegName, Place, segment_of, can_hold, operand, operate, everywhere, Operates, Makes, Restores, RefusesMaking};
+ghost use Rattle.rd_ring.specs.Prelude.{MOST_CELLS, SegName, Place, segment_of, can_hold, operand, operate, holding, everywhere, Operates, Makes, Restores, RefusesMaking};
 ghost use Rattle.rd_cell.specs.Operations.{suits_segments};
 ghost use Rattle.rd_segments.specs.Lists.{by_name, part_of, segments_of, count, IsLengthened};
 ghost use Rattle.rd_segments.specs.Room.{spare, room_used};
@@ -77,7 +77,7 @@ pub fn make_in<const R: usize>(
     requires small { R ≤ MOST_CELLS }
     requires maker_there { maker < length makers.old.items }
     ensures name { IfOk result (λ name. name ≡ record { maker = maker; n = count makers.old.items maker }) }
-    ensures ok { IfOk result (λ name. Makes R name value (segments_of makers.old.items) (segments_of makers.new.items)) }
+    ensures ok { IfOk result (λ name. Makes name (holding R value) (segments_of makers.old.items) (segments_of makers.new.items)) }
     ensures err { IfErr result (λ e. RefusesMaking (count makers.old.items maker) (spare makers.old.items maker) e) }
     ensures unchanged { OnErr result (segments_of makers.new.items ≡ segments_of makers.old.items) }
     ensures room { (m : ℕ) → spare makers.old.items m ≤ spare makers.new.items m + room_used (is_ok result) maker m }
@@ -98,7 +98,7 @@ fn make_next<const R: usize>(
 ) -> Result<SegName, Refusal>
     requires positive { 1 ≤ R }
     requires small { R ≤ MOST_CELLS }
-    ensures ok { IfOk result (λ name. IsLengthened R maker value name list.old list.new) }
+    ensures ok { IfOk result (λ name. IsLengthened maker value name list.old list.new) }
     ensures err { IfErr result (λ e. RefusesMaking (length list.old.items) (vec_capacity list.old - vec_len list.old) e) }
     ensures unchanged { OnErr result (list.new.items ≡ list.old.items) }
     ensures room { vec_capacity list.old - vec_len list.old ≤ (vec_capacity list.new - vec_len list.new) + (if is_ok result then 1 else 0) }

@@ -1,7 +1,7 @@
 //! The space and what is done to it.
 
 ghost use Rattle.std.specs.Prelude.{◌≡◌, ◌≢◌, ◌+◌, ◌-◌, ◌<◌, ◌≤◌, ◌↔◌, ℕ, suc, true, Some, None, is_ok, is_some, Err, IsTrue, IfOk, IfErr, OnOk, OnErr, length};
-ghost use Rattle.rd_ring.specs.Prelude.{MOST_CELLS, root, content_at, can_hold, operand, operate, restore, everywhere, Operates, Makes, RefusesMaking};
+ghost use Rattle.rd_ring.specs.Prelude.{MOST_CELLS, root, content_at, can_hold, operand, operate, restore, holding, everywhere, Operates, Makes, RefusesMaking};
 ghost use Rattle.rd_cell.specs.Operations.{suits};
 ghost use Rattle.rd_segments.specs.Room.{room_used};
 ghost use Rattle.rd_segments.specs.SpaceFields.{fresh_space};
@@ -204,7 +204,7 @@ impl<const R: usize> Space<R> {
     pub fn make(&mut self, maker: u8, value: u64) -> Result<SegName, Refusal>
         requires { maker < lists self.old }
         ensures name { IfOk result (λ name. name ≡ record { maker = maker; n = making_count self.old maker }) }
-        ensures ok { IfOk result (λ name. Makes R name value (contents self.old) (contents self.new)) }
+        ensures ok { IfOk result (λ name. Makes name (holding R value) (contents self.old) (contents self.new)) }
         ensures err { IfErr result (λ e. RefusesMaking (making_count self.old maker) (room self.old maker) e) }
         ensures unchanged { OnErr result (contents self.new ≡ contents self.old) }
         ensures used { (m : ℕ) → room self.old m ≤ room self.new m + room_used (is_ok result) maker m }

@@ -1,6 +1,6 @@
 -- Parts with a list for each maker, whose world is well-formed, have no flaw.
 use Rattle.std.proofs.Common.{◌≡◌, ℕ, zero, suc, ◌+◌, ◌≤◌, Bool, true, not, ◌&&◌, nat_lt, nat_le, ◌↔◌, if◌then◌else◌, inl, inr, refl, ◌∙◌, ap, subst, arith, List, [], ◌∷◌, length, slice_get, Option, Some, None, option_map, le-leb, ltb-true, eq-eqb}
-use Rattle.rd_step.proofs.Prelude.{list_all, cases_lt, and_parts, and_from, MOST_ACTORS, MOST_SEGMENTS, COUNTER_END, Cell, SegName, Place, SegmentParts, counters_fit, by_number, by_name, count_in, count, PartsOf, part_of_parts, each_segment, in_list, numbered_there, Actor, words_fit, Parts, Flaw, numbered, Presence, place_fits, next_fits, names_fit, numbers_fit, record_fits, actor_fits, is_actor, IsNumbered, AreMade, IsWellFormed, world_of_parts, has, indexes_fit, first_flaw}
+use Rattle.rd_step.proofs.Prelude.{list_all, cases_lt, and_parts, and_from, MOST_ACTORS, MOST_SEGMENTS, COUNTER_END, Cell, SegName, Place, SegmentParts, counters_fit, by_number, by_name, count_in, count, ListOf, part_of_parts, each_segment, in_list, numbered_there, Actor, words_fit, Parts, Flaw, numbered, Presence, place_fits, next_fits, names_fit, numbers_fit, record_fits, actor_fits, is_actor, IsNumbered, AreMade, IsWellFormed, world_of_parts, has, indexes_fit, first_flaw}
 use Rattle.rd_ring.specs.Segments.{part_from}
 use Rattle.rd_step.proofs.Assembled.{NoFlaw, within, presence, numbered_below, assembled, lists_right}
 use Rattle.rd_cell.specs.declared.places.Place.TheVariants as place
@@ -21,7 +21,7 @@ all_from : {X : Type 0} (test : X → Bool) (xs : List X) → ((i : ℕ) (x : X)
 all_from test [] h = refl
 all_from test (x ∷ xs) h = and_from (test x) (list_all test xs) (h 0 x refl) (all_from test xs (λ i y e. h (suc i) y e))
 
-each_from : {R : ℕ} (test : SegmentParts R → Bool) (makers : List (PartsOf R))
+each_from : {R : ℕ} (test : SegmentParts R → Bool) (makers : List (ListOf (SegmentParts R)))
     → ((s : SegName) (x : SegmentParts R) → by_name makers s ≡ Some x → test x ≡ true) → each_segment test makers ≡ true
 each_from test makers h =
     all_from (λ list. list_all test list.items) makers
@@ -56,10 +56,10 @@ few_made p made (suc m) =
       | inr few ↦ few
     ]
 
-few_segments : {R : ℕ} (p : Parts R) → AreMade (is_actor (numbered p.actors.items)) (has p) → (m : ℕ) (list : PartsOf R)
+few_segments : {R : ℕ} (p : Parts R) → AreMade (is_actor (numbered p.actors.items)) (has p) → (m : ℕ) (list : ListOf (SegmentParts R))
     → slice_get p.segments.items m ≡ Some list → nat_le (length list.items) MOST_SEGMENTS ≡ true
 few_segments {R} p made m list e =
-    le-leb (length list.items) MOST_SEGMENTS (subst (λ (o : Option (PartsOf R)). count_in o ≤ MOST_SEGMENTS) e (few_made p made m))
+    le-leb (length list.items) MOST_SEGMENTS (subst (λ (o : Option (ListOf (SegmentParts R))). count_in o ≤ MOST_SEGMENTS) e (few_made p made m))
 
 -- What is there fits
 

@@ -1,6 +1,7 @@
 -- Parts without a flaw are a well-formed world.
 use Rattle.std.proofs.Common.{◌≡◌, ℕ, zero, suc, ◌+◌, ◌<◌, ◌≤◌, Bool, true, false, not, ◌==◌, ◌&&◌, nat_lt, nat_le, if◌then◌else◌, inl, inr, refl, sym, ◌∙◌, ap, subst, arith, List, [], ◌∷◌, length, slice_get, Option, Some, None, is_some, option_map, lt-ltb, le-ltb, leb-true, eqb-true, eq-eqb}
-use Rattle.rd_step.proofs.Prelude.{list_all, cases_lt, and_parts, and_from, both_ways, slice_get_past, fun_ext, MOST_ACTORS, SLOTS, MOST_SEGMENTS, COUNTER_END, Cell, SegName, Place, ArrSlot, is_there, SegmentParts, counters_fit, by_number, by_name, count_in, count, Space, contents, PartsOf, part_of_parts, contents_of_parts, each_segment, in_list, numbered_there, Actor, words_fit, Parts, Flaw, world_of_fields, numbered, Presence, belongs, place_fits, next_fits, names_fit, numbers_fit, actor_fits, is_actor, IsNumbered, AreMade, IsWellFormed, world_of_parts, has, indexes_fit, first_flaw}
+use Rattle.rd_step.proofs.Prelude.{list_all, cases_lt, and_parts, and_from, both_ways, slice_get_past, fun_ext, MOST_ACTORS, SLOTS, MOST_SEGMENTS, COUNTER_END, Cell, SegName, Place, ArrSlot, is_there, SegmentParts, counters_fit, by_number, by_name, count_in, count, Space, contents, ListOf, part_of_parts, contents_of_parts, each_segment, in_list, numbered_there, Actor, words_fit, Parts, Flaw, world_of_fields, numbered, Presence, belongs, place_fits, next_fits, names_fit, numbers_fit, actor_fits, is_actor, IsNumbered, AreMade, IsWellFormed, world_of_parts, has, indexes_fit, first_flaw}
+use Rattle.rd_ring.specs.Segments.{part_from}
 use Rattle.rd_segments.proofs.CountLemmas.{numbered_absent}
 use Rattle.rd_cell.specs.declared.places.Place.TheVariants as place
 use Rattle.rd_cell.specs.declared.contents.Content.TheVariants as content
@@ -39,11 +40,11 @@ all_at test [] i x h k = cc
 all_at test (y ∷ xs) zero x h k = grind arith
 all_at test (y ∷ xs) (suc i) x h k = all_at test xs i x (and_parts (test y) (list_all test xs) h).1 k
 
-each_in : {R : ℕ} (test : SegmentParts R → Bool) (makers : List (PartsOf R)) (m n : ℕ) (o : Option (PartsOf R)) (s : SegmentParts R)
+each_in : {R : ℕ} (test : SegmentParts R → Bool) (makers : List (ListOf (SegmentParts R))) (m n : ℕ) (o : Option (ListOf (SegmentParts R))) (s : SegmentParts R)
     → each_segment test makers ≡ true → slice_get makers m ≡ o → by_number o n ≡ Some s → test s ≡ true
 each_in test makers m n o s h k there = grind (arith, all_at)
 
-each_at : {R : ℕ} (test : SegmentParts R → Bool) (makers : List (PartsOf R)) (t : SegName) (s : SegmentParts R) → each_segment test makers ≡ true
+each_at : {R : ℕ} (test : SegmentParts R → Bool) (makers : List (ListOf (SegmentParts R))) (t : SegName) (s : SegmentParts R) → each_segment test makers ≡ true
     → by_name makers t ≡ Some s → test s ≡ true
 each_at test makers t s h there = each_in test makers t.maker t.n (slice_get makers t.maker) s h refl there
 
@@ -62,14 +63,14 @@ there_if o s = grind arith
 pub presence : {R : ℕ} (p : Parts R) → is_there (world_of_parts p).at ≡ has p
 presence p = fun_ext (λ s. there_if (by_name p.segments.items s) s)
 
-pub numbered_below : {R : ℕ} (o : Option (PartsOf R)) (n : ℕ) → is_some (by_number o n) ≡ true → n < count_in o
+pub numbered_below : {R : ℕ} (o : Option (ListOf (SegmentParts R))) (n : ℕ) → is_some (by_number o n) ≡ true → n < count_in o
 numbered_below o n h = grind (arith, both_ways, is_some, numbered_absent)
 
-few_in : {R : ℕ} (makers : List (PartsOf R)) (m : ℕ) (o : Option (PartsOf R)) → list_all (λ list. nat_le (length list.items) MOST_SEGMENTS) makers ≡ true
+few_in : {R : ℕ} (makers : List (ListOf (SegmentParts R))) (m : ℕ) (o : Option (ListOf (SegmentParts R))) → list_all (λ list. nat_le (length list.items) MOST_SEGMENTS) makers ≡ true
     → slice_get makers m ≡ o → count_in o ≤ MOST_SEGMENTS
 few_in makers m o h k = grind (arith, leb-true, all_at, nat_le)
 
-has_list : {R : ℕ} (makers : List (PartsOf R)) (m n : ℕ) → is_some (by_number (slice_get makers m) n) ≡ true → m < length makers
+has_list : {R : ℕ} (makers : List (ListOf (SegmentParts R))) (m n : ℕ) → is_some (by_number (slice_get makers m) n) ≡ true → m < length makers
 has_list makers m n h = grind (arith, is_some, slice_get_past)
 
 segments_made : {R : ℕ} (p : Parts R) → NoFlaw p → AreMade (is_actor (numbered p.actors.items)) (has p)
@@ -105,6 +106,10 @@ tail_there o s = grind arith
 next_there : {R : ℕ} (o : Option (SegmentParts R)) (s : SegName) → is_some (part_of_parts o (place.Next s)) ≡ is_some o
 next_there o s = grind arith
 
+no_place : {R : ℕ} (o : Option (SegmentParts R)) (q : Place) → ((x : SegmentParts R) → part_from x q ≡ None) → is_some (part_of_parts o q) ≡ false
+no_place None q none = refl
+no_place (Some x) q none = ap is_some (none x)
+
 places_belong : {R : ℕ} (p : Parts R) (q : Place) → is_some ((world_of_parts p).at q) ≡ belongs R (has p) q
 places_belong p place.QHead = refl
 places_belong p place.QTail = refl
@@ -113,8 +118,8 @@ places_belong p (place.Tail s) = tail_there (by_name p.segments.items s) s
 places_belong p (place.Next s) = next_there (by_name p.segments.items s) s
 places_belong {R} p (place.Val s i) = value_there R (by_name p.segments.items s) s i
 places_belong {R} p (place.Idx s i) = index_there R (by_name p.segments.items s) s i
-places_belong p (place.Cell s i) = refl
-places_belong p (place.Whole s) = refl
+places_belong p (place.Cell s i) = no_place (by_name p.segments.items s) (place.Cell s i) (λ x. refl)
+places_belong p (place.Whole s) = no_place (by_name p.segments.items s) (place.Whole s) (λ x. refl)
 places_belong p place.ArrHead = refl
 places_belong p place.ArrTail = refl
 places_belong p (place.ArrCell i) = some_in content.Slot p.array.cells i SLOTS p.array.sized

@@ -54,7 +54,7 @@ pub absent_place : (R : ℕ) (there : Presence) (s : SegName) (q : Place) → th
 absent_place R there s q h e = grind arith
 
 back-make : (actor n x : ℕ) (w : World) → IsWellFormed w → (n < MOST_SEGMENTS → is_there w.at (record { maker = actor; n = n }) ≡ false)
-    → IfOk (make w.ring (record { maker = actor; n = n }) x) (PutsBack w.at)
+    → IfOk (make (record { maker = actor; n = n }) (holding w.ring x)) (PutsBack w.at)
 back-make actor n x w formed absent =
     let s : SegName = record { maker = actor; n = n } in
     cond_both (nat_lt n MOST_SEGMENTS) _ _ (λ (r : Result Performed Refusal). IfOk r (PutsBack w.at))

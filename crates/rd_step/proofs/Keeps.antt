@@ -1,6 +1,6 @@
 -- A step keeps a world well-formed.
 use Rattle.std.proofs.Common.{◌≡◌, ℕ, Bool, true, ◌==◌, nat_lt, inl, inr, refl, sym, ◌∙◌, ap, subst, subst₂, Option, Some, None, is_some, IfSome, Result, Ok, Err, IfOk, arith}
-use Rattle.rd_step.proofs.Prelude.{cases_Bool, cond_both, IfOk-at_ok, fun_ext, SegName, Place, Content, Access, NoPlace, At, Make, Operation, Refusal, MOST_SEGMENTS, root, some_covers, written, share, wrote_by, operand, contents_after, Contents, is_there, Effect, effect, Performed, operate, make, perform, effect_at, result_map, name_eq-refl, written-covers, after_write-outside, Actor, need, after, World, Event, Stepped, with_actor, step_outcome, step, Presence, belongs, content_fits, place_fits, record_fits, actor_fits, is_actor, IsNumbered, AreMade, IsWellFormed}
+use Rattle.rd_step.proofs.Prelude.{holding, cases_Bool, cond_both, IfOk-at_ok, fun_ext, SegName, Place, Content, Access, NoPlace, At, Make, Operation, Refusal, MOST_SEGMENTS, root, some_covers, written, share, wrote_by, operand, contents_after, Contents, is_there, Effect, effect, Performed, operate, make, perform, effect_at, result_map, name_eq-refl, written-covers, after_write-outside, Actor, need, after, World, Event, Stepped, with_actor, step_outcome, step, Presence, belongs, content_fits, place_fits, record_fits, actor_fits, is_actor, IsNumbered, AreMade, IsWellFormed}
 use Rattle.rd_ring.specs.Prelude.{wrote_content, number_made}
 use Rattle.rd_cell.specs.Contents.{after_write_at}
 use Rattle.rd_cell.proofs.AccessLemmas.{after_write-inside, after-is_some}
@@ -121,7 +121,7 @@ keeps_operate w e a p op (Some c) formed has needs fits found good =
 
 keeps_make : (w : World) (e : Event) (a : Actor) (v : ℕ) → IsWellFormed w → w.actor e.actor ≡ Some a
     → need w.ring a e.act ≡ Ok (Make v) → record_fits w.ring (is_there w.at) a ≡ true
-    → IfOk (make w.ring (record { maker = e.actor; n = number_made w.at e.actor }) v) (Keeps w e a)
+    → IfOk (make (record { maker = e.actor; n = number_made w.at e.actor }) (holding w.ring v)) (Keeps w e a)
 keeps_make w e a v formed has needs fits =
     let s : SegName = record { maker = e.actor; n = number_made w.at e.actor } in
     let at' : Contents = laid w.ring s v w.at in

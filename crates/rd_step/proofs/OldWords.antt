@@ -1,6 +1,6 @@
 -- The old words of a step's entry are the words from before the step.
 use Rattle.std.proofs.Common.{◌≡◌, ℕ, refl, subst, Option, Some, Ok, IfOk, arith}
-use Rattle.rd_step.proofs.Prelude.{IfOk-at_ok, SegName, Place, Content, Access, NoPlace, At, Make, Operation, Contents, operand, Performed, operate, make, perform, World, Event, Stepped, step, IsWellFormed}
+use Rattle.rd_step.proofs.Prelude.{holding, IfOk-at_ok, SegName, Place, Content, Access, NoPlace, At, Make, Operation, Contents, operand, Performed, operate, make, perform, World, Event, Stepped, step, IsWellFormed}
 use Rattle.rd_ring.specs.Prelude.{number_made}
 use Rattle.rd_step.specs.Laws.{KeepsOldWords}
 use Rattle.rd_step.proofs.Steps.{took}
@@ -13,7 +13,7 @@ notes-operate : (p : Place) (op : Operation) (o : Option Content) (at : Contents
 notes-operate p op o at h = grind arith
 
 -- the whole of a segment takes no operation
-notes-make : (x : ℕ) (s : SegName) (w : World) → IfOk (make w.ring s x) (NotesOld w.at)
+notes-make : (x : ℕ) (s : SegName) (w : World) → IfOk (make s (holding w.ring x)) (NotesOld w.at)
 notes-make x s w = grind arith
 
 notes-perform : (actor : ℕ) (w : World) (x : Access) → IsWellFormed w → IfOk (perform w.ring actor w.at x) (NotesOld w.at)

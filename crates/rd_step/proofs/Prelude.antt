@@ -26,8 +26,8 @@ pub use Rattle.rd_ring.specs.Prelude.{Access, Add, AddArray, Answer, ArrSlot, At
 pub use Rattle.rd_ring.specs.Segments.{counters_fit}
 pub use Rattle.rd_ring.specs.declared.parts.SegmentParts.{SegmentParts}
 pub use Rattle.rd_segments.proofs.CountLemmas.{in_list, numbered_there}
-pub use Rattle.rd_segments.specs.Lists.{by_name, by_number, count, count_in}
-pub use Rattle.rd_segments.specs.Parts.{PartsOf, contents_of_parts, each_segment, part_of_parts}
+pub use Rattle.rd_segments.specs.Lists.{ListOf, by_name, by_number, count, count_in}
+pub use Rattle.rd_segments.specs.Parts.{contents_of_parts, each_segment, part_of_parts}
 pub use Rattle.rd_segments.specs.Room.{room_used}
 pub use Rattle.rd_segments.specs.Space.{contents, lists, room}
 pub use Rattle.rd_segments.specs.declared.space.Space.{Space}

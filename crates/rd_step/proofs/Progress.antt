@@ -1,7 +1,7 @@
 -- Progress: what an actor of a well-formed world asks for suits what is there, and the answer leads
 -- it to another control point.
 use Rattle.std.proofs.Common.{◌≡◌, ◌≢◌, ℕ, ◌≤◌, Bool, true, false, if◌then◌else◌, nat_lt, nat_le, refl, sym, ◌∙◌, ap, subst, arith, Option, Some, None, is_some, is_none, ok_or, Result, Ok, Err, IfOk}
-use Rattle.rd_step.proofs.Prelude.{common_steps, cond_both, and_parts, IfOk-at_ok, fun_ext, MOST_SEGMENTS, Cell, SegName, Place, Wrote, ArrSlot, Content, Operation, Access, NoPlace, At, Make, Refusal, some_covers, is_nothing, written, Contents, is_there, operand, Effect, effect, Performed, operate, make, perform, swaps, adds, effect_at, result_map, after_write-outside, written-covers, ok_or_ok, Act, Actor, Pc, Idle, E4, E11, Q5, A2, B2, need, need_at, need_call, need_choice, after_take, after_swap_in, after_swap_out, after_at, after, words_fit_at, World, Event, Stepped, step, Presence, content_fits, record_fits, actor_fits, IsWellFormed}
+use Rattle.rd_step.proofs.Prelude.{holding, common_steps, cond_both, and_parts, IfOk-at_ok, fun_ext, MOST_SEGMENTS, Cell, SegName, Place, Wrote, ArrSlot, Content, Operation, Access, NoPlace, At, Make, Refusal, some_covers, is_nothing, written, Contents, is_there, operand, Effect, effect, Performed, operate, make, perform, swaps, adds, effect_at, result_map, after_write-outside, written-covers, ok_or_ok, Act, Actor, Pc, Idle, E4, E11, Q5, A2, B2, need, need_at, need_call, need_choice, after_take, after_swap_in, after_swap_out, after_at, after, words_fit_at, World, Event, Stepped, step, Presence, content_fits, record_fits, actor_fits, IsWellFormed}
 use Rattle.rd_ring.specs.Prelude.{number_made}
 use Rattle.rd_cell.proofs.ResultLemmas.{and_then_err}
 use Rattle.rd_step.specs.Laws.{IsStepRefusal, SuitsContent, MovesOn, ChangesOnly}
@@ -134,7 +134,7 @@ Ends R a act (Err refusal) = IsStepRefusal refusal
 goes_ends : (R : ℕ) (a : Actor) (p : Place) (c : Content) (r : Result Effect Refusal) → Goes R a.pc a r → Ends R a act.Go (result_map (effect_at p c) r)
 goes_ends R a p c r h = grind arith
 
-make_ends : (R : ℕ) (there : Presence) (a : Actor) (s : SegName) (x : ℕ) → Leads R there a.pc a (Make x) → Ends R a act.Go (make R s x)
+make_ends : (R : ℕ) (there : Presence) (a : Actor) (s : SegName) (x : ℕ) → Leads R there a.pc a (Make x) → Ends R a act.Go (make s (holding R x))
 make_ends R there a s x h = cond_both (nat_lt s.n MOST_SEGMENTS) _ _ (λ (r : Result Performed Refusal). Ends R a act.Go r) (λ e. h s) (λ e. tt)
 
 -- a call goes on from idle, and a choice from the control point of choices

@@ -1,7 +1,7 @@
 -- A step takes nothing away, makes no segment of another actor, and what its entry keeps may be put
 -- back after it.
 use Rattle.std.proofs.Common.{◌≡◌, ◌≢◌, ℕ, suc, ◌+◌, ◌<◌, ◌≤◌, Bool, true, false, not, ◌==◌, nat_lt, refl, ◌∙◌, ap, subst, arith, Option, Some, None, is_some, Result, Ok, IfOk, ltb-true}
-use Rattle.rd_step.proofs.Prelude.{cond_both, and_right, both_ways, IfOk-at_ok, MOST_SEGMENTS, operand, SegName, Place, Content, Access, NoPlace, At, Make, Operation, Refusal, is_of, Contents, is_there, Effect, effect, Performed, contents_after, operate, make, perform, effect_at, result_map, name_eq-refl, is_cell_at, Actor, World, Event, Stepped, step, CanPutBack, content_fits, place_fits, IsWellFormed}
+use Rattle.rd_step.proofs.Prelude.{holding, cond_both, and_right, both_ways, IfOk-at_ok, MOST_SEGMENTS, operand, SegName, Place, Content, Access, NoPlace, At, Make, Operation, Refusal, is_of, Contents, is_there, Effect, effect, Performed, contents_after, operate, make, perform, effect_at, result_map, name_eq-refl, is_cell_at, Actor, World, Event, Stepped, step, CanPutBack, content_fits, place_fits, IsWellFormed}
 use Rattle.std.proofs.lemmas.Bool.{ne_eqb, false_from_ne_true}
 use Rattle.rd_ring.specs.Prelude.{number_made}
 use Rattle.rd_cell.proofs.AccessLemmas.{keeps-operate}
@@ -18,7 +18,7 @@ abbrev StaysAt : Contents → Place → Performed → Type 0
 StaysAt at q did = is_some (contents_after did at q) ≡ is_some (at q)
 
 stays-make : (R : ℕ) (s : SegName) (x : ℕ) (at : Contents) (q : Place) → (s.n < MOST_SEGMENTS → is_of s q ≡ false)
-    → IfOk (make R s x) (StaysAt at q)
+    → IfOk (make s (holding R x)) (StaysAt at q)
 stays-make R s x at q other = grind arith
 
 -- an access keeps which places are there that are none of its actor's next segment
@@ -74,7 +74,7 @@ numbered : (is_actor : ℕ → Bool) (n : ℕ) → not (is_actor 0) ≡ true →
 numbered is_actor n h k = grind arith
 
 can-make : (w : World) (n : ℕ) (a : Actor) (at : Contents) (x : ℕ) → IsWellFormed w → w.actor n ≡ Some a
-    → IfOk (make w.ring (record { maker = n; n = number_made w.at n }) x) (CanGoBack w.ring n w.at at)
+    → IfOk (make (record { maker = n; n = number_made w.at n }) (holding w.ring x)) (CanGoBack w.ring n w.at at)
 can-make w n a at x formed has =
     let m : ℕ = number_made w.at n in
     let s : SegName = record { maker = n; n = m } in

@@ -1,6 +1,6 @@
 -- The code's world, as the model's.
 use Rattle.std.proofs.Common.{◌≡◌, ℕ, zero, suc, ◌-◌, ◌<◌, ◌≤◌, true, false, nat_lt, inl, inr, refl, sym, ◌∙◌, ap, subst, arith, List, [], ◌∷◌, length, set, slice_get, Option, Some, None, is_some, IsSome, is_ok, IsOk, IfOk, OnErr, Result, Ok, Err, lt-ltb, le-ltb, leb-true}
-use Rattle.rd_step.proofs.Prelude.{cases_lt, cond-true, cond-false, COUNTER_END, MOST_SEGMENTS, MOST_CELLS, MOST_ACTORS, SegName, Place, Access, Make, Done, Refusal, Contents, is_there, perform, restore, everywhere, HasEffect, Space, contents, room, lists, Actor, OpReply, need, after, World, Event, Entry, with_actor, step, world_of_fields, numbered, makes, makes_segment, IsRefused, Presence, actor_fits, record_fits, maker_fits, is_actor, IsWellFormed, IfOk-at_ok}
+use Rattle.rd_step.proofs.Prelude.{holding, cases_lt, cond-true, cond-false, COUNTER_END, MOST_SEGMENTS, MOST_CELLS, MOST_ACTORS, SegName, Place, Access, Make, Done, Refusal, Contents, is_there, perform, restore, everywhere, HasEffect, Space, contents, room, lists, Actor, OpReply, need, after, World, Event, Entry, with_actor, step, world_of_fields, numbered, makes, makes_segment, IsRefused, Presence, actor_fits, record_fits, maker_fits, is_actor, IsWellFormed, IfOk-at_ok}
 use Rattle.rd_ring.specs.Prelude.{number_made, Makes, RefusesMaking}
 use Rattle.rd_segments.specs.Space.{making_count}
 use Rattle.rd_segments.proofs.CountLemmas.{counts, there_below, absent_from}
@@ -22,7 +22,7 @@ made_in : {R : ℕ} (space : Space R) (m : ℕ) → making_count space m ≤ MOS
 made_in space m few = counts space.makers.items space.qhead space.qtail space.array m few
 
 pub makes_access : {R : ℕ} (old : Space R) (new : Contents) (actor x : ℕ) (name : SegName) (done : Done) → making_count old actor ≤ MOST_SEGMENTS
-    → name ≡ record { maker = actor; n = making_count old actor } → Makes R name x (contents old) new
+    → name ≡ record { maker = actor; n = making_count old actor } → Makes name (holding R x) (contents old) new
     → done ≡ record { place = Some (place.Whole name); old = None; answer = answer.Made name; wrote = wrote.Place }
     → HasEffect everywhere (perform R actor (contents old) (Make x)) done (contents old) new
 makes_access {R} old new actor x name done few is m notes = grind (arith, made_in, keeps)

@@ -7,6 +7,7 @@ use mathlib.Core.HLevel.{is_prop→PathP}
 use Rattle.rd_cell.specs.declared.contents.ArrSlot.TheVariants as slot
 use Rattle.rd_ring.specs.Prelude.{COUNTER_END, MOST_SEGMENTS, MOST_CELLS}
 use Rattle.rd_ring.specs.Segments.{counters_fit}
+use Rattle.rd_segments.specs.Array.{array_part}
 use Rattle.rd_segments.specs.Lists.{by_number, by_name, count_in, count, segments_by}
 use Rattle.rd_segments.specs.Parts.{part_of_parts}
 use Rattle.rd_segments.specs.SpaceFields.{contents_by}
@@ -179,7 +180,7 @@ module _ (R : ℕ) (d : Data) (p q : Parts R) (h : IsParts d p) (k : IsParts d q
   one_world : world_of_parts p ≡ world_of_parts q
   one_world = λ i. record {
     ring = R;
-    at = contents_by (segments_by (λ n. part_of_parts (names_same n i))) (qhead_same i) (qtail_same i) (array_same i);
+    at = contents_by (segments_by (λ n. part_of_parts (names_same n i))) (qhead_same i) (qtail_same i) (array_part (array_same i));
     actor = numbered (actors_same i);
   }
 

@@ -7,7 +7,14 @@ pub take_last-requires : goal.take_last-requires
 take_last-requires g c = grind (arith, count_within, count_read)
 
 pub returns-clause-gone : goal.returns-clause-gone
-returns-clause-gone g c = grind (arith, unmakes_in, count_within)
+returns-clause-gone g c =
+    unmakes_in c.args.makers.now.items c.args.maker c.from.result c.index_mut.result.now c.take_last.new.list
+    (record {
+      maker_is = c.from.ensures;
+      within = count_within c.args.makers.now.items c.args.maker c.requires.has_one;
+      list_is = c.index_mut.ensures.value;
+    })
+    c.take_last.ensures.items
 
 pub returns-clause-room : goal.returns-clause-room
 returns-clause-room g c = grind (arith, spare_given, count_within)

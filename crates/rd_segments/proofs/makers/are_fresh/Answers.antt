@@ -14,9 +14,9 @@ returns-then-is_fresh_alone g c =
     let others = take (length makers - 1) (drop 1 makers) in
     let same : makers ≡ first ∷ others = first_and_others makers first c.in-len1-up.len_at_least c.first-item.is in
     both_tests c.is_fresh_alone.result c.are_empty.result c.is_fresh_alone.ensures c.are_empty.ensures
-    (λ root rest. subst (λ (lists : List (ListOf g.row.R)). IsFresh lists) (sym same)
+    (λ root rest. subst (λ (lists : List (ListOf (Segment g.row.R))). IsFresh lists) (sym same)
     (fresh_lists first others (subst (λ (ss : List (Segment g.row.R)). IsFreshAlone ss) c.deref.ensures.value root) rest))
-    (λ h. others_empty first others (subst (λ (lists : List (ListOf g.row.R)). IsFresh lists) same h)) c.if-is_fresh_alone.true
+    (λ h. others_empty first others (subst (λ (lists : List (ListOf (Segment g.row.R))). IsFresh lists) same h)) c.if-is_fresh_alone.true
 
 pub returns-else-is_fresh_alone : goal.returns-else-is_fresh_alone
 returns-else-is_fresh_alone g c =
@@ -26,4 +26,4 @@ returns-else-is_fresh_alone g c =
     let same : makers ≡ first ∷ others = first_and_others makers first c.in-len1-up.len_at_least c.first-item.is in
     first_test c.is_fresh_alone.result c.is_fresh_alone.ensures
     (λ h. subst (λ (ss : List (Segment g.row.R)). IsFreshAlone ss) (sym c.deref.ensures.value)
-    (first_alone first others (subst (λ (lists : List (ListOf g.row.R)). IsFresh lists) same h))) c.if-is_fresh_alone.false
+    (first_alone first others (subst (λ (lists : List (ListOf (Segment g.row.R))). IsFresh lists) same h))) c.if-is_fresh_alone.false
