@@ -3,9 +3,9 @@
 use Rattle.std.proofs.Common.{◌≡◌, ◌≢◌, ℕ, zero, suc, ◌+◌, ◌-◌, ◌<◌, ◌≤◌, ◌==◌, ◌||◌, inl, inr, Bool, true, false, nat_lt, if◌then◌else◌, refl, sym, ◌∙◌, ap, subst, arith, List, [], ◌∷◌, ◌++◌, length, take, drop, slice_get, Option, Some, None, option_and_then, eq-eqb, ne_eqb}
 use Rattle.std.proofs.lemmas.Bool.{cases_Bool, cond-false, cond-true, le-ltb, lt-ltb, ltb-false, ltb-true}
 use Rattle.rd_step.specs.Dependence.IsInClosure.{itself, dependant}
-use Rattle.rd_step.specs.Dependence.{AreLoneUndos, IsInClosure, closure_from, first_from, number_after}
+use Rattle.rd_step.specs.Dependence.{AreLoneUndos, IsInClosure, closure_from, number_after}
 use Rattle.rd_step.specs.Prelude.{closure}
-use Rattle.rd_depend.proofs.Prelude.{cases_eq, common_steps, depends, depends_on_one, false≢true, first_dependant, numbered, or_cases, or_left, or_right, Entry}
+use Rattle.rd_depend.proofs.Prelude.{position_from, cases_eq, common_steps, depends, depends_on_one, false≢true, first_dependant, numbered, or_cases, or_left, or_right, Entry}
 
 -- The marks are closed
 
@@ -182,10 +182,10 @@ none_here : (d : Bool) (n : ℕ) (o : Option ℕ) → (if d then Some n else o) 
 none_here true n o h = absurd cc
 none_here false n o h = (refl, h)
 
-none_depends : (x : Entry) (n : ℕ) (ys : List Entry) (i : ℕ) (y : Entry) → first_from x n ys ≡ None → slice_get ys i ≡ Some y → depends x y ≡ false
+none_depends : (x : Entry) (n : ℕ) (ys : List Entry) (i : ℕ) (y : Entry) → position_from (depends x) n ys ≡ None → slice_get ys i ≡ Some y → depends x y ≡ false
 none_depends x n [] i y none at = cc
-none_depends x n (z ∷ ys) zero y none at = ap (depends x) (sym (some_same z y at)) ∙ (none_here (depends x z) n (first_from x (n + 1) ys) none).0
-none_depends x n (z ∷ ys) (suc i) y none at = none_depends x (n + 1) ys i y (none_here (depends x z) n (first_from x (n + 1) ys) none).1 at
+none_depends x n (z ∷ ys) zero y none at = ap (depends x) (sym (some_same z y at)) ∙ (none_here (depends x z) n (position_from (depends x) (n + 1) ys) none).0
+none_depends x n (z ∷ ys) (suc i) y none at = none_depends x (n + 1) ys i y (none_here (depends x z) n (position_from (depends x) (n + 1) ys) none).1 at
 
 from_there : (es : List Entry) (m i : ℕ) → slice_get (drop m es) i ≡ slice_get es (m + i)
 from_there es zero i = let same : i ≡ 0 + i = omega arith in ap (λ (k : ℕ). slice_get es k) same
@@ -198,7 +198,7 @@ free_alone es zero j x y none at_n low at_j = cc
 free_alone es (suc m) zero x y none at_n low at_j = absurd (omega arith)
 free_alone es (suc m) (suc j) x y none at_n low at_j =
     let same : suc m + (j - suc m) ≡ j = omega arith in
-    none_depends x (suc m + 1) (drop (suc m) es) (j - suc m) y (sym (ap (option_and_then (λ (z : Entry). first_from z (suc m + 1) (drop (suc m) es))) at_n) ∙ none)
+    none_depends x (suc m + 1) (drop (suc m) es) (j - suc m) y (sym (ap (option_and_then (λ (z : Entry). position_from (depends z) (suc m + 1) (drop (suc m) es))) at_n) ∙ none)
     (from_there es (suc m) (j - suc m) ∙ ap (λ (k : ℕ). slice_get es k) same ∙ at_j)
 
 -- so what depends on a step that is taken out is taken out

@@ -125,7 +125,7 @@ behind (suc n) w (x ∷ xs) [] runs_a runs_b in_a in_b h = absurd (omega arith)
 behind (suc n) w (x ∷ xs) (y ∷ ys) runs_a runs_b in_a in_b h =
     let e : y.event ≡ x.event = cc in
     let m : MayComeFirst x.event (y ∷ ys) ys =
-    record { earlier = []; entry = y; later = ys; stands = refl; its_event = e; free = tt; leaves = refl } in
+    record { earlier = []; entry = y; later = ys; stands = refl; its_event = e; free = refl; leaves = refl } in
     let first = first_step w x xs runs_a in
     let one = equivalent_first w x xs (y ∷ ys) ys first runs_b m in
     let r = behind n first.after xs ys first.rest (runs_on w x xs (y ∷ ys) ys first runs_b m).runs (omega arith) (omega arith) cc in

@@ -1,7 +1,7 @@
 -- An entry of an event that depends on no earlier one is the first of its actor, so there is one
 -- such place at most.
 use Rattle.std.proofs.Common.{◌≡◌, ℕ, refl, sym, ap, subst, List, [], ◌∷◌, ◌++◌, arith, rules}
-use Rattle.rd_depend.proofs.Prelude.{IsFree, Event, Entry}
+use Rattle.rd_depend.proofs.Prelude.{free_parts, IsFree, Event, Entry}
 
 -- none of these entries is by this actor
 abbrev pub HasNoneBy : ℕ → List Entry → Type 0
@@ -22,7 +22,7 @@ pub record MayComeFirst (e : Event) (entries left : List Entry) : Type 0 where
 -- entries on which one does not depend are none of its actor
 free_none_by : (x : Entry) (xs : List Entry) → IsFree x xs → HasNoneBy x.event.actor xs
 free_none_by x [] h = tt
-free_none_by x (y ∷ ys) h = grind (arith, free_none_by x ys h.1)
+free_none_by x (y ∷ ys) h = let free = free_parts x y ys h in grind (arith, free_none_by x ys free.1)
 
 -- the first entry by an actor is at one place alone
 pub record AreOne (xs ys zs us : List Entry) (y z : Entry) : Type 0 where

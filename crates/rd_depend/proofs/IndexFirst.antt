@@ -1,7 +1,7 @@
 -- The first dependant, from the first later positions in an actor's list, a place's and a
 -- segment's.
 use Rattle.std.proofs.Common.{◌≡◌, ℕ, zero, suc, ◌+◌, ◌<◌, ◌≤◌, Bool, true, false, not, ◌||◌, ◌==◌, if◌then◌else◌, nat_lt, List, [], ◌∷◌, length, drop, Option, Some, None, option_and_then, refl, sym, ap, subst, ◌∙◌, arith}
-use Rattle.rd_depend.proofs.Prelude.{nat_tests, is_some, SegName, Place, is_of_cell, some_overlap, is_nothing, written, interfere, Entry, Wrote, first_from, first_dependant, depends, depends_on_one, numbered, symmetric, DependIndex, At, In, is_kept_at, is_under, is_under_some, own_key, value_of_place, whole_key, AscendsFrom, IsAscending, first_above, earlier, Touch, By, reached, is_value_written, touches, positions_from, positions, kept, IsIndexOf}
+use Rattle.rd_depend.proofs.Prelude.{nat_tests, is_some, SegName, Place, is_of_cell, some_overlap, is_nothing, written, interfere, Entry, Wrote, position_from, first_dependant, depends, depends_on_one, numbered, symmetric, DependIndex, At, In, is_kept_at, is_under, is_under_some, own_key, value_of_place, whole_key, AscendsFrom, IsAscending, first_above, earlier, Touch, By, reached, is_value_written, touches, positions_from, positions, kept, IsIndexOf}
 use Rattle.rd_depend.proofs.IndexPositions.{positions-ascend, positions-number, number-within, ascending}
 use Rattle.rd_cell.specs.declared.places.Place.TheVariants as place
 
@@ -40,15 +40,15 @@ skipped test k n zero es h = let e : n ≡ n + 0 = omega arith in ap (λ (m : �
 skipped test k n (suc j) [] h = refl
 skipped test k n (suc j) (x ∷ xs) h = grind (arith, nat_tests, skipped test k (n + 1) j xs (omega arith))
 
-scanned : (x : Entry) (k n : ℕ) (es : List Entry) → k < n → first_above k (positions_from (depends x) n es) ≡ first_from x n es
+scanned : (x : Entry) (k n : ℕ) (es : List Entry) → k < n → first_above k (positions_from (depends x) n es) ≡ position_from (depends x) n es
 scanned x k n [] h = refl
 scanned x k n (y ∷ ys) h = by (depends x y) (scanned x k (n + 1) ys (omega arith))
   where
     here : (ps : List ℕ) → first_above k (n ∷ ps) ≡ Some n
     here ps = grind (arith, nat_tests)
 
-    by : (b : Bool) → first_above k (positions_from (depends x) (n + 1) ys) ≡ first_from x (n + 1) ys
-        → first_above k (if b then n ∷ positions_from (depends x) (n + 1) ys else positions_from (depends x) (n + 1) ys) ≡ (if b then Some n else first_from x (n + 1) ys)
+    by : (b : Bool) → first_above k (positions_from (depends x) (n + 1) ys) ≡ position_from (depends x) (n + 1) ys
+        → first_above k (if b then n ∷ positions_from (depends x) (n + 1) ys else positions_from (depends x) (n + 1) ys) ≡ (if b then Some n else position_from (depends x) (n + 1) ys)
     by b g = grind arith
 
 -- what is found is the first dependant
@@ -57,19 +57,19 @@ first-is es k x h =
     skipped (depends x) k 1 k es (omega arith)
     ∙ (let e : 1 + k ≡ k + 1 = omega arith in ap (λ (m : ℕ). first_above k (positions_from (depends x) m (drop k es))) e)
     ∙ scanned x k (k + 1) (drop k es) (omega arith)
-    ∙ sym (ap (option_and_then (λ (y : Entry). first_from y (k + 1) (drop k es))) h)
+    ∙ sym (ap (option_and_then (λ (y : Entry). position_from (depends y) (k + 1) (drop k es))) h)
 
 -- what is found after the first k tells whether the step depends on one of those
 pub found-after : (x : Entry) (k : ℕ) (es : List Entry) → is_some (first_above k (positions (depends x) es)) ≡ depends_on_one (drop k es) x
 found-after x k es =
     ap is_some (skipped (depends x) k 1 k es (omega arith) ∙ scanned x k (1 + k) (drop k es) (omega arith)) ∙ some (1 + k) (drop k es)
   where
-    some : (n : ℕ) (ys : List Entry) → is_some (first_from x n ys) ≡ depends_on_one ys x
+    some : (n : ℕ) (ys : List Entry) → is_some (position_from (depends x) n ys) ≡ depends_on_one ys x
     some n [] = refl
     some n (y ∷ ys) = by (depends x y) (some (n + 1) ys) ∙ ap (λ (b : Bool). b || depends_on_one ys x) (symmetric x y)
       where
-        by : (b : Bool) → is_some (first_from x (n + 1) ys) ≡ depends_on_one ys x
-            → is_some (if b then Some n else first_from x (n + 1) ys) ≡ (b || depends_on_one ys x)
+        by : (b : Bool) → is_some (position_from (depends x) (n + 1) ys) ≡ depends_on_one ys x
+            → is_some (if b then Some n else position_from (depends x) (n + 1) ys) ≡ (b || depends_on_one ys x)
         by b h = grind arith
 
 -- which places overlap

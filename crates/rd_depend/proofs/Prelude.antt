@@ -8,15 +8,16 @@ pub use Rattle.std.proofs.lemmas.Grind.{common_steps}
 pub use Rattle.std.proofs.lemmas.List.{append-nil, drop-drop, drop_all, length-take-le, map-append, nil_from_length, reverse-append, take-append-drop, take_all}
 pub use Rattle.std.proofs.lemmas.Option.{slice_get-get_or, slice_get_past}
 pub use Rattle.std.proofs.lemmas.Result.{IfOk-weaker, on_ok_weaker}
+pub use Rattle.std.specs.List.{position_from}
 pub use Rattle.std.specs.Option.{is_some, option_map, option_to_list}
 pub use Rattle.rd_cell.proofs.ListLemmas.{slice_get-push_other, slice_get-push_same, slice_get-set_other, slice_get-set_same}
 pub use Rattle.rd_cell.proofs.PlaceLemmas.{Covering, as_cell, as_whole, both_cover, covers-refl, covers_cases, name_eq-refl, itself, some_overlap-sym, written-covers}
 pub use Rattle.rd_cell.specs.Places.{index_half, is_nothing, is_of, is_of_cell, place_eq, segment_of}
 pub use Rattle.rd_cell.specs.declared.places.SegName.{SegName}
 pub use Rattle.rd_step.proofs.Equivalence.{as_stepped-same, goes_first, run_events, stands_in}
-pub use Rattle.rd_step.proofs.RunParts.{FirstStep, first_step, middle, runs_to}
+pub use Rattle.rd_step.proofs.RunParts.{free_parts, FirstStep, first_step, middle, runs_to}
 pub use Rattle.rd_step.proofs.Symmetry.{symmetric}
-pub use Rattle.rd_step.specs.Dependence.{depends_on_one, first_from}
+pub use Rattle.rd_step.specs.Dependence.{depends_on_one}
 pub use Rattle.rd_step.specs.Equivalence.{IsEquivalent}
 pub use Rattle.rd_step.specs.Lists.{numbered, without}
 pub use Rattle.rd_step.specs.Prelude.{IsFree, Place, Ran, Stepped, World, Wrote, covers, depends, first_dependant, interfere, overlaps, run, some_covers, some_overlap, step, written}

@@ -1,7 +1,9 @@
 -- Of two runs from one world the events are equivalent exactly where the entries of the one may be
 -- taken out of the other.
 use Rattle.std.proofs.Common.{◌≡◌, true, false, refl, sym, ap, subst, List, [], ◌∷◌, ◌++◌, Ok, arith}
-use Rattle.rd_depend.proofs.Prelude.{World, step, IsFree, Entry, IsEquivalent, events, IsRunFrom, first_step, DecidesEquivalence}
+use Rattle.std.specs.List.{list_any}
+use Rattle.std.proofs.lemmas.Bool.{or_from}
+use Rattle.rd_depend.proofs.Prelude.{depends, free_parts, World, step, IsFree, Entry, IsEquivalent, events, IsRunFrom, first_step, DecidesEquivalence}
 use Rattle.rd_depend.proofs.FirstOfActor.{MayComeFirst}
 use Rattle.rd_depend.proofs.Exactness.{comes_first, runs_on, equivalent_first, no_events}
 use Rattle.rd_depend.proofs.TakingOut.{alike-same, IsApartFrom, Takes, TakesAll}
@@ -30,11 +32,13 @@ makings_before (x ∷ xs) ys h = (h.0, makings_before xs ys h.1)
 
 all_apart : (x : Entry) (ys : List Entry) → MakingWrote x → AllMakingsWrote ys → IsFree x ys → IsApartFrom x ys
 all_apart x [] made_x made_y h = tt
-all_apart x (y ∷ ys) made_x made_y h = (apart_of_free x y made_x made_y.0 h.0, all_apart x ys made_x made_y.1 h.1)
+all_apart x (y ∷ ys) made_x made_y h =
+    let free = free_parts x y ys h in
+    (apart_of_free x y made_x made_y.0 free.0, all_apart x ys made_x made_y.1 free.1)
 
 all_free : (x : Entry) (ys : List Entry) → IsApartFrom x ys → IsFree x ys
-all_free x [] h = tt
-all_free x (y ∷ ys) h = (free_of_apart x y h.0, all_free x ys h.1)
+all_free x [] h = refl
+all_free x (y ∷ ys) h = or_from (depends x y) (list_any (depends x) ys) (free_of_apart x y h.0) (all_free x ys h.1)
 
 -- What is equivalent may be taken out, one step after another
 

@@ -4,7 +4,7 @@ use Rattle.std.specs.Prelude.{ℕ, ◌+◌, ◌*◌, Bool, false, ◌||◌, List
 use Rattle.rd_cell.specs.declared.places.SegName.{SegName}
 use Rattle.rd_cell.specs.declared.places.Place.{Place}
 use Rattle.rd_cell.specs.declared.places.Place.TheVariants as place
-use Rattle.rd_cell.specs.Places.{name_eq, is_of, place_eq, index_half, root, segment_of}
+use Rattle.rd_cell.specs.Places.{name_eq, is_of, place_eq, index_half, root, named, segment_of}
 use Rattle.rd_depend.specs.declared.index.keys.Key.{Key}
 use Rattle.rd_depend.specs.declared.index.keys.Key.TheVariants.{At, In}
 
@@ -51,14 +51,7 @@ value_key o = option_and_then value_of_place o
 
 -- the key of the segment to which a place belongs, or of which it is the whole
 abbrev pub segment_of_place : Place → Option Key
-segment_of_place (place.Head s) = Some (In s)
-segment_of_place (place.Tail s) = Some (In s)
-segment_of_place (place.Next s) = Some (In s)
-segment_of_place (place.Cell s i) = Some (In s)
-segment_of_place (place.Val s i) = Some (In s)
-segment_of_place (place.Idx s i) = Some (In s)
-segment_of_place (place.Whole s) = Some (In s)
-segment_of_place _ = None
+segment_of_place p = option_map In (named p)
 
 -- the key of the segment to which a place belongs, or of which it is the whole, if there is one
 abbrev pub segment_key : Option Place → Option Key

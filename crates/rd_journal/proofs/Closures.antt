@@ -1,23 +1,23 @@
 -- A step on which no later one depends is its whole closure, so rolling it back is undoing it alone.
 use Rattle.std.proofs.Common.{◌≡◌, ℕ, zero, suc, ◌+◌, ◌-◌, ◌≤◌, ◌||◌, Bool, false, if◌then◌else◌, refl, sym, ◌∙◌, ap, arith, List, [], ◌∷◌, ◌++◌, length, get_or, take, drop, Some, None}
-use Rattle.rd_journal.proofs.Prelude.{depends, first_dependant, closure_of, without_closure, marked, unmarked, closure_from, first_from, Entry, Journal, IsUndoneAlone, IsRolledBack}
+use Rattle.rd_journal.proofs.Prelude.{depends, first_dependant, closure_of, without_closure, items_where_true, unmarked, closure_from, position_from, Entry, Journal, IsUndoneAlone, IsRolledBack}
 use Rattle.rd_journal.proofs.Gathering.{cut_at}
 use Rattle.rd_journal.proofs.Finding.{numbered_in, scan_is}
 use Rattle.rd_journal.proofs.ListLemmas.{nth, drop_one_less}
 
-marked_none : (x : Entry) (n : ℕ) (ys : List Entry) → first_from x n ys ≡ None → marked (closure_from (x ∷ []) ys) ys ≡ []
+marked_none : (x : Entry) (n : ℕ) (ys : List Entry) → position_from (depends x) n ys ≡ None → items_where_true (closure_from (x ∷ []) ys) ys ≡ []
 marked_none x n [] h = refl
 marked_none x n (y ∷ ys) h = by (depends x y) (marked_none x (n + 1) ys) h
   where
-    by : (d : Bool) → (first_from x (n + 1) ys ≡ None → marked (closure_from (x ∷ []) ys) ys ≡ []) → (if d then Some n else first_from x (n + 1) ys) ≡ None
-        → (let e = d || false in marked (e ∷ closure_from (if e then (x ∷ []) ++ y ∷ [] else x ∷ []) ys) (y ∷ ys)) ≡ []
+    by : (d : Bool) → (position_from (depends x) (n + 1) ys ≡ None → items_where_true (closure_from (x ∷ []) ys) ys ≡ []) → (if d then Some n else position_from (depends x) (n + 1) ys) ≡ None
+        → (let e = d || false in items_where_true (e ∷ closure_from (if e then (x ∷ []) ++ y ∷ [] else x ∷ []) ys) (y ∷ ys)) ≡ []
     by d later g = grind arith
 
-unmarked_all : (x : Entry) (n : ℕ) (ys : List Entry) → first_from x n ys ≡ None → unmarked (closure_from (x ∷ []) ys) ys ≡ ys
+unmarked_all : (x : Entry) (n : ℕ) (ys : List Entry) → position_from (depends x) n ys ≡ None → unmarked (closure_from (x ∷ []) ys) ys ≡ ys
 unmarked_all x n [] h = refl
 unmarked_all x n (y ∷ ys) h = by (depends x y) (unmarked_all x (n + 1) ys) h
   where
-    by : (d : Bool) → (first_from x (n + 1) ys ≡ None → unmarked (closure_from (x ∷ []) ys) ys ≡ ys) → (if d then Some n else first_from x (n + 1) ys) ≡ None
+    by : (d : Bool) → (position_from (depends x) (n + 1) ys ≡ None → unmarked (closure_from (x ∷ []) ys) ys ≡ ys) → (if d then Some n else position_from (depends x) (n + 1) ys) ≡ None
         → (let e = d || false in unmarked (e ∷ closure_from (if e then (x ∷ []) ++ y ∷ [] else x ∷ []) ys) (y ∷ ys)) ≡ y ∷ ys
     by d later g = grind arith
 
@@ -33,7 +33,7 @@ alone l (suc i) some within free =
     let rest = drop (suc i) l in
     let same : i ≡ suc i - 1 = omega arith in
     let here : x.0 ≡ get_or l (suc i - 1) x.0 = x.1 ∙ ap (λ (m : ℕ). get_or l m x.0) same in
-    let none : first_from x.0 (suc i + 1) rest ≡ None = sym (scan_is x.0 l (suc i) (numbered_in l (suc i) x.0 some within here)) ∙ free in
+    let none : position_from (depends x.0) (suc i + 1) rest ≡ None = sym (scan_is x.0 l (suc i) (numbered_in l (suc i) x.0 some within here)) ∙ free in
     record {
       outside = c.outside ∙ (λ j. take (same j) l ++ unmarked_all x.0 (suc i + 1) rest none j);
       inside =

@@ -1,7 +1,7 @@
 -- What the index of the live entries and those after them finds, and where the entries before a
 -- closure are.
 use Rattle.std.proofs.Common.{◌≡◌, ℕ, zero, suc, ◌+◌, ◌-◌, ◌<◌, ◌≤◌, Bool, true, false, nat_lt, if◌then◌else◌, List, [], ◌∷◌, ◌++◌, length, get_or, take, drop, Option, Some, None, sym, ◌∙◌, ap, arith, length-append, length-drop}
-use Rattle.rd_journal.proofs.Prelude.{lt-ltb, le-ltb, append_assoc, length-take-le, take_at, take-append-le, drop-append-le, get_or_append_left, slice_get-get_or, first_from, first_dependant, depends, closure_from, numbered, closure_of, without_closure, unmarked, Entry}
+use Rattle.rd_journal.proofs.Prelude.{lt-ltb, le-ltb, append_assoc, length-take-le, take_at, take-append-le, drop-append-le, get_or_append_left, slice_get-get_or, position_from, first_dependant, depends, closure_from, numbered, closure_of, without_closure, unmarked, Entry}
 use Rattle.rd_journal.proofs.Gathering.{cut_at}
 use Rattle.rd_journal.proofs.ListLemmas.{nth}
 
@@ -45,29 +45,29 @@ cut_before l others k some within =
 -- the first dependant
 
 -- found in the first part
-found_before : (x : Entry) (n j : ℕ) (a b : List Entry) → first_from x n a ≡ Some j → first_from x n (a ++ b) ≡ Some j
+found_before : (x : Entry) (n j : ℕ) (a b : List Entry) → position_from (depends x) n a ≡ Some j → position_from (depends x) n (a ++ b) ≡ Some j
 found_before x n j [] b h = absurd cc
 found_before x n j (y ∷ a) b h = by (depends x y) (found_before x (n + 1) j a b) h
   where
-    by : (d : Bool) → (first_from x (n + 1) a ≡ Some j → first_from x (n + 1) (a ++ b) ≡ Some j) → (if d then Some n else first_from x (n + 1) a) ≡ Some j → (if d then Some n else first_from x (n + 1) (a ++ b)) ≡ Some j
+    by : (d : Bool) → (position_from (depends x) (n + 1) a ≡ Some j → position_from (depends x) (n + 1) (a ++ b) ≡ Some j) → (if d then Some n else position_from (depends x) (n + 1) a) ≡ Some j → (if d then Some n else position_from (depends x) (n + 1) (a ++ b)) ≡ Some j
     by d later g = grind arith
 
 -- not found in the first part
-found_behind : (x : Entry) (n : ℕ) (a b : List Entry) → first_from x n a ≡ None → first_from x n (a ++ b) ≡ first_from x (n + length a) b
-found_behind x n [] b h = let e : n ≡ n + 0 = omega arith in ap (λ (m : ℕ). first_from x m b) e
+found_behind : (x : Entry) (n : ℕ) (a b : List Entry) → position_from (depends x) n a ≡ None → position_from (depends x) n (a ++ b) ≡ position_from (depends x) (n + length a) b
+found_behind x n [] b h = let e : n ≡ n + 0 = omega arith in ap (λ (m : ℕ). position_from (depends x) m b) e
 found_behind x n (y ∷ a) b h = by (depends x y) (found_behind x (n + 1) a b) h
   where
-    by : (d : Bool) → (first_from x (n + 1) a ≡ None → first_from x (n + 1) (a ++ b) ≡ first_from x (n + 1 + length a) b)
-        → (if d then Some n else first_from x (n + 1) a) ≡ None
-        → (if d then Some n else first_from x (n + 1) (a ++ b)) ≡ first_from x (n + suc (length a)) b
+    by : (d : Bool) → (position_from (depends x) (n + 1) a ≡ None → position_from (depends x) (n + 1) (a ++ b) ≡ position_from (depends x) (n + 1 + length a) b)
+        → (if d then Some n else position_from (depends x) (n + 1) a) ≡ None
+        → (if d then Some n else position_from (depends x) (n + 1) (a ++ b)) ≡ position_from (depends x) (n + suc (length a)) b
     by d later g = grind arith
 
 -- where it is
-found_within : (x : Entry) (n j : ℕ) (a : List Entry) → first_from x n a ≡ Some j → (n ≤ j) × (j < n + length a)
+found_within : (x : Entry) (n j : ℕ) (a : List Entry) → position_from (depends x) n a ≡ Some j → (n ≤ j) × (j < n + length a)
 found_within x n j [] h = absurd cc
 found_within x n j (y ∷ a) h = by (depends x y) (found_within x (n + 1) j a) h
   where
-    by : (d : Bool) → (first_from x (n + 1) a ≡ Some j → (n + 1 ≤ j) × (j < n + 1 + length a)) → (if d then Some n else first_from x (n + 1) a) ≡ Some j → (n ≤ j) × (j < n + suc (length a))
+    by : (d : Bool) → (position_from (depends x) (n + 1) a ≡ Some j → (n + 1 ≤ j) × (j < n + 1 + length a)) → (if d then Some n else position_from (depends x) (n + 1) a) ≡ Some j → (n ≤ j) × (j < n + suc (length a))
     by d later g = grind arith
 
 -- the number of what is found among live and other ones, if it is that of a live one
@@ -81,11 +81,11 @@ within_live n j h = let no : nat_lt n j ≡ false = le-ltb n j h in ap (λ (b : 
 behind_live : (n j : ℕ) → n < j → None ≡ (if nat_lt n j then None else Some j)
 behind_live n j h = let yes : nat_lt n j ≡ true = lt-ltb n j h in ap (λ (b : Bool). if b then None else Some j) (sym yes)
 
-pub scan_is : (x : Entry) (live : List Entry) (k : ℕ) → numbered live k ≡ Some x → first_dependant live k ≡ first_from x (k + 1) (drop k live)
+pub scan_is : (x : Entry) (live : List Entry) (k : ℕ) → numbered live k ≡ Some x → first_dependant live k ≡ position_from (depends x) (k + 1) (drop k live)
 scan_is x live k here = grind arith
 
 among : (x : Entry) (live others : List Entry) (k : ℕ) → k ≤ length live
-    → first_from x (k + 1) (drop k live) ≡ if_live live (first_from x (k + 1) (drop k live ++ others))
+    → position_from (depends x) (k + 1) (drop k live) ≡ if_live live (position_from (depends x) (k + 1) (drop k live ++ others))
 among x live others k position = grind (arith, found_within, within_live, length-drop, found_before, found_behind, behind_live)
 
 -- the first dependant among the live ones is what is found among all, if that is live
@@ -93,5 +93,5 @@ pub found_live : (x : Entry) (live others : List Entry) (k : ℕ) → 1 ≤ k �
     → first_dependant live k ≡ if_live live (first_dependant (live ++ others) k)
 found_live x live others k some within here =
     scan_is x live k (numbered_in live k x some within here) ∙ among x live others k within
-    ∙ ap (λ (zs : List Entry). if_live live (first_from x (k + 1) zs)) (sym (drop-append-le k live others within))
+    ∙ ap (λ (zs : List Entry). if_live live (position_from (depends x) (k + 1) zs)) (sym (drop-append-le k live others within))
     ∙ ap (if_live live) (sym (scan_is x (live ++ others) k (numbered_before live others k x some within here)))

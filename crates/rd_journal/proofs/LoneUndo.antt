@@ -1,6 +1,8 @@
 -- Undoing one live step alone, on which no later one depends, over whole journals.
-use Rattle.rd_journal.proofs.Prelude.{common_steps, cases_Bool, cond-true, cond-false, lt-ltb, le-ltb, map-append, take-map, drop-map, take-append-drop, length-map, depends, IsFree, first_dependant, MOST_STEPS, Entry, first_from, WasStepped, IsTakenOut, Journal, start_of, IsRun, IsUndoneAlone, answer_unless, answer_at, state_of, undone_alone, undone_alone_unless, undo_at}
-use Rattle.std.proofs.Common.{◌≡◌, nat_lt, ℕ, zero, suc, ◌+◌, ◌-◌, ◌<◌, ◌≤◌, ◌⊎◌, inl, inr, sym, ◌∙◌, ap, subst, arith, List, [], ◌∷◌, ◌++◌, length, take, drop, get_or, Some, None, Err, length-append}
+use Rattle.std.specs.List.{list_any}
+use Rattle.std.proofs.lemmas.Bool.{or_from}
+use Rattle.rd_journal.proofs.Prelude.{common_steps, cases_Bool, cond-true, cond-false, lt-ltb, le-ltb, map-append, take-map, drop-map, take-append-drop, length-map, depends, IsFree, first_dependant, MOST_STEPS, Entry, position_from, WasStepped, IsTakenOut, Journal, start_of, IsRun, IsUndoneAlone, answer_unless, answer_at, state_of, undone_alone, undone_alone_unless, undo_at}
+use Rattle.std.proofs.Common.{◌≡◌, false, refl, nat_lt, ℕ, zero, suc, ◌+◌, ◌-◌, ◌<◌, ◌≤◌, ◌⊎◌, inl, inr, sym, ◌∙◌, ap, subst, arith, List, [], ◌∷◌, ◌++◌, length, take, drop, get_or, Some, None, Err, length-append}
 use Rattle.rd_journal.proofs.ListLemmas.{drop_one_less}
 use Rattle.rd_journal.proofs.Finding.{numbered_in, scan_is}
 use Rattle.rd_journal.proofs.Runs.{MayTakeOut, may_take_out}
@@ -8,13 +10,13 @@ use Rattle.rd_cell.specs.declared.refusal.Refusal.TheVariants as refusal
 
 -- Dependence
 
-pub none_is_free : (x : Entry) (n : ℕ) (ys : List Entry) → first_from x n ys ≡ None → IsFree x ys
-none_is_free x n [] h = tt
+pub none_is_free : (x : Entry) (n : ℕ) (ys : List Entry) → position_from (depends x) n ys ≡ None → IsFree x ys
+none_is_free x n [] h = refl
 none_is_free x n (y ∷ ys) h =
     elim (cases_Bool (depends x y)) [
       | inl e ↦
           grind (arith, cond-true)
-      | inr e ↦ (e, none_is_free x (n + 1) ys (sym (cond-false (depends x y) (Some n) (first_from x (n + 1) ys) e) ∙ h))
+      | inr e ↦ or_from (depends x y) (list_any (depends x) ys) e (none_is_free x (n + 1) ys (sym (cond-false (depends x y) (Some n) (position_from (depends x) (n + 1) ys) e) ∙ h))
     ]
 
 -- the entry x is the k-th of the list, counted from 1
@@ -24,7 +26,7 @@ pub record IsNumber (l : List Entry) (k : ℕ) (x : Entry) : Type 0 where
   pub here : x ≡ get_or l (k - 1) x
 
 -- its first dependant is looked for from the next position on
-first_behind : (l : List Entry) (k : ℕ) (x : Entry) → IsNumber l k x → first_dependant l k ≡ first_from x (k + 1) (drop k l)
+first_behind : (l : List Entry) (k : ℕ) (x : Entry) → IsNumber l k x → first_dependant l k ≡ position_from (depends x) (k + 1) (drop k l)
 first_behind l k x at = scan_is x l k (numbered_in l k x at.some at.within at.here)
 
 -- The list around its k-th entry

@@ -6,7 +6,7 @@ pub use Rattle.std.proofs.lemmas.Grind.{common_steps, flat_map-append}
 pub use Rattle.std.proofs.lemmas.List.{append-nil, append_assoc, drop-append-le, drop-drop, drop-map, drop-set-lt, drop-take, drop_all, drop_at, drop_more, get_or-replicate, get_or-set_other, get_or-set_same, get_or-take, get_or_append_left, get_or_default, length-map, length-set, length-take, length-take-le, map-append, take-append-drop, take-append-le, take-map, take-take, take_all, take_at, take_more, take_more_set}
 pub use Rattle.std.proofs.lemmas.List.Sums.{get_or-le-sum_by, sum_by-append, sum_by-cons, sum_by-take-drop, sum_by_push}
 pub use Rattle.std.proofs.lemmas.Option.{slice_get-get_or, slice_get-map, slice_get_past}
-pub use Rattle.std.specs.List.{All, count_by}
+pub use Rattle.std.specs.List.{items_where_true, position_from, All, count_by}
 pub use Rattle.std.specs.Vec.{vec_capacity}
 pub use borrow.Rule.Slice.PartMut.{mid_of, put_mid}
 pub use Rattle.rd_depend.proofs.IndexChanges.{not_refused, ok_then}
@@ -19,10 +19,10 @@ pub use Rattle.rd_step.proofs.Removal.{run_keeps, run_stays_actor, taken_out}
 pub use Rattle.rd_step.proofs.Room.{room_used_returned}
 pub use Rattle.rd_step.proofs.RunParts.{Middle, beginning, first_step, middle, runs_to}
 pub use Rattle.rd_step.proofs.Steps.{took, with_actor-other}
-pub use Rattle.rd_step.specs.Dependence.{AreLoneUndos, IsInClosure, closure_from, first_from, number_after}
+pub use Rattle.rd_step.specs.Dependence.{AreLoneUndos, IsInClosure, closure_from, number_after}
 pub use Rattle.rd_step.specs.Laws.{IsTakenOut, WasStepped}
 pub use Rattle.rd_step.specs.Lists.{numbered}
-pub use Rattle.rd_step.specs.Prelude.{and_then, result_map, Content, IsFree, IsWellFormed, MOST_STEPS, Place, Ran, Refusal, SegName, Stepped, World, after, closure, closure_of, depends, depends_on_one, first_dependant, marked, model, room, run, step, unmarked, unstep, without_closure}
+pub use Rattle.rd_step.specs.Prelude.{and_then, result_map, Content, IsFree, IsWellFormed, MOST_STEPS, Place, Ran, Refusal, SegName, Stepped, World, after, closure, closure_of, depends, depends_on_one, first_dependant, model, room, run, step, unmarked, unstep, without_closure}
 pub use Rattle.rd_step.specs.Room.{makes_segment, room_returned, room_used}
 pub use Rattle.rd_step.specs.Run.{preceded_by}
 pub use Rattle.rd_step.specs.declared.entries.Entry.{Entry}

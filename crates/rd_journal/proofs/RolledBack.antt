@@ -1,6 +1,6 @@
 -- Rolling back a live step with all that depends on it, over whole journals.
 use Rattle.std.proofs.Common.{◌≡◌, ℕ, zero, suc, ◌+◌, ◌<◌, ◌≤◌, ◌⊎◌, Bool, true, false, refl, sym, ◌∙◌, ap, subst, arith, List, [], ◌∷◌, ◌++◌, length, take, drop, Ok, Err}
-use Rattle.rd_journal.proofs.Prelude.{cond-true, cond-false, lt-ltb, le-ltb, append_assoc, map-append, take-append-drop, length-map, World, run, closure, marked, unmarked, closure_of, without_closure, closure_from, Event, Entry, run-cons, Journal, events, world_before, start_of, IsRun, IsRolledBack, IsWithoutClosure, roll_answer, IsSession, HasRoom, State, state_of, back_one, times, undone_marked, roll, middle}
+use Rattle.rd_journal.proofs.Prelude.{cond-true, cond-false, lt-ltb, le-ltb, append_assoc, map-append, take-append-drop, length-map, World, run, closure, items_where_true, unmarked, closure_of, without_closure, closure_from, Event, Entry, run-cons, Journal, events, world_before, start_of, IsRun, IsRolledBack, IsWithoutClosure, roll_answer, IsSession, HasRoom, State, state_of, back_one, times, undone_marked, roll, middle}
 use Rattle.rd_journal.proofs.Calls.{back_start}
 use Rattle.rd_journal.proofs.Gathering.{cut_at, gathered_run}
 use Rattle.rd_journal.proofs.ListLemmas.{nth, drop_one_less}
@@ -32,13 +32,13 @@ reordered_run s w l i low h =
     let from : run m.before (events (x ∷ ys)) ≡ Ok (record { world = w; entries = x ∷ ys }) =
     run-cons m.before x.event (events ys) (record { world = m.after; entry = x }) (record { world = w; entries = ys }) m.goes m.rest in
     let ms = closure_from (x ∷ []) ys in
-    let zs = unmarked ms ys ++ ((x ∷ []) ++ marked ms ys) in
+    let zs = unmarked ms ys ++ ((x ∷ []) ++ items_where_true ms ys) in
     let turned = gathered_run m.before w (x ∷ []) ys from in
     let all : run s (events (xs ++ zs)) ≡ Ok (record { world = w; entries = xs ++ zs }) =
     ap (run s) (map-append (λ (y : Entry). y.event) xs zs)
     ∙ run_joined s (events xs) (events zs) (record { world = m.before; entries = xs }) (record { world = w; entries = zs }) m.ran turned in
     let same : xs ++ zs ≡ without_closure l (suc i) ++ closure_of l (suc i) =
-    sym (append_assoc xs (unmarked ms ys) (x ∷ marked ms ys)) ∙ (λ t. sym c.outside t ++ sym c.inside t) in
+    sym (append_assoc xs (unmarked ms ys) (x ∷ items_where_true ms ys)) ∙ (λ t. sym c.outside t ++ sym c.inside t) in
     subst (λ (qs : List Entry). run s (events qs) ≡ Ok (record { world = w; entries = qs })) same all
 
 reordered_at : (j : Journal) (i : ℕ) → i < length j.live → IsRun j → IsReordered j (suc i)
@@ -86,7 +86,7 @@ rolled_start k n old mid new runs some within g state =
 
 -- The state
 
-pub marked-map : (bs : List Bool) (xs : List Entry) → marked bs (events xs) ≡ events (marked bs xs)
+pub marked-map : (bs : List Bool) (xs : List Entry) → items_where_true bs (events xs) ≡ events (items_where_true bs xs)
 marked-map [] xs = refl
 marked-map (b ∷ bs) [] = refl
 marked-map (true ∷ bs) (x ∷ xs) = ap (λ (es : List Event). x.event ∷ es) (marked-map bs xs)

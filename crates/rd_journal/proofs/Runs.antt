@@ -151,7 +151,7 @@ just_stepped w v e x formed goes = record {
     ran = record { world = v; entries = [] };
     went_on = refl;
     here = refl;
-    free = tt;
+    free = refl;
   };
   back = undoes w e (record { world = v; entry = x }) formed goes;
 }

@@ -1,5 +1,5 @@
 -- Undoing the last steps that lead to a world; and the event of an undone step.
-use Rattle.std.proofs.Common.{◌≡◌, ℕ, ◌-◌, ◌<◌, ◌≤◌, ◌⊎◌, sym, ◌∙◌, ap, subst, List, [], ◌∷◌, ◌++◌, length, take, drop, get_or, slice_get, option_map, Some, None, arith}
+use Rattle.std.proofs.Common.{◌≡◌, ℕ, ◌-◌, ◌<◌, ◌≤◌, ◌⊎◌, refl, sym, ◌∙◌, ap, subst, List, [], ◌∷◌, ◌++◌, length, take, drop, get_or, slice_get, option_map, Some, None, arith}
 use Rattle.rd_journal.proofs.Prelude.{append-nil, taken_out, take_more, slice_get-map, slice_get_past, slice_get-get_or, World, run, unstep, WasStepped, Entry, Journal, events, world_before, start_of, IsRun, LeadsTo, numbered}
 use Rattle.rd_journal.proofs.ListLemmas.{drop_one_less}
 use Rattle.rd_journal.proofs.Runs.{goes_back, may_take_out}
@@ -14,7 +14,7 @@ pub may_step_back : (start w : World) (xs : List Entry) (x : Entry) → LeadsTo 
 may_step_back start w xs x leads =
     let v = unstep w x in
     let back : world_before w (xs ++ x ∷ []) ≡ start = goes_back start w (xs ++ x ∷ []) leads.well_formed leads.ran in
-    let may = may_take_out w xs [] [] x (grind arith) tt in
+    let may = may_take_out w xs [] [] x (grind arith) refl in
     let out = taken_out w x may.was in
     record {
       was = may.was;

@@ -1,8 +1,9 @@
 -- What a session is to its callers: a start world, the live events and the undone events. It has no
 -- entry, no old word and no position in a run, and its definitions use only the run of a list.
 use Rattle.std.specs.Prelude.{◌≡◌, ◌⊎◌, ℕ, zero, suc, Bool, ◌-◌, ◌<◌, ◌==◌, nat_lt, if◌then◌else◌, List, [], ◌∷◌, ◌++◌, length, take, drop, Option, Some, None, option_and_then, Result, Ok, Err, IsOk}
+use Rattle.std.specs.List.{items_where_true}
 use Rattle.std.specs.Result.{result_ok}
-use Rattle.rd_step.specs.Prelude.{Refusal, OpReply, World, Stepped, step, Ran, run, first_dependant, without, closure, marked, unmarked, MOST_STEPS, and_then, result_map}
+use Rattle.rd_step.specs.Prelude.{Refusal, OpReply, World, Stepped, step, Ran, run, first_dependant, without, closure, unmarked, MOST_STEPS, and_then, result_map}
 use Rattle.rd_step.specs.declared.entries.Event.{Event}
 use Rattle.rd_journal.specs.Journal.{Journal, start_of, events}
 use Rattle.rd_cell.specs.declared.refusal.Refusal.TheVariants as refusal
@@ -99,7 +100,7 @@ undo_at s (suc i) =
 -- the state where the marked live events became the front of undone, in their order, and all others
 -- stay in their order
 abbrev pub undone_marked : State → List Bool → State
-undone_marked s marks = record { start = s.start; live = unmarked marks s.live; undone = marked marks s.live ++ s.undone }
+undone_marked s marks = record { start = s.start; live = unmarked marks s.live; undone = items_where_true marks s.live ++ s.undone }
 
 -- the state after rolling back the k-th live step: it and just the later ones that depend on it,
 -- directly or through others, became the front of undone; refused if there is none

@@ -20,7 +20,7 @@ equivalent_itself w (x ∷ xs) h =
       earlier = [];
       later = events xs;
       stands = refl;
-      independent = record { ran = record { world = w; entries = [] }; runs = refl; stepped = b.stepped; goes = b.goes; free = tt };
+      independent = record { ran = record { world = w; entries = [] }; runs = refl; stepped = b.stepped; goes = b.goes; free = refl };
       stepped = b.stepped;
       goes = b.goes;
       rest = equivalent_itself b.stepped.world xs b.rest;

@@ -3,12 +3,14 @@
 use Rattle.std.proofs.Common.{◌≡◌, false, refl, sym, ◌∙◌, ap, subst, List, [], ◌∷◌, ◌++◌, Result, Ok, arith}
 use Rattle.rd_step.proofs.Prelude.{Refusal, World, Event, Entry, Stepped, step, Ran, run, events, depends, IsFree}
 use Rattle.std.specs.Prelude.{IsPermutation}
+use Rattle.std.proofs.lemmas.Bool.{or_from}
 use Rattle.std.proofs.lemmas.List.Sorted.{IsPermutation-sym, IsPermutation-cons, IsPermutation-trans, IsPermutation-middle}
 use Rattle.rd_step.specs.Equivalence.{IsIndependentOf, IsEquivalent, ReachesTheSame}
 use Rattle.rd_step.proofs.Steps.{took}
 use Rattle.rd_step.proofs.Commute.{commutes}
 use Rattle.rd_step.proofs.Symmetry.{symmetric}
 use Rattle.rd_step.proofs.Inverse.{ran_on, run-cons}
+use Rattle.rd_step.proofs.RunParts.{free_parts}
 
 -- equal answers are of equal values
 
@@ -40,7 +42,7 @@ goes_first w e [] later r s q h k free l = grind arith
 goes_first w e (f ∷ fs) later r s q h k free l =
     let ran = ran_on w f fs r h in
     let goes : step ran.rest.world e ≡ Ok s = ap (λ (y : Ran). step y.world e) ran.joins ∙ k in
-    let parts : IsFree s.entry (ran.one.entry ∷ ran.rest.entries) = subst (λ (y : Ran). IsFree s.entry y.entries) (sym ran.joins) free in
+    let parts = free_parts s.entry ran.one.entry ran.rest.entries (subst (λ (y : Ran). IsFree s.entry y.entries) (sym ran.joins) free) in
     let first = goes_first ran.one.world e fs later ran.rest s q ran.goes_on goes parts.1 l in
     let independent : depends ran.one.entry s.entry ≡ false = symmetric ran.one.entry s.entry ∙ parts.0 in
     let sw = commutes w f e ran.one (record { world = first.after; entry = s.entry }) ran.goes first.goes independent in
@@ -171,7 +173,7 @@ reflexive w (e ∷ es) r h =
       earlier = [];
       later = es;
       stands = refl;
-      independent = record { ran = record { world = w; entries = [] }; runs = refl; stepped = ran.one; goes = ran.goes; free = tt };
+      independent = record { ran = record { world = w; entries = [] }; runs = refl; stepped = ran.one; goes = ran.goes; free = refl };
       stepped = ran.one;
       goes = ran.goes;
       rest = reflexive ran.one.world es ran.rest ran.goes_on;
@@ -192,7 +194,7 @@ neighbours_swapped w e f es s u r h k free l =
         runs = run-cons w f [] sw.first (record { world = sw.first.world; entries = [] }) sw.goes_first refl;
         stepped = sw.second;
         goes = sw.goes_second;
-        free = (apart, tt);
+        free = or_from (depends sw.second.entry sw.first.entry) false apart refl;
       };
       stepped = s;
       goes = h;

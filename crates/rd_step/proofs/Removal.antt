@@ -6,6 +6,7 @@ use Rattle.rd_step.proofs.Steps.{took, with_actor-same}
 use Rattle.rd_step.proofs.Commute.{commutes}
 use Rattle.rd_step.proofs.Keeps.{keeps}
 use Rattle.rd_step.proofs.Inverse.{undoes, ran_on}
+use Rattle.rd_step.proofs.RunParts.{free_parts}
 use Rattle.rd_step.proofs.PutBack.{stays_at, others_stay, entry_can}
 
 -- the last step of a run taken out
@@ -27,7 +28,7 @@ removes w e s [] r formed h k free =
     subst (λ (x : Ran). IsRemovable w e s [] x) p (last_removed w e s formed h)
 removes w e s (f ∷ fs) r formed h k free =
     let ran = ran_on s.world f fs r k in
-    let parts : IsFree s.entry (ran.one.entry ∷ ran.rest.entries) = subst (λ (x : Ran). IsFree s.entry x.entries) (sym ran.joins) free in
+    let parts = free_parts s.entry ran.one.entry ran.rest.entries (subst (λ (x : Ran). IsFree s.entry x.entries) (sym ran.joins) free) in
     let sw = commutes w e f s ran.one h ran.goes parts.0 in
     let goes_on : run sw.second.world fs ≡ Ok ran.rest = ap (λ (v : World). run v fs) sw.same_world ∙ ran.goes_on in
     let free_on : IsFree sw.second.entry ran.rest.entries = subst (λ (x : Entry). IsFree x ran.rest.entries) (sym sw.entry_unchanged) parts.1 in
@@ -84,7 +85,7 @@ run_others w [] r x k h free = grind arith
 run_others w (e ∷ es) r x k h free =
     let ran = ran_on w e es r h in
     let p : ran.rest.world ≡ r.world = ap (λ (y : Ran). y.world) ran.joins in
-    let parts : IsFree x (ran.one.entry ∷ ran.rest.entries) = subst (λ (y : Ran). IsFree x y.entries) (sym ran.joins) free in
+    let parts = free_parts x ran.one.entry ran.rest.entries (subst (λ (y : Ran). IsFree x y.entries) (sym ran.joins) free) in
     let other = or_parts (x.event.actor == ran.one.entry.event.actor) (interfere x.place x.wrote ran.one.entry.place ran.one.entry.wrote) parts.0 in
     ap (λ (v : World). is_there v.at (record { maker = x.event.actor; n = k })) (sym p)
     ∙ run_others ran.one.world es ran.rest x k ran.goes_on parts.1

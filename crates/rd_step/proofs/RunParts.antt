@@ -1,8 +1,13 @@
 -- Runs whose entries are known, taken apart at their first step and at one in their middle.
-use Rattle.std.proofs.Common.{◌≡◌, refl, ◌∙◌, ap, List, [], ◌∷◌, ◌++◌, Result, Ok, Err, arith}
-use Rattle.rd_step.proofs.Prelude.{Refusal, World, Entry, step, Ran, run, events}
+use Rattle.std.proofs.Common.{◌≡◌, false, refl, ◌∙◌, ap, List, [], ◌∷◌, ◌++◌, Result, Ok, Err, arith}
+use Rattle.rd_step.proofs.Prelude.{Refusal, World, Entry, step, Ran, run, events, or_parts, depends, IsFree}
+use Rattle.std.specs.List.{list_any}
 use Rattle.rd_step.specs.Run.{run_entries, IsRunFrom}
 use Rattle.rd_step.proofs.Inverse.{run-cons}
+
+-- if none of some entries depends on x, then neither the first one does nor any other
+pub free_parts : (x y : Entry) (ys : List Entry) → IsFree x (y ∷ ys) → (depends x y ≡ false) × IsFree x ys
+free_parts x y ys free = or_parts (depends x y) (list_any (depends x) ys) free
 
 -- the last world of a run that leaves these entries
 pub record RunsTo (w : World) (xs : List Entry) : Type 0 where

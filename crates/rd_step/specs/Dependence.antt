@@ -2,6 +2,7 @@
 -- the symmetry are our profile's), what is left if a step is taken out, and the causal closure of a
 -- step.
 use Rattle.std.specs.Prelude.{◌≡◌, ◌<◌, ◌≤◌, true, false, ℕ, zero, suc, ◌+◌, ◌-◌, Bool, nat_lt, ◌==◌, ◌||◌, if◌then◌else◌, List, [], ◌∷◌, ◌++◌, length, take, drop, Option, Some, None, option_and_then}
+use Rattle.std.specs.List.{list_any, position_from, items_where_true}
 use Rattle.rd_ring.specs.Prelude.{interfere}
 use Rattle.rd_step.specs.declared.entries.Entry.{Entry}
 use Rattle.rd_step.specs.Lists.{numbered}
@@ -13,18 +14,11 @@ depends x y = (x.event.actor == y.event.actor) || interfere x.place x.wrote y.pl
 
 -- none of these entries depends on x
 abbrev pub IsFree : Entry → List Entry → Type 0
-IsFree x [] = Unit {0}
-IsFree x (y ∷ ys) = (depends x y ≡ false) × IsFree x ys
-
--- the number of the first of these entries that depends on x, where the first one has the number n;
--- none if none depends
-abbrev pub first_from : Entry → ℕ → List Entry → Option ℕ
-first_from x n [] = None
-first_from x n (y ∷ ys) = if depends x y then Some n else first_from x (n + 1) ys
+IsFree x ys = list_any (depends x) ys ≡ false
 
 -- the least position above k, counted from 1, whose entry depends on that at k
 abbrev pub first_dependant : List Entry → ℕ → Option ℕ
-first_dependant entries k = option_and_then (λ x. first_from x (k + 1) (drop k entries)) (numbered entries k)
+first_dependant entries k = option_and_then (λ x. position_from (depends x) (k + 1) (drop k entries)) (numbered entries k)
 
 -- the causal closure of position k: the least set of positions that holds k, and with each position
 -- every later one whose entry depends on that one's
@@ -35,8 +29,7 @@ pub data IsInClosure (entries : List Entry) (k : ℕ) : ℕ → Type 0 where
 
 -- whether y depends on at least one of these entries
 abbrev pub depends_on_one : List Entry → Entry → Bool
-depends_on_one [] y = false
-depends_on_one (x ∷ xs) y = depends x y || depends_on_one xs y
+depends_on_one xs y = list_any (λ x. depends x y) xs
 
 -- for each entry of the second list, whether it depends on an entry of the first list, or on an
 -- earlier one of the second for which this holds
@@ -51,13 +44,6 @@ closure [] (suc k) = []
 closure (x ∷ xs) (suc zero) = true ∷ closure_from (x ∷ []) xs
 closure (x ∷ xs) (suc (suc k)) = false ∷ closure xs (suc k)
 
--- the elements of a list whose position has the mark `true`, in their order
-abbrev pub marked : {X : Type 0} → List Bool → List X → List X
-marked [] xs = []
-marked (b ∷ bs) [] = []
-marked (true ∷ bs) (x ∷ xs) = x ∷ marked bs xs
-marked (false ∷ bs) (x ∷ xs) = marked bs xs
-
 -- the elements of a list whose position does not have the mark `true`, in their order
 abbrev pub unmarked : {X : Type 0} → List Bool → List X → List X
 unmarked [] xs = xs
@@ -67,7 +53,7 @@ unmarked (false ∷ bs) (x ∷ xs) = x ∷ unmarked bs xs
 
 -- the entries in the causal closure of position k, in their order
 abbrev pub closure_of : List Entry → ℕ → List Entry
-closure_of entries k = marked (closure entries k) entries
+closure_of entries k = items_where_true (closure entries k) entries
 
 -- the entries outside the causal closure of position k, in their order
 abbrev pub without_closure : List Entry → ℕ → List Entry

@@ -16,6 +16,6 @@ unstep-requires c = (
     ran = record { world = model c.step.new.self; entries = [] };
     went_on = refl;
     here = refl;
-    free = tt;
+    free = refl;
   },
 )

@@ -25,7 +25,7 @@ revert-requires c =
       ran = record { world = model c.step.new.self; entries = [] };
       went_on = refl;
       here = refl;
-      free = tt;
+      free = refl;
     } in
     let can = can_undo (model c.step.new.self) c.in_ok-entry.entry was in
     (omega arith, (can.actor_there, (can.place_there, can.formed)))
