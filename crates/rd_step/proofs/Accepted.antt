@@ -1,7 +1,9 @@
 -- Parts with a list for each maker, whose world is well-formed, have no flaw.
 use Rattle.std.proofs.Common.{◌≡◌, ℕ, zero, suc, ◌+◌, ◌≤◌, Bool, true, not, ◌&&◌, nat_lt, nat_le, ◌↔◌, if◌then◌else◌, inl, inr, refl, ◌∙◌, ap, subst, arith, List, [], ◌∷◌, length, slice_get, Option, Some, None, option_map, le-leb, ltb-true, eq-eqb}
-use Rattle.rd_step.proofs.Prelude.{list_all, cases_lt, and_parts, and_from, MOST_ACTORS, MOST_SEGMENTS, COUNTER_END, Cell, SegName, Place, SegmentParts, counters_fit, by_number, by_name, count_in, count, ListOf, part_of_parts, each_segment, in_list, numbered_there, Actor, words_fit, Parts, Flaw, numbered, Presence, place_fits, next_fits, names_fit, numbers_fit, record_fits, actor_fits, is_actor, IsNumbered, AreMade, IsWellFormed, world_of_parts, has, indexes_fit, first_flaw}
+use Rattle.rd_step.proofs.Prelude.{list_all, cases_lt, and_parts, and_from, MOST_ACTORS, MOST_SEGMENTS, COUNTER_END, Cell, SegName, Place, SegmentParts, counters_fit, by_number, by_name, count_in, count, ListOf, part_of_parts, each_segment, in_list, numbered_there, Actor, words_fit, Parts, Flaw, numbered, Presence, place_fits, next_fits, names_fit, numbers_within, record_fits, actor_fits, is_actor, IsNumbered, AreMade, IsWellFormed, world_of_parts, has, indexes_fit, first_flaw}
 use Rattle.rd_ring.specs.Segments.{part_from}
+use Rattle.rd_ring.specs.Prelude.{Content, can_hold}
+use Rattle.rd_step.specs.WellFormed.{content_fits, segments_named_fit, index_within}
 use Rattle.rd_step.proofs.Assembled.{NoFlaw, within, presence, numbered_below, assembled, lists_right}
 use Rattle.rd_cell.specs.declared.places.Place.TheVariants as place
 use Rattle.rd_cell.specs.declared.contents.Content.TheVariants as content
@@ -66,27 +68,36 @@ few_segments {R} p made m list e =
 segments_made : {R : ℕ} (p : Parts R) → IsWellFormed (world_of_parts p) → AreMade (is_actor (numbered p.actors.items)) (has p)
 segments_made p formed = subst (AreMade (is_actor (numbered p.actors.items))) (presence p) formed.made
 
-contents_fit : (R : ℕ) (p : Parts R) → IsWellFormed (world_of_parts p) → (q : Place) → place_fits R (has p) q ((world_of_parts p).at q) ≡ true
+contents_fit : (R : ℕ) (p : Parts R) → IsWellFormed (world_of_parts p) → (q : Place) → place_fits (COUNTER_END + R) (has p) q ((world_of_parts p).at q) ≡ true
 contents_fit R p formed q =
-    subst (λ (there : Presence). place_fits R there q ((world_of_parts p).at q) ≡ true) (presence p) (formed.contents q)
+    subst (λ (there : Presence). place_fits (COUNTER_END + R) there q ((world_of_parts p).at q) ≡ true) (presence p) (formed.contents q)
 
 -- what a segment of the parts has at a place
 part_fits : (R : ℕ) (p : Parts R) (s : SegName) (x : SegmentParts R) (q : Place) → by_name p.segments.items s ≡ Some x
-    → place_fits R (has p) q (part_of_parts (by_name p.segments.items s) q) ≡ true → place_fits R (has p) q (part_from x q) ≡ true
-part_fits R p s x q e h = subst (λ (o : Option (SegmentParts R)). place_fits R (has p) q (part_of_parts o q) ≡ true) e h
+    → place_fits (COUNTER_END + R) (has p) q (part_of_parts (by_name p.segments.items s) q) ≡ true → place_fits (COUNTER_END + R) (has p) q (part_from x q) ≡ true
+part_fits R p s x q e h = subst (λ (o : Option (SegmentParts R)). place_fits (COUNTER_END + R) (has p) q (part_of_parts o q) ≡ true) e h
+
+-- a content that fits its place, by the three parts of that
+content_parts : (R : ℕ) (p : Parts R) (q : Place) (c : Content) → content_fits (COUNTER_END + R) (has p) q c ≡ true
+    → (can_hold q c ≡ true) × (segments_named_fit (has p) c ≡ true) × (index_within (COUNTER_END + R) c ≡ true)
+content_parts R p q c fits =
+    let both = and_parts (can_hold q c && segments_named_fit (has p) c) (index_within (COUNTER_END + R) c) fits in
+    let first = and_parts (can_hold q c) (segments_named_fit (has p) c) both.0 in
+    (first.0, first.1, both.1)
 
 counters_within : (R : ℕ) (p : Parts R) → IsWellFormed (world_of_parts p) → (s : SegName) (x : SegmentParts R) → by_name p.segments.items s ≡ Some x
     → counters_fit x ≡ true
 counters_within R p formed s x e =
     and_from (nat_le x.head COUNTER_END) (nat_le x.tail COUNTER_END)
-    (part_fits R p s x (place.Head s) e (contents_fit R p formed (place.Head s)))
-    (part_fits R p s x (place.Tail s) e (contents_fit R p formed (place.Tail s)))
+    (content_parts R p (place.Head s) (content.Number x.head) (part_fits R p s x (place.Head s) e (contents_fit R p formed (place.Head s)))).0
+    (content_parts R p (place.Tail s) (content.Tail x.closed x.tail) (part_fits R p s x (place.Tail s) e (contents_fit R p formed (place.Tail s)))).0
 
 cell_within : (R : ℕ) (p : Parts R) → IsWellFormed (world_of_parts p) → (s : SegName) (x : SegmentParts R) → by_name p.segments.items s ≡ Some x
     → (i : ℕ) (c : Cell) → slice_get x.cells i ≡ Some c → nat_le c.idx (COUNTER_END + R) ≡ true
 cell_within R p formed s x e i c at =
-    subst (λ (o : Option Cell). place_fits R (has p) (place.Idx s i) (option_map (λ x. content.Idx x.safe x.idx) o) ≡ true) at
-    (part_fits R p s x (place.Idx s i) e (contents_fit R p formed (place.Idx s i)))
+    (content_parts R p (place.Idx s i) (content.Idx c.safe c.idx)
+    (subst (λ (o : Option Cell). place_fits (COUNTER_END + R) (has p) (place.Idx s i) (option_map (λ x. content.Idx x.safe x.idx) o) ≡ true) at
+    (part_fits R p s x (place.Idx s i) e (contents_fit R p formed (place.Idx s i))))).2
 
 indexes_within : (R : ℕ) (p : Parts R) → IsWellFormed (world_of_parts p) → (s : SegName) (x : SegmentParts R) → by_name p.segments.items s ≡ Some x
     → indexes_fit (COUNTER_END + R) x ≡ true
@@ -95,15 +106,15 @@ indexes_within R p formed s x e = all_from (λ c. nat_le c.idx (COUNTER_END + R)
 -- an actor's record fits
 record ActorFits (R : ℕ) (there : Presence) (a : Actor) : Type 0 where
   pub names : names_fit there a ≡ true
-  pub numbers : numbers_fit R a ≡ true
+  pub numbers : numbers_within (COUNTER_END + R) a ≡ true
   pub words : words_fit a ≡ true
 
 actor_within : (R : ℕ) (p : Parts R) → IsWellFormed (world_of_parts p) → (n : ℕ) (a : Actor) → slice_get p.actors.items n ≡ Some a → ActorFits R (has p) a
 actor_within R p formed n a e =
-    let here = subst (λ (there : Presence). actor_fits R there (slice_get p.actors.items n) ≡ true) (presence p) (formed.actors (suc n)) in
-    let fits : record_fits R (has p) a ≡ true = subst (λ (o : Option Actor). actor_fits R (has p) o ≡ true) e here in
-    let both = and_parts (names_fit (has p) a && numbers_fit R a) (words_fit a) fits in
-    let first = and_parts (names_fit (has p) a) (numbers_fit R a) both.0 in
+    let here = subst (λ (there : Presence). actor_fits (COUNTER_END + R) there (slice_get p.actors.items n) ≡ true) (presence p) (formed.actors (suc n)) in
+    let fits : record_fits (COUNTER_END + R) (has p) a ≡ true = subst (λ (o : Option Actor). actor_fits (COUNTER_END + R) (has p) o ≡ true) e here in
+    let both = and_parts (names_fit (has p) a && numbers_within (COUNTER_END + R) a) (words_fit a) fits in
+    let first = and_parts (names_fit (has p) a) (numbers_within (COUNTER_END + R) a) both.0 in
     record { names = first.0; numbers = first.1; words = both.1 }
 
 pub accepted : (R : ℕ) (p : Parts R) → length p.segments.items ≡ suc (length p.actors.items) → IsWellFormed (world_of_parts p) → first_flaw p ≡ None
@@ -116,15 +127,15 @@ accepted R p lists formed =
       lists = eq-eqb (length p.segments.items) (suc (length p.actors.items)) lists;
       one_root = eq-eqb (count p.segments.items 0) 1 (one_root p made);
       few_segments = all_from (λ list. nat_le (length list.items) MOST_SEGMENTS) p.segments.items (few_segments p made);
-      qhead = fits place.QHead;
-      qtail = fits place.QTail;
-      nexts = each_from (λ s. next_fits (has p) s.next) p.segments.items (λ s x e. part_fits R p s x (place.Next s) e (fits (place.Next s)));
+      qhead = (content_parts R p place.QHead (content.Name p.qhead) (fits place.QHead)).1;
+      qtail = (content_parts R p place.QTail (content.Name p.qtail) (fits place.QTail)).1;
+      nexts = each_from (λ s. next_fits (has p) s.next) p.segments.items (λ s x e. (content_parts R p (place.Next s) (content.Next x.next) (part_fits R p s x (place.Next s) e (fits (place.Next s)))).1);
       names = all_from (names_fit (has p)) p.actors.items (λ n a e. (actor_within R p formed n a e).names);
       counters = each_from counters_fit p.segments.items (counters_within R p formed);
       indexes = each_from (indexes_fit (COUNTER_END + R)) p.segments.items (indexes_within R p formed);
-      array_head = fits place.ArrHead;
-      array_tail = fits place.ArrTail;
-      numbers = all_from (numbers_fit R) p.actors.items (λ n a e. (actor_within R p formed n a e).numbers);
+      array_head = (content_parts R p place.ArrHead (content.Number p.array.head) (fits place.ArrHead)).0;
+      array_tail = (content_parts R p place.ArrTail (content.Number p.array.tail) (fits place.ArrTail)).0;
+      numbers = all_from (numbers_within (COUNTER_END + R)) p.actors.items (λ n a e. (actor_within R p formed n a e).numbers);
       words = all_from words_fit p.actors.items (λ n a e. (actor_within R p formed n a e).words);
     })
 

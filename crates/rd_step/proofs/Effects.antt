@@ -9,7 +9,7 @@ use Rattle.rd_cell.specs.declared.contents.Content.TheVariants as content
 -- what an effect writes fits the place, and what it answers fits
 abbrev pub EffectFits : ℕ → Presence → Place → Operation → Effect → Type 0
 EffectFits R there p op e =
-    IfSome e.writes (λ c. content_fits R there p c ≡ true) × (answer_fits R there e.answer ≡ true) × (has_slot op e.answer ≡ true)
+    IfSome e.writes (λ c. content_fits (COUNTER_END + R) there p c ≡ true) × (answer_fits R there e.answer ≡ true) × (has_slot op e.answer ≡ true)
 
 -- the count after one that is below the end is not past it
 one_more : (n limit : ℕ) → n < limit → nat_le (n + 1) limit ≡ true
@@ -64,5 +64,5 @@ on_slot R there op i slot = grind arith
 
 -- what an operation does to a content that fits its place fits
 pub effect_fits : (R : ℕ) (there : Presence) (p : Place) (op : Operation) (c : Content) → op_fits R there p op ≡ true
-    → content_fits R there p c ≡ true → IfOk (effect op c) (EffectFits R there p op)
+    → content_fits (COUNTER_END + R) there p c ≡ true → IfOk (effect op c) (EffectFits R there p op)
 effect_fits R there p op c f h = grind (arith, on_head, on_tail, on_number, on_count, on_none, on_next, on_cell, on_value, on_index, on_array_head, on_array_tail, on_slot)

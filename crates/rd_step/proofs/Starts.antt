@@ -23,7 +23,7 @@ made_first R actors = grind arith
 places_first : (R : ℕ) (p : Place) → is_some (fresh_space R p) ≡ belongs R (there_first R) p
 places_first R p = grind arith
 
-contents_first : (R : ℕ) (p : Place) → place_fits R (there_first R) p (fresh_space R p) ≡ true
+contents_first : (R : ℕ) (p : Place) → place_fits (COUNTER_END + R) (there_first R) p (fresh_space R p) ≡ true
 contents_first R p = grind arith
 
 below_count : (each : ℕ → Actor) (count n : ℕ) → is_actor (actors_by each count) (suc n) ≡ true → n < count
@@ -33,19 +33,19 @@ below_count each count n h = grind arith
 numbered_by : (each : ℕ → Actor) (count : ℕ) → 1 ≤ count → count ≤ MOST_ACTORS → IsNumbered (is_actor (actors_by each count))
 numbered_by each count some few = grind arith
 
-fits_by : (R : ℕ) (each : ℕ → Actor) (count : ℕ) → ((n : ℕ) → record_fits R (there_first R) (each n) ≡ true) → (n : ℕ)
-    → actor_fits R (there_first R) (actors_by each count n) ≡ true
+fits_by : (R : ℕ) (each : ℕ → Actor) (count : ℕ) → ((n : ℕ) → record_fits (COUNTER_END + R) (there_first R) (each n) ≡ true) → (n : ℕ)
+    → actor_fits (COUNTER_END + R) (there_first R) (actors_by each count n) ≡ true
 fits_by R each count fits n = grind arith
 
 -- a world with a fresh space and this many actors whose records fit is well-formed
-starts_well : (R : ℕ) (each : ℕ → Actor) (count : ℕ) → 1 ≤ count → count ≤ MOST_ACTORS → ((n : ℕ) → record_fits R (there_first R) (each n) ≡ true)
+starts_well : (R : ℕ) (each : ℕ → Actor) (count : ℕ) → 1 ≤ count → count ≤ MOST_ACTORS → ((n : ℕ) → record_fits (COUNTER_END + R) (there_first R) (each n) ≡ true)
     → IsWellFormed (record { ring = R; at = fresh_space R; actor = actors_by each count })
 starts_well R each count some few fits = grind (arith, common_steps, numbered_by, made_first, places_first, contents_first, fits_by)
 
-idle_fits : (R : ℕ) → record_fits R (there_first R) idle ≡ true
+idle_fits : (R : ℕ) → record_fits (COUNTER_END + R) (there_first R) idle ≡ true
 idle_fits R = and_from _ _ (and_from _ _ refl (and_from _ _ refl (le-leb 0 (COUNTER_END + R) (omega arith)))) refl
 
-poised_fits : (R n : ℕ) → record_fits R (there_first R) (poised n) ≡ true
+poised_fits : (R n : ℕ) → record_fits (COUNTER_END + R) (there_first R) (poised n) ≡ true
 poised_fits R n = and_from _ _ (and_from _ _ refl (and_from _ _ refl (le-leb 0 (COUNTER_END + R) (omega arith)))) refl
 
 pub fresh_formed : (R count : ℕ) → 1 ≤ count → count ≤ MOST_ACTORS → IsWellFormed (fresh_world R count)

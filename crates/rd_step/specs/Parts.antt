@@ -15,7 +15,7 @@ use Rattle.rd_step.specs.declared.flaws.Flaw.TheVariants.{Makers, PlaceNames, Ac
 use Rattle.rd_step.specs.declared.flaws.Unassembled.{Unassembled}
 use Rattle.rd_step.specs.declared.flaws.Unassembled.TheVariants as unassembled
 use Rattle.rd_step.specs.Lists.{numbered}
-use Rattle.rd_step.specs.WellFormed.{Presence, next_fits, names_fit, numbers_fit}
+use Rattle.rd_step.specs.WellFormed.{Presence, next_fits, names_fit, numbers_within}
 
 -- the world of the model that these parts describe
 abbrev pub world_of_parts : {R : ℕ} → Parts R → World
@@ -59,7 +59,7 @@ first_flaw {R} p =
     else if not (each_segment counters_fit p.segments.items) then Some Counters
     else if not (each_segment (indexes_fit (COUNTER_END + R)) p.segments.items) then Some Indexes
     else if not (array_fits p.array) then Some ArrayCounters
-    else if not (list_all (numbers_fit R) p.actors.items) then Some ActorNumbers
+    else if not (list_all (numbers_within (COUNTER_END + R)) p.actors.items) then Some ActorNumbers
     else if not (list_all words_fit p.actors.items) then Some ActorWords
     else None
 

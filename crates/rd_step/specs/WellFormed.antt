@@ -1,7 +1,7 @@
 -- Well-formed worlds.
 use Rattle.std.specs.Option.{option_map_or}
 use Rattle.std.specs.Prelude.{◌≡◌, ℕ, zero, suc, ◌+◌, ◌≤◌, Bool, true, false, not, ◌==◌, ◌&&◌, nat_lt, nat_le, Option, is_some, IsTrue}
-use Rattle.rd_ring.specs.Prelude.{COUNTER_END, MOST_SEGMENTS, SLOTS, MOST_ACTORS, SegName, Place, Content, root, is_there}
+use Rattle.rd_ring.specs.Prelude.{COUNTER_END, MOST_SEGMENTS, SLOTS, MOST_ACTORS, SegName, Place, Content, root, is_there, can_hold}
 use Rattle.rd_actor.specs.declared.actors.Actor.{Actor}
 use Rattle.rd_actor.specs.Words.{words_fit}
 use Rattle.rd_step.specs.World.{World}
@@ -32,26 +32,26 @@ belongs R there _ = false
 abbrev pub next_fits : Presence → Option SegName → Bool
 next_fits there next = option_map_or there next true
 
--- whether a content fits its place: it is of the place's kind, the segments that it names are
--- there, a segment's counters are at most 2^62 and the array's at most 64, and a cell's index is at
--- most 2^62 + R
+-- whether the segments that a content names are there
+abbrev pub segments_named_fit : Presence → Content → Bool
+segments_named_fit there (content.Name s) = there s
+segments_named_fit there (content.Next m) = next_fits there m
+segments_named_fit there _ = true
+
+-- whether the index in a content, if it has one, is at most `end`
+abbrev pub index_within : ℕ → Content → Bool
+index_within end (content.Cell c) = nat_le c.idx end
+index_within end (content.Idx safe idx) = nat_le idx end
+index_within end _ = true
+
+-- whether a content fits its place: the place can hold it, the segments that it names are there,
+-- and its index is at most `end`
 abbrev pub content_fits : ℕ → Presence → Place → Content → Bool
-content_fits R there place.QHead (content.Name s) = there s
-content_fits R there place.QTail (content.Name s) = there s
-content_fits R there (place.Head s) (content.Number n) = nat_le n COUNTER_END
-content_fits R there (place.Tail s) (content.Tail closed n) = nat_le n COUNTER_END
-content_fits R there (place.Next s) (content.Next m) = next_fits there m
-content_fits R there (place.Cell s i) (content.Cell c) = nat_le c.idx (COUNTER_END + R)
-content_fits R there (place.Val s i) (content.Val val) = true
-content_fits R there (place.Idx s i) (content.Idx safe idx) = nat_le idx (COUNTER_END + R)
-content_fits R there place.ArrHead (content.Number n) = nat_le n SLOTS
-content_fits R there place.ArrTail (content.Number n) = nat_le n SLOTS
-content_fits R there (place.ArrCell i) (content.Slot slot) = true
-content_fits R there _ _ = false
+content_fits end there p c = can_hold p c && segments_named_fit there c && index_within end c
 
 -- whether the content of a place, if there is one, fits the place
 abbrev pub place_fits : ℕ → Presence → Place → Option Content → Bool
-place_fits R there p o = option_map_or (content_fits R there p) o true
+place_fits end there p o = option_map_or (content_fits end there p) o true
 
 -- whether the segments that an actor's words name are there
 abbrev pub names_fit : Presence → Actor → Bool
@@ -61,18 +61,14 @@ names_fit there a = there a.crq && there a.new && there a.next
 abbrev pub numbers_within : ℕ → Actor → Bool
 numbers_within end a = nat_le a.t COUNTER_END && nat_le a.h COUNTER_END && nat_le a.idx end
 
--- whether an actor's positions are at most 2^62, and its index at most 2^62 + R
-abbrev pub numbers_fit : ℕ → Actor → Bool
-numbers_fit R = numbers_within (COUNTER_END + R)
-
--- whether an actor's record fits the world: its names, its numbers, and its words at its control
--- point
+-- whether an actor's record fits the world: its names, its numbers, of which the index is at most
+-- `end`, and its words at its control point
 abbrev pub record_fits : ℕ → Presence → Actor → Bool
-record_fits R there a = names_fit there a && numbers_fit R a && words_fit a
+record_fits end there a = names_fit there a && numbers_within end a && words_fit a
 
 -- whether an actor's record fits, if there is such an actor
 abbrev pub actor_fits : ℕ → Presence → Option Actor → Bool
-actor_fits R there o = option_map_or (record_fits R there) o true
+actor_fits end there o = option_map_or (record_fits end there) o true
 
 -- there are 1 to 16 actors, numbered from 1 without a gap
 pub record IsNumbered (is_actor : ℕ → Bool) : Type 0 where
@@ -104,6 +100,7 @@ pub record IsWellFormed (w : World) : Type 0 where
   pub made : AreMade (is_actor w.actor) (is_there w.at)
   -- exactly the places that belong to the world are there
   pub places : (p : Place) → is_some (w.at p) ≡ belongs w.ring (is_there w.at) p
-  -- the content of each place and the record of each actor fit
-  pub contents : (p : Place) → IsTrue (place_fits w.ring (is_there w.at) p (w.at p))
-  pub actors : (n : ℕ) → IsTrue (actor_fits w.ring (is_there w.at) (w.actor n))
+  -- the content of each place and the record of each actor fit, where no index is above 2^62 by
+  -- more than the ring's size
+  pub contents : (p : Place) → IsTrue (place_fits (COUNTER_END + w.ring) (is_there w.at) p (w.at p))
+  pub actors : (n : ℕ) → IsTrue (actor_fits (COUNTER_END + w.ring) (is_there w.at) (w.actor n))

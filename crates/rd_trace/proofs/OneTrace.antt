@@ -12,7 +12,7 @@ use Rattle.rd_segments.specs.Lists.{by_number, by_name, count_in, count, segment
 use Rattle.rd_segments.specs.Parts.{part_of_parts}
 use Rattle.rd_segments.specs.SpaceFields.{contents_by}
 use Rattle.rd_actor.specs.Words.{words_fit}
-use Rattle.rd_step.specs.WellFormed.{next_fits, names_fit, numbers_fit}
+use Rattle.rd_step.specs.WellFormed.{next_fits, names_fit, numbers_within}
 use Rattle.rd_step.specs.declared.flaws.Flaw.TheVariants.{Makers, PlaceNames, ActorNames, Counters, Indexes, ArrayCounters, ActorNumbers, ActorWords}
 use Rattle.rd_trace.proofs.SpellLemmas.{one_given, same_each_at, same_seen_at}
 use Rattle.rd_trace.specs.declared.starts.Start.TheVariants as start
@@ -152,7 +152,7 @@ flaw_by R actors makers roots few there each qhead qtail array =
     else if not (each counters_fit) then Some Counters
     else if not (each (indexes_fit (COUNTER_END + R))) then Some Indexes
     else if not (array_fits array) then Some ArrayCounters
-    else if not (list_all (numbers_fit R) actors) then Some ActorNumbers
+    else if not (list_all (numbers_within (COUNTER_END + R)) actors) then Some ActorNumbers
     else if not (list_all words_fit actors) then Some ActorWords
     else None
 
