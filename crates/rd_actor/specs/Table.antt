@@ -1,6 +1,7 @@
 -- The table of control points, one row a control point: what an actor asks for there, and how it
 -- goes on.
 use Rattle.std.specs.Prelude.{ℕ, ◌+◌, ◌%◌, ◌^◌, ◌<◌, Bool, true, false, ◌==◌, ◌&&◌, ◌||◌, nat_lt, nat_le, if◌then◌else◌, Option, Some, None, is_some, is_none, Result, Ok, Err}
+use Rattle.std.specs.Bool.{beq}
 use Rattle.rd_cell.specs.declared.cells.Cell.{Cell}
 use Rattle.rd_cell.specs.declared.places.SegName.{SegName}
 use Rattle.rd_cell.specs.declared.places.Place.{Place}
@@ -15,7 +16,6 @@ use Rattle.rd_cell.specs.declared.operations.Answer.{Answer}
 use Rattle.rd_cell.specs.declared.operations.Answer.TheVariants as answer
 use Rattle.rd_cell.specs.declared.refusal.Refusal.{Refusal}
 use Rattle.rd_cell.specs.declared.refusal.Refusal.TheVariants as refusal
-use Rattle.rd_cell.specs.Cells.{bit_eq}
 use Rattle.rd_actor.specs.declared.actors.Act.{Act}
 use Rattle.rd_actor.specs.declared.actors.Act.TheVariants as act
 use Rattle.rd_actor.specs.declared.actors.Actor.{Actor}
@@ -33,14 +33,6 @@ value_to_put (Some (op.Enq x)) = x
 value_to_put (Some (op.AEnq x)) = x
 value_to_put _ = 0
 
--- the cell at the tail position of an actor, where an enqueue works, or a half of it, by the kind
-abbrev pub at_tail : ℕ → (SegName → ℕ → Place) → Actor → Place
-at_tail R kind a = kind a.crq (a.t % R)
-
--- the cell at the head position of an actor, where a dequeue works, or a half of it, by the kind
-abbrev pub at_head : ℕ → (SegName → ℕ → Place) → Actor → Place
-at_head R kind a = kind a.crq (a.h % R)
-
 -- a cell of these words
 abbrev pub cell_with : Bool → ℕ → Option ℕ → Cell
 cell_with safe idx val = record { safe = safe; idx = idx; val = val }
@@ -52,10 +44,10 @@ need_at R E1 a = Ok (At place.QTail Read)
 need_at R E2 a = Ok (At (place.Next a.crq) Read)
 need_at R E3 a = Ok (At place.QTail (CasName a.crq a.next))
 need_at R E4 a = Ok (At (place.Tail a.crq) Add)
-need_at R E5 a = Ok (At (at_tail R place.Val a) ReadValue)
-need_at R E6 a = Ok (At (at_tail R place.Idx a) ReadSafeAndIndex)
+need_at R E5 a = Ok (At (place.Val a.crq (a.t % R)) ReadValue)
+need_at R E6 a = Ok (At (place.Idx a.crq (a.t % R)) ReadSafeAndIndex)
 need_at R E7 a = Ok (At (place.Head a.crq) Read)
-need_at R E8 a = Ok (At (at_tail R place.Cell a) (Cas2 (cell_with a.safe a.idx None) (cell_with true a.t (Some (value_to_put a.op)))))
+need_at R E8 a = Ok (At (place.Cell a.crq (a.t % R)) (Cas2 (cell_with a.safe a.idx None) (cell_with true a.t (Some (value_to_put a.op)))))
 need_at R E9 a = Ok (At (place.Head a.crq) Read)
 need_at R E10 a = Err refusal.NeedsChoice
 need_at R E11 a = Ok (At (place.Tail a.crq) Close)
@@ -64,11 +56,11 @@ need_at R E13 a = Ok (At (place.Next a.crq) (CasNext a.new))
 need_at R E14 a = Ok (At place.QTail (CasName a.crq a.new))
 need_at R Q1 a = Ok (At place.QHead Read)
 need_at R Q2 a = Ok (At (place.Head a.crq) Add)
-need_at R Q3 a = Ok (At (at_head R place.Val a) ReadValue)
-need_at R Q4 a = Ok (At (at_head R place.Idx a) ReadSafeAndIndex)
-need_at R Q5 a = Ok (At (at_head R place.Cell a) (Cas2 (cell_with a.safe a.idx a.val) (cell_with a.safe (a.h + R) None)))
-need_at R Q6 a = Ok (At (at_head R place.Cell a) (Cas2 (cell_with a.safe a.idx a.val) (cell_with false a.idx a.val)))
-need_at R Q7 a = Ok (At (at_head R place.Cell a) (Cas2 (cell_with a.safe a.idx None) (cell_with a.safe (a.h + R) None)))
+need_at R Q3 a = Ok (At (place.Val a.crq (a.h % R)) ReadValue)
+need_at R Q4 a = Ok (At (place.Idx a.crq (a.h % R)) ReadSafeAndIndex)
+need_at R Q5 a = Ok (At (place.Cell a.crq (a.h % R)) (Cas2 (cell_with a.safe a.idx a.val) (cell_with a.safe (a.h + R) None)))
+need_at R Q6 a = Ok (At (place.Cell a.crq (a.h % R)) (Cas2 (cell_with a.safe a.idx a.val) (cell_with false a.idx a.val)))
+need_at R Q7 a = Ok (At (place.Cell a.crq (a.h % R)) (Cas2 (cell_with a.safe a.idx None) (cell_with a.safe (a.h + R) None)))
 need_at R Q8 a = Ok (At (place.Tail a.crq) Read)
 need_at R Q9 a = Ok (At (place.Tail a.crq) Read)
 need_at R Q10 a = Ok (At (place.Head a.crq) Read)
@@ -168,7 +160,7 @@ after_empty_check a count = record a { t = count; pc = if nat_le count (a.h + 1)
 -- not below the head, and else tries to move it
 abbrev pub after_repair_check : Actor → Bool → ℕ → Actor
 after_repair_check a closed count =
-    record a { pc = if bit_eq closed a.closed && (count == a.t) then (if a.closed || nat_le a.h a.t then pc_after_empty_pass a else Q12) else Q9 }
+    record a { pc = if beq closed a.closed && (count == a.t) then (if a.closed || nat_le a.h a.t then pc_after_empty_pass a else Q12) else Q9 }
 
 -- a dequeue that took this value replies it, and its call is over; without a value it stays as it
 -- is

@@ -16,7 +16,7 @@ use Rattle.rd_cell.specs.declared.access.Access.TheVariants.{NoPlace, At, Make}
 use Rattle.rd_cell.specs.declared.refusal.Refusal.{Refusal}
 use Rattle.rd_cell.specs.Places.{name_eq, covers, some_covers, some_overlap, written, interfere}
 use Rattle.rd_cell.specs.Contents.{Contents, half, cell_of_halves, share, after_write_at, operand, holding}
-use Rattle.rd_cell.specs.Operations.{Effect, effect, wrote_content, wrote_by}
+use Rattle.rd_cell.specs.Operations.{Effect, effect, wrote_by}
 use Rattle.rd_cell.specs.Access.{Performed, contents_after, number_made_from, number_made, effect_at, operate, make, perform}
 use Rattle.rd_cell.specs.Results.{result_map}
 use Rattle.rd_cell.proofs.PlaceLemmas.{both_cover, written-covers, interfere-sym}
@@ -124,10 +124,10 @@ after-is_some p c e at q h bare kind = by e.writes kind
         → is_some (after_write_at (written (Some p) (wrote_by c o)) (share p o) at q) ≡ is_some (at q)
     by None k = refl
     by (Some d) k =
-        let place : Option Place = written (Some p) (wrote_content c d) in
+        let place : Option Place = written (Some p) (wrote_by c (Some d)) in
         elim (cases_Bool (some_covers place q)) [
           | inl m ↦
-              let within : covers p q ≡ true = written-covers (Some p) (wrote_content c d) q m in
+              let within : covers p q ≡ true = written-covers (Some p) (wrote_by c (Some d)) q m in
               ap is_some (after_write-inside place (share p (Some d)) at q m) ∙ k ∙ sym (ap is_some (operand-covered p at c q h bare within))
           | inr m ↦ ap is_some (after_write-outside place (share p (Some d)) at q m)
         ]

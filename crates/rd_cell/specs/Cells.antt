@@ -1,22 +1,12 @@
 -- Cells: when two are equal, and those of a new segment.
 use Rattle.std.specs.Prelude.{ℕ, Bool, true, false, ◌==◌, ◌&&◌, if◌then◌else◌, Option, Some, None}
+use Rattle.std.specs.Bool.{beq}
+use Rattle.std.specs.Option.{option_eq}
 use Rattle.rd_cell.specs.declared.cells.Cell.{Cell}
-
--- whether two bits are equal
-abbrev pub bit_eq : Bool → Bool → Bool
-bit_eq true b = b
-bit_eq false true = false
-bit_eq false false = true
-
--- whether two values are equal, or both are none
-abbrev pub value_eq : Option ℕ → Option ℕ → Bool
-value_eq None None = true
-value_eq (Some x) (Some y) = x == y
-value_eq _ _ = false
 
 -- whether two cells are equal
 abbrev pub cell_eq : Cell → Cell → Bool
-cell_eq a b = bit_eq a.safe b.safe && (a.idx == b.idx) && value_eq a.val b.val
+cell_eq a b = beq a.safe b.safe && (a.idx == b.idx) && option_eq ◌==◌ a.val b.val
 
 -- cell u of a new segment, with this value: safe and at index u
 abbrev pub new_cell : ℕ → Option ℕ → Cell

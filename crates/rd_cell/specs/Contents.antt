@@ -33,16 +33,10 @@ abbrev pub cell_of_halves : Option Content → Option Content → Option Content
 cell_of_halves (Some (content.Val val)) (Some (content.Idx safe idx)) = Some (content.Cell (record { safe = safe; idx = idx; val = val }))
 cell_of_halves _ _ = None
 
--- what each place gets of a content that is put at a cell: of a cell its half, and of anything else
--- all of it
-abbrev pub halves : Option Content → Contents
-halves (Some (content.Cell c)) q = half c q
-halves o q = o
-
 -- what each place that the written place covers gets of a content, or of none: of a cell its half,
 -- else all of it
 abbrev pub share : Place → Option Content → Contents
-share (place.Cell s i) o q = halves o q
+share (place.Cell s i) (Some (content.Cell c)) q = half c q
 share p o q = o
 
 -- the contents after a write at a place, or as they were if there is no place

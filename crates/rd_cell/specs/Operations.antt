@@ -1,5 +1,6 @@
 -- What each operation does to one content.
 use Rattle.std.specs.Prelude.{ℕ, ◌+◌, Bool, true, false, not, ◌==◌, ◌&&◌, nat_lt, nat_le, if◌then◌else◌, Option, Some, None, Result, Ok, Err}
+use Rattle.std.specs.Option.{option_eq}
 use Rattle.rd_cell.specs.declared.limits.TheConstants.{COUNTER_END, SLOTS}
 use Rattle.rd_cell.specs.declared.places.Place.{Place}
 use Rattle.rd_cell.specs.declared.contents.Content.{Content}
@@ -14,7 +15,7 @@ use Rattle.rd_cell.specs.declared.operations.Answer.TheVariants as answer
 use Rattle.rd_cell.specs.declared.refusal.Refusal.{Refusal}
 use Rattle.rd_cell.specs.declared.refusal.Refusal.TheVariants as refusal
 use Rattle.rd_cell.specs.Places.{name_eq, is_array}
-use Rattle.rd_cell.specs.Cells.{value_eq, cell_eq}
+use Rattle.rd_cell.specs.Cells.{cell_eq}
 
 -- what an operation does to one content: what it answers, and the content that it writes, or none
 -- if it only reads
@@ -65,18 +66,14 @@ effect _ _ = Err refusal.NoSuchPlace
 -- what putting a new cell over an old one writes: the index half always, and the value half if the
 -- values differ
 abbrev pub wrote_cell : Words → Words → Wrote
-wrote_cell old new = if value_eq old.val new.val then wrote.Index else wrote.Place
+wrote_cell old new = if option_eq ◌==◌ old.val new.val then wrote.Index else wrote.Place
 
--- what writing a new content over an old one writes: all of its place, or the index half alone of a
--- cell that keeps its value
-abbrev pub wrote_content : Content → Content → Wrote
-wrote_content (content.Cell old) (content.Cell new) = wrote_cell old new
-wrote_content _ _ = wrote.Place
-
--- what an effect wrote of the place that had this content
+-- what an effect wrote of the place that had this content: if it wrote, all of it, or the index half
+-- alone of a cell that keeps its value
 abbrev pub wrote_by : Content → Option Content → Wrote
 wrote_by old None = wrote.Nothing
-wrote_by old (Some new) = wrote_content old new
+wrote_by (content.Cell old) (Some (content.Cell new)) = wrote_cell old new
+wrote_by old (Some new) = wrote.Place
 
 -- what a read answers on this content; none if the content is of another kind, or if this is no
 -- read

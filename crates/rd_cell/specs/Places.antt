@@ -1,6 +1,6 @@
 -- Places: when two are equal, when two overlap, and which of them an access wrote.
 use Rattle.std.specs.Option.{option_map_or}
-use Rattle.std.specs.Prelude.{ℕ, Bool, true, false, ◌==◌, ◌&&◌, ◌||◌, Option, Some, None, option_and_then}
+use Rattle.std.specs.Prelude.{ℕ, Bool, true, false, ◌==◌, ◌&&◌, ◌||◌, Option, Some, None, option_map}
 use Rattle.rd_cell.specs.declared.places.SegName.{SegName}
 use Rattle.rd_cell.specs.declared.places.Place.{Place}
 use Rattle.rd_cell.specs.declared.places.Place.TheVariants as place
@@ -99,16 +99,12 @@ abbrev pub index_half : Place → Place
 index_half (place.Cell s i) = place.Idx s i
 index_half p = p
 
--- the place that names what an access at p wrote, or none if it only read
-abbrev pub written_at : Place → Wrote → Option Place
-written_at p wrote.Nothing = None
-written_at p wrote.Place = Some p
-written_at p wrote.Index = Some (index_half p)
-
 -- the place that names what an access wrote, or none if it only read or had no place. The access
 -- touched each place of the map that its own place covers, and wrote each that this one covers
 abbrev pub written : Option Place → Wrote → Option Place
-written o w = option_and_then (λ p. written_at p w) o
+written o wrote.Nothing = None
+written o wrote.Place = o
+written o wrote.Index = option_map index_half o
 
 -- whether two accesses interfere: there is a place that both touch, and one of them wrote it
 abbrev pub interfere : Option Place → Wrote → Option Place → Wrote → Bool

@@ -5,7 +5,7 @@ use Rattle.std.proofs.lemmas.Bool.{cases_Bool}
 use Rattle.rd_step.specs.Prelude.{Operation, covers, Effect, effect}
 use Rattle.rd_cell.specs.declared.access.Access.TheVariants.{NoPlace, At, Make}
 use Rattle.rd_cell.specs.Places.{some_covers, written}
-use Rattle.rd_cell.specs.Operations.{wrote_content, wrote_by}
+use Rattle.rd_cell.specs.Operations.{wrote_by}
 use Rattle.rd_cell.specs.Access.{contents_after}
 use Rattle.rd_cell.proofs.AccessLemmas.{is_cell_at, after_write-outside, after_write-inside, operand-covered}
 use Rattle.rd_cell.proofs.EffectLemmas.{not_written}
@@ -82,7 +82,7 @@ after_effect v p c at r f writes h = by f.writes writes
     by : (o : Option Content) → IfSome o (λ d. HasOnly v (Some d)) → HasOnly v (after_write_at (written (Some p) (wrote_by c o)) (share p o) at r)
     by None k = h
     by (Some d) k =
-        let place : Option Place = written (Some p) (wrote_content c d) in
+        let place : Option Place = written (Some p) (wrote_by c (Some d)) in
         elim (cases_Bool (some_covers place r)) [
           | inl m ↦ subst (HasOnly v) (sym (after_write-inside place (share p (Some d)) at r m)) (share_has v p d r k)
           | inr m ↦ subst (HasOnly v) (sym (after_write-outside place (share p (Some d)) at r m)) h

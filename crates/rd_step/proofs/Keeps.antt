@@ -1,7 +1,7 @@
 -- A step keeps a world well-formed.
 use Rattle.std.proofs.Common.{◌+◌, ◌≡◌, ℕ, Bool, true, ◌==◌, nat_lt, inl, inr, refl, sym, ◌∙◌, ap, subst, subst₂, Option, Some, None, is_some, IfSome, Result, Ok, Err, IfOk, arith}
 use Rattle.rd_step.proofs.Prelude.{COUNTER_END, holding, cases_Bool, cond_both, IfOk-at_ok, fun_ext, SegName, Place, Content, Access, NoPlace, At, Make, Operation, Refusal, MOST_SEGMENTS, root, some_covers, written, share, wrote_by, operand, contents_after, Contents, is_there, Effect, effect, Performed, operate, make, perform, effect_at, result_map, name_eq-refl, written-covers, after_write-outside, Actor, need, after, World, Event, Stepped, with_actor, step_outcome, step, Presence, belongs, content_fits, place_fits, record_fits, actor_fits, is_actor, IsNumbered, AreMade, IsWellFormed}
-use Rattle.rd_ring.specs.Prelude.{wrote_content, number_made}
+use Rattle.rd_ring.specs.Prelude.{number_made}
 use Rattle.rd_cell.specs.Contents.{after_write_at}
 use Rattle.rd_cell.proofs.AccessLemmas.{after_write-inside, after-is_some}
 use Rattle.rd_step.proofs.Halves.{bare_cell, operand_fits, share_fits, same_kinds}
@@ -28,11 +28,11 @@ effect_left_fits R there at p c f q fits was = by f.writes fits
         → place_fits (COUNTER_END + R) there q (after_write_at (written (Some p) (wrote_by c o)) (share p o) at q) ≡ true
     by None h = was
     by (Some d) h =
-        let place : Option Place = written (Some p) (wrote_content c d) in
+        let place : Option Place = written (Some p) (wrote_by c (Some d)) in
         elim (cases_Bool (some_covers place q)) [
           | inl m ↦
               subst (λ (o : Option Content). place_fits (COUNTER_END + R) there q o ≡ true) (sym (after_write-inside place (share p (Some d)) at q m))
-              (share_fits R there p d q h (written-covers (Some p) (wrote_content c d) q m))
+              (share_fits R there p d q h (written-covers (Some p) (wrote_by c (Some d)) q m))
           | inr m ↦ subst (λ (o : Option Content). place_fits (COUNTER_END + R) there q o ≡ true) (sym (after_write-outside place (share p (Some d)) at q m)) was
         ]
 

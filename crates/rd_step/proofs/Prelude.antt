@@ -19,7 +19,7 @@ pub use Rattle.rd_cell.proofs.PlaceLemmas.{name_eq-refl, name_eq-true, written-c
 pub use Rattle.rd_cell.proofs.ResultLemmas.{and_then_ok, ok_or_ok}
 pub use Rattle.rd_cell.specs.Access.{effect_at}
 unfoldable pub use Rattle.rd_cell.specs.Access.{number_made_from}
-pub use Rattle.rd_cell.specs.Cells.{bit_eq}
+pub use Rattle.std.specs.Bool.{beq}
 pub use Rattle.rd_cell.specs.Operations.{adds, swaps}
 pub use Rattle.rd_cell.specs.Results.{result_map}
 pub use Rattle.rd_ring.specs.Prelude.{Access, Add, AddArray, Answer, ArrSlot, At, COUNTER_END, Cas2, CasName, CasNext, CasTail, Cell, Close, Content, Contents, Done, Effect, HasEffect, MOST_ACTORS, MOST_CELLS, MOST_SEGMENTS, Make, NoPlace, Operation, Performed, Place, Read, ReadSafeAndIndex, ReadValue, Refusal, SLOTS, SegName, Swap, Wrote, after_write, contents_after, covers, effect, everywhere, holding, interfere, is_array, cell_eq, name_eq, is_nothing, is_of, is_there, make, operand, operate, perform, restore, root, share, some_covers, written, wrote_by}
