@@ -1,19 +1,16 @@
 -- A comparison of two runs as it goes on over the steps of the first one.
-use Rattle.rd_depend.proofs.Prelude.{common_steps, drop_all, drop-cons, Entry, Key, Reached, DecidesEquivalence, Placed, by_actor, nothing_reached, KeepsOrder, enumerated, GoesOn, StandsElsewhere}
-use Rattle.std.proofs.Common.{◌≡◌, ◌↔◌, ℕ, ◌+◌, ◌<◌, ◌≤◌, Bool, false, IsTrue, List, [], ◌∷◌, length, drop, get_or, refl, sym, ap, subst, ◌∙◌, arith, length-append}
+use Rattle.rd_depend.proofs.Prelude.{common_steps, drop_all, drop-cons, Entry, Key, Reached, DecidesEquivalence, Placed, all_left, nothing_reached, KeepsOrder, GoesOn, IsOutOfOrder}
+use Rattle.std.proofs.Common.{◌≡◌, ◌↔◌, ℕ, ◌+◌, ◌<◌, ◌≤◌, Bool, false, IsTrue, List, [], ◌∷◌, length, drop, get_or, refl, sym, ap, subst, arith, length-append}
 use Rattle.rd_depend.proofs.KeepingOrder.{kept_taken, taken_kept}
 use Rattle.rd_depend.proofs.RunsAgree.{taken_equivalent, untaken_different}
 
 -- the steps of the first run keep the order of the second
 abbrev pub KeepsOrderOf : List Entry → List Entry → Type 0
-KeepsOrderOf a b = KeepsOrder nothing_reached a (λ n. by_actor n (enumerated 1 b))
+KeepsOrderOf a b = KeepsOrder nothing_reached a (all_left b)
 
 -- they do exactly where those from the k-th on keep the order of what is left
 abbrev pub IsLeftToCompare : List Entry → List Entry → ℕ → (Key → Reached) → (ℕ → List Placed) → Type 0
 IsLeftToCompare a b k s left = KeepsOrderOf a b ↔ KeepsOrder s (drop k a) left
-
-one_first : (p q : Placed) (ps qs rs : List Placed) → rs ≡ p ∷ ps → rs ≡ q ∷ qs → (q ≡ p) × (qs ≡ ps)
-one_first p q ps qs rs h g = let e : q ∷ qs ≡ p ∷ ps = sym g ∙ h in (cc, cc)
 
 pub left_over_one : (a b : List Entry) (k : ℕ) (d : Entry) (s t : Key → Reached) (old new : ℕ → List Placed) → k < length a
     → IsLeftToCompare a b k s old → GoesOn (get_or a k d) s t old new → IsLeftToCompare a b (k + 1) t new
@@ -25,7 +22,7 @@ decided : (a b : List Entry) (same : Bool) → IsTrue same ↔ KeepsOrderOf a b 
 decided a b same h = grind (arith, taken_equivalent, kept_taken, untaken_different, taken_kept)
 
 pub differs_here : (a b : List Entry) (k : ℕ) (d : Entry) (s : Key → Reached) (left : ℕ → List Placed) → k < length a
-    → IsLeftToCompare a b k s left → StandsElsewhere (get_or a k d) s left → DecidesEquivalence a b false
+    → IsLeftToCompare a b k s left → IsOutOfOrder (get_or a k d) s left → DecidesEquivalence a b false
 differs_here a b k d s left within h elsewhere =
     decided a b false (
       λ yes. cc,

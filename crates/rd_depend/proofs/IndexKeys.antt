@@ -21,13 +21,13 @@ under w q x = grind arith
 
 -- The keys differ
 
-place_value : (q : Key) (o : Option Place) → (is_that q (place_key o) && is_that q (value_key o)) ≡ false
+pub place_value : (q : Key) (o : Option Place) → (is_that q (place_key o) && is_that q (value_key o)) ≡ false
 place_value q o = grind arith
 
-place_segment : (q : Key) (o : Option Place) → (is_that q (place_key o) && is_that q (segment_key o)) ≡ false
+pub place_segment : (q : Key) (o : Option Place) → (is_that q (place_key o) && is_that q (segment_key o)) ≡ false
 place_segment q o = grind arith
 
-value_segment : (q : Key) (o : Option Place) → (is_that q (value_key o) && is_that q (segment_key o)) ≡ false
+pub value_segment : (q : Key) (o : Option Place) → (is_that q (value_key o) && is_that q (segment_key o)) ≡ false
 value_segment q o = grind arith
 
 apart : (a b x y : Bool) → (x && y) ≡ false → ((a && x) && (b && y)) ≡ false

@@ -1,35 +1,40 @@
 -- Steps keep the order of dependent ones at the places where they are in another list exactly where
 -- they may be taken out of it one after another.
-use Rattle.rd_depend.proofs.Prelude.{common_steps, eqb-false, map-append, Entry, Key, Reached, is_under, wrote_under, bound, passed, nothing_reached, moved, IsInOrder, AreAlike, Placed, by_actor, with_steps, KeepsOrder, enumerated}
-use Rattle.std.proofs.Common.{◌≡◌, ◌≢◌, ℕ, suc, ◌<◌, ◌≤◌, Bool, true, false, ◌==◌, if◌then◌else◌, List, [], ◌∷◌, ◌++◌, length, map, refl, sym, ap, subst, ◌∙◌, arith, eqb-true, length-append}
+use Rattle.rd_depend.proofs.Prelude.{common_steps, eqb-false, map-append, Entry, Key, Reached, is_under, bound, passed, passed_over, nothing_reached, AreAlike, Placed, by_actor, all_left, with_steps, KeepsOrder}
+use Rattle.std.proofs.Common.{◌≡◌, ◌≢◌, ℕ, ◌+◌, ◌<◌, ◌≤◌, Bool, true, false, ◌==◌, if◌then◌else◌, List, [], ◌∷◌, ◌++◌, length, map, refl, sym, ap, subst, ◌∙◌, arith, eqb-true, length-append}
+use Rattle.std.proofs.lemmas.List.Elements.{filter-append}
+use Rattle.std.specs.List.{enumerate_from}
 use Rattle.rd_depend.proofs.FirstOfActor.{HasNoneBy}
-use Rattle.rd_depend.proofs.TouchedKeys.{wrote_touched}
-use Rattle.rd_depend.proofs.TakingOut.{touched-alike, wrote-alike, AreApart, IsApartFrom, TakesAll}
+use Rattle.rd_depend.proofs.TouchedKeys.{wrote_under, wrote_touched, passed_at, in_order_at, in_order_from}
+use Rattle.rd_depend.proofs.TakingOut.{touched-alike, wrote-alike, alike-sym, AreApart, IsApartFrom, TakesAll}
 
--- How far steps reached under a key
+-- How far steps reached, and their order, key by key
 
-grows : (b w v : Bool) (r : Reached) (i j : ℕ) → bound (if b then passed r w i else r) v < j → bound r v < j
-grows b w v r i j h = grind arith
+-- at position i a step is after all earlier ones on which it depends
+abbrev IsAfterAll : (Key → Reached) → Entry → ℕ → Type 0
+IsAfterAll s x i = (k : Key) → is_under k x.place ≡ true → bound (s k) (wrote_under k x.place x.wrote) < i
 
--- The same under all keys
+-- t is how far the steps reached after one more
+abbrev Passes : (Key → Reached) → Entry → ℕ → (Key → Reached) → Type 0
+Passes s x i t = (k : Key) → t k ≡ (if is_under k x.place then passed (s k) (wrote_under k x.place x.wrote) i else s k)
 
-in_order-alike : (s : Key → Reached) (x y : Entry) (i : ℕ) → AreAlike x y → IsInOrder s x i → IsInOrder s y i
-in_order-alike s x y i h order k touched = grind arith
+passes-alike : (s t : Key → Reached) (x y : Entry) (i : ℕ) → AreAlike x y → Passes s x i t → Passes s y i t
+passes-alike s t x y i h m k = m k ∙ (λ j. if touched-alike x y h k j then passed (s k) (wrote-alike x y h k j) i else s k)
 
-moved-alike : (s : Key → Reached) (x y : Entry) (i : ℕ) → AreAlike x y → moved s x i ≡ moved s y i
-moved-alike s x y i h = λ j k. if touched-alike x y h k j then passed (s k) (wrote-alike x y h k j) i else s k
+after-alike : (s : Key → Reached) (x y : Entry) (i : ℕ) → AreAlike x y → IsAfterAll s x i → IsAfterAll s y i
+after-alike s x y i h after k touched = grind arith
 
-in_order-before : (s : Key → Reached) (x y : Entry) (i j : ℕ) → IsInOrder (moved s x i) y j → IsInOrder s y j
-in_order-before s x y i j h k touched = grows (is_under k x.place) (wrote_under k x.place x.wrote) (wrote_under k y.place y.wrote) (s k) i j (h k touched)
+after-before : (s t : Key → Reached) (x y : Entry) (i j : ℕ) → Passes s x i t → IsAfterAll t y j → IsAfterAll s y j
+after-before s t x y i j m h k touched = grind arith
 
-in_order-behind : (s : Key → Reached) (x y : Entry) (i j : ℕ) → IsInOrder s y j → i < j → IsInOrder (moved s x i) y j
-in_order-behind s x y i j h behind k touched = grind arith
+after-later : (s t : Key → Reached) (x y : Entry) (i j : ℕ) → Passes s x i t → IsAfterAll s y j → i < j → IsAfterAll t y j
+after-later s t x y i j m h later k touched = grind arith
 
-in_order-apart : (s : Key → Reached) (x y : Entry) (i j : ℕ) → IsInOrder s y j → AreApart x y → IsInOrder (moved s x i) y j
-in_order-apart s x y i j h apart k touched = grind arith
+after-apart : (s t : Key → Reached) (x y : Entry) (i j : ℕ) → Passes s x i t → IsAfterAll s y j → AreApart x y → IsAfterAll t y j
+after-apart s t x y i j m h apart k touched = grind arith
 
-apart_before : (s : Key → Reached) (x y : Entry) (i j : ℕ) → IsInOrder (moved s x i) y j → j < i → x.event.actor ≢ y.event.actor → AreApart x y
-apart_before s x y i j h before actors = grind (arith, wrote_touched)
+apart_before : (s t : Key → Reached) (x y : Entry) (i j : ℕ) → Passes s x i t → IsAfterAll t y j → j < i → x.event.actor ≢ y.event.actor → AreApart x y
+apart_before s t x y i j m h before actors = grind (arith, wrote_touched)
 
 -- Lists of steps with their places
 
@@ -52,10 +57,6 @@ each-more : (P Q : Placed → Type 0) (ps : List Placed) → ((p : Placed) → P
 each-more P Q [] f h = tt
 each-more P Q (p ∷ ps) f h = (f p h.0, each-more P Q ps f h.1)
 
-each-both : (P Q : Placed → Type 0) (ps : List Placed) → Each P ps → Each Q ps → Each (λ p. P p × Q p) ps
-each-both P Q [] h g = tt
-each-both P Q (p ∷ ps) h g = ((h.0, g.0), each-both P Q ps h.1 g.1)
-
 -- each is after the one before it
 abbrev Ascends : List Placed → Type 0
 Ascends [] = Unit {0}
@@ -64,31 +65,31 @@ Ascends (p ∷ ps) = Each (λ q. p.0 < q.0) ps × Ascends ps
 -- those before a step and those after it
 record Around (ps : List Placed) (p : Placed) (qs : List Placed) : Type 0 where
   before : Each (λ q. q.0 < p.0) ps
-  behind : Each (λ q. p.0 < q.0) qs
+  later : Each (λ q. p.0 < q.0) qs
   rest : Ascends (ps ++ qs)
 
 around : (ps : List Placed) (p : Placed) (qs : List Placed) → Ascends (ps ++ p ∷ qs) → Around ps p qs
-around [] p qs h = record { before = tt; behind = h.0; rest = h.1 }
+around [] p qs h = record { before = tt; later = h.0; rest = h.1 }
 around (r ∷ ps) p qs h =
     let a = around ps p qs h.1 in
     let its = (each-parts (λ q. r.0 < q.0) ps (p ∷ qs) h.0).1 in
     record {
       before = (its.0, a.before);
-      behind = a.behind;
+      later = a.later;
       rest = (each-append (λ q. r.0 < q.0) ps qs ((each-parts (λ q. r.0 < q.0) ps (p ∷ qs) h.0).0) its.1, a.rest);
     }
 
-enumerated-behind : (P : ℕ → Type 0) (i : ℕ) (xs : List Entry) → ((j : ℕ) → i ≤ j → P j) → Each (λ q. P q.0) (enumerated i xs)
-enumerated-behind P i [] h = tt
-enumerated-behind P i (x ∷ xs) h = (h i (omega arith), enumerated-behind P (suc i) xs (λ j l. h j (omega arith)))
+numbers-from : (P : ℕ → Type 0) (i : ℕ) (xs : List Entry) → ((j : ℕ) → i ≤ j → P j) → Each (λ q. P q.0) (enumerate_from i xs)
+numbers-from P i [] h = tt
+numbers-from P i (x ∷ xs) h = (h i (omega arith), numbers-from P (i + 1) xs (λ j l. h j (omega arith)))
 
-enumerated-ascends : (i : ℕ) (xs : List Entry) → Ascends (enumerated i xs)
-enumerated-ascends i [] = tt
-enumerated-ascends i (x ∷ xs) = (enumerated-behind (λ j. i < j) (suc i) xs (λ j l. omega arith), enumerated-ascends (suc i) xs)
+numbers-ascend : (i : ℕ) (xs : List Entry) → Ascends (enumerate_from i xs)
+numbers-ascend i [] = tt
+numbers-ascend i (x ∷ xs) = (numbers-from (λ j. i < j) (i + 1) xs (λ j l. omega arith), numbers-ascend (i + 1) xs)
 
-entries-enumerated : (i : ℕ) (xs : List Entry) → entries_of (enumerated i xs) ≡ xs
-entries-enumerated i [] = refl
-entries-enumerated i (x ∷ xs) = ap (λ (l : List Entry). x ∷ l) (entries-enumerated (suc i) xs)
+entries-numbered : (i : ℕ) (xs : List Entry) → entries_of (enumerate_from i xs) ≡ xs
+entries-numbered i [] = refl
+entries-numbered i (x ∷ xs) = ap (λ (l : List Entry). x ∷ l) (entries-numbered (i + 1) xs)
 
 -- The steps of one actor
 
@@ -141,8 +142,7 @@ by_actor-first n [] qs p e none = own n p qs e
 by_actor-first n (r ∷ ps) qs p e none = grind (arith, by_actor-first n ps qs p e none.1)
 
 by_actor-others : (n : ℕ) (ps qs : List Placed) (p : Placed) → n ≢ p.1.event.actor → by_actor n (ps ++ p ∷ qs) ≡ by_actor n (ps ++ qs)
-by_actor-others n [] qs p h = other n p qs h
-by_actor-others n (r ∷ ps) qs p h = λ i. if n == r.1.event.actor then r ∷ by_actor-others n ps qs p h i else by_actor-others n ps qs p h i
+by_actor-others n ps qs p h = grind (arith, filter-append, other)
 
 taken_out : (n : ℕ) (ps qs : List Placed) (p : Placed) → n ≡ p.1.event.actor → (m : ℕ)
     → with_steps (λ k. by_actor k (ps ++ p ∷ qs)) n (by_actor n (ps ++ qs)) m ≡ by_actor m (ps ++ qs)
@@ -161,26 +161,25 @@ no_entries (p ∷ ps) h = cc
 
 -- Where they keep the order they may be taken out
 
--- each is in order
-abbrev AreInOrder : (Key → Reached) → List Placed → Type 0
-AreInOrder s ps = Each (λ p. IsInOrder s p.1 p.0) ps
+-- each is after all earlier ones on which it depends
+abbrev AreAfterAll : (Key → Reached) → List Placed → Type 0
+AreAfterAll s ps = Each (λ p. IsAfterAll s p.1 p.0) ps
 
-all_apart : (s : Key → Reached) (p : Placed) (ps : List Placed) → AreInOrder (moved s p.1 p.0) ps → Each (λ q. q.0 < p.0) ps
+all_apart : (s t : Key → Reached) (p : Placed) (ps : List Placed) → Passes s p.1 p.0 t → AreAfterAll t ps → Each (λ q. q.0 < p.0) ps
     → HasNoneBy p.1.event.actor (entries_of ps) → IsApartFrom p.1 (entries_of ps)
-all_apart s p [] h before none = tt
-all_apart s p (q ∷ ps) h before none = (apart_before s p.1 q.1 p.0 q.0 h.0 before.0 none.0, all_apart s p ps h.1 before.1 none.1)
+all_apart s t p [] m h before none = tt
+all_apart s t p (q ∷ ps) m h before none = (apart_before s t p.1 q.1 p.0 q.0 m h.0 before.0 none.0, all_apart s t p ps m h.1 before.1 none.1)
 
 -- what keeping the order says of the other list
 record Kept (s : Key → Reached) (xs : List Entry) (ps : List Placed) : Type 0 where
   taken : TakesAll xs (entries_of ps)
-  order : AreInOrder s ps
+  order : AreAfterAll s ps
 
-kept_more : (s : Key → Reached) (x : Entry) (xs : List Entry) (ps qs : List Placed) (p : Placed) → Ascends (ps ++ p ∷ qs) → AreAlike x p.1
-    → IsInOrder s x p.0 → HasNoneBy p.1.event.actor (entries_of ps) → Kept (moved s x p.0) xs (ps ++ qs) → Kept s (x ∷ xs) (ps ++ p ∷ qs)
-kept_more s x xs ps qs p ascends alike order none h =
-    let its = subst (λ (t : Key → Reached). AreInOrder t (ps ++ qs)) (moved-alike s x p.1 p.0 alike) h.order in
-    let first = (each-parts _ ps qs its).0 in
-    let before = each-more _ (λ q. IsInOrder s q.1 q.0) (ps ++ qs) (λ q g. in_order-before s p.1 q.1 p.0 q.0 g) its in
+kept_more : (s t : Key → Reached) (x : Entry) (xs : List Entry) (ps qs : List Placed) (p : Placed) → Passes s x p.0 t → Ascends (ps ++ p ∷ qs) → AreAlike x p.1
+    → IsAfterAll s x p.0 → HasNoneBy p.1.event.actor (entries_of ps) → Kept t xs (ps ++ qs) → Kept s (x ∷ xs) (ps ++ p ∷ qs)
+kept_more s t x xs ps qs p m ascends alike order none h =
+    let its = passes-alike s t x p.1 p.0 alike m in
+    let before = each-parts _ ps qs (each-more _ (λ q. IsAfterAll s q.1 q.0) (ps ++ qs) (λ q g. after-before s t p.1 q.1 p.0 q.0 its g) h.order) in
     record {
       taken = (
         entries_of (ps ++ qs),
@@ -190,12 +189,12 @@ kept_more s x xs ps qs p ascends alike order none h =
           later = entries_of qs;
           stands = map-append (λ (q : Placed). q.1) ps (p ∷ qs);
           alike = alike;
-          apart = all_apart s p ps first (around ps p qs ascends).before none;
+          apart = all_apart s t p ps its (each-parts _ ps qs h.order).0 (around ps p qs ascends).before none;
           leaves = map-append (λ (q : Placed). q.1) ps qs;
         },
         h.taken,
       );
-      order = each-append _ ps (p ∷ qs) ((each-parts _ ps qs before).0) (in_order-alike s x p.1 p.0 alike order, (each-parts _ ps qs before).1);
+      order = each-append _ ps (p ∷ qs) before.0 (after-alike s x p.1 p.0 alike order, before.1);
     }
 
 kept : (s : Key → Reached) (xs : List Entry) (ps : List Placed) → Ascends ps → KeepsOrder s xs (λ n. by_actor n ps) → Kept s xs ps
@@ -203,19 +202,19 @@ kept s [] ps ascends h = subst (λ (l : List Placed). Kept s [] l) (sym (nobody_
 kept s (x ∷ xs) ps ascends h =
     let p = h.0 in
     let n = x.event.actor in
-    let next = h.2 in
-    let f = first_by n ps p h.1 next.first in
+    let f = first_by n ps p h.1 h.2.first in
     let asc = subst Ascends f.stands ascends in
     let left : (m : ℕ) → with_steps (λ k. by_actor k ps) n h.1 m ≡ by_actor m (f.earlier ++ f.later) =
     λ m. (λ i. with_steps (λ k. by_actor k (f.stands i)) n (f.left i) m) ∙ taken_out n f.earlier f.later p f.actor m in
     subst (λ (l : List Placed). Kept s (x ∷ xs) l) (sym f.stands)
-    (kept_more s x xs f.earlier f.later p asc next.alike next.order (subst (λ (k : ℕ). HasNoneBy k (entries_of f.earlier)) f.actor f.none)
-    (kept (moved s x p.0) xs (f.earlier ++ f.later) (around f.earlier p f.later asc).rest
-    (subst (λ (l : ℕ → List Placed). KeepsOrder (moved s x p.0) xs l) (λ i m. left m i) h.3)))
+    (kept_more s (passed_over s x p.0) x xs f.earlier f.later p (passed_at s x p.0) asc h.2.alike (in_order_at s x p.0 h.2.order)
+    (subst (λ (k : ℕ). HasNoneBy k (entries_of f.earlier)) f.actor f.none)
+    (kept (passed_over s x p.0) xs (f.earlier ++ f.later) (around f.earlier p f.later asc).rest
+    (subst (λ (l : ℕ → List Placed). KeepsOrder (passed_over s x p.0) xs l) (λ i m. left m i) h.3)))
 
-pub kept_taken : (xs ys : List Entry) → KeepsOrder nothing_reached xs (λ n. by_actor n (enumerated 1 ys)) → TakesAll xs ys
+pub kept_taken : (xs ys : List Entry) → KeepsOrder nothing_reached xs (all_left ys) → TakesAll xs ys
 kept_taken xs ys h =
-    subst (λ (l : List Entry). TakesAll xs l) (entries-enumerated 1 ys) (kept nothing_reached xs (enumerated 1 ys) (enumerated-ascends 1 ys) h).taken
+    subst (λ (l : List Entry). TakesAll xs l) (entries-numbered 1 ys) (kept nothing_reached xs (enumerate_from 1 ys) (numbers-ascend 1 ys) h).taken
 
 -- and where they may be taken out they keep the order
 
@@ -227,11 +226,11 @@ record Found (ps : List Placed) (xs : List Entry) (y : Entry) (ys : List Entry) 
   stands : ps ≡ earlier ++ step ∷ later
   before : entries_of earlier ≡ xs
   itself : step.1 ≡ y
-  behind : entries_of later ≡ ys
+  after : entries_of later ≡ ys
 
 find : (ps : List Placed) (xs : List Entry) (y : Entry) (ys : List Entry) → entries_of ps ≡ xs ++ y ∷ ys → Found ps xs y ys
 find [] xs y ys h = absurd (omega (arith, ap length h, length-append xs (y ∷ ys)))
-find (p ∷ ps) [] y ys h = record { earlier = []; step = p; later = ps; stands = refl; before = refl; itself = cc; behind = cc }
+find (p ∷ ps) [] y ys h = record { earlier = []; step = p; later = ps; stands = refl; before = refl; itself = cc; after = cc }
 find (p ∷ ps) (x ∷ xs) y ys h =
     let f = find ps xs y ys (let e : entries_of ps ≡ xs ++ y ∷ ys = cc in e) in
     record {
@@ -241,54 +240,59 @@ find (p ∷ ps) (x ∷ xs) y ys h =
       stands = ap (λ (l : List Placed). p ∷ l) f.stands;
       before = (let e : p.1 ≡ x = cc in λ i. e i ∷ f.before i);
       itself = f.itself;
-      behind = f.behind;
+      after = f.after;
     }
 
 none_by : (y : Entry) (xs : List Entry) → IsApartFrom y xs → HasNoneBy y.event.actor xs
 none_by y [] h = tt
 none_by y (x ∷ xs) h = (h.0.actors, none_by y xs h.1)
 
-still_in_order : (s : Key → Reached) (y : Entry) (i : ℕ) (ps : List Placed) → AreInOrder s ps → IsApartFrom y (entries_of ps) → AreInOrder (moved s y i) ps
-still_in_order s y i [] h apart = tt
-still_in_order s y i (p ∷ ps) h apart = (in_order-apart s y p.1 i p.0 h.0 apart.0, still_in_order s y i ps h.1 apart.1)
+still_after : (s t : Key → Reached) (y : Entry) (i : ℕ) (ps : List Placed) → Passes s y i t → AreAfterAll s ps → IsApartFrom y (entries_of ps) → AreAfterAll t ps
+still_after s t y i [] m h apart = tt
+still_after s t y i (p ∷ ps) m h apart = (after-apart s t y p.1 i p.0 m h.0 apart.0, still_after s t y i ps m h.1 apart.1)
 
-taken_more : (s : Key → Reached) (x : Entry) (xs : List Entry) (ps qs : List Placed) (p : Placed) → AreInOrder s (ps ++ p ∷ qs) → Ascends (ps ++ p ∷ qs)
-    → AreAlike x p.1 → IsApartFrom p.1 (entries_of ps)
-    → (AreInOrder (moved s x p.0) (ps ++ qs) → KeepsOrder (moved s x p.0) xs (λ n. by_actor n (ps ++ qs))) → KeepsOrder s (x ∷ xs) (λ n. by_actor n (ps ++ p ∷ qs))
-taken_more s x xs ps qs p order ascends alike apart on =
+later_after : (s t : Key → Reached) (y : Entry) (i : ℕ) (ps : List Placed) → Passes s y i t → AreAfterAll s ps → Each (λ q. i < q.0) ps → AreAfterAll t ps
+later_after s t y i [] m h later = tt
+later_after s t y i (p ∷ ps) m h later = (after-later s t y p.1 i p.0 m h.0 later.0, later_after s t y i ps m h.1 later.1)
+
+taken_more : (s t : Key → Reached) (x : Entry) (xs : List Entry) (ps qs : List Placed) (p : Placed) → Passes s x p.0 t → t ≡ passed_over s x p.0
+    → AreAfterAll s (ps ++ p ∷ qs) → Ascends (ps ++ p ∷ qs) → AreAlike x p.1 → IsApartFrom p.1 (entries_of ps)
+    → (AreAfterAll t (ps ++ qs) → KeepsOrder t xs (λ n. by_actor n (ps ++ qs))) → KeepsOrder s (x ∷ xs) (λ n. by_actor n (ps ++ p ∷ qs))
+taken_more s t x xs ps qs p m is order ascends alike apart on =
     let n = x.event.actor in
     let e : n ≡ p.1.event.actor = ap (λ e. e.actor) alike.event in
-    let its = (each-parts _ ps (p ∷ qs) order).1 in
-    let behind = each-more _ (λ q. IsInOrder (moved s p.1 p.0) q.1 q.0) qs (λ q both. in_order-behind s p.1 q.1 p.0 q.0 both.0 both.1)
-    (each-both _ _ qs its.1 (around ps p qs ascends).behind) in
-    let rest = each-append _ ps qs (still_in_order s p.1 p.0 ps ((each-parts _ ps (p ∷ qs) order).0) apart) behind in
-    let same = sym (moved-alike s x p.1 p.0 alike) in (
+    let its = passes-alike s t x p.1 p.0 alike m in
+    let parts = each-parts _ ps (p ∷ qs) order in
+    let rest = each-append _ ps qs (still_after s t p.1 p.0 ps its parts.0 apart) (later_after s t p.1 p.0 qs its parts.1.1 (around ps p qs ascends).later) in (
       p,
       by_actor n (ps ++ qs),
-      grind (arith, by_actor-first, none_by),
-      subst (λ (l : ℕ → List Placed). KeepsOrder (moved s x p.0) xs l) (λ i m. sym (taken_out n ps qs p e m) i) (on (subst (λ (t : Key → Reached). AreInOrder t (ps ++ qs)) same rest)),
+      record {
+        first = by_actor-first n ps qs p e (subst (λ (k : ℕ). HasNoneBy k (entries_of ps)) (sym e) (none_by p.1 (entries_of ps) apart));
+        alike = alike;
+        order = in_order_from s x p.0 (after-alike s p.1 x p.0 (alike-sym x p.1 alike) parts.1.0);
+      },
+      subst (λ (u : Key → Reached). KeepsOrder u xs (with_steps (λ k. by_actor k (ps ++ p ∷ qs)) n (by_actor n (ps ++ qs)))) is
+          (subst (λ (l : ℕ → List Placed). KeepsOrder t xs l) (λ i m. sym (taken_out n ps qs p e m) i) (on rest)),
     )
 
-taken : (s : Key → Reached) (xs : List Entry) (ps : List Placed) → Ascends ps → AreInOrder s ps → TakesAll xs (entries_of ps) → KeepsOrder s xs (λ n. by_actor n ps)
+taken : (s : Key → Reached) (xs : List Entry) (ps : List Placed) → Ascends ps → AreAfterAll s ps → TakesAll xs (entries_of ps) → KeepsOrder s xs (λ n. by_actor n ps)
 taken s [] ps ascends order h = λ n. ap (by_actor n) (no_entries ps h)
 taken s (x ∷ xs) ps ascends order h =
     let t = h.1 in
     let f = find ps t.earlier t.entry t.later t.stands in
     let asc = subst Ascends f.stands ascends in
     let left : h.0 ≡ entries_of (f.earlier ++ f.later) =
-    t.leaves ∙ (λ i. sym f.before i ++ sym f.behind i) ∙ sym (map-append (λ (q : Placed). q.1) f.earlier f.later) in
+    t.leaves ∙ (λ i. sym f.before i ++ sym f.after i) ∙ sym (map-append (λ (q : Placed). q.1) f.earlier f.later) in
     subst (λ (l : List Placed). KeepsOrder s (x ∷ xs) (λ n. by_actor n l)) (sym f.stands)
-    (taken_more s x xs f.earlier f.later f.step (subst (AreInOrder s) f.stands order) asc (subst (λ (y : Entry). AreAlike x y) (sym f.itself) t.alike)
+    (taken_more s (passed_over s x f.step.0) x xs f.earlier f.later f.step (passed_at s x f.step.0) refl (subst (AreAfterAll s) f.stands order) asc
+    (subst (λ (y : Entry). AreAlike x y) (sym f.itself) t.alike)
     (subst (λ (l : List Entry). IsApartFrom f.step.1 l) (sym f.before) (subst (λ (y : Entry). IsApartFrom y t.earlier) (sym f.itself) t.apart))
-    (λ rest. taken (moved s x f.step.0) xs (f.earlier ++ f.later) (around f.earlier f.step f.later asc).rest rest (subst (λ (l : List Entry). TakesAll xs l) left h.2)))
+    (λ rest. taken (passed_over s x f.step.0) xs (f.earlier ++ f.later) (around f.earlier f.step f.later asc).rest rest (subst (λ (l : List Entry). TakesAll xs l) left h.2)))
 
-at_first : (v : Bool) (k : Key) (i : ℕ) → 1 ≤ i → bound (nothing_reached k) v < i
-at_first v k i h = grind arith
+at_first : (ps : List Placed) → Each (λ p. 1 ≤ p.0) ps → AreAfterAll nothing_reached ps
+at_first ps h = each-more _ _ ps (λ p later k touched. grind arith) h
 
-all_at_first : (ps : List Placed) → Each (λ p. 1 ≤ p.0) ps → AreInOrder nothing_reached ps
-all_at_first ps h = each-more _ _ ps (λ p behind k touched. at_first (wrote_under k p.1.place p.1.wrote) k p.0 behind) h
-
-pub taken_kept : (xs ys : List Entry) → TakesAll xs ys → KeepsOrder nothing_reached xs (λ n. by_actor n (enumerated 1 ys))
+pub taken_kept : (xs ys : List Entry) → TakesAll xs ys → KeepsOrder nothing_reached xs (all_left ys)
 taken_kept xs ys h =
-    taken nothing_reached xs (enumerated 1 ys) (enumerated-ascends 1 ys) (all_at_first (enumerated 1 ys) (enumerated-behind (λ j. 1 ≤ j) 1 ys (λ j l. l)))
-    (subst (λ (l : List Entry). TakesAll xs l) (sym (entries-enumerated 1 ys)) h)
+    taken nothing_reached xs (enumerate_from 1 ys) (numbers-ascend 1 ys) (at_first (enumerate_from 1 ys) (numbers-from (λ j. 1 ≤ j) 1 ys (λ j l. l)))
+    (subst (λ (l : List Entry). TakesAll xs l) (sym (entries-numbered 1 ys)) h)

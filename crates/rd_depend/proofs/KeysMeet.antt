@@ -1,10 +1,11 @@
 -- Two steps of a run depend on each other exactly where they are of one actor, or one of them wrote
 -- under a key where the other touched.
-use Rattle.rd_depend.proofs.Prelude.{common_steps, or_parts, SegName, Place, is_of, some_covers, some_overlap, is_nothing, written, name_eq-refl, Covering, itself, as_cell, as_whole, covers_cases, some_overlap-sym, Entry, Wrote, depends, Key, At, In, is_kept_at, is_under, wrote_under, is_whole_of, is_of_map, touched, wrote, SharesPlace}
+use Rattle.rd_depend.proofs.Prelude.{common_steps, or_parts, SegName, Place, is_of, some_covers, some_overlap, is_nothing, written, name_eq-refl, Covering, itself, as_cell, as_whole, covers_cases, some_overlap-sym, Entry, Wrote, depends, Key, At, In, is_kept_at, is_under, is_of_map, touched, wrote, SharesPlace}
 use Rattle.std.proofs.Common.{◌≡◌, ◌⊎◌, true, false, Option, Some, None, sym, ap, subst, arith}
 use Rattle.rd_depend.proofs.Sharing.{shared}
 use Rattle.rd_depend.proofs.IndexFirst.{is_cell_at, kept_itself, kept_half}
 use Rattle.rd_depend.proofs.TakingOut.{AreApart}
+use Rattle.rd_depend.proofs.TouchedKeys.{wrote_under, is_whole_of}
 use Rattle.rd_cell.specs.declared.places.Place.TheVariants as place
 
 -- a step at the whole of a segment wrote

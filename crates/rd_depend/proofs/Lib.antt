@@ -21,5 +21,5 @@ pub mod Exactness
 pub mod RunsAgree
 pub mod Converse
 pub mod ComparingLemmas
-pub mod LastWritersLemmas
+pub mod ComparedSteps
 pub mod Closures

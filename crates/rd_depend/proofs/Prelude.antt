@@ -12,7 +12,7 @@ pub use Rattle.std.specs.List.{position_from}
 pub use Rattle.std.specs.Option.{is_some, option_map, option_to_list}
 pub use Rattle.rd_cell.proofs.ListLemmas.{slice_get-push_other, slice_get-push_same, slice_get-set_other, slice_get-set_same}
 pub use Rattle.rd_cell.proofs.PlaceLemmas.{Covering, as_cell, as_whole, both_cover, covers-refl, covers_cases, name_eq-refl, itself, some_overlap-sym, written-covers}
-pub use Rattle.rd_cell.specs.Places.{index_half, is_nothing, is_of, is_of_cell, place_eq, segment_of}
+pub use Rattle.rd_cell.specs.Places.{index_half, is_nothing, is_of, is_of_cell, name_eq, place_eq, segment_of}
 pub use Rattle.rd_cell.specs.declared.places.SegName.{SegName}
 pub use Rattle.rd_step.proofs.Equivalence.{as_stepped-same, goes_first, run_events, stands_in}
 pub use Rattle.rd_step.proofs.RunParts.{free_parts, FirstStep, first_step, middle, runs_to}
@@ -25,12 +25,12 @@ pub use Rattle.rd_step.specs.Run.{IsRunFrom, events, run_entries}
 pub use Rattle.rd_step.specs.declared.entries.Entry.{Entry}
 pub use Rattle.rd_step.specs.declared.entries.Event.{Event}
 pub use Rattle.rd_depend.specs.Changes.{Adds, EndsWith, Keeps, homes_of}
-pub use Rattle.rd_depend.specs.ComparedSteps.{GoesOn, StandsElsewhere, left_of, reached_of, reached_or_nothing}
+pub use Rattle.rd_depend.specs.ComparedSteps.{GoesOn, IsOutOfOrder, all_left, by_actor, left_of, reached_of, reached_or_nothing, with_first}
 pub use Rattle.rd_depend.specs.Equivalence.{DecidesEquivalence}
 pub use Rattle.rd_depend.specs.Index.{By, GivesRoom, HasRoomFor, IsIndexOf, IsLast, Touch, Under, UsesRoom, capacity, is_value_written, kept, number_of, positions, positions_from, reached, spare, touches}
 pub use Rattle.rd_depend.specs.KeyLaws.{key_eq-refl, key_eq-sym, key_eq-true}
 pub use Rattle.rd_depend.specs.Keys.{is_kept_at, key_eq, is_that, is_under, is_under_some, own_key, place_key, segment_key, segment_of_place, slot_in, value_key, value_of_place, whole_key}
-pub use Rattle.rd_depend.specs.LastWriters.{AreAlike, IsBehind, IsInOrder, KeepsOrder, Placed, bound, by_actor, enumerated, is_making, is_whole_of, moved, moved_under, nothing_reached, passed, with_steps, wrote_under}
+pub use Rattle.rd_depend.specs.KeepingOrder.{AreAlike, IsAfter, IsInOrder, KeepsOrder, Placed, bound, is_making, nothing_reached, passed, passed_over, passed_under, with_steps}
 pub use Rattle.rd_depend.specs.Lists.{AreUpTo, AscendsFrom, IsAscending, IsMoved, Lists, capacity_at, capacity_of, earlier, first_above, items_of, last_of, last_or, later, list_at, list_of, number_up_to, one_if, spare_at, up_to}
 pub use Rattle.rd_depend.specs.Sharing.{SharesPlace, is_of_map, one_wrote, touched, wrote}
 pub use Rattle.rd_depend.specs.Tables.{AreReady, HasLast, IsReady, KeepsLists, Puts, TakesLast, counts, kept_in, lists_of, spare_in}
@@ -41,5 +41,5 @@ pub use Rattle.rd_depend.specs.declared.index.changing.Homes.{Homes}
 pub use Rattle.rd_depend.specs.declared.index.keys.Key.{Key}
 pub use Rattle.rd_depend.specs.declared.index.keys.Key.TheVariants.{At, In}
 pub use Rattle.rd_depend.specs.declared.index.table.Table.{Table}
-pub use Rattle.rd_depend.specs.declared.last_writers.PlacedStep.{PlacedStep}
-pub use Rattle.rd_depend.specs.declared.last_writers.Reached.{Reached}
+pub use Rattle.rd_depend.specs.declared.keeping_order.PlacedStep.{PlacedStep}
+pub use Rattle.rd_depend.specs.declared.keeping_order.Reached.{Reached}

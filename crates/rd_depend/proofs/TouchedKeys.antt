@@ -1,15 +1,60 @@
--- The keys under which a step touched: those of its place; and what it wrote under it touched.
-use Rattle.std.proofs.Common.{◌≡◌, ◌⊎◌, true, Option, Some, arith}
-use Rattle.rd_depend.proofs.Prelude.{Place, Wrote, Key, is_under, place_key, value_key, segment_key, wrote_under}
+-- The keys under which a step touched: those of its place; what it wrote under them; and its order
+-- and how far it reached, key by key.
+use Rattle.std.proofs.Common.{◌≡◌, ◌⊎◌, ℕ, ◌<◌, Bool, true, false, not, if◌then◌else◌, Option, Some, arith}
+use Rattle.rd_depend.proofs.Prelude.{SegName, Place, Wrote, is_nothing, written, name_eq, Entry, Key, At, In, Reached, is_under, place_key, value_key, segment_key, is_value_written, is_making, bound, passed, IsAfter, IsInOrder}
+use Rattle.rd_cell.specs.declared.places.Place.TheVariants as place
+use Rattle.rd_depend.specs.KeepingOrder.{passed_over}
+
+-- whether a place, if there is one, is the whole of this segment
+abbrev pub is_whole_of : SegName → Option Place → Bool
+is_whole_of s (Some (place.Whole t)) = name_eq s t
+is_whole_of s _ = false
+
+-- whether a step at this place that wrote this counts as a write under the key: of a place if it
+-- wrote that, of a segment if it made that
+abbrev pub wrote_under : Key → Option Place → Wrote → Bool
+wrote_under (At p) place wrote = is_under (At p) (written place wrote)
+wrote_under (In s) place wrote = is_whole_of s place
 
 -- a key under which a step touched is one of the three of its place
-pub under_one : (k : Key) (q : Option Place) → is_under k q ≡ true → (place_key q ≡ Some k) ⊎ ((value_key q ≡ Some k) ⊎ (segment_key q ≡ Some k))
+under_one : (k : Key) (q : Option Place) → is_under k q ≡ true → (place_key q ≡ Some k) ⊎ ((value_key q ≡ Some k) ⊎ (segment_key q ≡ Some k))
 under_one k q h = grind arith
 
 -- and each of the three is
-pub one_under : (k : Key) (q : Option Place) → (place_key q ≡ Some k) ⊎ ((value_key q ≡ Some k) ⊎ (segment_key q ≡ Some k)) → is_under k q ≡ true
+one_under : (k : Key) (q : Option Place) → (place_key q ≡ Some k) ⊎ ((value_key q ≡ Some k) ⊎ (segment_key q ≡ Some k)) → is_under k q ≡ true
 one_under k q h = grind arith
 
 -- what a step wrote under it touched
 pub wrote_touched : (k : Key) (q : Option Place) (w : Wrote) → wrote_under k q w ≡ true → is_under k q ≡ true
 wrote_touched k q w h = grind arith
+
+-- what it wrote under each of them
+
+wrote_place : (o : Option Place) (w : Wrote) (k : Key) → place_key o ≡ Some k → wrote_under k o w ≡ not (is_nothing w)
+wrote_place o w k h = grind arith
+
+wrote_value : (o : Option Place) (w : Wrote) (k : Key) → value_key o ≡ Some k → wrote_under k o w ≡ is_value_written w
+wrote_value o w k h = grind arith
+
+wrote_segment : (o : Option Place) (w : Wrote) (k : Key) → segment_key o ≡ Some k → wrote_under k o w ≡ is_making o
+wrote_segment o w k h = grind arith
+
+-- how far the steps reached, and their order, key by key
+
+pub passed_at : (s : Key → Reached) (x : Entry) (i : ℕ) (k : Key)
+    → passed_over s x i k ≡ (if is_under k x.place then passed (s k) (wrote_under k x.place x.wrote) i else s k)
+unfolding passed_over
+passed_at s x i k = grind arith
+
+pub in_order_at : (s : Key → Reached) (x : Entry) (i : ℕ) → IsInOrder s x i → (k : Key) → is_under k x.place ≡ true → bound (s k) (wrote_under k x.place x.wrote) < i
+in_order_at s x i order k touched = grind (arith, under_one, wrote_place, wrote_value, wrote_segment)
+
+after_at : (s : Key → Reached) (o : Option Key) (w : Bool) (i : ℕ) → ((k : Key) → o ≡ Some k → bound (s k) w < i) → IsAfter s o w i
+after_at s o w i h = grind arith
+
+pub in_order_from : (s : Key → Reached) (x : Entry) (i : ℕ) → ((k : Key) → is_under k x.place ≡ true → bound (s k) (wrote_under k x.place x.wrote) < i) → IsInOrder s x i
+in_order_from s x i h = record {
+  place = after_at s (place_key x.place) _ i (λ k e. grind (arith, one_under, wrote_place));
+  value = after_at s (value_key x.place) _ i (λ k e. grind (arith, one_under, wrote_value));
+  segment = after_at s (segment_key x.place) _ i (λ k e. grind (arith, one_under, wrote_segment));
+}

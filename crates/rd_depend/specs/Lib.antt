@@ -10,5 +10,5 @@ pub mod Changes
 pub mod Writers
 pub mod Sharing
 pub mod KeyLaws
-pub mod LastWriters
+pub mod KeepingOrder
 pub mod ComparedSteps

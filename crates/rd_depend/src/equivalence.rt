@@ -2,16 +2,16 @@
 //!
 //! After the events that they have in common at their beginning, one pass over each list compares
 //! them: they are equivalent exactly where each actor makes the same steps in the same order, and
-//! steps that depend on each other are in the same order (`last_writers`).
+//! steps that depend on each other are in the same order (`keeping_order`).
 
 ghost use Rattle.std.specs.Prelude.{◌≡◌, ◌≤◌, length, true, false, IfOk, OnErr};
 ghost use Rattle.rd_step.specs.Run.{events};
 ghost use Rattle.rd_depend.specs.Beginnings.{NeitherIsPrefix};
 ghost use Rattle.rd_depend.specs.Equivalence.{DecidesEquivalence};
-ghost use Rattle.rd_depend.specs.ComparedSteps.{GoesOn, StandsElsewhere, left_of, reached_of};
+ghost use Rattle.rd_depend.specs.ComparedSteps.{GoesOn, IsOutOfOrder, left_of, reached_of};
 
 use super::beginnings::common_beginning;
-use super::last_writers::{ReachedByKey, StepsByActor, is_alike};
+use super::keeping_order::{ReachedByKey, StepsByActor, is_alike};
 use rd_step::Entry;
 use std::alloc::{AllocError, Global};
 
@@ -60,7 +60,7 @@ fn goes_on(
     entry: &Entry,
 ) -> Result<bool, AllocError>
     ensures same { IfOk result (λ ok. ok ≡ true → GoesOn entry.now (reached_of reached.old) (reached_of reached.new) (left_of left.old) (left_of left.new)) }
-    ensures differs { IfOk result (λ ok. ok ≡ false → StandsElsewhere entry.now (reached_of reached.old) (left_of left.old)) }
+    ensures differs { IfOk result (λ ok. ok ≡ false → IsOutOfOrder entry.now (reached_of reached.old) (left_of left.old)) }
 {
     let Some(other) = left.pop(entry.event.actor) else {
         return Ok(false);

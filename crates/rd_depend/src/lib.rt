@@ -12,7 +12,7 @@ mod beginnings;
 mod dependence;
 mod equivalence;
 mod index;
-mod last_writers;
+mod keeping_order;
 pub mod laws;
 
 pub use dependence::{depends, first_dependant};

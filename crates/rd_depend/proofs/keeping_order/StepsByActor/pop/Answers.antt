@@ -1,7 +1,7 @@
 use Rattle.std.proofs.Common.{arith}
 use Rattle.rd_depend.proofs.Prelude.{slice_get-get_or}
-use Rattle.rd_depend.proofs.LastWritersLemmas.{popped_or_none}
-use Rattle.rd_depend.proofs.last_writers.StepsByActor.pop.Goals as goal
+use Rattle.rd_depend.proofs.ComparedSteps.{popped_or_none}
+use Rattle.rd_depend.proofs.keeping_order.StepsByActor.pop.Goals as goal
 
 pub returns-in-Some : goal.returns-in-Some
 returns-in-Some c = grind (arith, slice_get-get_or, popped_or_none)

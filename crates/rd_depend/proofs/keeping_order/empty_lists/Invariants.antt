@@ -1,6 +1,6 @@
 use Rattle.std.proofs.Common.{◌≡◌, ℕ, [], length}
 use Rattle.rd_depend.proofs.Prelude.{list_at}
-use Rattle.rd_depend.proofs.last_writers.empty_lists.Given as goal
+use Rattle.rd_depend.proofs.keeping_order.empty_lists.Given as goal
 
 abbrev pub invariant-loop-actor : goal.invariant-loop-actor
 invariant-loop-actor l = record {

@@ -1,12 +1,13 @@
 use Rattle.std.proofs.Common.{◌≡◌, ℕ, ◌+◌, ◌≤◌, length, drop}
-use Rattle.rd_depend.proofs.Prelude.{by_actor, enumerated, left_of}
-use Rattle.rd_depend.proofs.last_writers.StepsByActor.of.Given as goal
+use Rattle.rd_depend.proofs.Prelude.{by_actor, left_of}
+use Rattle.std.specs.List.{enumerate_from}
+use Rattle.rd_depend.proofs.keeping_order.StepsByActor.of.Given as goal
 
 abbrev pub invariant-loop-index : goal.invariant-loop-index
 invariant-loop-index l = record {
   number : length l.steps.steps.items ≡ 256;
   within : l.index ≤ length l.entries;
-  left : (n : ℕ) → left_of l.steps n ≡ by_actor n (enumerated (l.index + 1) (drop l.index l.entries));
+  left : (n : ℕ) → left_of l.steps n ≡ by_actor n (enumerate_from (l.index + 1) (drop l.index l.entries));
 }
 
 abbrev pub decreases-loop-index : goal.decreases-loop-index

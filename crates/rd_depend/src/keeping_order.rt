@@ -1,5 +1,5 @@
-//! The last steps that touched and that wrote what each step touches, by their places in another
-//! run of the same steps.
+//! Whether the steps of one run keep the order of dependent steps at the places where they are in
+//! another run.
 //!
 //! Two runs are causally equivalent exactly where each actor makes the same steps in the same
 //! order, and any two steps that depend on each other are in the same order in both. So the steps
@@ -10,8 +10,8 @@
 
 ghost use Rattle.std.specs.Prelude.{◌≡◌, ◌↔◌, ◌<◌, [], ℕ, length, Some, None, IsTrue, IfOk, OnOk, MatchOption};
 ghost use Rattle.rd_depend.specs.declared.index.keys.Key.{Key as KeyOf};
-ghost use Rattle.rd_depend.specs.LastWriters.{AreAlike, IsBehind, IsInOrder, bound, by_actor, is_making, moved, moved_under, nothing_reached, passed, with_first, enumerated};
-ghost use Rattle.rd_depend.specs.ComparedSteps.{left_of, reached_of};
+ghost use Rattle.rd_depend.specs.KeepingOrder.{AreAlike, IsAfter, IsInOrder, bound, is_making, nothing_reached, passed, passed_over, passed_under};
+ghost use Rattle.rd_depend.specs.ComparedSteps.{all_left, left_of, reached_of, with_first};
 ghost use Rattle.rd_depend.specs.Lists.{list_at};
 
 use super::index::changing::{is_value_written, is_written, place_key, segment_key, value_key};
@@ -74,7 +74,7 @@ impl ReachedByKey {
     /// `AllocError` if memory was refused.
     pub(crate) fn pass(&mut self, entry: &Entry, at: usize) -> Result<bool, AllocError>
         ensures order { IfOk result (λ ok. IsTrue ok ↔ IsInOrder (reached_of self.old) entry.now at) }
-        ensures reached { OnOk result (reached_of self.new ≡ moved (reached_of self.old) entry.now at) }
+        ensures reached { OnOk result (reached_of self.new ≡ passed_over (reached_of self.old) entry.now at) }
     {
         let wrote = is_written(entry.wrote);
         let value_written = is_value_written(entry.wrote);
@@ -87,8 +87,8 @@ impl ReachedByKey {
     /// Goes on over a step at this position of the other run under one key, if there is one, and
     /// returns whether it is there after all earlier ones on which it depends.
     fn pass_under(&mut self, key: Option<Key>, wrote: bool, at: usize) -> Result<bool, AllocError>
-        ensures order { IfOk result (λ ok. IsTrue ok ↔ IsBehind (reached_of self.old) key wrote at) }
-        ensures reached { OnOk result ((k : KeyOf) → reached_of self.new k ≡ moved_under key wrote at (reached_of self.old) k) }
+        ensures order { IfOk result (λ ok. IsTrue ok ↔ IsAfter (reached_of self.old) key wrote at) }
+        ensures reached { OnOk result (reached_of self.new ≡ passed_under key wrote at (reached_of self.old)) }
     {
         let Some(key) = key else {
             return Ok(true);
@@ -137,7 +137,7 @@ impl<'a> StepsByActor<'a> {
     ///
     /// `AllocError` if memory was refused.
     pub(crate) fn of(alloc: Global, entries: &'a [Entry]) -> Result<StepsByActor<'a>, AllocError>
-        ensures { IfOk result (λ steps. (n : ℕ) → left_of steps n ≡ by_actor n (enumerated 1 entries.entry.now)) }
+        ensures { IfOk result (λ steps. (n : ℕ) → left_of steps n ≡ all_left entries.entry.now n) }
     {
         let mut steps = StepsByActor {
             steps: empty_lists(alloc)?,

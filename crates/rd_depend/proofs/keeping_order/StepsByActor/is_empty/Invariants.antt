@@ -1,6 +1,6 @@
 use Rattle.std.proofs.Common.{◌≡◌, ℕ, ◌<◌, []}
 use Rattle.rd_depend.proofs.Prelude.{left_of}
-use Rattle.rd_depend.proofs.last_writers.StepsByActor.is_empty.Given as goal
+use Rattle.rd_depend.proofs.keeping_order.StepsByActor.is_empty.Given as goal
 
 abbrev pub invariant-loop-steps : goal.invariant-loop-steps
 invariant-loop-steps l = (n : ℕ) → n < l.steps-index → left_of l.self n ≡ []

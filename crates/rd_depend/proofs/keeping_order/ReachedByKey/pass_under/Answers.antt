@@ -1,11 +1,11 @@
 use Rattle.std.proofs.Common.{◌≡◌, Option, Some, None, IsSome, cond, refl, sym, ap, subst, ◌∙◌}
-use Rattle.rd_depend.proofs.Prelude.{Key, Reached, key_eq, passed, moved_under, reached_of, reached_or_nothing}
+use Rattle.rd_depend.proofs.Prelude.{Key, Reached, key_eq, passed, passed_under, reached_of, reached_or_nothing}
 use Rattle.indexmap.specs.IndexMap.{get}
-use Rattle.rd_depend.proofs.LastWritersLemmas.{written_down}
-use Rattle.rd_depend.proofs.last_writers.ReachedByKey.pass_under.Goals as goal
+use Rattle.rd_depend.proofs.ComparedSteps.{written_down}
+use Rattle.rd_depend.proofs.keeping_order.ReachedByKey.pass_under.Goals as goal
 
 pub returns-in-Some-get_mut-clause-reached : goal.returns-in-Some-get_mut-clause-reached
-returns-in-Some-get_mut-clause-reached c k =
+returns-in-Some-get_mut-clause-reached c =
     let m = c.args.self.now.reached in
     let key = c.in-Some.key in
     let r = c.pass.new.self in
@@ -13,11 +13,10 @@ returns-in-Some-get_mut-clause-reached c k =
     written_down (get key_eq m) (get key_eq (c.get_mut.follows.lender r)) key r c.args.wrote c.args.at
     ((c.get_mut.follows.holds r).3 (subst (λ (o : Option Reached). IsSome o) (sym was) refl)).0
     (c.pass.ensures.reached ∙ ap (λ (o : Option Reached). passed (reached_or_nothing key o) c.args.wrote c.args.at) (sym was))
-    k
-    ∙ ap (λ (o : Option Key). moved_under o c.args.wrote c.args.at (reached_of c.args.self.now) k) (sym c.in-Some.is)
+    ∙ ap (λ (o : Option Key). passed_under o c.args.wrote c.args.at (reached_of c.args.self.now)) (sym c.in-Some.is)
 
 pub returns-in-Ok-clause-reached : goal.returns-in-Ok-clause-reached
-returns-in-Ok-clause-reached c k =
+returns-in-Ok-clause-reached c =
     let m = c.args.self.now.reached in
     let key = c.in-Some.key in
     let r = c.pass-order.new.self in
@@ -25,5 +24,4 @@ returns-in-Ok-clause-reached c k =
     written_down (get key_eq m) (get key_eq c.insert.new.self) key r c.args.wrote c.args.at
     (λ q. c.in-Ok.ensures.updates.0 q ∙ (λ j. cond (key_eq key q) (Some r) (get key_eq (c.get_mut.follows.holds-at-none j) q)))
     (c.pass-order.ensures.reached ∙ ap (λ (o : Option Reached). passed (reached_or_nothing key o) c.args.wrote c.args.at) (sym was))
-    k
-    ∙ ap (λ (o : Option Key). moved_under o c.args.wrote c.args.at (reached_of c.args.self.now) k) (sym c.in-Some.is)
+    ∙ ap (λ (o : Option Key). passed_under o c.args.wrote c.args.at (reached_of c.args.self.now)) (sym c.in-Some.is)

@@ -1,0 +1,89 @@
+-- What is kept of two runs while they are compared goes on over one more step as it should.
+use Rattle.rd_depend.proofs.Prelude.{common_steps, slice_get-get_or, slice_get_past, and_from, and_parts, map-append, reverse-append, nil_from_length, option_to_list, set, is_nothing, slice_get-set_same, slice_get-set_other, Entry, Key, PlacedStep, Reached, is_value_written, key_eq, is_that, place_key, value_key, segment_key, key_eq-true, key_eq-refl, key_eq-sym, is_making, bound, passed, passed_under, IsInOrder, IsAfter, Placed, reached_or_nothing, with_first, list_at, items_of}
+use Rattle.std.proofs.Common.{◌≡◌, ◌↔◌, ℕ, ◌+◌, ◌<◌, ◌≤◌, Bool, true, false, not, ◌&&◌, ◌==◌, if◌then◌else◌, cond, IsTrue, List, [], ◌∷◌, ◌++◌, length, map, get_or, reverse, Vec, Global, Option, Some, None, IsSome, MatchOption, refl, sym, ap, subst, ◌∙◌, arith}
+use Rattle.rd_depend.proofs.IndexKeys.{place_value, place_segment, value_segment}
+
+-- How far steps reached, under one key and under all
+
+-- what was written down under a key, and stays under the others
+pub written_down : (old new : Key → Option Reached) (key : Key) (r : Reached) (w : Bool) (i : ℕ) → ((k : Key) → new k ≡ cond (key_eq key k) (Some r) (old k))
+    → r ≡ passed (reached_or_nothing key (old key)) w i
+    → (λ k. reached_or_nothing k (new k)) ≡ passed_under (Some key) w i (λ q. reached_or_nothing q (old q))
+written_down old new key r w i news its = λ j k. (ap (reached_or_nothing k) (news k) ∙ by k (key_eq key k) (key_eq-true key k) (key_eq-sym k key)) j
+  where
+    s : Key → Reached
+    s q = reached_or_nothing q (old q)
+
+    by : (k : Key) (b : Bool) → (b ≡ true → key ≡ k) → key_eq k key ≡ b → reached_or_nothing k (cond b (Some r) (old k)) ≡ (if key_eq k key then passed (s k) w i else s k)
+    by k true same e = its ∙ ap (λ (q : Key). passed (s q) w i) (same refl) ∙ ap (λ (b : Bool). if b then passed (s k) w i else s k) (sym e)
+    by k false same e = ap (λ (b : Bool). if b then passed (s k) w i else s k) (sym e)
+
+-- a step under another key changes nothing
+after_other : (s : Key → Reached) (a b : Option Key) (w v : Bool) (i j : ℕ) → ((q : Key) → (is_that q a && is_that q b) ≡ false)
+    → IsAfter (passed_under a w i s) b v j ↔ IsAfter s b v j
+after_other s a None w v i j apart = (λ h. tt, λ h. tt)
+after_other s a (Some k) w v i j apart = subst (λ (r : Reached). (bound r v < j) ↔ (bound (s k) v < j)) (sym same) (λ h. h, λ h. h)
+  where
+    same : passed_under a w i s k ≡ s k
+    same = grind (arith, key_eq-refl)
+
+-- the keys of one step, gone over one after another
+pub all_after : (s : Key → Reached) (x : Entry) (i : ℕ) (p v g : Bool) → IsTrue p ↔ IsAfter s (place_key x.place) (not (is_nothing x.wrote)) i
+    → IsTrue v ↔ IsAfter (passed_under (place_key x.place) (not (is_nothing x.wrote)) i s) (value_key x.place) (is_value_written x.wrote) i
+    → IsTrue g ↔ IsAfter (passed_under (value_key x.place) (is_value_written x.wrote) i (passed_under (place_key x.place) (not (is_nothing x.wrote)) i s)) (segment_key x.place) (is_making x.place) i
+    → IsTrue (p && v && g) ↔ IsInOrder s x i
+all_after s x i p v g by_place by_value by_segment =
+    let one = passed_under (place_key x.place) (not (is_nothing x.wrote)) i s in
+    let second = after_other s (place_key x.place) (value_key x.place) (not (is_nothing x.wrote)) (is_value_written x.wrote) i i (λ q. place_value q x.place) in
+    let mid = after_other s (place_key x.place) (segment_key x.place) (not (is_nothing x.wrote)) (is_making x.place) i i (λ q. place_segment q x.place) in
+    let last = after_other one (value_key x.place) (segment_key x.place) (is_value_written x.wrote) (is_making x.place) i i (λ q. value_segment q x.place) in (
+      λ all.
+          let parts = and_parts (p && v) g all in
+          let both = and_parts p v parts.0 in
+          record { place = by_place.0 both.0; value = second.0 (by_value.0 both.1); segment = mid.0 (last.0 (by_segment.0 parts.1)) },
+      λ order. and_from (p && v) g (and_from p v (by_place.1 order.place) (by_value.1 (second.1 order.value))) (by_segment.1 (last.1 (mid.1 order.segment))),
+    )
+
+-- The lists by actor, each with its first step last
+
+abbrev pub Lists : Type 0
+Lists = List (Vec PlacedStep Global)
+
+abbrev pub as_placed : PlacedStep → Placed
+as_placed p = (p.at, p.entry.now)
+
+abbrev pub left_in : Lists → ℕ → List Placed
+left_in lists n = reverse (map as_placed (list_at lists n))
+
+last_first : (ps qs : List PlacedStep) (p : PlacedStep) → ps ≡ qs ++ p ∷ [] → reverse (map as_placed ps) ≡ as_placed p ∷ reverse (map as_placed qs)
+last_first ps qs p h = grind (arith, map-append, reverse-append)
+
+left_there : (lists : Lists) (a : ℕ) (list : Vec PlacedStep Global) → a < length lists → left_in (set lists a list) a ≡ reverse (map as_placed list.items)
+left_there lists a list within = grind (arith, slice_get-set_same)
+
+left_elsewhere : (lists : Lists) (a n : ℕ) (list : Vec PlacedStep Global) → (n == a) ≡ false → left_in (set lists a list) n ≡ left_in lists n
+left_elsewhere lists a n list e = grind (arith, slice_get-set_other)
+
+-- one more in front of those of its actor
+pub pushed : (lists : Lists) (a : ℕ) (list : Vec PlacedStep Global) (p : PlacedStep) (n : ℕ) → a < length lists → list.items ≡ list_at lists a ++ p ∷ []
+    → left_in (set lists a list) n ≡ with_first (left_in lists) a (as_placed p) n
+pushed lists a list p n within h = grind (arith, left_there, last_first, left_elsewhere)
+
+-- the first of those of its actor taken away
+popped : (lists : Lists) (a : ℕ) (list : Vec PlacedStep Global) (p : PlacedStep) (n : ℕ) → a < length lists → list_at lists a ≡ list.items ++ p ∷ []
+    → left_in lists n ≡ with_first (left_in (set lists a list)) a (as_placed p) n
+popped lists a list p n within h = grind (arith, last_first, left_there, left_elsewhere)
+
+-- or there is none
+pub popped_or_none : (lists : Lists) (a : ℕ) (list : Vec PlacedStep Global) (o : Option PlacedStep) → a < length lists → list_at lists a ≡ list.items ++ option_to_list o
+    → (0 < length (list_at lists a) → IsSome o)
+    → MatchOption o (left_in lists a ≡ []) (λ p. (n : ℕ) → left_in lists n ≡ with_first (left_in (set lists a list)) a (as_placed p) n)
+popped_or_none lists a list o within items some = grind (arith, common_steps, popped)
+
+-- none is left of an actor whose list is empty, or who has none
+pub none_of_empty : (lists : Lists) (k n : ℕ) (list : Vec PlacedStep Global) → k < length lists → list ≡ get_or lists k list → list.len ≡ 0
+    → ((m : ℕ) → m < k → left_in lists m ≡ []) → n < k + 1 → left_in lists n ≡ []
+none_of_empty lists k n list within there empty before below = grind (arith, slice_get-get_or, nil_from_length)
+
+pub none_behind : (lists : Lists) (n : ℕ) → length lists ≤ n → left_in lists n ≡ []
+none_behind lists n h = ap (λ (o : Option (Vec PlacedStep Global)). reverse (map as_placed (items_of o))) (slice_get_past lists n h)

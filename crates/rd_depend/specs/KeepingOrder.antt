@@ -1,0 +1,82 @@
+-- Whether the steps of one run keep the order of dependent steps at the places where they are in
+-- another run.
+use Rattle.std.specs.Prelude.{◌≡◌, ◌<◌, ℕ, max, Bool, true, false, not, ◌==◌, if◌then◌else◌, List, [], ◌∷◌, Option, Some, None}
+use Rattle.rd_cell.specs.declared.places.Place.{Place}
+use Rattle.rd_cell.specs.declared.places.Place.TheVariants as place
+use Rattle.rd_cell.specs.Places.{is_nothing}
+use Rattle.rd_step.specs.declared.entries.Entry.{Entry}
+use Rattle.rd_depend.specs.declared.index.keys.Key.{Key}
+use Rattle.rd_depend.specs.declared.keeping_order.Reached.{Reached}
+use Rattle.rd_depend.specs.Index.{is_value_written}
+use Rattle.rd_depend.specs.Keys.{is_that, place_key, value_key, segment_key}
+
+-- whether a place, if there is one, is the whole of a segment
+abbrev pub is_making : Option Place → Bool
+is_making (Some (place.Whole t)) = true
+is_making _ = false
+
+-- the last position after which a step under a key has to be: that of the steps that touched it if
+-- this one writes, else that of the steps that wrote it
+abbrev pub bound : Reached → Bool → ℕ
+bound r wrote = if wrote then r.touched else r.wrote
+
+-- how far the steps reached under a key after one more, at position i of the other run
+abbrev pub passed : Reached → Bool → ℕ → Reached
+passed r wrote i = record { touched = max r.touched i; wrote = if wrote then max r.wrote i else r.wrote }
+
+-- how far the steps reached under each key before the first step: nowhere
+abbrev pub nothing_reached : Key → Reached
+nothing_reached k = record { touched = 0; wrote = 0 }
+
+-- position i is after all earlier steps under this key, if there is one, on which such a step
+-- depends
+abbrev pub IsAfter : (Key → Reached) → Option Key → Bool → ℕ → Type 0
+IsAfter s None wrote i = Unit {0}
+IsAfter s (Some k) wrote i = bound (s k) wrote < i
+
+-- how far the steps reached under each key after one more under this one, if there is one, at
+-- position i of the other run
+abbrev pub passed_under : Option Key → Bool → ℕ → (Key → Reached) → Key → Reached
+passed_under key wrote i s k = if is_that k key then passed (s k) wrote i else s k
+
+-- in the other run the step is, at position i, after all earlier ones on which it depends: under
+-- each of its keys, where a making counts as a write of its segment, and each other step at a place
+-- of the segment as a read of it
+pub record IsInOrder (s : Key → Reached) (x : Entry) (i : ℕ) : Type 0 where
+  pub place : IsAfter s (place_key x.place) (not (is_nothing x.wrote)) i
+  pub value : IsAfter s (value_key x.place) (is_value_written x.wrote) i
+  pub segment : IsAfter s (segment_key x.place) (is_making x.place) i
+
+-- how far the steps reached under each key after this one, at position i of the other run
+unfoldable pub passed_over : (Key → Reached) → Entry → ℕ → Key → Reached
+passed_over s x i =
+    passed_under (segment_key x.place) (is_making x.place) i
+    (passed_under (value_key x.place) (is_value_written x.wrote) i (passed_under (place_key x.place) (not (is_nothing x.wrote)) i s))
+
+-- two steps have the same event and the same place, and wrote the same of it
+pub record AreAlike (x y : Entry) : Type 0 where
+  pub event : x.event ≡ y.event
+  pub place : x.place ≡ y.place
+  pub wrote : x.wrote ≡ y.wrote
+
+-- a step with its number in its run
+abbrev pub Placed : Type 0
+Placed = ℕ × Entry
+
+-- the steps of each actor, where this actor has these now
+abbrev pub with_steps : (ℕ → List Placed) → ℕ → List Placed → ℕ → List Placed
+with_steps left n rest m = if m == n then rest else left m
+
+-- the next step of the actor of x among those left is p, it is like x and in order, and `rest` are
+-- the actor's others
+pub record IsNext (s : Key → Reached) (x : Entry) (left : ℕ → List Placed) (p : Placed) (rest : List Placed) : Type 0 where
+  pub first : left x.event.actor ≡ p ∷ rest
+  pub alike : AreAlike x p.1
+  pub order : IsInOrder s x p.0
+
+-- these steps are just the ones that are left: each actor's are in the same order, and each step is
+-- in order
+abbrev pub KeepsOrder : (Key → Reached) → List Entry → (ℕ → List Placed) → Type 0
+KeepsOrder s [] left = (n : ℕ) → left n ≡ []
+KeepsOrder s (x ∷ xs) left =
+    (p : Placed) × (rest : List Placed) × IsNext s x left p rest × KeepsOrder (passed_over s x p.0) xs (with_steps left x.event.actor rest)
