@@ -1,10 +1,11 @@
 -- What the calls of a session answer, over its journal.
-use Rattle.std.proofs.Common.{◌≡◌, ℕ, zero, suc, ◌+◌, ◌-◌, ◌<◌, ◌≤◌, ◌⊎◌, refl, sym, ◌∙◌, ap, subst, List, [], ◌∷◌, ◌++◌, length, take, get_or, ok_or, Result, Ok, Err, IsOk, IfErr, inl, inr, arith, ne_eqb, length-append}
-use Rattle.rd_journal.proofs.Prelude.{result_map, cond-false, map-append, length-map, take-map, slice_get_past, slice_get-get_or, Refusal, Stepped, step, IsWellFormed, MOST_STEPS, Event, Entry, model, room, live_entries, ahead_entries, kept_entries, IsIndexOf, whole_journal, journal, state, MayLackMemory, Journal, events, IsRun, entry_of, IsSession, HasRoom, State, state_of, with_event, apply, back_one, forward_one, times, undo, redo, back, forward, IsLengthened, IsMovedBack, IsBeforeLast}
+use Rattle.std.proofs.Common.{◌≡◌, ℕ, zero, suc, ◌+◌, ◌-◌, ◌<◌, ◌≤◌, ◌⊎◌, refl, sym, ◌∙◌, ap, subst, List, [], ◌∷◌, ◌++◌, length, take, get_or, slice_get, Option, None, Some, option_map, ok_or, Result, Ok, Err, IsOk, IfErr, inl, inr, arith, ne_eqb, length-append}
+use Rattle.rd_journal.proofs.Prelude.{and_then, result_map, cond-false, map-append, length-map, take-map, slice_get_past, slice_get-get_or, slice_get-map, Refusal, Stepped, step, IsWellFormed, MOST_STEPS, Event, Entry, model, room, live_entries, ahead_entries, kept_entries, IsIndexOf, whole_journal, journal, state, MayLackMemory, Journal, events, IsRun, start_of, entry_of, IsSession, HasRoom, State, state_of, with_event, apply, back, forward, live_event, IsLengthened, IsMovedBack, IsBeforeLast}
 use Rattle.rd_journal.specs.Sessions.{IsUnchanged, MayRefuse, capacity, room as session_room, index}
 use Rattle.rd_journal.specs.Room.{IsOutOfMemory}
 use Rattle.rd_journal.specs.declared.entries.Entries.{Entries}
 use Rattle.rd_step.specs.declared.worlds.World.{World as CodeWorld}
+use Rattle.std.proofs.lemmas.Option.{slice_get_cases}
 use Rattle.rd_journal.proofs.Ahead.{is_session}
 use Rattle.rd_journal.specs.declared.sessions.Session.{Session}
 use Rattle.rd_journal.proofs.Runs.{step_event, start_stays, now_formed, grown}
@@ -20,30 +21,17 @@ undone_len j = length-map j.undone (λ x. x.event)
 
 -- Back and forward
 
--- not more steps than are live may be undone
-pub back_goes : (s t : State) (n : ℕ) → n ≤ length s.live → t ≡ times n back_one s → back s n ≡ Ok t
-back_goes s t n h k = grind arith
-
--- not more steps than are undone may be redone
-pub forward_goes : (s t : State) (n : ℕ) → n ≤ length s.undone → t ≡ times n forward_one s → forward s n ≡ Ok t
-forward_goes s t n h k = grind arith
-
--- the same of one
-pub undo_goes : (s t : State) → 1 ≤ length s.live → t ≡ back_one s → undo s ≡ Ok t
-undo_goes s t h k = grind arith
-
-pub redo_goes : (s t : State) → 1 ≤ length s.undone → t ≡ forward_one s → redo s ≡ Ok t
-redo_goes s t h k = grind arith
-
 -- undoing leaves the start
-pub back_start : (n : ℕ) (s : State) → (times n back_one s).start ≡ s.start
-back_start zero s = refl
-back_start (suc n) s = back_start n s
+pub back_start : (s : State) (n : ℕ) (t : State) → back s n ≡ Ok t → t.start ≡ s.start
+back_start s n t h = grind arith
+
+-- and so does redoing
+pub forward_start : (s : State) (n : ℕ) (t : State) → forward s n ≡ Ok t → t.start ≡ s.start
+forward_start s n t h = grind arith
 
 -- what is left is the run of all but the last events
-pub before_last : (n : ℕ) (old new : Journal) → IsMovedBack n old new → IsRun new → state_of new ≡ times n back_one (state_of old)
-    → IsBeforeLast n old new
-before_last n old new moved runs goes = grind (arith, back_start, take-map)
+pub before_last : (n : ℕ) (old new : Journal) → IsMovedBack n old new → IsRun new → start_of new ≡ start_of old → IsBeforeLast n old new
+before_last n old new moved runs start = grind (arith, take-map)
 
 -- Entries by number
 
@@ -52,6 +40,25 @@ entry_missing j n k len h = grind (arith, ok_or, slice_get_past)
 
 pub entry_found : (j : Journal) (k : ℕ) (x : Entry) → 1 ≤ k → k ≤ length j.live → x ≡ get_or j.live (k - 1) x → Ok x ≡ entry_of j k
 entry_found j k x some within here = grind (arith, ok_or, slice_get-get_or)
+
+-- the live event of a number is that of the entry
+pub event_of_entry : (j : Journal) (k : ℕ) → live_event (state_of j) k ≡ result_map (λ x. x.event) (entry_of j k)
+event_of_entry j zero = grind (arith, live_len)
+event_of_entry j (suc i) = by (slice_get j.live i) (slice_get-map (λ (x : Entry). x.event) j.live i)
+  where
+    by : (o : Option Entry) → slice_get (events j.live) i ≡ option_map (λ x. x.event) o → ok_or (slice_get (events j.live) i) (refusal.NoSuchStep (length (events j.live))) ≡ result_map (λ x. x.event) (ok_or o (refusal.NoSuchStep (length j.live)))
+    by None h = grind (arith, live_len)
+    by (Some x) h = grind arith
+
+-- the number of a live event is that of one
+pub is_live : (s : State) (k : ℕ) (e : Event) → live_event s k ≡ Ok e → (1 ≤ k) × (k ≤ length s.live)
+is_live s zero e h = absurd cc
+is_live s (suc i) e h = grind (arith, slice_get_cases)
+
+-- a chain that went through, through its first link
+pub went_through : {T U : Type 0} (r : Result T Refusal) (f : T → Result U Refusal) (y : U) → and_then r f ≡ Ok y → (x : T) × (r ≡ Ok x) × (f x ≡ Ok y)
+went_through (Ok x) f y h = (x, refl, h)
+went_through (Err e) f y h = absurd cc
 
 -- One more step
 

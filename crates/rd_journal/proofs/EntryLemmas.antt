@@ -21,6 +21,9 @@ ahead-length r = grind (arith, length-take-le, all-length, length-drop)
 pub kept-length : (r : Entries) → length (kept_entries r) ≡ r.live + r.ahead
 kept-length r = omega (arith, length-append (live_entries r) (ahead_entries r), live-length r, ahead-length r)
 
+-- how long the parts are, and that their numbers are of slots
+pub ruleset lengths = (all-length, live-length, ahead-length, kept-length, at-length, order_below)
+
 -- those ahead of none
 pub none_ahead : (r : Entries) → ahead_entries r ≡ [] → r.ahead ≡ 0
 none_ahead r none = omega (arith, ahead-length r, ap length none)

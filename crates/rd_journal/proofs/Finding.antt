@@ -75,10 +75,10 @@ abbrev pub if_live : List Entry → Option ℕ → Option ℕ
 if_live live None = None
 if_live live (Some j) = if nat_lt (length live) j then None else Some j
 
-within_live : (n j : ℕ) → j ≤ n → Some j ≡ (if nat_lt n j then None else Some j)
+pub within_live : (n j : ℕ) → j ≤ n → Some j ≡ (if nat_lt n j then None else Some j)
 within_live n j h = let no : nat_lt n j ≡ false = le-ltb n j h in ap (λ (b : Bool). if b then None else Some j) (sym no)
 
-behind_live : (n j : ℕ) → n < j → None ≡ (if nat_lt n j then None else Some j)
+pub behind_live : (n j : ℕ) → n < j → None ≡ (if nat_lt n j then None else Some j)
 behind_live n j h = let yes : nat_lt n j ≡ true = lt-ltb n j h in ap (λ (b : Bool). if b then None else Some j) (sym yes)
 
 pub scan_is : (x : Entry) (live : List Entry) (k : ℕ) → numbered live k ≡ Some x → first_dependant live k ≡ position_from (depends x) (k + 1) (drop k live)
@@ -89,9 +89,10 @@ among : (x : Entry) (live others : List Entry) (k : ℕ) → k ≤ length live
 among x live others k position = grind (arith, found_within, within_live, length-drop, found_before, found_behind, behind_live)
 
 -- the first dependant among the live ones is what is found among all, if that is live
-pub found_live : (x : Entry) (live others : List Entry) (k : ℕ) → 1 ≤ k → k ≤ length live → x ≡ get_or live (k - 1) x
-    → first_dependant live k ≡ if_live live (first_dependant (live ++ others) k)
-found_live x live others k some within here =
+pub found_live : (x : Entry) (live others : List Entry) (k : ℕ) (found : Option ℕ) → 1 ≤ k → k ≤ length live → x ≡ get_or live (k - 1) x
+    → (numbered (live ++ others) k ≡ Some x → found ≡ first_dependant (live ++ others) k) → first_dependant live k ≡ if_live live found
+found_live x live others k found some within here answer =
+    let there = numbered_before live others k x some within here in
     scan_is x live k (numbered_in live k x some within here) ∙ among x live others k within
     ∙ ap (λ (zs : List Entry). if_live live (position_from (depends x) (k + 1) zs)) (sym (drop-append-le k live others within))
-    ∙ ap (if_live live) (sym (scan_is x (live ++ others) k (numbered_before live others k x some within here)))
+    ∙ ap (if_live live) (sym (answer there ∙ scan_is x (live ++ others) k there))

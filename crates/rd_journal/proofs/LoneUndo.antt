@@ -1,9 +1,10 @@
 -- Undoing one live step alone, on which no later one depends, over whole journals.
 use Rattle.std.specs.List.{list_any}
 use Rattle.std.proofs.lemmas.Bool.{or_from}
-use Rattle.rd_journal.proofs.Prelude.{common_steps, cases_Bool, cond-true, cond-false, lt-ltb, le-ltb, map-append, take-map, drop-map, take-append-drop, length-map, depends, IsFree, first_dependant, MOST_STEPS, Entry, position_from, WasStepped, IsTakenOut, Journal, start_of, IsRun, IsUndoneAlone, answer_unless, answer_at, state_of, undone_alone, undone_alone_unless, undo_at}
-use Rattle.std.proofs.Common.{◌≡◌, false, refl, nat_lt, ℕ, zero, suc, ◌+◌, ◌-◌, ◌<◌, ◌≤◌, ◌⊎◌, inl, inr, sym, ◌∙◌, ap, subst, arith, List, [], ◌∷◌, ◌++◌, length, take, drop, get_or, Some, None, Err, length-append}
-use Rattle.rd_journal.proofs.ListLemmas.{drop_one_less}
+use Rattle.rd_journal.proofs.Prelude.{common_steps, cases_Bool, cond-true, cond-false, map-append, take-map, drop-map, take-append-drop, depends, IsFree, first_dependant, MOST_STEPS, Entry, position_from, WasStepped, IsTakenOut, Journal, start_of, IsRun, IsUndoneAlone, IsRunWithout, answer_unless, answer_at, state_of, undo_at, and_then, events, without}
+use Rattle.std.proofs.Common.{◌≡◌, refl, ℕ, ◌+◌, ◌-◌, ◌<◌, ◌≤◌, ◌⊎◌, inl, inr, sym, ◌∙◌, ap, subst, arith, List, [], ◌∷◌, ◌++◌, length, take, drop, get_or, Some, None, Ok, Err, length-append}
+use Rattle.rd_journal.proofs.ListLemmas.{nth, drop_one_less}
+use Rattle.rd_journal.proofs.Calls.{entry_missing, entry_found, event_of_entry}
 use Rattle.rd_journal.proofs.Finding.{numbered_in, scan_is}
 use Rattle.rd_journal.proofs.Runs.{MayTakeOut, may_take_out}
 use Rattle.rd_cell.specs.declared.refusal.Refusal.TheVariants as refusal
@@ -79,26 +80,40 @@ may_undo_at old k x at none runs =
     subst (λ (l : List Entry). IsRun (record { world = old.world; live = l; undone = old.undone })) (around_it old.live k x at) runs in
     may_undo_around old k x at (may_take_out old.world (take (k - 1) old.live) (drop k old.live) old.undone x cut free)
 
--- The state without it
+-- its events
+without-events : (xs : List Entry) (k : ℕ) → events (without xs k) ≡ without (events xs) k
+without-events xs k = grind (arith, take-map, drop-map, map-append)
 
-pub undone_alone_state : (k : ℕ) (old new : Journal) → IsUndoneAlone k old new → start_of new ≡ start_of old → state_of new ≡ undone_alone (state_of old) k
-undone_alone_state k old new moved start = grind (arith, take-map, drop-map, map-append)
+pub undone_run : (k : ℕ) (old new : Journal) → IsUndoneAlone k old new → start_of new ≡ start_of old → IsRun new → IsRunWithout k old new
+undone_run k old new moved start runs = let left = without-events old.live k in grind arith
 
 -- The answers
 
-pub answer_missing : (j : Journal) (k n : ℕ) → n ≡ length j.live → (k ≡ 0) ⊎ (n < k) → Err (refusal.NoSuchStep n) ≡ answer_at j k
-answer_missing j zero n len h = ap (λ (m : ℕ). Err (refusal.NoSuchStep m)) len
-answer_missing j (suc i) n len h =
-    ap (λ (m : ℕ). Err (refusal.NoSuchStep m)) len
-    ∙ sym (cond-false (nat_lt i (length j.live)) _ _ (le-ltb i (length j.live) (omega (arith, h, len))))
+-- the k-th live step is looked up, then its first dependant
+undo_at_there : (j : Journal) (k : ℕ) (x : Entry) → IsRun j → IsNumber j.live k x
+    → (undo_at (state_of j) k ≡ and_then (answer_unless (first_dependant j.live k))
+    (λ _. Ok (record { start = start_of j; live = without (events j.live) k; undone = x.event ∷ events j.undone })))
+    × (answer_unless (first_dependant j.live k) ≡ answer_at j k)
+undo_at_there j k x runs at = let found = entry_found j k x at.some at.within at.here in (grind (arith, event_of_entry), grind arith)
 
-pub undo_at_missing : (j : Journal) (k n : ℕ) → n ≡ length j.live → (k ≡ 0) ⊎ (n < k) → undo_at (state_of j) k ≡ Err (refusal.NoSuchStep n)
-undo_at_missing j k n len l = grind (arith, length-map, le-ltb, cond-false)
+pub undo_at_goes : (k : ℕ) (old new : Journal) → IsRun old → 1 ≤ k → k ≤ length old.live → first_dependant old.live k ≡ None → IsUndoneAlone k old new
+    → start_of new ≡ start_of old → (undo_at (state_of old) k ≡ Ok (state_of new)) × (Ok tt ≡ answer_at old k)
+undo_at_goes k old new runs some within free moved start =
+    let x = nth old.live (k - 1) (omega arith) in
+    let at : IsNumber old.live k x.0 = record { some = some; within = within; here = x.1 } in
+    let there = undo_at_there old k x.0 runs at in
+    let live : events new.live ≡ without (events old.live) k = ap events moved.live ∙ without-events old.live k in
+    let front = taken_out_front k old new x.0 at moved in
+    (grind arith, grind arith)
 
-pub answer_there : (j : Journal) (k : ℕ) → 1 ≤ k → k ≤ length j.live → answer_at j k ≡ answer_unless (first_dependant j.live k)
-answer_there j k some within = grind arith
+pub undo_at_refused : (k n : ℕ) (j : Journal) → IsRun j → 1 ≤ k → k ≤ length j.live → first_dependant j.live k ≡ Some n
+    → (undo_at (state_of j) k ≡ Err (refusal.Depended n)) × (Err (refusal.Depended n) ≡ answer_at j k)
+undo_at_refused k n j runs some within found =
+    let x = nth j.live (k - 1) (omega arith) in
+    let there = undo_at_there j k x.0 runs (record { some = some; within = within; here = x.1 }) in
+    (grind arith, grind arith)
 
-pub undo_at_there : (j : Journal) (k : ℕ) → IsRun j → 1 ≤ k → k ≤ length j.live
-    → undo_at (state_of j) k ≡ undone_alone_unless (state_of j) k (first_dependant j.live k)
-undo_at_there j zero runs some within = absurd (omega arith)
-undo_at_there j (suc i) runs some within = grind (arith, length-map, cond-true, lt-ltb)
+-- what is answered where there is none
+pub undo_at_missing : (j : Journal) (n k : ℕ) → n ≡ length j.live → (k ≡ 0) ⊎ (n < k)
+    → (undo_at (state_of j) k ≡ Err (refusal.NoSuchStep n)) × (Err (refusal.NoSuchStep n) ≡ answer_at j k)
+undo_at_missing j n k len h = let none = entry_missing j n k len h in (grind (arith, event_of_entry), grind arith)

@@ -183,3 +183,6 @@ at_entry {X} es ns k d below within =
     let v = get_or ns k 0 in
     let x = get_or es v d in
     sym (at-get es ns k x 0 below within ∙ get_or_default es v x d (below k 0 within))
+
+-- the entries at numbers as a list that is read
+pub ruleset parts = (at-length, at-take, at-drop, at_entry)

@@ -21,19 +21,19 @@ pub use Rattle.rd_step.proofs.RunParts.{Middle, beginning, first_step, middle, r
 pub use Rattle.rd_step.proofs.Steps.{took, with_actor-other}
 pub use Rattle.rd_step.specs.Dependence.{AreLoneUndos, IsInClosure, closure_from, number_after}
 pub use Rattle.rd_step.specs.Laws.{IsTakenOut, WasStepped}
-pub use Rattle.rd_step.specs.Lists.{numbered}
+pub use Rattle.rd_step.specs.Lists.{numbered, without}
 pub use Rattle.rd_step.specs.Prelude.{and_then, result_map, Content, IsFree, IsWellFormed, MOST_STEPS, Place, Ran, Refusal, SegName, Stepped, World, after, closure, closure_of, depends, depends_on_one, first_dependant, model, room, run, step, unmarked, unstep, without_closure}
 pub use Rattle.rd_step.specs.Room.{makes_segment, room_returned, room_used}
 pub use Rattle.rd_step.specs.Run.{preceded_by}
 pub use Rattle.rd_step.specs.declared.entries.Entry.{Entry}
 pub use Rattle.rd_step.specs.declared.entries.Event.{Event}
-pub use Rattle.rd_journal.specs.Journal.{IsRun, IsRunFrom, Journal, LeadsTo, entry_of, events, start_of, world_before}
+pub use Rattle.rd_journal.specs.Journal.{IsRun, IsRunFrom, Journal, LeadsTo, entry_of, events, start_of, world_before, answer_unless}
 pub use Rattle.rd_journal.specs.Kept.{IsSession, journal_of, whole_journal, with_undone}
 pub use Rattle.rd_journal.specs.Laws.{IsClosureLast, IsMovedLast, IsOneRun, IsStepAfter}
-pub use Rattle.rd_journal.specs.Moves.{IsBeforeLast, IsLengthened, IsMovedBack, IsMovedForward, IsRolledBack, IsSwitched, IsUndoneAlone, IsWithoutClosure, answer_at, answer_unless, roll_answer}
+pub use Rattle.rd_journal.specs.Moves.{IsBeforeLast, IsLengthened, IsMovedBack, IsMovedForward, IsRolledBack, IsSwitched, IsUndoneAlone, IsRunWithout, IsWithoutClosure, answer_at, roll_answer}
 pub use Rattle.rd_journal.specs.Numbers.{IsOrder, at_numbers}
 pub use Rattle.rd_journal.specs.Entries.{ahead_entries, kept_entries, live_entries, entries_capacity}
 unfoldable pub use Rattle.rd_journal.specs.Entries.{all_entries}
 pub use Rattle.rd_journal.specs.Room.{HasRoom, HasRoomForAll, LacksIndexRoom, room_returned_by, room_without}
 pub use Rattle.rd_journal.specs.Sessions.{journal, state}
-pub use Rattle.rd_journal.specs.State.{State, MayLackMemory, apply, back, back_one, forward, forward_one, redo, roll, run_of, state_of, switch, times, undo, undo_at, undone_alone, undone_alone_unless, undone_marked, with_event}
+pub use Rattle.rd_journal.specs.State.{State, MayLackMemory, apply, back, forward, live_event, redo, roll, run_of, state_of, switch, undo, undo_at, undone_marked, with_event}

@@ -1,10 +1,11 @@
 -- Live followed by undone is one run, and what is undone alone and redone is the last step of the
 -- same world.
-use Rattle.std.proofs.Common.{◌≡◌, ℕ, ◌-◌, ◌≤◌, refl, sym, ◌∙◌, ap, arith, List, [], ◌∷◌, ◌++◌, length, take, drop, None, Ok}
-use Rattle.rd_journal.proofs.Prelude.{cases_Bool, cond-true, cond-false, ltb-true, length-map, first_dependant, Ran, step, unstep, Entry, IsTakenOut, taken_out, Journal, IsRun, IsMovedLast, IsOneRun, IsUndoneAlone, State, state_of, run_of, forward_one, undone_alone, undo_at, redo}
+use Rattle.std.proofs.Common.{◌≡◌, ℕ, ◌-◌, ◌≤◌, refl, sym, ◌∙◌, ap, arith, List, [], ◌∷◌, ◌++◌, length, take, drop, Option, Some, None, Result, Ok}
+use Rattle.rd_journal.proofs.Prelude.{length-map, first_dependant, Ran, step, unstep, Entry, IsTakenOut, taken_out, Journal, IsRun, IsMovedLast, IsOneRun, IsUndoneAlone, State, state_of, run_of, live_event, undo_at, redo, and_then, Refusal}
 use Rattle.rd_journal.proofs.ListLemmas.{nth}
-use Rattle.rd_journal.proofs.LoneUndo.{IsNumber, from_it, may_undo_at, undone_alone_state}
-use Rattle.rd_journal.proofs.Runs.{step_event, start_stays, now_formed, grown}
+use Rattle.rd_journal.proofs.LoneUndo.{IsNumber, from_it, may_undo_at, undo_at_goes}
+use Rattle.rd_journal.proofs.Calls.{is_live, went_through}
+use Rattle.rd_journal.proofs.Runs.{as_ok-same, step_event, start_stays, now_formed, grown}
 use Rattle.rd_journal.proofs.There.{one_journal}
 use Rattle.rd_journal.proofs.Walks.{whole_run, state_forward}
 
@@ -16,18 +17,20 @@ one_run j runs = whole_run j runs
 -- Calls that were not refused
 
 -- a lone undo that was not refused, where the live steps ran so
-pub record WentOut (s t : State) (r : Ran) (n : ℕ) : Type 0 where
+pub record WentOut (s : State) (r : Ran) (n : ℕ) : Type 0 where
   pub some : 1 ≤ n
   pub within : n ≤ length s.live
   pub free : first_dependant r.entries n ≡ None
-  pub goes : t ≡ undone_alone s n
 
-went_out : (s t : State) (r : Ran) (n : ℕ) → run_of s ≡ Ok r → undo_at s n ≡ Ok t → WentOut s t r n
-went_out s t r n ran k = grind (arith, cases_Bool, cond-true, ltb-true, cond-false)
-
--- a redo that was not refused
-went_forward : (s t : State) → redo s ≡ Ok t → t ≡ forward_one s
-went_forward s t h = grind arith
+went_out : (s t : State) (r : Ran) (n : ℕ) → run_of s ≡ Ok r → undo_at s n ≡ Ok t → WentOut s r n
+went_out s t r n ran h =
+    let live = went_through (live_event s n) _ t h in
+    let of_live = is_live s n live.0 live.1 in
+    record { some = of_live.0; within = of_live.1; free = free (first_dependant r.entries n) refl }
+  where
+    free : (found : Option ℕ) → first_dependant r.entries n ≡ found → found ≡ None
+    free None is = refl
+    free (Some k) is = absurd (grind (arith, ran, h))
 
 -- Redone last
 
@@ -37,7 +40,7 @@ again_journal old n x = record { world = old.world; live = (take (n - 1) old.liv
 
 record IsAgain (old : Journal) (n : ℕ) (x : Entry) : Type 0 where
   pub runs : IsRun (again_journal old n x)
-  pub state : state_of (again_journal old n x) ≡ forward_one (undone_alone (state_of old) n)
+  pub state : and_then (undo_at (state_of old) n) redo ≡ Ok (state_of (again_journal old n x))
 
 again : (old : Journal) (n : ℕ) (x : Entry) → IsNumber old.live n x → first_dependant old.live n ≡ None → IsRun old → IsAgain old n x
 again old n x at none runs =
@@ -53,8 +56,8 @@ again old n x at none runs =
     record {
       runs = grown v old.world xs (x ∷ old.undone) old.undone x x.event left_runs goes runs.undone_run_on;
       state =
-          state_forward 1 left (again_journal old n x) (start_stays v old.world xs x x.event (now_formed left left_runs) goes) (record { live = refl; undone = refl })
-          ∙ ap forward_one (undone_alone_state n old left moved (may.start left out moved));
+          ap (λ (r : Result State Refusal). and_then r redo) (undo_at_goes n old left runs at.some at.within none moved (may.start left out moved)).0
+          ∙ state_forward 1 left (again_journal old n x) (omega arith) (start_stays v old.world xs x x.event (now_formed left left_runs) goes) (record { live = refl; undone = refl });
     }
 
 pub redone_last : (i j k : Journal) (n : ℕ) → IsRun i → IsRun k → undo_at (state_of i) n ≡ Ok (state_of j)
@@ -68,7 +71,7 @@ redone_last i j k n ri rk undone redone =
     let at : IsNumber i.live n found.0 = record { some = some; within = within; here = found.1 } in
     let is = again i n found.0 at went.free ri in
     let same : state_of k ≡ state_of (again_journal i n found.0) =
-    went_forward (state_of j) (state_of k) redone ∙ ap forward_one went.goes ∙ sym is.state in
+    as_ok-same _ _ (sym redone ∙ ap (λ (r : Result State Refusal). and_then r redo) (sym undone) ∙ is.state) in
     let one : k ≡ again_journal i n found.0 = one_journal k (again_journal i n found.0) rk is.runs same in
     record {
       world = ap (λ (l : Journal). l.world) one;

@@ -1,7 +1,7 @@
 -- Rolling back a live step with all that depends on it, over whole journals.
-use Rattle.std.proofs.Common.{◌≡◌, ℕ, zero, suc, ◌+◌, ◌<◌, ◌≤◌, ◌⊎◌, Bool, true, false, refl, sym, ◌∙◌, ap, subst, arith, List, [], ◌∷◌, ◌++◌, length, take, drop, Ok, Err}
-use Rattle.rd_journal.proofs.Prelude.{cond-true, cond-false, lt-ltb, le-ltb, append_assoc, map-append, take-append-drop, length-map, World, run, closure, items_where_true, unmarked, closure_of, without_closure, closure_from, Event, Entry, run-cons, Journal, events, world_before, start_of, IsRun, IsRolledBack, IsWithoutClosure, roll_answer, IsSession, HasRoom, State, state_of, back_one, times, undone_marked, roll, middle}
-use Rattle.rd_journal.proofs.Calls.{back_start}
+use Rattle.std.proofs.Common.{◌≡◌, ℕ, zero, suc, ◌+◌, ◌-◌, ◌<◌, ◌≤◌, ◌⊎◌, Bool, true, false, refl, sym, ◌∙◌, ap, subst, arith, List, [], ◌∷◌, ◌++◌, length, take, drop, Ok, Err}
+use Rattle.rd_journal.proofs.Prelude.{append_assoc, map-append, take-append-drop, World, run, closure, items_where_true, unmarked, closure_of, without_closure, closure_from, Event, Entry, run-cons, Journal, events, world_before, start_of, IsRun, IsRolledBack, IsWithoutClosure, roll_answer, IsSession, HasRoom, state_of, back, undone_marked, roll, middle}
+use Rattle.rd_journal.proofs.Calls.{back_start, entry_missing, entry_found, event_of_entry}
 use Rattle.rd_journal.proofs.Gathering.{cut_at, gathered_run}
 use Rattle.rd_journal.proofs.ListLemmas.{nth, drop_one_less}
 use Rattle.rd_journal.proofs.Runs.{run_joined, goes_back}
@@ -79,10 +79,9 @@ gathered_session k old new room session some within g =
     }
 
 pub rolled_start : (k n : ℕ) (old mid new : Journal) → IsRun old → 1 ≤ k → k ≤ length old.live → IsGatheredLast k old mid
-    → state_of new ≡ times n back_one (state_of mid) → start_of new ≡ start_of old
+    → back (state_of mid) n ≡ Ok (state_of new) → start_of new ≡ start_of old
 rolled_start k n old mid new runs some within g state =
-    ap (λ (s : State). s.start) state ∙ back_start n (state_of mid) ∙ ap start_of (gathered_journal k old mid g)
-    ∙ (reordered old k some within runs).start
+    back_start (state_of mid) n (state_of new) state ∙ ap start_of (gathered_journal k old mid g) ∙ (reordered old k some within runs).start
 
 -- The state
 
@@ -106,15 +105,14 @@ rolled_run k old new is start runs = grind (arith, unmarked-map)
 
 -- The answers
 
-pub roll_answer_missing : (j : Journal) (k n : ℕ) → n ≡ length j.live → (k ≡ 0) ⊎ (n < k) → Err (refusal.NoSuchStep n) ≡ roll_answer j k
-roll_answer_missing j k n len h = grind arith
+pub roll_goes : (k : ℕ) (old new : Journal) → IsRun old → 1 ≤ k → k ≤ length old.live → IsRolledBack k old new → start_of new ≡ start_of old
+    → (roll (state_of old) k ≡ Ok (state_of new)) × (Ok tt ≡ roll_answer old k)
+roll_goes k old new runs some within is start =
+    let x = nth old.live (k - 1) (omega arith) in
+    let found = entry_found old k x.0 some within x.1 in
+    (grind (arith, event_of_entry, rolled_state), grind arith)
 
-pub roll_answer_there : (j : Journal) (k : ℕ) → 1 ≤ k → k ≤ length j.live → Ok tt ≡ roll_answer j k
-roll_answer_there j k some within = grind arith
-
-pub roll_missing : (j : Journal) (k n : ℕ) → n ≡ length j.live → (k ≡ 0) ⊎ (n < k) → roll (state_of j) k ≡ Err (refusal.NoSuchStep n)
-roll_missing j k n len l = grind (arith, length-map, le-ltb, cond-false)
-
-pub roll_there : (j : Journal) (k : ℕ) → IsRun j → 1 ≤ k → k ≤ length j.live → roll (state_of j) k ≡ Ok (undone_marked (state_of j) (closure j.live k))
-roll_there j zero runs some within = absurd (omega arith)
-roll_there j (suc i) runs some within = grind (arith, length-map, cond-true, lt-ltb)
+-- what is answered where there is no such step
+pub roll_missing : (j : Journal) (n k : ℕ) → n ≡ length j.live → (k ≡ 0) ⊎ (n < k)
+    → (roll (state_of j) k ≡ Err (refusal.NoSuchStep n)) × (Err (refusal.NoSuchStep n) ≡ roll_answer j k)
+roll_missing j n k len h = let none = entry_missing j n k len h in (grind (arith, event_of_entry), grind arith)

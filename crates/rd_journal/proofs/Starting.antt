@@ -24,8 +24,8 @@ may_step_back start w xs x leads =
     }
 
 -- the live steps lead from the start to the world
-pub live_lead : (j : Journal) → IsRun j → LeadsTo (start_of j) j.world j.live
-live_lead j runs = record { well_formed = runs.well_formed; ran = runs.live_ran }
+pub live_lead : (j : Journal) (steps : List Entry) → IsRun j → steps ≡ j.live → LeadsTo (start_of j) j.world steps
+live_lead j steps runs all = subst (λ (xs : List Entry). LeadsTo (start_of j) j.world xs) (sym all) (record { well_formed = runs.well_formed; ran = runs.live_ran })
 
 -- no step leads from a world to that world alone
 pub led_nowhere : (start w : World) → LeadsTo start w [] → w ≡ start

@@ -1,8 +1,9 @@
 -- Entries of a run put after the first live ones, and the room that their makings ask for.
-use Rattle.rd_journal.proofs.Prelude.{common_steps, take-suc, cases_Bool, cases_eq, cond-true, cond-false, map-append, take-map, length-take, length-take-le, get_or-set_same, get_or-set_other, SegName, Place, Content, after, World, Stepped, step, run, MOST_STEPS, Event, Entry, makes_segment, room_used, room_returned, took, with_actor-other, room_used_returned, Journal, events, world_before, start_of, IsRunFrom, LeadsTo, IsSwitched, IsSession, room_returned_by, room_without, HasRoom, HasRoomForAll, State, state_of, forward_one, times, switch, run_stays_actor, beginning, first_step}
-use Rattle.std.proofs.Common.{◌≡◌, ◌≢◌, ℕ, zero, suc, ◌+◌, ◌-◌, ◌<◌, ◌≤◌, ◌==◌, Bool, true, false, refl, sym, ◌∙◌, ap, subst, arith, inl, inr, List, [], ◌∷◌, ◌++◌, length, take, set, get_or, if◌then◌else◌, Option, Some, None, is_some, IsSome, Ok, eq-eqb, ne_eqb, length-append}
+use Rattle.rd_journal.proofs.Prelude.{common_steps, take-suc, cases_Bool, cases_eq, cond-true, cond-false, map-append, take-map, length-take, length-take-le, get_or-set_same, get_or-set_other, SegName, Place, Content, after, World, Stepped, step, run, MOST_STEPS, Event, Entry, makes_segment, room_used, room_returned, took, with_actor-other, room_used_returned, Journal, events, world_before, start_of, IsRun, IsRunFrom, LeadsTo, IsSwitched, IsSession, room_returned_by, room_without, HasRoom, HasRoomForAll, state_of, switch, run_stays_actor, beginning, first_step}
+use Rattle.std.proofs.Common.{◌≡◌, ◌≢◌, ℕ, zero, suc, ◌+◌, ◌-◌, ◌<◌, ◌≤◌, ◌==◌, Bool, true, false, refl, sym, ◌∙◌, ap, subst, arith, inl, inr, List, [], ◌∷◌, ◌++◌, length, take, drop, set, get_or, if◌then◌else◌, Option, Some, None, is_some, IsSome, Ok, eq-eqb, ne_eqb, length-append}
 use Rattle.rd_step.specs.Touched.{made, made_at}
 use Rattle.rd_journal.proofs.Runs.{as_ok-same, run_joined, goes_back}
+use Rattle.rd_journal.proofs.Starting.{live_lead}
 
 -- Counting makings
 
@@ -84,39 +85,45 @@ room_for_all w xs ys room ran n h has = record { at = each }
         ]
 
 -- after the first n live steps these were made, and lead on from the start
-pub record IsExchanged (old new : Journal) (room : ℕ → ℕ) : Type 0 where
+pub record IsExchanged (n : ℕ) (given : List Entry) (old new : Journal) (room : ℕ → ℕ) : Type 0 where
   pub session : IsSession new room
-  pub start : start_of new ≡ start_of old
+  pub state : state_of new ≡ switch (state_of old) n (events given)
 
-pub exchanged : (n : ℕ) (old new : Journal) (given : List Entry) (w : World) (room : ℕ → ℕ) → n ≤ length old.live → n + length given ≤ MOST_STEPS
-    → LeadsTo (start_of old) w (take n old.live) → run w (events given) ≡ Ok (record { world = new.world; entries = given }) → IsSwitched n given old new
-    → IsExchanged old new room
-exchanged n old new given w room within few leads goes is =
+pub exchanged : (n : ℕ) (old new : Journal) (given again steps : List Entry) (w : World) (room : ℕ → ℕ) → IsRun old → n ≤ length old.live → n + length given ≤ MOST_STEPS
+    → steps ≡ old.live → ((start : World) → LeadsTo start old.world steps → LeadsTo start w (take n steps)) → again ≡ given
+    → run w (events again) ≡ Ok (record { world = new.world; entries = again }) → IsSwitched n given old new → IsExchanged n given old new room
+exchanged n old new given again steps w room runs within few all back_to same goes is =
     let s = start_of old in
-    let l = take n old.live ++ given in
-    let all : run s (events l) ≡ Ok (record { world = new.world; entries = l }) =
-    ap (run s) (map-append (λ (x : Entry). x.event) (take n old.live) given)
-    ∙ run_joined s (events (take n old.live)) (events given) (record { world = w; entries = take n old.live }) (record { world = new.world; entries = given }) leads.ran goes in
-    let whole : new ≡ record { world = new.world; live = l; undone = [] } = λ i. record { world = new.world; live = is.live i; undone = is.undone i } in
-    let back : world_before new.world l ≡ s = goes_back s new.world l leads.well_formed all in
+    let kept = take n old.live in
+    let l = kept ++ given in
+    let leads : LeadsTo s w kept = subst (λ (xs : List Entry). LeadsTo s w (take n xs)) all (back_to s (live_lead old steps runs all)) in
+    let ran : run w (events given) ≡ Ok (record { world = new.world; entries = given }) =
+    subst (λ (xs : List Entry). run w (events xs) ≡ Ok (record { world = new.world; entries = xs })) same goes in
+    let joined : run s (events l) ≡ Ok (record { world = new.world; entries = l }) =
+    ap (run s) (map-append (λ (x : Entry). x.event) kept given)
+    ∙ run_joined s (events kept) (events given) (record { world = w; entries = kept }) (record { world = new.world; entries = given }) leads.ran ran in
+    let back : world_before new.world l ≡ s = goes_back s new.world l leads.well_formed joined in
+    let start : start_of new ≡ s = ap (λ (xs : List Entry). world_before new.world xs) is.live ∙ back in
     record {
       session = grind (arith, length-append, length-take-le);
-      start = ap (λ (xs : List Entry). world_before new.world xs) is.live ∙ back;
+      state = grind (arith, map-append, take-map);
     }
 
--- there is room for what is given once the others are undone
-pub room_given : (given dropped : List Entry) (before after : ℕ → ℕ) → HasRoom given (room_without dropped before)
-    → ((m : ℕ) → before m + room_returned_by dropped m ≤ after m) → HasRoom given after
-room_given given dropped before after has more = record { at = λ m. omega (arith, has.at m, more m) }
-
--- redoing leaves the start
-pub forward_start : (n : ℕ) (s : State) → (times n forward_one s).start ≡ s.start
-forward_start zero s = refl
-forward_start (suc n) s = forward_start n s
-
-pub switched_state : (given : List Entry) (kept : ℕ) (old new : Journal) → start_of new ≡ start_of old → IsSwitched kept given old new
-    → state_of new ≡ switch (state_of old) kept (events given)
-switched_state given kept old new start is = grind (arith, map-append, take-map)
+-- the given entries may be made after the first n live ones
+pub may_exchange : (n : ℕ) (old : Journal) (given again steps : List Entry) (w : World) (before after : ℕ → ℕ) → IsRun old → steps ≡ old.live
+    → ((start : World) → LeadsTo start old.world steps → LeadsTo start w (take n steps)) → ((m : ℕ) → before m + room_returned_by (drop n steps) m ≤ after m)
+    → IsRunFrom (start_of old) (take n old.live ++ given) → HasRoomForAll old.world given (room_without (drop n old.live) before) → again ≡ given
+    → IsRunFrom w again × HasRoom again after
+may_exchange n old given again steps w before after runs all back_to gives run_on makings same =
+    let s = start_of old in
+    let kept = take n old.live in
+    let leads : LeadsTo s w kept = subst (λ (xs : List Entry). LeadsTo s w (take n xs)) all (back_to s (live_lead old steps runs all)) in
+    let has = room_for_all old.world old.live given (room_without (drop n old.live) before) runs.live_ran n run_on makings in
+    let gone = ap (λ (xs : List Entry). drop n xs) all in (
+      subst (λ (xs : List Entry). IsRunFrom w xs) (sym same) (runs_on s w kept given leads.ran run_on),
+      subst (λ (xs : List Entry). HasRoom xs after) (sym same)
+          (record { at = λ m. omega (arith, has.at m, gives m, ap (λ (xs : List Entry). room_returned_by xs m) gone) }),
+    )
 
 -- room that was made for one actor after the other
 pub room_for_one_more : (xs : List Entry) (number : ℕ) (before after : ℕ → ℕ) → ((n : ℕ) → n < number → room_returned_by xs (suc n) ≤ before (suc n))

@@ -1,6 +1,6 @@
 -- What a session keeps: its world and the entries of its steps, and the run that they are of.
-use Rattle.std.specs.Prelude.{◌≡◌, ℕ, zero, suc, List, [], ◌∷◌, length, ok_or, slice_get, Result, Ok, Err}
-use Rattle.rd_step.specs.Prelude.{Refusal, World, unstep, run, IsWellFormed}
+use Rattle.std.specs.Prelude.{◌≡◌, ℕ, List, [], ◌∷◌, length, Option, Some, None, ok_or, Result, Ok, Err}
+use Rattle.rd_step.specs.Prelude.{Refusal, World, unstep, numbered, run, IsWellFormed}
 pub use Rattle.rd_step.specs.Run.{events, run_entries, IsRunFrom}
 use Rattle.rd_step.specs.declared.entries.Entry.{Entry}
 use Rattle.rd_cell.specs.declared.refusal.Refusal.TheVariants as refusal
@@ -34,7 +34,11 @@ pub record IsRun (j : Journal) : Type 0 where
   pub live_ran : run (start_of j) (events j.live) ≡ Ok (record { world = j.world; entries = j.live })
   pub undone_run_on : IsRunFrom j.world j.undone
 
--- the entry of the live step of this number, from 1
+-- the entry of the live step of this number, from 1; refused if there is none
 abbrev pub entry_of : Journal → ℕ → Result Entry Refusal
-entry_of j zero = Err (refusal.NoSuchStep (length j.live))
-entry_of j (suc k) = ok_or (slice_get j.live k) (refusal.NoSuchStep (length j.live))
+entry_of j k = ok_or (numbered j.live k) (refusal.NoSuchStep (length j.live))
+
+-- the answer to undoing a step alone: done, or `Depended` with the first step that depends on it
+abbrev pub answer_unless : Option ℕ → Result Unit Refusal
+answer_unless None = Ok tt
+answer_unless (Some j) = Err (refusal.Depended j)

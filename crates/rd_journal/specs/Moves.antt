@@ -1,10 +1,10 @@
 -- How a call changes the entries of a journal.
-use Rattle.std.specs.Prelude.{◌≡◌, ℕ, zero, suc, ◌-◌, nat_lt, if◌then◌else◌, List, [], ◌∷◌, ◌++◌, length, take, drop, Option, Some, None, Result, Ok, Err}
-use Rattle.rd_step.specs.Prelude.{Refusal, step, first_dependant, without, unmarked, closure, closure_of, without_closure, run}
+use Rattle.std.specs.Prelude.{◌≡◌, ℕ, ◌-◌, List, [], ◌∷◌, ◌++◌, length, take, drop, Result, Ok}
+use Rattle.rd_step.specs.Prelude.{Refusal, step, first_dependant, without, unmarked, closure, closure_of, without_closure, run, and_then, result_map}
 use Rattle.rd_step.specs.declared.entries.Event.{Event}
 use Rattle.rd_step.specs.declared.entries.Entry.{Entry}
-use Rattle.rd_journal.specs.Journal.{Journal, start_of, events}
-use Rattle.rd_cell.specs.declared.refusal.Refusal.TheVariants as refusal
+use Rattle.rd_journal.specs.Journal.{Journal, start_of, events, entry_of, answer_unless}
+use Rattle.rd_journal.specs.Numbers.{only}
 
 -- the journal got one more live entry, the last, and none is undone
 pub record IsLengthened (x : Entry) (old new : Journal) : Type 0 where
@@ -37,23 +37,17 @@ IsBeforeLast n old new =
 -- the k-th live entry became the front of the undone ones, all others are as they were, and no
 -- entry changed
 pub record IsUndoneAlone (k : ℕ) (old new : Journal) : Type 0 where
-  pub live : new.live ≡ take (k - 1) old.live ++ drop k old.live
-  pub undone : new.undone ≡ take 1 (drop (k - 1) old.live) ++ old.undone
+  pub live : new.live ≡ without old.live k
+  pub undone : new.undone ≡ only old.live k ++ old.undone
 
 -- world and live entries are those of the run of the live events without the k-th
 abbrev pub IsRunWithout : ℕ → Journal → Journal → Type 0
 IsRunWithout k old new = run (start_of old) (without (events old.live) k) ≡ Ok (record { world = new.world; entries = new.live })
 
--- the answer to undoing a step alone: done, or `Depended` with the first step that depends on it
-abbrev pub answer_unless : Option ℕ → Result Unit Refusal
-answer_unless None = Ok tt
-answer_unless (Some j) = Err (refusal.Depended j)
-
 -- the answer to undoing the k-th live step alone: `NoSuchStep` if there is no such step, `Depended`
 -- with the first live step that depends on it if there is one, else done
 abbrev pub answer_at : Journal → ℕ → Result Unit Refusal
-answer_at j zero = Err (refusal.NoSuchStep (length j.live))
-answer_at j (suc i) = if nat_lt i (length j.live) then answer_unless (first_dependant j.live (suc i)) else Err (refusal.NoSuchStep (length j.live))
+answer_at j k = and_then (entry_of j k) (λ _. answer_unless (first_dependant j.live k))
 
 -- the first n live entries stayed, the given ones are after them now, and none is undone
 pub record IsSwitched (n : ℕ) (given : List Entry) (old new : Journal) : Type 0 where
@@ -73,5 +67,4 @@ IsWithoutClosure k old new =
 
 -- the answer to rolling back the k-th live step: `NoSuchStep` if there is no such step, else done
 abbrev pub roll_answer : Journal → ℕ → Result Unit Refusal
-roll_answer j zero = Err (refusal.NoSuchStep (length j.live))
-roll_answer j (suc i) = if nat_lt i (length j.live) then Ok tt else Err (refusal.NoSuchStep (length j.live))
+roll_answer j k = result_map (λ _. tt) (entry_of j k)

@@ -1,11 +1,11 @@
 -- What a session is to its callers: a start world, the live events and the undone events. It has no
 -- entry, no old word and no position in a run, and its definitions use only the run of a list.
-use Rattle.std.specs.Prelude.{◌≡◌, ◌⊎◌, ℕ, zero, suc, Bool, ◌-◌, ◌<◌, ◌==◌, nat_lt, if◌then◌else◌, List, [], ◌∷◌, ◌++◌, length, take, drop, Option, Some, None, option_and_then, Result, Ok, Err, IsOk}
+use Rattle.std.specs.Prelude.{◌≡◌, ◌⊎◌, ℕ, Bool, ◌-◌, ◌<◌, ◌==◌, nat_lt, if◌then◌else◌, List, [], ◌∷◌, ◌++◌, length, take, drop, Option, option_and_then, ok_or, Result, Ok, Err, IsOk}
 use Rattle.std.specs.List.{items_where_true}
 use Rattle.std.specs.Result.{result_ok}
-use Rattle.rd_step.specs.Prelude.{Refusal, OpReply, World, Stepped, step, Ran, run, first_dependant, without, closure, unmarked, MOST_STEPS, and_then, result_map}
+use Rattle.rd_step.specs.Prelude.{Refusal, OpReply, World, Stepped, step, Ran, run, first_dependant, numbered, without, closure, unmarked, MOST_STEPS, and_then, result_map}
 use Rattle.rd_step.specs.declared.entries.Event.{Event}
-use Rattle.rd_journal.specs.Journal.{Journal, start_of, events}
+use Rattle.rd_journal.specs.Journal.{Journal, start_of, events, answer_unless}
 use Rattle.rd_cell.specs.declared.refusal.Refusal.TheVariants as refusal
 
 -- the start, the live events in their order, and the undone events, the one undone last in front
@@ -46,56 +46,44 @@ pub record MayLackMemory (s : State) (e : Event) : Type 0 where
   pub not_full : length s.live < MOST_STEPS
   pub asked : (s.undone ≡ []) ⊎ IsOk (apply s e)
 
--- the state where the last of live became the front of undone, if there was one
-abbrev pub back_one : State → State
-back_one s = record {
-  start = s.start;
-  live = take (length s.live - 1) s.live;
-  undone = drop (length s.live - 1) s.live ++ s.undone;
-}
-
--- the state where the front of undone became the last of live, if there was one
-abbrev pub forward_one : State → State
-forward_one s = record { start = s.start; live = s.live ++ take 1 s.undone; undone = drop 1 s.undone }
-
--- the state after a change was made this many times
-abbrev pub times : ℕ → (State → State) → State → State
-times zero f s = s
-times (suc n) f s = f (times n f s)
+-- the state after undoing the last n live steps; refused if fewer are live
+abbrev pub back : State → ℕ → Result State Refusal
+back s n =
+    if nat_lt (length s.live) n
+    then Err (refusal.NothingToUndo (length s.live))
+    else Ok (record {
+      start = s.start;
+      live = take (length s.live - n) s.live;
+      undone = drop (length s.live - n) s.live ++ s.undone;
+    })
 
 -- the state after undoing the last live step; refused if there is none
 abbrev pub undo : State → Result State Refusal
-undo s = if length s.live == 0 then Err (refusal.NothingToUndo 0) else Ok (back_one s)
+undo s = back s 1
 
--- the state after n undos of the last live step; refused if fewer are live
-abbrev pub back : State → ℕ → Result State Refusal
-back s n = if nat_lt (length s.live) n then Err (refusal.NothingToUndo (length s.live)) else Ok (times n back_one s)
+-- the state after redoing the n steps that were undone last; refused if fewer are undone
+abbrev pub forward : State → ℕ → Result State Refusal
+forward s n =
+    if nat_lt (length s.undone) n
+    then Err refusal.NothingToRedo
+    else Ok (record { start = s.start; live = s.live ++ take n s.undone; undone = drop n s.undone })
 
 -- the state after redoing the step that was undone last; refused if there is none
 abbrev pub redo : State → Result State Refusal
-redo s = if length s.undone == 0 then Err refusal.NothingToRedo else Ok (forward_one s)
+redo s = forward s 1
 
--- the state after n redos; refused if fewer steps are undone
-abbrev pub forward : State → ℕ → Result State Refusal
-forward s n = if nat_lt (length s.undone) n then Err refusal.NothingToRedo else Ok (times n forward_one s)
+-- the live event of this number, from 1; refused if there is none
+abbrev pub live_event : State → ℕ → Result Event Refusal
+live_event s k = ok_or (numbered s.live k) (refusal.NoSuchStep (length s.live))
 
--- the state where the k-th of live became the front of undone, and all others stay in their order
-abbrev pub undone_alone : State → ℕ → State
-undone_alone s k = record { start = s.start; live = without s.live k; undone = take 1 (drop (k - 1) s.live) ++ s.undone }
-
--- the state without the k-th live step, if no later one depends on it
-abbrev pub undone_alone_unless : State → ℕ → Option ℕ → Result State Refusal
-undone_alone_unless s k (Some j) = Err (refusal.Depended j)
-undone_alone_unless s k None = Ok (undone_alone s k)
-
--- the state after undoing the k-th live step alone: refused if there is none, and with the number
--- of the first live step that depends on it, if there is one
+-- the state after undoing the k-th live step alone, which becomes the front of undone: refused if
+-- there is none, and with the number of the first live step that depends on it, if there is one
 abbrev pub undo_at : State → ℕ → Result State Refusal
-undo_at s zero = Err (refusal.NoSuchStep (length s.live))
-undo_at s (suc i) =
-    if nat_lt i (length s.live)
-    then and_then (run_of s) (λ ran. undone_alone_unless s (suc i) (first_dependant ran.entries (suc i)))
-    else Err (refusal.NoSuchStep (length s.live))
+undo_at s k =
+    and_then (live_event s k) (λ e.
+    and_then (run_of s) (λ ran.
+    and_then (answer_unless (first_dependant ran.entries k)) (λ _.
+    Ok (record { start = s.start; live = without s.live k; undone = e ∷ s.undone }))))
 
 -- the state where the marked live events became the front of undone, in their order, and all others
 -- stay in their order
@@ -105,11 +93,7 @@ undone_marked s marks = record { start = s.start; live = unmarked marks s.live; 
 -- the state after rolling back the k-th live step: it and just the later ones that depend on it,
 -- directly or through others, became the front of undone; refused if there is none
 abbrev pub roll : State → ℕ → Result State Refusal
-roll s zero = Err (refusal.NoSuchStep (length s.live))
-roll s (suc i) =
-    if nat_lt i (length s.live)
-    then result_map (λ ran. undone_marked s (closure ran.entries (suc i))) (run_of s)
-    else Err (refusal.NoSuchStep (length s.live))
+roll s k = and_then (live_event s k) (λ _. result_map (λ ran. undone_marked s (closure ran.entries k)) (run_of s))
 
 -- the state whose live events are the first n from before and then these, with nothing undone
 abbrev pub switch : State → ℕ → List Event → State

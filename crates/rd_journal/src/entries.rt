@@ -8,13 +8,13 @@
 //! leaves the middle first has its number moved after those of the other live ones. So the room
 //! that an undo needs was made by the step that it undoes.
 
-#![tactic(auto, unfolding(crate::specs::Entries::all_entries))]
+#![tactic(auto, using(crate::proofs::EntryLemmas::lengths), unfolding(crate::specs::Entries::all_entries))]
 
 ghost use Rattle.std.specs.Prelude.{◌≡◌, ◌++◌, ◌+◌, ◌-◌, ◌<◌, ◌≤◌, ◌∷◌, [], length, get_or, take, drop, vec_capacity, OnOk, OnErr};
-ghost use Rattle.rd_step.specs.Prelude.{closure_of, without_closure, MOST_STEPS};
+ghost use Rattle.rd_step.specs.Prelude.{without, closure_of, without_closure, MOST_STEPS};
 ghost use Rattle.rd_depend.specs.Index.{IsIndexOf, HasRoomFor};
 ghost use Rattle.rd_depend.specs.Moved.{moved_to};
-ghost use Rattle.rd_journal.specs.Numbers.{IsOrder};
+ghost use Rattle.rd_journal.specs.Numbers.{only, IsOrder};
 
 mod gathering;
 mod slots;
@@ -23,7 +23,7 @@ use super::live_entries::{LiveEntries, entry_at};
 use gathering::gather;
 use rd_depend::DependIndex;
 use rd_step::Entry;
-use slots::{make_room_in, move_behind, put_at};
+use slots::{make_room_in, move_after, put_at};
 use std::alloc::{AllocError, Global};
 
 /// The entries of the live steps, in their order, and those of the steps ahead of them, the next
@@ -165,12 +165,12 @@ impl Entries {
     pub(crate) fn undo_alone(&mut self, k: usize)
         requires some { 1 ≤ k }
         requires position { k ≤ length (live_entries self.old) }
-        ensures live { live_entries self.new ≡ take (k - 1) (live_entries self.old) ++ drop k (live_entries self.old) }
-        ensures ahead { ahead_entries self.new ≡ take 1 (drop (k - 1) (live_entries self.old)) ++ ahead_entries self.old }
+        ensures live { live_entries self.new ≡ without (live_entries self.old) k }
+        ensures ahead { ahead_entries self.new ≡ only (live_entries self.old) k ++ ahead_entries self.old }
         ensures kept { kept_entries self.new ≡ moved_to (kept_entries self.old) k (length (live_entries self.old)) }
         ensures capacity { entries_capacity self.new ≡ entries_capacity self.old }
     {
-        move_behind(&mut self.order, k, self.live);
+        move_after(&mut self.order, k, self.live);
         self.live -= 1;
         self.ahead += 1;
     }

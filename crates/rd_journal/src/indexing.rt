@@ -59,12 +59,12 @@ pub(crate) fn cut_index(index: &mut DependIndex, entries: &Entries, n: usize)
     if entries.kept_len() - n > MOST_SINGLE_REMOVALS {
         index.truncate(n as u64);
     } else {
-        pop_behind(index, entries, n);
+        pop_after(index, entries, n);
     }
 }
 
 /// Takes the positions after the first `n` out of the index, one by one.
-fn pop_behind(index: &mut DependIndex, entries: &Entries, n: usize)
+fn pop_after(index: &mut DependIndex, entries: &Entries, n: usize)
     requires indexed { IsIndexOf index.old (kept_entries entries.now) }
     requires within { n ≤ length (kept_entries entries.now) }
     ensures left { IsIndexOf index.new (take n (kept_entries entries.now)) }

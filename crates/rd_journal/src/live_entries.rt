@@ -1,5 +1,7 @@
 //! Entries of the live steps, or of those ahead of them, lent to be read.
 
+#![tactic(auto, using(crate::proofs::Numbers::parts))]
+
 ghost use Rattle.std.specs.Prelude.{◌≡◌, ◌<◌, ◌≤◌, List, None, Some, length, drop, slice_get, slice_index_or, MatchOption};
 ghost use Rattle.std.specs.List.{All};
 ghost use Rattle.rd_journal.specs.Numbers.{at_numbers};
@@ -68,7 +70,7 @@ impl<'a> LiveEntries<'a> {
         requires { n ≤ length self.now }
         ensures { result ≡ drop n self.now }
     {
-        LiveEntries::new(self.slots, numbers_behind(self.numbers, n))
+        LiveEntries::new(self.slots, numbers_after(self.numbers, n))
     }
 }
 
@@ -82,7 +84,7 @@ pub(crate) fn entry_at<'a>(slots: &'a [Entry], numbers: &[u32], position: usize)
 }
 
 /// Returns the numbers of slots after the first `n`.
-fn numbers_behind(numbers: &[u32], n: usize) -> &[u32]
+fn numbers_after(numbers: &[u32], n: usize) -> &[u32]
     requires { n ≤ length numbers.now }
     ensures { result.now ≡ drop n numbers.now }
 {

@@ -1,6 +1,8 @@
 -- Where the session's track lies among the bookmarks' entries, and what each call leaves of that.
-use Rattle.std.proofs.Common.{◌≡◌, ℕ, zero, suc, ◌-◌, ◌≤◌, Bool, nat_lt, if◌then◌else◌, refl, ap, List, [], ◌∷◌, ◌++◌, length, take, drop, Result, Ok, Err, arith}
+use Rattle.std.proofs.Common.{◌≡◌, ℕ, zero, suc, ◌-◌, ◌≤◌, refl, ap, List, [], ◌∷◌, ◌++◌, length, take, drop, Ok, arith}
 use Rattle.rd_marks.proofs.Prelude.{take-append_seam, take-length, take-map, take-take, take-append-le, length-map, length-take, closure, unmarked, Event, Entry, IsPrefix, Session, Journal, ahead_entries, state, track, State, undo_at, roll, Place, Stretch, stretch_list, entries_at, IsWithin, IsAlong, events}
+use Rattle.rd_journal.specs.State.{live_event}
+use Rattle.rd_journal.proofs.Calls.{is_live, went_through}
 use Rattle.rd_journal.specs.Moves.{IsLengthened, IsUndoneAlone, IsRolledBack}
 use Rattle.rd_marks.proofs.Starting.{begins_events, begins_shorter, begins_trans, events_length, events_of_first, fewer_begin, entries_length}
 
@@ -28,15 +30,11 @@ added_leaves n x old new all more = grind (arith, take-append_seam, take-length)
 
 -- What was undone by its number was there
 
-within_by : {X Y : Type 0} (b : Bool) (i l : ℕ) (r : Result X Y) (e : Y) (x : X) → nat_lt i l ≡ b → (if b then r else Err e) ≡ Ok x → suc i ≤ l
-within_by b i l r e x below h = grind arith
-
 pub undone_within : (s : State) (k : ℕ) (t : State) → undo_at s k ≡ Ok t → k ≤ length s.live
-undone_within s zero t h = omega arith
-undone_within s (suc i) t h = within_by (nat_lt i (length s.live)) i (length s.live) _ _ t refl h
+undone_within s k t h = let live = went_through (live_event s k) _ t h in (is_live s k live.0 live.1).1
 
 pub rolled_within : (s : State) (k : ℕ) (t : State) → roll s k ≡ Ok t → k ≤ length s.live
-rolled_within s k t l = grind arith
+rolled_within s k t h = let live = went_through (live_event s k) _ t h in (is_live s k live.0 live.1).1
 
 module _ (here there : List Entry) (begins : IsPrefix there here) where
   -- what begins it begins the same track

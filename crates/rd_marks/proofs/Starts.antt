@@ -1,37 +1,17 @@
 -- No call of a session moves its start, so the marks of a book stay runs from there.
-use Rattle.std.proofs.Common.{◌≡◌, ℕ, zero, suc, ◌==◌, nat_lt, Bool, if◌then◌else◌, refl, sym, ap, ◌∙◌, List, [], length, Result, Ok, Err, OnOk, OnErr, arith}
+use Rattle.std.proofs.Common.{◌≡◌, ℕ, ap, List, [], Result, Ok, Err, OnOk, OnErr, arith}
+pub use Rattle.rd_journal.proofs.Calls.{back_start, forward_start}
 use Rattle.rd_journal.specs.Sessions.{AnswersAs}
-use Rattle.rd_marks.proofs.Prelude.{Refusal, World, Event, Entry, Session, state, Journal, start_of, State, state_of, apply, back_one, forward_one, times, undo, back, redo, forward, undo_at, roll, MarkName, AreRuns}
-
-of_ok : (s t : State) (r : Result State Refusal) → r ≡ Ok s → r ≡ Ok t → t.start ≡ s.start
-of_ok s t r k h = let e : s ≡ t = cc in ap (λ (u : State). u.start) (sym e)
-
--- a call that is refused in one case starts where it starts in the other
-unless_start : (s t : State) (b : Bool) (e : Refusal) (r : Result State Refusal) → (r ≡ Ok t → t.start ≡ s.start) → (if b then Err e else r) ≡ Ok t → t.start ≡ s.start
-unless_start s t b e r f h = grind arith
+use Rattle.rd_marks.proofs.Prelude.{Refusal, World, Event, Entry, Session, state, Journal, start_of, State, state_of, apply, undo, redo, undo_at, roll, MarkName, AreRuns}
 
 pub apply_start : (s : State) (e : Event) (t : State) → apply s e ≡ Ok t → t.start ≡ s.start
 apply_start s e t h = grind arith
 
-times_back_start : (n : ℕ) (s : State) → (times n back_one s).start ≡ s.start
-times_back_start zero s = refl
-times_back_start (suc n) s = times_back_start n s
-
-times_forward_start : (n : ℕ) (s : State) → (times n forward_one s).start ≡ s.start
-times_forward_start zero s = refl
-times_forward_start (suc n) s = times_forward_start n s
-
-pub back_start : (s : State) (n : ℕ) (t : State) → back s n ≡ Ok t → t.start ≡ s.start
-back_start s n t h = unless_start s t (nat_lt (length s.live) n) _ _ (λ k. of_ok (times n back_one s) t _ refl k ∙ times_back_start n s) h
-
-pub forward_start : (s : State) (n : ℕ) (t : State) → forward s n ≡ Ok t → t.start ≡ s.start
-forward_start s n t h = unless_start s t (nat_lt (length s.undone) n) _ _ (λ k. of_ok (times n forward_one s) t _ refl k ∙ times_forward_start n s) h
-
 pub undo_start : (s t : State) → undo s ≡ Ok t → t.start ≡ s.start
-undo_start s t h = unless_start s t (length s.live == 0) _ _ (of_ok (back_one s) t _ refl) h
+undo_start s t h = back_start s 1 t h
 
 pub redo_start : (s t : State) → redo s ≡ Ok t → t.start ≡ s.start
-redo_start s t h = unless_start s t (length s.undone == 0) _ _ (of_ok (forward_one s) t _ refl) h
+redo_start s t h = forward_start s 1 t h
 
 pub undo_at_start : (s : State) (k : ℕ) (t : State) → undo_at s k ≡ Ok t → t.start ≡ s.start
 undo_at_start s k t l = grind arith

@@ -1,9 +1,8 @@
 -- Steps that are made again: what goes through, and what is refused.
-use Rattle.rd_trace.proofs.Prelude.{common_steps, AllByRecursion, cond-false, IsDistinct-head, IsDistinct-tail, take-append_seam, drop-append_seam, append-nil, length-map, map-append, map_more, get_or-map, take_more, take_all, drop_all, take-take, take-append-drop, drop-append-le, length-take-le, length-drop, World, Refusal, Stepped, step, Ran, run, MOST_STEPS, preceded_by, and_then, result_map, Entry, Event, State, step_after, with_event, apply, back_one, times, back, MarkName, MOST_MARKS, bytes_of, mark_name_eq, Mark, BookState, with_session, with_marks, marked_events, mark, GoThrough, MarksGoThrough, HaveDifferentNames, SavedMark, LoadTraceFault, saved_mark, start_world, start_flaw, Trace, loaded_state, session_at, IsRefusedAt, IsMarkRefusedAt, HasMarks, IsPlayable, Replays, IsAt, RefusesOne, GoesTo, MakesLive, SetsMarks, IsFaultOfStep, IsFaultOfMark}
-use Rattle.std.proofs.Common.{◌≡◌, ◌≢◌, ◌⊎◌, inl, inr, ℕ, zero, suc, ◌+◌, ◌-◌, ◌<◌, ◌≤◌, ◌==◌, if◌then◌else◌, Bool, false, List, [], ◌∷◌, ◌++◌, length, take, drop, get_or, map, Some, None, is_some, Result, Ok, Err, IsOk, refl, sym, ap, ap₂, ◌∙◌, subst, arith, append_assoc, length-append, ne_eqb, eq-eqb}
+use Rattle.rd_trace.proofs.Prelude.{common_steps, AllByRecursion, cond-false, IsDistinct-head, IsDistinct-tail, take-append_seam, drop-append_seam, append-nil, length-map, map-append, map_more, get_or-map, take_more, take_all, drop_all, take-take, take-append-drop, drop-append-le, length-take-le, length-drop, World, Refusal, Stepped, step, Ran, run, MOST_STEPS, preceded_by, and_then, result_map, Entry, Event, State, step_after, with_event, apply, back, MarkName, MOST_MARKS, bytes_of, mark_name_eq, Mark, BookState, with_session, with_marks, marked_events, mark, GoThrough, MarksGoThrough, HaveDifferentNames, SavedMark, LoadTraceFault, saved_mark, start_world, start_flaw, Trace, loaded_state, session_at, IsRefusedAt, IsMarkRefusedAt, HasMarks, IsPlayable, Replays, IsAt, RefusesOne, GoesTo, MakesLive, SetsMarks, IsFaultOfStep, IsFaultOfMark}
+use Rattle.std.proofs.Common.{le-ltb, ◌≡◌, ◌≢◌, ◌⊎◌, inl, inr, ℕ, zero, suc, ◌+◌, ◌-◌, ◌<◌, ◌≤◌, ◌==◌, if◌then◌else◌, Bool, false, List, [], ◌∷◌, ◌++◌, length, take, drop, get_or, map, Some, None, is_some, Result, Ok, Err, IsOk, refl, sym, ap, ap₂, ◌∙◌, subst, arith, append_assoc, length-append, ne_eqb, eq-eqb}
 use Rattle.std.proofs.lemmas.Cmp.{nat_list_eq_equiv}
 use Rattle.rd_step.specs.Run.{events}
-use Rattle.rd_journal.proofs.Calls.{back_goes}
 use Rattle.rd_marks.specs.declared.replies.Reply.{Reply}
 use Rattle.rd_marks.specs.Books.{at_events}
 use Rattle.rd_marks.specs.Commands.{Answered, answer_with, Happened}
@@ -120,28 +119,8 @@ not_happened b after e cause (inr h) = inr (cc (ap (λ (a : Answered). a.answer)
 
 -- Going back
 
-goes_back : (s : State) (n : ℕ) → n ≤ length s.live → back s n ≡ Ok (times n back_one s)
-goes_back s n within = back_goes s (times n back_one s) n within refl
-
--- this many times back, k events are still live
-back_parts : (n k : ℕ) (s : State) → n + k ≡ length s.live → times n back_one s ≡ record { start = s.start; live = take k s.live; undone = drop k s.live ++ s.undone }
-back_parts zero k s h = grind (arith, same_state, take_all, drop_all)
-back_parts (suc n) k s h =
-    let xs = s.live in
-    let front = take (suc k) xs in
-    let rest = drop (suc k) xs in
-    let before : State = record { start = s.start; live = front; undone = rest ++ s.undone } in
-    let longer : length front ≡ suc k = length-take-le (suc k) xs (omega arith) in
-    let shorter : length front - 1 ≡ k = omega arith in
-    let left : take (length front - 1) front ≡ take k xs = ap (λ (m : ℕ). take m front) shorter ∙ take-take k (suc k) xs (omega arith) in
-    let whole : drop k front ++ rest ≡ drop k xs = sym (drop-append-le k front rest (omega arith)) ∙ ap (λ (es : List Event). drop k es) (take-append-drop (suc k) xs) in
-    ap back_one (back_parts n (suc k) s (omega arith))
-    ∙ same_state (back_one before) (record { start = s.start; live = take k xs; undone = drop k xs ++ s.undone }) refl left
-    (ap (λ (m : ℕ). drop m front ++ (rest ++ s.undone)) shorter ∙ sym (append_assoc (drop k front) rest s.undone)
-    ∙ ap (λ (es : List Event). es ++ s.undone) whole)
-
 back_left : (n k : ℕ) (s t : State) → n + k ≡ length s.live → back s n ≡ Ok t → t ≡ record { start = s.start; live = take k s.live; undone = drop k s.live ++ s.undone }
-back_left n k s t h goes = grind (arith, goes_back, back_parts)
+back_left n k s t h goes = grind (arith, le-ltb, cond-false)
 
 -- Which live events a list begins with
 

@@ -48,7 +48,7 @@ pub(crate) fn make_room_in<T>(items: &mut Vec<T>, needed: usize) -> Result<(), A
 }
 
 /// Moves the `k`-th of the first `live` numbers after the others of them, which keep their order.
-pub(crate) fn move_behind(order: &mut Vec<u32>, k: usize, live: usize)
+pub(crate) fn move_after(order: &mut Vec<u32>, k: usize, live: usize)
     requires some { 1 ≤ k }
     requires position { k ≤ live }
     requires within { live ≤ length order.old.items }

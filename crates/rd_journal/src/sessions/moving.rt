@@ -1,11 +1,11 @@
 //! Undoing the last live steps and redoing those that were undone last.
 
-ghost use Rattle.std.specs.Prelude.{◌≡◌, ◌≤◌, length};
+ghost use Rattle.std.specs.Prelude.{◌≡◌, ◌≤◌, length, Ok};
 ghost use Rattle.rd_journal.specs.Moves.{IsMovedBack, IsMovedForward};
-ghost use Rattle.rd_journal.specs.State.{back_one, forward_one, times};
+ghost use Rattle.rd_journal.specs.State.{back, forward};
 
 use super::Session;
-use super::starting::{step_all, undo_behind};
+use super::starting::{step_all, undo_after};
 
 impl<const R: usize> Session<R> {
     ghost use Rattle.rd_journal.specs.Sessions.{journal, state, GoesAlong};
@@ -14,11 +14,11 @@ impl<const R: usize> Session<R> {
     pub(super) fn undo_many(&mut self, n: u64)
         requires enough { n ≤ length (journal self.old).live }
         ensures entries { IsMovedBack n (journal self.old) (journal self.new) }
-        ensures state { state self.new ≡ times n back_one (state self.old) }
+        ensures state { back (state self.old) n ≡ Ok (state self.new) }
         ensures along { GoesAlong self.old self.new }
     {
         let left = self.entries.live_len() - n as usize;
-        undo_behind(&mut self.world, &self.entries.live(), left);
+        undo_after(&mut self.world, &self.entries.live(), left);
         self.entries.step_back(n as usize);
         self.undone += n as usize;
     }
@@ -29,7 +29,7 @@ impl<const R: usize> Session<R> {
     pub(super) fn redo_many(&mut self, n: u64)
         requires enough { n ≤ length (journal self.old).undone }
         ensures entries { IsMovedForward n (journal self.old) (journal self.new) }
-        ensures state { state self.new ≡ times n forward_one (state self.old) }
+        ensures state { forward (state self.old) n ≡ Ok (state self.new) }
         ensures along { GoesAlong self.old self.new }
     {
         step_all(&mut self.world, &self.entries.ahead(n as usize));

@@ -10,7 +10,7 @@ ghost use Rattle.rd_journal.specs.Laws.{IsStepAfter};
 
 use super::super::live_entries::LiveEntries;
 use super::Session;
-use super::starting::undo_behind;
+use super::starting::undo_after;
 use rd_cell::{Place, Refusal};
 use rd_depend::Probes;
 use rd_step::{Entry, Event, World};
@@ -113,7 +113,7 @@ impl<const R: usize> Session<R> {
         ensures err { IfErr result (λ refusal. refusal ≡ Refusal.NoMemory) }
     {
         let mut world = self.world.copy(alloc)?;
-        undo_behind(&mut world, &self.live(), 0);
+        undo_after(&mut world, &self.live(), 0);
         Ok(world)
     }
 
@@ -121,6 +121,7 @@ impl<const R: usize> Session<R> {
     pub fn world(&self) -> &World<R>
         ensures value { model result.now ≡ (journal self.now).world }
         ensures run { run_of (state self.now) ≡ Ok (record { world = model result.now; entries = (journal self.now).live }) }
+        ensures ring { (state self.now).start.ring ≡ R }
         ensures runs { IsRun (journal self.now) }
         ensures few { length (journal self.now).live + length (journal self.now).undone ≤ MOST_STEPS }
     {

@@ -5,14 +5,13 @@ ghost use Rattle.std.specs.Prelude.{◌≡◌, ◌≤◌, length, None};
 ghost use Rattle.rd_step.specs.Prelude.{first_dependant};
 ghost use Rattle.rd_journal.specs.Journal.{start_of};
 ghost use Rattle.rd_journal.specs.Moves.{IsUndoneAlone, IsRolledBack};
-ghost use Rattle.rd_journal.specs.State.{undone_alone};
 
 use super::super::indexing::{cut_index, fill_index};
 use super::Session;
 use rd_inverse::unstep;
 
 impl<const R: usize> Session<R> {
-    ghost use Rattle.rd_journal.specs.Sessions.{journal, state, capacity};
+    ghost use Rattle.rd_journal.specs.Sessions.{journal, capacity};
 
     /// Undoes the `k`-th live step alone, on which no later one depends: its old words are put
     /// back.
@@ -21,7 +20,7 @@ impl<const R: usize> Session<R> {
         requires position { k ≤ length (journal self.old).live }
         requires free { first_dependant (journal self.old).live k ≡ None }
         ensures entries { IsUndoneAlone k (journal self.old) (journal self.new) }
-        ensures state { state self.new ≡ undone_alone (state self.old) k }
+        ensures start { start_of (journal self.new) ≡ start_of (journal self.old) }
         ensures capacity { capacity self.new ≡ capacity self.old }
     {
         unstep(&mut self.world, self.entries.live_at(k as usize - 1));

@@ -13,7 +13,7 @@ use rd_step::World;
 
 /// Undoes all steps that led to the world except the first `n`, the last one first. It gives the
 /// room of their makings back, and takes no memory.
-pub(super) fn undo_behind<const R: usize>(world: &mut World<R>, steps: &LiveEntries, n: usize)
+pub(super) fn undo_after<const R: usize>(world: &mut World<R>, steps: &LiveEntries, n: usize)
     requires within { n ≤ length steps.now }
     requires leads { (start : Model) × LeadsTo start (model world.old) steps.now }
     ensures leads { (start : Model) → LeadsTo start (model world.old) steps.now → LeadsTo start (model world.new) (take n steps.now) }

@@ -12,7 +12,7 @@ ghost use Rattle.rd_journal.specs.State.{switch};
 use super::super::indexing::index_instead;
 use super::super::live_entries::LiveEntries;
 use super::Session;
-use super::starting::{step_all, undo_behind};
+use super::starting::{step_all, undo_after};
 use rd_cell::Refusal;
 use rd_cell::limits::MOST_STEPS;
 use rd_step::{Entry, World};
@@ -70,7 +70,7 @@ impl<const R: usize> Session<R> {
         ensures capacity { capacity self.new ≡ capacity self.old }
     {
         index_instead(&mut self.index, &self.entries, n, given)?;
-        undo_behind(&mut self.world, &self.entries.live(), n);
+        undo_after(&mut self.world, &self.entries.live(), n);
         self.entries.exchange(n, given);
         step_all(&mut self.world, &self.entries.live().behind(n));
         self.undone = 0;

@@ -3,15 +3,6 @@ use Rattle.rd_journal.proofs.Prelude.{at_numbers, all_entries}
 use Rattle.rd_journal.proofs.EntryLemmas.{all-length, live-length, none_ahead, put_last}
 use Rattle.rd_journal.proofs.entries.Entries.push.Goals as goal
 
-pub put_at-requires-clause-few : goal.put_at-requires-clause-few
-put_at-requires-clause-few c = omega (arith, live-length c.args.self.now, c.requires.few)
-
-pub put_at-requires-clause-slot : goal.put_at-requires-clause-slot
-put_at-requires-clause-slot c = omega (arith, live-length c.args.self.now, c.requires.room)
-
-pub put_at-requires-clause-number : goal.put_at-requires-clause-number
-put_at-requires-clause-number c = omega (arith, live-length c.args.self.now, c.requires.room)
-
 pub invariant_of-self : goal.invariant_of-self
 invariant_of-self c = grind (arith, none_ahead, live-length)
 

@@ -3,6 +3,7 @@ use Rattle.std.proofs.Common.{◌≡◌, ◌∙◌, ◌+◌, ◌-◌, ◌<◌, �
 use Rattle.rd_journal.proofs.GatheringLoop.{live_of, live-length, UnderWay, next_one, first_gathered, before_next, joined, stayed, ended, carried}
 use Rattle.rd_journal.proofs.IndexRoom.{fits_one, fits_between}
 use Rattle.rd_journal.proofs.ListLemmas.{overwritten}
+use Rattle.rd_journal.proofs.Numbers.{order_below}
 use Rattle.rd_journal.proofs.entries.gathering.gather.Goals as goal
 use Rattle.rd_journal.proofs.entries.gathering.gather.Goals.{then-depends_after, else-depends_after}
 
@@ -16,10 +17,7 @@ written : (n f live : ℕ) (now dm copied gathered : List ℕ) → n ≡ length 
 written n f live now dm copied gathered len same its number within = grind (arith, drop-drop, length-append, length-take-le, length-drop, overwritten)
 
 pub entry_in-step-requires : goal.entry_in-step-requires
-entry_in-step-requires c =
-    let ns = c.args.order.now.items in
-    (next_one c.args.slots.now ns ns c.args.live (c.args.k - 1) c.index-first.result.now c.requires.ordered c.requires.within (omega (arith, c.requires.some, c.requires.position)) refl refl
-    c.index-first.ensures).below
+entry_in-step-requires c = grind (arith, order_below)
 
 pub put_back-requires-clause-room : goal.put_back-requires-clause-room
 put_back-requires-clause-room c =
@@ -118,38 +116,22 @@ loop-next-preserved c =
           }
     ]
 
-pub returns-clause-ordered : goal.returns-clause-ordered
-returns-clause-ordered c =
+pub returns : goal.returns
+returns c =
     let u = c.loop-next.invariant.under_way in
-    (ended c.args.slots.now c.args.order.now.items c.loop-next.order.items c.loop-next.gathered.items _ c.args.index.now c.loop-next.index c.args.k c.args.live c.loop-next.front
-    c.loop-next.next u (omega (arith, c.loop-next-test.false)) c.requires.ordered c.requires.within
-    (written c.loop-next.order.len c.loop-next.front c.args.live c.loop-next.order.items c.deref_mut.result.now c.copy_from_slice.new.self c.loop-next.gathered.items (search rules)
+    let put = written c.loop-next.order.len c.loop-next.front c.args.live c.loop-next.order.items c.deref_mut.result.now c.copy_from_slice.new.self c.loop-next.gathered.items (search rules)
     c.deref_mut.ensures.value (c.copy_from_slice.ensures.after ∙ c.deref.ensures.value) (omega (arith, u.number, u.within, c.loop-next-test.false))
-    (omega (arith, u.long, c.requires.within)))).ordered
-
-pub returns-clause-moved : goal.returns-clause-moved
-returns-clause-moved c =
-    let u = c.loop-next.invariant.under_way in
-    (ended c.args.slots.now c.args.order.now.items c.loop-next.order.items c.loop-next.gathered.items _ c.args.index.now c.loop-next.index c.args.k c.args.live c.loop-next.front
-    c.loop-next.next u (omega (arith, c.loop-next-test.false)) c.requires.ordered c.requires.within
-    (written c.loop-next.order.len c.loop-next.front c.args.live c.loop-next.order.items c.deref_mut.result.now c.copy_from_slice.new.self c.loop-next.gathered.items (search rules)
-    c.deref_mut.ensures.value (c.copy_from_slice.ensures.after ∙ c.deref.ensures.value) (omega (arith, u.number, u.within, c.loop-next-test.false))
-    (omega (arith, u.long, c.requires.within)))).moved
-
-pub returns-clause-behind : goal.returns-clause-behind
-returns-clause-behind c =
-    let u = c.loop-next.invariant.under_way in
-    (ended c.args.slots.now c.args.order.now.items c.loop-next.order.items c.loop-next.gathered.items _ c.args.index.now c.loop-next.index c.args.k c.args.live c.loop-next.front
-    c.loop-next.next u (omega (arith, c.loop-next-test.false)) c.requires.ordered c.requires.within
-    (written c.loop-next.order.len c.loop-next.front c.args.live c.loop-next.order.items c.deref_mut.result.now c.copy_from_slice.new.self c.loop-next.gathered.items (search rules)
-    c.deref_mut.ensures.value (c.copy_from_slice.ensures.after ∙ c.deref.ensures.value) (omega (arith, u.number, u.within, c.loop-next-test.false))
-    (omega (arith, u.long, c.requires.within)))).behind
-
-pub returns-clause-room : goal.returns-clause-room
-returns-clause-room c = grind (arith, common_steps)
-
-pub returns-clause-index : goal.returns-clause-index
-returns-clause-index c = grind (arith, common_steps)
-
-pub returns-clause-count : goal.returns-clause-count
-returns-clause-count c = grind (arith, common_steps)
+    (omega (arith, u.long, c.requires.within)) in
+    let e = ended c.args.slots.now c.args.order.now.items c.loop-next.order.items c.loop-next.gathered.items _ c.args.index.now c.loop-next.index c.args.k c.args.live c.loop-next.front
+    c.loop-next.next u (omega (arith, c.loop-next-test.false)) c.requires.ordered c.requires.within put in
+    record {
+      ordered = e.ordered;
+      count = e.count;
+      moved = e.moved;
+      behind = e.behind;
+      order = search (rules, arith);
+      none = search (rules, arith);
+      place = search (rules, arith);
+      index = e.indexed;
+      room = e.room;
+    }

@@ -1,4 +1,4 @@
-use Rattle.std.proofs.Common.{◌-◌, arith}
+use Rattle.std.proofs.Common.{◌-◌, inl, inr, arith}
 use Rattle.rd_journal.proofs.Prelude.{journal}
 use Rattle.rd_journal.proofs.Ahead.{is_session}
 use Rattle.rd_journal.proofs.Calls.{entry_missing, entry_found}
@@ -7,7 +7,9 @@ use Rattle.rd_journal.proofs.sessions.Session.entry.Goals as goal
 use Rattle.rd_journal.proofs.sessions.Session.entry.Goals.{then-k-eq0-via-then-k-eq0, then-k-eq0-via-else-k-eq0+then-k-len}
 
 pub returns-then-k-eq0-clause-found : goal.returns-then-k-eq0-clause-found
-returns-then-k-eq0-clause-found g c = grind (arith, entry_missing, then-k-eq0-via-then-k-eq0, then-k-eq0-via-else-k-eq0+then-k-len)
+returns-then-k-eq0-clause-found g c =
+    entry_missing (journal c.args.self.now) c.len-len.result c.args.k c.len-len.ensures.entries
+    (elim c.then-k-eq0.branch [ then-k-eq0-via-then-k-eq0 w ↦ inl (omega arith) | then-k-eq0-via-else-k-eq0+then-k-len w ↦ inr (omega arith) ])
 
 pub returns-clause-found : goal.returns-clause-found
 returns-clause-found g c =

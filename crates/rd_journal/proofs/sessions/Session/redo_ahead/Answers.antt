@@ -1,6 +1,6 @@
 use Rattle.rd_journal.proofs.Prelude.{common_steps, length-take-le}
 use Rattle.std.proofs.Common.{arith}
-use Rattle.rd_journal.proofs.Switching.{forward_start}
+use Rattle.rd_journal.proofs.Calls.{forward_start}
 use Rattle.rd_journal.proofs.sessions.Session.redo_ahead.Goals as goal
 
 pub invariant_of-self : goal.invariant_of-self
@@ -13,4 +13,4 @@ pub returns-clause-entries : goal.returns-clause-entries
 returns-clause-entries g c = grind (arith, common_steps)
 
 pub returns-clause-start : goal.returns-clause-start
-returns-clause-start g c = grind (arith, forward_start)
+returns-clause-start g c = forward_start _ c.args.n _ c.redo_many.ensures.state

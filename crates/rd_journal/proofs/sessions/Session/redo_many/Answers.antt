@@ -1,7 +1,7 @@
 use Rattle.rd_journal.proofs.Prelude.{common_steps, length-take, take-append-drop, model, room, run, Entry, IsIndexOf, events, whole_journal, journal_of, IsMovedForward, HasRoom, journal}
 use Rattle.std.proofs.Common.{◌≡◌, ◌-◌, ◌++◌, ◌∙◌, Ok, List, length, take, drop, sym, ap, subst, arith, length-drop}
 use Rattle.rd_journal.proofs.Ahead.{first_run, forward_undone}
-use Rattle.rd_journal.proofs.Walks.{led_forward, moved_forward, room_first, state_forward}
+use Rattle.rd_journal.proofs.Walks.{moved_forward, room_first, state_forward}
 use Rattle.rd_journal.proofs.sessions.Session.redo_many.Goals as goal
 
 pub ahead-requires : goal.ahead-requires
@@ -20,14 +20,10 @@ invariant_of-self g c =
     let new = whole_journal (model c.step_all.new.world) c.step_forward.new.self in
     let n = c.args.n in
     let moved : IsMovedForward n old new = record { live = c.step_forward.ensures.live; undone = c.step_forward.ensures.ahead } in
-    let goes : run old.world (events (take n old.undone)) ≡ Ok (record { world = new.world; entries = take n old.undone }) =
-    subst (λ (xs : List Entry). run old.world (events xs) ≡ Ok (record { world = new.world; entries = xs })) c.ahead.ensures c.step_all.ensures.ran in
-    let all : old.undone ≡ c.ahead.result ++ drop n old.undone =
-    sym (ap (λ (xs : List Entry). xs ++ drop n old.undone) c.ahead.ensures ∙ take-append-drop n old.undone) in
-    let has : HasRoom (drop n old.undone) (room c.step_all.new.world) =
-    c.step_all.ensures.room (drop n old.undone) (subst (λ (xs : List Entry). HasRoom xs (room self.world)) all self.kept.has_room) in
     record {
-      kept = moved_forward n old new (room self.world) (room c.step_all.new.world) self.kept goes has moved;
+      kept =
+          (moved_forward n old new c.ahead.result (room self.world) (room c.step_all.new.world) self.kept c.ahead.ensures c.step_all.ensures.ran
+          c.step_all.ensures.room moved).session;
       within = omega (arith, self.within, ap length moved.undone, length-drop n old.undone);
       indexed = subst (λ (es : List Entry). IsIndexOf self.index es) (sym c.step_forward.ensures.kept) self.indexed;
     }
@@ -44,12 +40,10 @@ returns-clause-state g c =
     let self = c.args.self.now in
     let old = whole_journal (model self.world) self.entries in
     let new = whole_journal (model c.step_all.new.world) c.step_forward.new.self in
-    let n = c.args.n in
-    let moved : IsMovedForward n old new = record { live = c.step_forward.ensures.live; undone = c.step_forward.ensures.ahead } in
-    let goes : run old.world (events (take n old.undone)) ≡ Ok (record { world = new.world; entries = take n old.undone }) =
-    subst (λ (xs : List Entry). run old.world (events xs) ≡ Ok (record { world = new.world; entries = xs })) c.ahead.ensures c.step_all.ensures.ran in
-    state_forward n (journal self) (journal_of new.world c.step_forward.new.self (self.undone - n)) (led_forward n old new self.kept.runs goes moved)
-    (forward_undone self.undone n old new (omega (arith, c.requires.enough, length-take self.undone old.undone)) moved)
+    let moved : IsMovedForward c.args.n old new = record { live = c.step_forward.ensures.live; undone = c.step_forward.ensures.ahead } in
+    let start = (moved_forward c.args.n old new c.ahead.result (room self.world) (room c.step_all.new.world) self.kept c.ahead.ensures c.step_all.ensures.ran
+    c.step_all.ensures.room moved).start in
+    state_forward c.args.n (journal self) _ c.requires.enough start (returns-clause-entries g c)
 
 pub returns-clause-along : goal.returns-clause-along
 returns-clause-along g c = grind (arith, common_steps)

@@ -1,5 +1,5 @@
-use Rattle.std.proofs.Common.{◌≡◌, None, sym, ◌∙◌, ap}
-use Rattle.rd_journal.proofs.Prelude.{first_dependant, journal, State}
+use Rattle.std.proofs.Common.{◌≡◌, None, sym, ◌∙◌}
+use Rattle.rd_journal.proofs.Prelude.{first_dependant, journal}
 use Rattle.rd_journal.proofs.Closures.{alone, alone_rolled}
 use Rattle.rd_journal.proofs.sessions.Session.roll_back.Goals as goal
 
@@ -8,6 +8,3 @@ returns-in-None-clause-entries g c =
     let old = journal c.args.self.now in
     let free : first_dependant old.live c.args.k ≡ None = sym c.first_dependant.ensures ∙ c.in-None.is in
     alone_rolled c.args.k old (journal c.undo_alone.new.self) (alone old.live c.args.k c.requires.some c.requires.position free) c.undo_alone.ensures.entries
-
-pub returns-in-None-clause-start : goal.returns-in-None-clause-start
-returns-in-None-clause-start g c = ap (λ (s : State). s.start) c.undo_alone.ensures.state

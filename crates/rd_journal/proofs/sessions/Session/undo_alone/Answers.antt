@@ -1,7 +1,7 @@
 use Rattle.std.proofs.Common.{ℕ, ◌+◌, ◌∙◌, List, ap, sym, subst, arith, length, rules}
-use Rattle.rd_journal.proofs.Prelude.{model, room, Entry, IsIndexOf, moved_to, kept_entries, IsUndoneAlone, whole_journal, with_undone, journal}
+use Rattle.rd_journal.proofs.Prelude.{model, room, Entry, IsIndexOf, moved_to, kept_entries, IsUndoneAlone, whole_journal}
 use Rattle.rd_journal.proofs.Ahead.{out_undone}
-use Rattle.rd_journal.proofs.LoneUndo.{IsNumber, may_undo_at, undone_alone_state, taken_out_front, taken_out_few}
+use Rattle.rd_journal.proofs.LoneUndo.{IsNumber, may_undo_at, taken_out_front, taken_out_few}
 use Rattle.rd_journal.proofs.RoomLemmas.{given_back}
 use Rattle.rd_journal.proofs.sessions.Session.undo_alone.Goals as goal
 
@@ -39,8 +39,8 @@ invariant_of-self g c =
 pub returns-clause-entries : goal.returns-clause-entries
 returns-clause-entries g c = search (rules, out_undone, arith)
 
-pub returns-clause-state : goal.returns-clause-state
-returns-clause-state g c =
+pub returns-clause-start : goal.returns-clause-start
+returns-clause-start g c =
     let self = c.args.self.now in
     let old = whole_journal (model self.world) self.entries in
     let new = whole_journal (model c.unstep.new.world) c.undo_alone.new.self in
@@ -48,5 +48,4 @@ returns-clause-state g c =
     let at : IsNumber old.live c.args.k x = record { some = c.requires.some; within = c.requires.position; here = c.live_at.ensures } in
     let moved : IsUndoneAlone c.args.k old new = record { live = c.undo_alone.ensures.live; undone = c.undo_alone.ensures.ahead } in
     let may = may_undo_at old c.args.k x at c.requires.free self.kept.runs in
-    undone_alone_state c.args.k (journal self) (with_undone (self.undone + 1) new) (out_undone self.undone c.args.k old new c.requires.some c.requires.position moved)
-    (may.start new (c.unstep.ensures.taken_out may.was) moved)
+    may.start new (c.unstep.ensures.taken_out may.was) moved

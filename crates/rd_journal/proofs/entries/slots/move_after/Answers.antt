@@ -1,7 +1,7 @@
 use Rattle.std.proofs.Common.{◌≡◌, ℕ, ◌-◌, ◌≤◌, List, ◌++◌, length, take, drop, arith}
 use Rattle.rd_journal.proofs.Prelude.{put_mid, mid_of, moved_to}
 use Rattle.rd_journal.proofs.ListLemmas.{moved_to-length, turned, overwritten}
-use Rattle.rd_journal.proofs.entries.slots.move_behind.Goals as goal
+use Rattle.rd_journal.proofs.entries.slots.move_after.Goals as goal
 
 -- what the vector holds after its part was turned by one
 whole : (n k l : ℕ) (es ds turned_by_one : List ℕ) → n ≡ length es → ds ≡ es → 1 ≤ k → k ≤ l → l ≤ length es

@@ -1,6 +1,6 @@
 use Rattle.std.proofs.Common.{◌≤◌, length, take, drop}
 use Rattle.rd_journal.proofs.Prelude.{IsIndexOf, GivesRoom, kept_entries}
-use Rattle.rd_journal.proofs.indexing.pop_behind.Given as goal
+use Rattle.rd_journal.proofs.indexing.pop_after.Given as goal
 
 abbrev pub invariant-loop-last : goal.invariant-loop-last
 invariant-loop-last l = record {

@@ -1,6 +1,6 @@
 use Rattle.std.proofs.Common.{ℕ, ◌+◌, ◌≤◌, length, take, drop}
 use Rattle.rd_journal.proofs.Prelude.{World, model, room, LeadsTo, room_returned_by}
-use Rattle.rd_journal.proofs.sessions.starting.undo_behind.Given as goal
+use Rattle.rd_journal.proofs.sessions.starting.undo_after.Given as goal
 
 abbrev pub invariant-loop-last : goal.invariant-loop-last
 invariant-loop-last g l = record {
