@@ -1,6 +1,6 @@
 -- A journal in which some of the steps ahead are undone, beside the one in which all are.
 use Rattle.std.proofs.Common.{◌≡◌, ℕ, zero, suc, ◌+◌, ◌-◌, ◌≤◌, refl, sym, ◌∙◌, ap, arith, List, [], ◌∷◌, ◌++◌, length, take, drop, Result, length-drop}
-use Rattle.rd_journal.proofs.Prelude.{length-take, length-take-le, map-append, append_assoc, take-append-drop, take-take, drop-take, Refusal, World, Stepped, run, room, preceded_by, and_then, result_map, Event, Entry, first_step, Journal, events, IsRun, IsRunFrom, with_undone, IsSession, IsMovedBack, IsMovedForward, IsUndoneAlone, journal}
+use Rattle.rd_journal.proofs.Prelude.{length-take, length-take-le, map-append, append_assoc, take-append-drop, take-take, drop-take, Refusal, World, Stepped, run, room, preceded_by, and_then, result_map, Event, Entry, first_step, Journal, events, IsRun, IsRunFrom, IsSession, IsMovedBack, IsMovedForward, IsUndoneAlone, journal}
 use Rattle.rd_step.specs.Run.{run_entries}
 use Rattle.rd_journal.specs.declared.sessions.Session.{Session}
 use Rattle.rd_journal.proofs.EntryLemmas.{take_over}
@@ -19,6 +19,10 @@ first_run (suc n) w (x ∷ xs) h =
     ∙ preceded_entries x (run first.after (events (take n xs))) (take n xs) (first_run n first.after xs first.rest)
 
 -- The session
+
+-- a journal in which no more than the first n of these are undone
+abbrev pub with_undone : ℕ → Journal → Journal
+with_undone n j = record { world = j.world; live = j.live; undone = take n j.undone }
 
 pub run_undone : (n : ℕ) (j : Journal) → IsRun j → IsRun (with_undone n j)
 run_undone n j runs = grind (arith, first_run)

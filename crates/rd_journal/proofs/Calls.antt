@@ -8,7 +8,7 @@ use Rattle.rd_step.specs.declared.worlds.World.{World as CodeWorld}
 use Rattle.std.proofs.lemmas.Option.{slice_get_cases}
 use Rattle.rd_journal.proofs.Ahead.{is_session}
 use Rattle.rd_journal.specs.declared.sessions.Session.{Session}
-use Rattle.rd_journal.proofs.Runs.{step_event, start_stays, now_formed, grown}
+use Rattle.rd_journal.proofs.Runs.{step_event, grown}
 use Rattle.rd_cell.specs.declared.refusal.Refusal.TheVariants as refusal
 
 -- Lengths
@@ -72,7 +72,7 @@ longer_session old new e x before after session less h longer =
     λ i. record { world = new.world; live = longer.live i; undone = longer.undone i } in
     record {
       few = omega arith;
-      runs = subst (λ (j : Journal). IsRun j) (sym whole) (grown old.world new.world old.live old.undone [] x e session.runs h refl);
+      runs = subst (λ (j : Journal). IsRun j) (sym whole) (grown old.world new.world old.live old.undone [] x e session.runs h refl).runs;
       has_room = subst (λ (ys : List Entry). HasRoom ys after) (sym longer.undone) (record { at = λ k. omega arith });
     }
 
@@ -153,7 +153,7 @@ apply_refused j e refusal runs less h = applied j e (Err refusal) runs less h
 pub apply_goes : (old new : Journal) (e : Event) (x : Entry) → IsRun old → length old.live < MOST_STEPS
     → step old.world e ≡ Ok (record { world = new.world; entry = x }) → IsLengthened x old new → apply (state_of old) e ≡ Ok (state_of new)
 apply_goes old new e x runs less h longer =
-    let start = start_stays old.world new.world old.live x e (now_formed old runs) h in
+    let start = (grown old.world new.world old.live old.undone [] x e runs h refl).start in
     let its = step_event old.world e (record { world = new.world; entry = x }) h in
     let all : events (old.live ++ x ∷ []) ≡ events old.live ++ e ∷ [] =
     map-append (λ (y : Entry). y.event) old.live (x ∷ []) ∙ ap (λ (f : Event). events old.live ++ f ∷ []) its in

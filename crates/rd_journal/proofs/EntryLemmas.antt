@@ -1,7 +1,7 @@
 -- The entries of a session as one list that is cut twice: how long its parts are, and how they
 -- change.
 use Rattle.std.proofs.Common.{◌≡◌, ℕ, ◌+◌, ◌-◌, ◌<◌, ◌≤◌, List, [], ◌∷◌, ◌++◌, length, take, drop, sym, ◌∙◌, ap, arith, length-append, length-drop}
-use Rattle.rd_journal.proofs.Prelude.{take-add, length-take-le, take-take, drop-take, drop-drop, take_at, drop_at, drop-append-le, moved_to, all_entries, live_entries, ahead_entries, kept_entries, entries_capacity}
+use Rattle.rd_journal.proofs.Prelude.{take-add, length-take-le, take-take, drop-take, drop-drop, take_at, drop_at, moved_to, all_entries, live_entries, ahead_entries, kept_entries, entries_capacity}
 use Rattle.rd_journal.specs.declared.entries.Entries.{Entries}
 use Rattle.rd_journal.proofs.ListLemmas.{behind_from, drop_before}
 use Rattle.rd_journal.proofs.Numbers.{at-length, order_below}
@@ -29,12 +29,8 @@ pub none_ahead : (r : Entries) → ahead_entries r ≡ [] → r.ahead ≡ 0
 none_ahead r none = omega (arith, ahead-length r, ap length none)
 
 -- where there is no room for one more live entry the live ones fill it, and none is ahead
-pub record IsFull (r : Entries) : Type 0 where
-  pub none : ahead_entries r ≡ []
-  pub filled : entries_capacity r ≡ length (live_entries r)
-
-pub full_entries : (r : Entries) → entries_capacity r < length (live_entries r) + 1 → IsFull r
-full_entries r h = grind (arith, ahead-length, live-length)
+pub full_entries : (r : Entries) → entries_capacity r < length (live_entries r) + 1 → (ahead_entries r ≡ []) × (entries_capacity r ≡ length (live_entries r))
+full_entries r h = (grind (arith, ahead-length, live-length), grind (arith, ahead-length, live-length))
 
 -- a list cut after its first m elements, and again u elements after them
 
@@ -66,18 +62,12 @@ pub taken_out : {X : Type 0} (l : List X) (k m u : ℕ) → 1 ≤ k → k ≤ m 
     → take (u + 1) (drop (m - 1) (moved_to l k m)) ≡ take 1 (drop (k - 1) (take m l)) ++ take u (drop m l)
 taken_out {X} l k m u some position within = grind (arith, length-take-le, length-drop, behind_from, take_over)
 
--- one more is put after both parts
-pub put_last : {X : Type 0} (l new : List X) (m u : ℕ) (x : X) → m + u ≤ length l → new ≡ take (m + u) l ++ x ∷ drop (m + u + 1) l
-    → take (u + 1) (drop m new) ≡ take u (drop m l) ++ x ∷ []
-put_last {X} l new m u x within is =
-    let rest = drop (m + u + 1) l in
-    let len : length (take (m + u) l) ≡ m + u = length-take-le (m + u) l within in
-    let behind : drop m new ≡ take u (drop m l) ++ x ∷ rest =
-    ap (drop m) is ∙ drop-append-le m (take (m + u) l) (x ∷ rest) (omega arith) ∙ ap (λ (ys : List X). ys ++ x ∷ rest) (drop-take m u l) in
+-- one more is put after the first part
+pub put_last : {X : Type 0} (l new : List X) (u : ℕ) (x : X) → u ≤ length l → new ≡ take u l ++ x ∷ drop (u + 1) l → take (u + 1) new ≡ take u l ++ x ∷ []
+put_last {X} l new u x within is =
+    let rest = drop (u + 1) l in
     let turn : u + 1 ≡ 1 + u = omega arith in
-    let short : length (take u (drop m l)) ≡ u = length-take-le u (drop m l) (omega (arith, length-drop m l)) in
-    ap (λ (ys : List X). take (u + 1) ys) behind ∙ ap (λ (n : ℕ). take n (take u (drop m l) ++ x ∷ rest)) turn
-    ∙ take_over (take u (drop m l)) (x ∷ rest) u 1 short
+    ap (λ (ys : List X). take (u + 1) ys) is ∙ ap (λ (n : ℕ). take n (take u l ++ x ∷ rest)) turn ∙ take_over (take u l) (x ∷ rest) u 1 (length-take-le u l within)
 
 pub cut_short : {X : Type 0} (l : List X) (m n : ℕ) → m ≤ length l → take (m - n) l ≡ take (length (take m l) - n) (take m l)
 cut_short {X} l m n within = grind (arith, length-take-le, take-take)

@@ -3,7 +3,7 @@
 use Rattle.rd_journal.proofs.Prelude.{common_steps, count_by, append_assoc, take-append-drop, take-take, length-take-le, length-set, get_or-take, drop_at, drop-append-le, drop-set-lt, drop_all, take_at, take_more_set, sum_by-append, sum_by-cons, sum_by_push, depends_on_one, closure_of, without_closure, Entry, DependIndex, IsIndexOf, HasRoomFor, at_numbers, IsOrder}
 use Rattle.std.proofs.Common.{◌≡◌, ℕ, ◌+◌, ◌-◌, ◌<◌, ◌≤◌, Bool, true, false, cond, refl, sym, ◌∙◌, ap, subst, arith, List, [], ◌∷◌, ◌++◌, length, take, drop, set, get_or, length-append, length-drop}
 use Rattle.rd_journal.proofs.Gathering.{Gathering, gathering_first, joins, gathered_outside, gathered_inside}
-use Rattle.rd_journal.proofs.IndexRoom.{fits_between}
+use Rattle.rd_journal.proofs.RoomLemmas.{fits_between}
 use Rattle.rd_journal.proofs.ListLemmas.{drop_one_less}
 use Rattle.rd_journal.proofs.Numbers.{one, at-append, at-length, at-take, at-drop, at-get, order_below, order_moved}
 

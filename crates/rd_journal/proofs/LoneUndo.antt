@@ -1,12 +1,12 @@
 -- Undoing one live step alone, on which no later one depends, over whole journals.
 use Rattle.std.specs.List.{list_any}
 use Rattle.std.proofs.lemmas.Bool.{or_from}
-use Rattle.rd_journal.proofs.Prelude.{common_steps, cases_Bool, cond-true, cond-false, map-append, take-map, drop-map, take-append-drop, depends, IsFree, first_dependant, MOST_STEPS, Entry, position_from, WasStepped, IsTakenOut, Journal, start_of, IsRun, IsUndoneAlone, IsRunWithout, answer_unless, answer_at, state_of, undo_at, and_then, events, without}
+use Rattle.rd_journal.proofs.Prelude.{common_steps, cases_Bool, cond-true, cond-false, map-append, take-map, drop-map, take-append-drop, depends, IsFree, first_dependant, MOST_STEPS, Entry, position_from, WasStepped, IsTakenOut, Journal, start_of, world_before, IsRun, IsUndoneAlone, IsRunWithout, answer_unless, answer_at, state_of, undo_at, and_then, events, without}
 use Rattle.std.proofs.Common.{◌≡◌, refl, ℕ, ◌+◌, ◌-◌, ◌<◌, ◌≤◌, ◌⊎◌, inl, inr, sym, ◌∙◌, ap, subst, arith, List, [], ◌∷◌, ◌++◌, length, take, drop, get_or, Some, None, Ok, Err, length-append}
 use Rattle.rd_journal.proofs.ListLemmas.{nth, drop_one_less}
 use Rattle.rd_journal.proofs.Calls.{entry_missing, entry_found, event_of_entry}
 use Rattle.rd_journal.proofs.Finding.{numbered_in, scan_is}
-use Rattle.rd_journal.proofs.Runs.{MayTakeOut, may_take_out}
+use Rattle.rd_journal.proofs.Runs.{IsRunSince, MayTakeOut, may_take_out}
 use Rattle.rd_cell.specs.declared.refusal.Refusal.TheVariants as refusal
 
 -- Dependence
@@ -53,24 +53,20 @@ taken_out_few k old new x at moved few = grind (arith, common_steps, around_it, 
 -- of the same start
 pub record MayUndoAt (old : Journal) (k : ℕ) (x : Entry) : Type 0 where
   pub was : WasStepped old.world x
-  pub start : (new : Journal) → IsTakenOut old.world new.world x was → IsUndoneAlone k old new → start_of new ≡ start_of old
-  pub runs : (new : Journal) → IsTakenOut old.world new.world x was → IsUndoneAlone k old new → IsRun new
+  pub left : (new : Journal) → IsTakenOut old.world new.world x was → IsUndoneAlone k old new → IsRunSince (start_of old) new
 
 may_undo_around : (old : Journal) (k : ℕ) (x : Entry) → IsNumber old.live k x
     → MayTakeOut old.world (take (k - 1) old.live) (drop k old.live) old.undone x → MayUndoAt old k x
-may_undo_around old k x at may = record { was = may.was; start = start; runs = runs }
+may_undo_around old k x at may = record { was = may.was; left = left }
   where
     same : (new : Journal) → IsUndoneAlone k old new
         → new ≡ record { world = new.world; live = take (k - 1) old.live ++ drop k old.live; undone = x ∷ old.undone }
     same new moved = grind (arith, common_steps, taken_out_front)
 
-    start : (new : Journal) → IsTakenOut old.world new.world x may.was → IsUndoneAlone k old new → start_of new ≡ start_of old
-    start new out moved =
-        ap start_of (same new moved) ∙ may.start new.world out
-        ∙ ap (λ (l : List Entry). start_of (record { world = old.world; live = l; undone = old.undone })) (sym (around_it old.live k x at))
-
-    runs : (new : Journal) → IsTakenOut old.world new.world x may.was → IsUndoneAlone k old new → IsRun new
-    runs new out moved = subst (λ (j : Journal). IsRun j) (sym (same new moved)) (may.runs new.world out)
+    left : (new : Journal) → IsTakenOut old.world new.world x may.was → IsUndoneAlone k old new → IsRunSince (start_of old) new
+    left new out moved =
+        subst (λ (j : Journal). IsRunSince (start_of old) j) (sym (same new moved))
+        (subst (λ (l : List Entry). IsRunSince (world_before old.world l) (record { world = new.world; live = take (k - 1) old.live ++ drop k old.live; undone = x ∷ old.undone })) (sym (around_it old.live k x at)) (may.left new.world out))
 
 pub may_undo_at : (old : Journal) (k : ℕ) (x : Entry) → IsNumber old.live k x → first_dependant old.live k ≡ None → IsRun old
     → MayUndoAt old k x

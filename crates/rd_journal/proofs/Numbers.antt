@@ -1,8 +1,9 @@
 -- Entries at numbers: parts of them, one more and one written over; and orders of slots, as their
 -- numbers move.
-use Rattle.std.proofs.Common.{◌≡◌, ℕ, zero, suc, ◌+◌, ◌-◌, ◌<◌, ◌≤◌, ◌==◌, nat_lt, Bool, cond, if◌then◌else◌, List, [], ◌∷◌, ◌++◌, length, get_or, take, drop, set, refl, sym, ◌∙◌, ap, subst, arith, length-append, length-drop}
-use Rattle.rd_journal.proofs.Prelude.{All, count_by, flat_map-append, drop_more, length-take-le, take-append-drop, drop-append-le, length-set, get_or-set_same, drop_at, take_all, drop_all, drop-drop, get_or_default, sum_by-append, sum_by-cons, sum_by_push, sum_by-take-drop, get_or-le-sum_by, moved_to, at_numbers, IsOrder}
+use Rattle.std.proofs.Common.{◌≡◌, ℕ, zero, suc, ◌+◌, ◌-◌, ◌<◌, ◌≤◌, ◌==◌, nat_lt, Bool, cond, if◌then◌else◌, List, [], ◌∷◌, ◌++◌, length, get_or, map, take, drop, set, refl, sym, ◌∙◌, ap, subst, arith, length-append}
+use Rattle.rd_journal.proofs.Prelude.{All, count_by, flat_map-append, drop_more, length-map, take-map, drop-map, take-append-drop, drop-append-le, length-set, get_or-set_same, drop_at, take_all, drop_all, drop-drop, get_or_default, sum_by-append, sum_by-cons, sum_by_push, sum_by-take-drop, get_or-le-sum_by, moved_to, at_numbers, IsOrder}
 use Rattle.std.proofs.lemmas.Bool.Decides.{nat_tests}
+use Rattle.std.proofs.lemmas.List.{get_or-map}
 use Rattle.std.proofs.lemmas.List.Elements.{All-take, All-drop}
 use Rattle.rd_journal.proofs.ListLemmas.{nth}
 
@@ -19,47 +20,35 @@ one {X} es n x h e = ap (λ (ys : List X). take 1 ys) (drop_more es n x h) ∙ (
 pub at-append : {X : Type 0} (es : List X) (ms ns : List ℕ) → at_numbers es (ms ++ ns) ≡ at_numbers es ms ++ at_numbers es ns
 at-append es ms ns = flat_map-append (λ n. take 1 (drop n es)) ms ns
 
+-- they are what is read at the numbers
+at-map : {X : Type 0} (es : List X) (ns : List ℕ) (d : X) → AreBelow (length es) ns → at_numbers es ns ≡ map (λ n. get_or es n d) ns
+at-map es [] d h = refl
+at-map {X} es (n ∷ ns) d h =
+    (λ i. take 1 (drop_more es n d (h zero n (omega arith)) i) ++ at-map es ns d (λ j e below. h (suc j) e (omega arith)) i)
+
 pub at-length : {X : Type 0} (es : List X) (ns : List ℕ) → AreBelow (length es) ns → length (at_numbers es ns) ≡ length ns
 at-length es [] h = refl
 at-length {X} es (n ∷ ns) h =
-    let here : n < length es = h zero n (omega arith) in
-    omega (
-      arith,
-      length-append (take 1 (drop n es)) (at_numbers es ns),
-      length-take-le 1 (drop n es) (omega (arith, length-drop n es)),
-      at-length es ns (λ k d below. h (suc k) d (omega arith)),
-    )
+    let d = (nth es n (h zero n (omega arith))).0 in
+    ap length (at-map es (n ∷ ns) d h) ∙ length-map (n ∷ ns) (λ m. get_or es m d)
 
 pub at-take : {X : Type 0} (es : List X) (k : ℕ) (ns : List ℕ) → AreBelow (length es) ns → take k (at_numbers es ns) ≡ at_numbers es (take k ns)
-at-take es zero ns h = refl
-at-take es (suc k) [] h = refl
-at-take {X} es (suc k) (n ∷ ns) h =
-    let here : n < length es = h zero n (omega arith) in
-    let x = nth es n here in
-    let first = one es n x.0 here x.1 in
-    ap (λ (ys : List X). take (suc k) (ys ++ at_numbers es ns)) first
-    ∙ ap (λ (ys : List X). x.0 ∷ ys) (at-take es k ns (λ j d below. h (suc j) d (omega arith)))
-    ∙ ap (λ (ys : List X). ys ++ at_numbers es (take k ns)) (sym first)
+at-take es k [] h = grind (arith, take_all)
+at-take {X} es k (n ∷ ns) h =
+    let d = (nth es n (h zero n (omega arith))).0 in
+    ap (take k) (at-map es (n ∷ ns) d h) ∙ take-map (λ m. get_or es m d) k (n ∷ ns)
+    ∙ sym (at-map es (take k (n ∷ ns)) d (All-take (λ (m : ℕ). m < length es) k (n ∷ ns) h))
 
 pub at-drop : {X : Type 0} (es : List X) (k : ℕ) (ns : List ℕ) → AreBelow (length es) ns → drop k (at_numbers es ns) ≡ at_numbers es (drop k ns)
-at-drop es zero ns h = refl
-at-drop es (suc k) [] h = refl
-at-drop {X} es (suc k) (n ∷ ns) h =
-    let here : n < length es = h zero n (omega arith) in
-    let x = nth es n here in
-    ap (λ (ys : List X). drop (suc k) (ys ++ at_numbers es ns)) (one es n x.0 here x.1)
-    ∙ at-drop es k ns (λ j d below. h (suc j) d (omega arith))
+at-drop es k [] h = grind (arith, drop_all)
+at-drop {X} es k (n ∷ ns) h =
+    let d = (nth es n (h zero n (omega arith))).0 in
+    ap (drop k) (at-map es (n ∷ ns) d h) ∙ drop-map (λ m. get_or es m d) k (n ∷ ns)
+    ∙ sym (at-map es (drop k (n ∷ ns)) d (All-drop (λ (m : ℕ). m < length es) k (n ∷ ns) h))
 
 pub at-get : {X : Type 0} (es : List X) (ns : List ℕ) (k : ℕ) (d : X) (e : ℕ) → AreBelow (length es) ns → k < length ns
     → get_or (at_numbers es ns) k d ≡ get_or es (get_or ns k e) d
-at-get es [] k d e h below = absurd (omega arith)
-at-get {X} es (n ∷ ns) zero d e h below =
-    let here : n < length es = h zero n (omega arith) in
-    ap (λ (ys : List X). get_or (take 1 ys ++ at_numbers es ns) zero d) (drop_more es n d here)
-at-get {X} es (n ∷ ns) (suc k) d e h below =
-    let here : n < length es = h zero n (omega arith) in
-    ap (λ (ys : List X). get_or (take 1 ys ++ at_numbers es ns) (suc k) d) (drop_more es n d here)
-    ∙ at-get es ns k d e (λ j f low. h (suc j) f (omega arith)) (omega arith)
+at-get {X} es ns k d e h below = ap (λ (ys : List X). get_or ys k d) (at-map es ns d h) ∙ get_or-map (λ n. get_or es n d) ns k e d below
 
 -- one slot written over, and one more
 

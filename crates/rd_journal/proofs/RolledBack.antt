@@ -1,22 +1,49 @@
 -- Rolling back a live step with all that depends on it, over whole journals.
-use Rattle.std.proofs.Common.{◌≡◌, ℕ, zero, suc, ◌+◌, ◌-◌, ◌<◌, ◌≤◌, ◌⊎◌, Bool, true, false, refl, sym, ◌∙◌, ap, subst, arith, List, [], ◌∷◌, ◌++◌, length, take, drop, Ok, Err}
-use Rattle.rd_journal.proofs.Prelude.{append_assoc, map-append, take-append-drop, World, run, closure, items_where_true, unmarked, closure_of, without_closure, closure_from, Event, Entry, run-cons, Journal, events, world_before, start_of, IsRun, IsRolledBack, IsWithoutClosure, roll_answer, IsSession, HasRoom, state_of, back, undone_marked, roll, middle}
-use Rattle.rd_journal.proofs.Calls.{back_start, entry_missing, entry_found, event_of_entry}
+use Rattle.std.proofs.Common.{◌≡◌, ℕ, zero, suc, ◌+◌, ◌-◌, ◌≤◌, ◌||◌, Bool, false, if◌then◌else◌, refl, sym, ◌∙◌, ap, arith, List, [], ◌∷◌, ◌++◌, length, get_or, take, drop, Some, None, ◌<◌, ◌⊎◌, true, subst, Ok, Err}
+use Rattle.rd_journal.proofs.Prelude.{depends, first_dependant, closure_of, without_closure, items_where_true, unmarked, closure_from, position_from, Entry, Journal, IsUndoneAlone, IsRolledBack, append_assoc, map-append, take-append-drop, World, run, closure, Event, run-cons, events, start_of, IsRun, IsWithoutClosure, roll_answer, IsSession, HasRoom, state_of, back, undone_marked, roll, middle}
 use Rattle.rd_journal.proofs.Gathering.{cut_at, gathered_run}
+use Rattle.rd_journal.proofs.Finding.{numbered_in, scan_is}
 use Rattle.rd_journal.proofs.ListLemmas.{nth, drop_one_less}
-use Rattle.rd_journal.proofs.Runs.{run_joined, goes_back}
+use Rattle.rd_journal.proofs.Calls.{back_start, entry_missing, entry_found, event_of_entry}
+use Rattle.rd_journal.proofs.Runs.{IsRunSince, run_joined, runs_since}
 use Rattle.rd_cell.specs.declared.refusal.Refusal.TheVariants as refusal
+
+marked_none : (x : Entry) (n : ℕ) (ys : List Entry) → position_from (depends x) n ys ≡ None → items_where_true (closure_from (x ∷ []) ys) ys ≡ []
+marked_none x n [] h = refl
+marked_none x n (y ∷ ys) h = by (depends x y) (marked_none x (n + 1) ys) h
+  where
+    by : (d : Bool) → (position_from (depends x) (n + 1) ys ≡ None → items_where_true (closure_from (x ∷ []) ys) ys ≡ []) → (if d then Some n else position_from (depends x) (n + 1) ys) ≡ None
+        → (let e = d || false in items_where_true (e ∷ closure_from (if e then (x ∷ []) ++ y ∷ [] else x ∷ []) ys) (y ∷ ys)) ≡ []
+    by d later g = grind arith
+
+unmarked_all : (x : Entry) (n : ℕ) (ys : List Entry) → position_from (depends x) n ys ≡ None → unmarked (closure_from (x ∷ []) ys) ys ≡ ys
+unmarked_all x n [] h = refl
+unmarked_all x n (y ∷ ys) h = by (depends x y) (unmarked_all x (n + 1) ys) h
+  where
+    by : (d : Bool) → (position_from (depends x) (n + 1) ys ≡ None → unmarked (closure_from (x ∷ []) ys) ys ≡ ys) → (if d then Some n else position_from (depends x) (n + 1) ys) ≡ None
+        → (let e = d || false in unmarked (e ∷ closure_from (if e then (x ∷ []) ++ y ∷ [] else x ∷ []) ys) (y ∷ ys)) ≡ y ∷ ys
+    by d later g = grind arith
+
+-- undone alone, such a step is rolled back
+pub alone_rolled : (k : ℕ) (old new : Journal) → 1 ≤ k → k ≤ length old.live → first_dependant old.live k ≡ None → IsUndoneAlone k old new → IsRolledBack k old new
+alone_rolled zero old new some within free out = absurd (omega arith)
+alone_rolled (suc i) old new some within free out =
+    let l = old.live in
+    let x = nth l i (omega arith) in
+    let c = cut_at l i x.0 (omega arith) x.1 in
+    let rest = drop (suc i) l in
+    let same : i ≡ suc i - 1 = omega arith in
+    let here : x.0 ≡ get_or l (suc i - 1) x.0 = x.1 ∙ ap (λ (m : ℕ). get_or l m x.0) same in
+    let none : position_from (depends x.0) (suc i + 1) rest ≡ None = sym (scan_is x.0 l (suc i) (numbered_in l (suc i) x.0 some within here)) ∙ free in
+    let outside : without_closure l (suc i) ≡ take (suc i - 1) l ++ rest = c.outside ∙ (λ j. take (same j) l ++ unmarked_all x.0 (suc i + 1) rest none j) in
+    let inside : closure_of l (suc i) ≡ take 1 (drop (suc i - 1) l) = grind (arith, marked_none, drop_one_less) in
+    record { live = out.live ∙ sym outside; undone = out.undone ∙ ap (λ (ys : List Entry). ys ++ old.undone) (sym inside) }
 
 -- The closure gathered last
 
 -- the journal with the closure of k after the other live entries
 abbrev pub closure_last : Journal → ℕ → Journal
 closure_last j k = record { world = j.world; live = without_closure j.live k ++ closure_of j.live k; undone = j.undone }
-
--- it is a run of the same start
-pub record IsReordered (j : Journal) (k : ℕ) : Type 0 where
-  pub start : start_of (closure_last j k) ≡ start_of j
-  pub runs : IsRun (closure_last j k)
 
 reordered_run : (s w : World) (l : List Entry) (i : ℕ) → i < length l → run s (events l) ≡ Ok (record { world = w; entries = l })
     → let zs = without_closure l (suc i) ++ closure_of l (suc i) in run s (events zs) ≡ Ok (record { world = w; entries = zs })
@@ -41,20 +68,11 @@ reordered_run s w l i low h =
     sym (append_assoc xs (unmarked ms ys) (x ∷ items_where_true ms ys)) ∙ (λ t. sym c.outside t ++ sym c.inside t) in
     subst (λ (qs : List Entry). run s (events qs) ≡ Ok (record { world = w; entries = qs })) same all
 
-reordered_at : (j : Journal) (i : ℕ) → i < length j.live → IsRun j → IsReordered j (suc i)
-reordered_at j i low runs =
-    let s = start_of j in
-    let zs = without_closure j.live (suc i) ++ closure_of j.live (suc i) in
-    let ran = reordered_run s j.world j.live i low runs.live_ran in
-    let back : world_before j.world zs ≡ s = goes_back s j.world zs runs.well_formed ran in
-    record {
-      start = back;
-      runs = grind arith;
-    }
-
-pub reordered : (j : Journal) (k : ℕ) → 1 ≤ k → k ≤ length j.live → IsRun j → IsReordered j k
+-- it is a run of the same start
+pub reordered : (j : Journal) (k : ℕ) → 1 ≤ k → k ≤ length j.live → IsRun j → IsRunSince (start_of j) (closure_last j k)
 reordered j zero some within runs = absurd (omega arith)
-reordered j (suc i) some within runs = reordered_at j i (omega arith) runs
+reordered j (suc i) some within runs =
+    runs_since (start_of j) (closure_last j (suc i)) runs.well_formed (reordered_run (start_of j) j.world j.live i (omega arith) runs.live_ran) runs.undone_run_on
 
 -- The session with the closure gathered last
 

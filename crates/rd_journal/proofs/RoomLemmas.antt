@@ -1,6 +1,17 @@
--- The room that redoing wants is there: what undoing gave back.
-use Rattle.std.proofs.Common.{◌≡◌, ℕ, ◌+◌, ◌≤◌, true, arith, List, ◌∷◌, Ok}
-use Rattle.rd_journal.proofs.Prelude.{World, step, Event, Entry, makes_segment, room_used, room_returned, room_used_returned, HasRoom}
+-- The room that redoing asks for, of the makers and in the index of dependants, which is counted for
+-- each actor, place and segment, so it does not ask in which order entries are.
+use Rattle.std.proofs.Common.{◌≡◌, true, Result, is_err, arith, ℕ, ◌+◌, ◌≤◌, List, ◌∷◌, Ok, [], ◌++◌, take, drop, ap}
+use Rattle.std.specs.Result.{OnErr}
+use Rattle.rd_journal.proofs.Prelude.{World, step, Event, Entry, makes_segment, room_used, room_returned, room_used_returned, HasRoom, take-append-drop, DependIndex, touches, number_of, GivesRoom, HasRoomFor, HasRoomInstead, LacksIndexRoom}
+use Rattle.rd_depend.proofs.IndexPositions.{number-append}
+
+-- what holds in case of an error, where there is one
+pub err_then : {X E P : Type 0} (r : Result X E) → is_err r ≡ true → OnErr r P → P
+err_then r h p = grind arith
+
+-- what holds where there is one holds in case of an error
+pub in_error : {X E P : Type 0} (r : Result X E) → (is_err r ≡ true → P) → OnErr r P
+in_error r f = grind arith
 
 -- undoing a step gives back the room that redoing it wants
 pub given_back : (xs ys : List Entry) (x : Entry) (before after : ℕ → ℕ) → ys ≡ x ∷ xs → HasRoom xs before
@@ -23,3 +34,43 @@ pub stepped_back : (w v : World) (e : Event) (x : Entry) (before stepped after :
     → ((m : ℕ) → before m ≤ stepped m + room_used (makes_segment w e) e.actor m) → ((m : ℕ) → after m ≡ stepped m + room_returned x.place x.old_content m)
     → (m : ℕ) → before m ≤ after m
 stepped_back w v e x before stepped after goes took gives m = omega (arith, room_used_returned w e (record { world = v; entry = x }) m goes, took m, gives m)
+
+-- there is room for none
+pub fits_none : (index : DependIndex) → HasRoomFor index []
+fits_none index = record { lists = λ t. omega arith }
+
+-- where entries gave their room back there is room for them, and for those for which there was
+pub fits_back : (old new : DependIndex) (gone rest : List Entry) → GivesRoom old new gone → HasRoomFor old rest → HasRoomFor new (gone ++ rest)
+fits_back old new gone rest gives has = record { lists = λ t. omega (arith, number-append (touches t) gone rest, has.lists t, gives t) }
+
+-- what has no room in place of more entries has none in place of the first of them
+pub lacks_fewer : (index : DependIndex) (m : ℕ) (front gone given : List Entry) → (HasRoomInstead index (front ++ gone) given → ⊥)
+    → LacksIndexRoom index (front ++ take m gone) given
+lacks_fewer index m front gone given lacks has = lacks (record {
+  lists = λ t.
+      let parts = ap (number_of (touches t)) (take-append-drop m gone) in
+      omega (
+        arith,
+        has.lists t,
+        number-append (touches t) front gone,
+        number-append (touches t) front (take m gone),
+        number-append (touches t) (take m gone) (drop m gone),
+        parts,
+      );
+})
+
+-- there is room for the first ones
+pub fits_first : (index : DependIndex) (xs ys : List Entry) → HasRoomFor index (xs ++ ys) → HasRoomFor index xs
+fits_first index xs ys has = record { lists = λ t. omega (arith, number-append (touches t) xs ys, has.lists t) }
+
+-- where there is room for one and others there is room for it
+pub fits_one : (index : DependIndex) (x : Entry) (rest : List Entry) → HasRoomFor index (x ∷ rest) → HasRoomFor index (x ∷ [])
+fits_one index x rest has = record { lists = λ t. omega (arith, has.lists t) }
+
+-- one that was between others in front of them
+pub fits_between : (index : DependIndex) (xs ys : List Entry) (x : Entry) → HasRoomFor index (xs ++ x ∷ ys) → HasRoomFor index (x ∷ (xs ++ ys))
+fits_between index xs ys x has = grind (arith, number-append)
+
+-- the same in another order
+pub fits_turned : (index : DependIndex) (xs ys rest : List Entry) → HasRoomFor index (xs ++ (ys ++ rest)) → HasRoomFor index (ys ++ (xs ++ rest))
+fits_turned index xs ys rest has = grind (arith, number-append)

@@ -1,9 +1,10 @@
--- Runs and their entries: two runs joined, the last step of a run, and a journal that gains or
--- loses a step.
-use Rattle.std.proofs.Common.{◌≡◌, refl, sym, ◌∙◌, ap, subst, List, [], ◌∷◌, ◌++◌, Result, Ok, arith}
-use Rattle.rd_journal.proofs.Prelude.{map-append, Refusal, World, Stepped, step, unstep, Ran, run, IsFree, IsWellFormed, Event, Entry, preceded_by, result_map, WasStepped, IsTakenOut, took, undoes, ran_on, run-cons, run_keeps, beginning, Middle, middle, Journal, events, world_before, start_of, IsRun}
+-- Runs and their entries: two runs joined, the first and the last step of a run, and a journal that
+-- gains or loses a step.
+use Rattle.std.proofs.Common.{◌≡◌, refl, sym, ◌∙◌, ap, subst, List, [], ◌∷◌, ◌++◌, Result, Ok, arith, ℕ, ◌-◌, ◌<◌, ◌≤◌, ◌⊎◌, length, take, drop, get_or, slice_get, option_map, Some, None}
+use Rattle.rd_journal.proofs.Prelude.{map-append, Refusal, World, Stepped, step, unstep, Ran, run, IsFree, IsWellFormed, Event, Entry, preceded_by, result_map, WasStepped, IsTakenOut, took, undoes, ran_on, run-cons, run_keeps, beginning, Middle, middle, Journal, events, world_before, start_of, IsRun, IsRunFrom, append-nil, taken_out, take_more, slice_get-map, slice_get_past, slice_get-get_or, LeadsTo, numbered}
 use Rattle.rd_step.proofs.Keeps.{keeps}
 use Rattle.rd_journal.specs.Journal.{run_entries}
+use Rattle.rd_journal.proofs.ListLemmas.{drop_one_less}
 
 -- an answer that is no refusal
 abbrev pub as_ok : {X : Type 0} → X → Result X Refusal
@@ -44,16 +45,32 @@ goes_back s w (x ∷ xs) formed h =
     ap (λ (u : World). unstep u x) (goes_back first.after w xs (keeps s x.event one formed first.goes) first.rest)
     ∙ undoes s x.event one formed first.goes
 
--- putting back begins with the last entry
-pub world_before-last : (w : World) (xs : List Entry) (x : Entry) → world_before w (xs ++ x ∷ []) ≡ world_before (unstep w x) xs
-world_before-last w [] x = refl
-world_before-last w (y ∷ ys) x = ap (λ (v : World). unstep v y) (world_before-last w ys x)
+-- a journal is a run, and starts in this world
+pub record IsRunSince (s : World) (j : Journal) : Type 0 where
+  pub runs : IsRun j
+  pub start : start_of j ≡ s
 
--- a step leaves the start as it was
-pub start_stays : (w v : World) (xs : List Entry) (x : Entry) (e : Event) → IsWellFormed w
-    → step w e ≡ Ok (record { world = v; entry = x }) → world_before v (xs ++ x ∷ []) ≡ world_before w xs
-start_stays w v xs x e formed h =
-    world_before-last v xs x ∙ ap (λ (u : World). world_before u xs) (undoes w e (record { world = v; entry = x }) formed h)
+-- where its live entries are those of a run from there, and the undone ones run on
+pub runs_since : (s : World) (j : Journal) → IsWellFormed s → run s (events j.live) ≡ Ok (record { world = j.world; entries = j.live }) → IsRunFrom j.world j.undone
+    → IsRunSince s j
+runs_since s j formed ran on =
+    let back = goes_back s j.world j.live formed ran in
+    record {
+      runs = record {
+        well_formed = subst (λ (w : World). IsWellFormed w) (sym back) formed;
+        live_ran = ap (λ (w : World). run w (events j.live)) back ∙ ran;
+        undone_run_on = on;
+      };
+      start = back;
+    }
+
+-- a run of entries, and one more step
+pub ran_more : (s w v : World) (xs : List Entry) (x : Entry) → run s (events xs) ≡ Ok (record { world = w; entries = xs })
+    → step w x.event ≡ Ok (record { world = v; entry = x }) → run s (events (xs ++ x ∷ [])) ≡ Ok (record { world = v; entries = xs ++ x ∷ [] })
+ran_more s w v xs x ran goes =
+    let last = run-cons w x.event [] (record { world = v; entry = x }) (record { world = v; entries = [] }) goes refl in
+    ap (run s) (map-append (λ (y : Entry). y.event) xs (x ∷ []))
+    ∙ run_joined s (events xs) (x.event ∷ []) (record { world = w; entries = xs }) (record { world = v; entries = x ∷ [] }) ran last
 
 -- a journal's world is well-formed
 pub now_formed : (j : Journal) → IsRun j → IsWellFormed j.world
@@ -62,24 +79,11 @@ now_formed j runs = run_keeps (start_of j) (events j.live) (record { world = j.w
 -- a step from a journal's world, with its entry put last, makes a journal, whatever runs on from
 -- there being undone
 pub grown : (w v : World) (xs zs ys : List Entry) (x : Entry) (e : Event) → IsRun (record { world = w; live = xs; undone = zs })
-    → step w e ≡ Ok (record { world = v; entry = x }) → run_entries (run v (events ys)) ≡ Ok ys
-    → IsRun (record { world = v; live = xs ++ x ∷ []; undone = ys })
+    → step w e ≡ Ok (record { world = v; entry = x }) → IsRunFrom v ys → IsRunSince (world_before w xs) (record { world = v; live = xs ++ x ∷ []; undone = ys })
 grown w v xs zs ys x e runs h rest =
-    let formed = now_formed (record { world = w; live = xs; undone = zs }) runs in
-    let same = start_stays w v xs x e formed h in
     let its : x.event ≡ e = step_event w e (record { world = v; entry = x }) h in
-    let goes : step w x.event ≡ Ok (record { world = v; entry = x }) = ap (step w) its ∙ h in
-    let last : run w (x.event ∷ []) ≡ Ok (record { world = v; entries = x ∷ [] }) =
-    run-cons w x.event [] (record { world = v; entry = x }) (record { world = v; entries = [] }) goes refl in
-    record {
-      well_formed = subst (λ (u : World). IsWellFormed u) (sym same) runs.well_formed;
-      live_ran =
-          ap (λ (u : World). run u (events (xs ++ x ∷ []))) same
-          ∙ ap (run (world_before w xs)) (map-append (λ (y : Entry). y.event) xs (x ∷ []))
-          ∙ run_joined (world_before w xs) (events xs) (x.event ∷ []) (record { world = w; entries = xs })
-          (record { world = v; entries = x ∷ [] }) runs.live_ran last;
-      undone_run_on = rest;
-    }
+    runs_since (world_before w xs) (record { world = v; live = xs ++ x ∷ []; undone = ys }) runs.well_formed
+    (ran_more (world_before w xs) w v xs x runs.live_ran (ap (step w) its ∙ h)) rest
 
 -- entries that run on from a step's world run on, after the step's entry, from the world before it
 pub preceded_entries : (x : Entry) (r : Result Ran Refusal) (ys : List Entry) → run_entries r ≡ Ok ys → run_entries (result_map (preceded_by x) r) ≡ Ok (x ∷ ys)
@@ -89,12 +93,11 @@ preceded_entries x r ys h = grind arith
 -- the same start, with the step's entry in front of the undone ones
 pub record MayTakeOut (w : World) (xs ys zs : List Entry) (x : Entry) : Type 0 where
   pub was : WasStepped w x
-  pub start : (v : World) → IsTakenOut w v x was → world_before v (xs ++ ys) ≡ world_before w (xs ++ x ∷ ys)
-  pub runs : (v : World) → IsTakenOut w v x was → IsRun (record { world = v; live = xs ++ ys; undone = x ∷ zs })
+  pub left : (v : World) → IsTakenOut w v x was → IsRunSince (world_before w (xs ++ x ∷ ys)) (record { world = v; live = xs ++ ys; undone = x ∷ zs })
 
 pub may_take_out : (w : World) (xs ys zs : List Entry) (x : Entry) → IsRun (record { world = w; live = xs ++ x ∷ ys; undone = zs })
     → IsFree x ys → MayTakeOut w xs ys zs x
-may_take_out w xs ys zs x runs free = record { was = was; start = start; runs = left }
+may_take_out w xs ys zs x runs free = record { was = was; left = left }
   where
     s : World
     s = world_before w (xs ++ x ∷ ys)
@@ -117,21 +120,11 @@ may_take_out w xs ys zs x runs free = record { was = was; start = start; runs = 
       free = free;
     }
 
-    others : (v : World) → IsTakenOut w v x was → run s (events (xs ++ ys)) ≡ Ok (record { world = v; entries = xs ++ ys })
-    others v out =
-        ap (run s) (map-append (λ (y : Entry). y.event) xs ys)
-        ∙ run_joined s (events xs) (events ys) (record { world = m.before; entries = xs }) (record { world = v; entries = ys }) m.ran out.rest
-
-    start : (v : World) → IsTakenOut w v x was → world_before v (xs ++ ys) ≡ s
-    start v out = goes_back s v (xs ++ ys) runs.well_formed (others v out)
-
-    left : (v : World) → IsTakenOut w v x was → IsRun (record { world = v; live = xs ++ ys; undone = x ∷ zs })
-    left v out = record {
-      well_formed = subst (λ (u : World). IsWellFormed u) (sym (start v out)) runs.well_formed;
-      live_ran = ap (λ (u : World). run u (events (xs ++ ys))) (start v out) ∙ others v out;
-      undone_run_on =
-          grind (arith, preceded_entries);
-    }
+    left : (v : World) → IsTakenOut w v x was → IsRunSince s (record { world = v; live = xs ++ ys; undone = x ∷ zs })
+    left v out =
+        let ran = run_joined s (events xs) (events ys) (record { world = m.before; entries = xs }) (record { world = v; entries = ys }) m.ran out.rest in
+        runs_since s (record { world = v; live = xs ++ ys; undone = x ∷ zs }) runs.well_formed (ap (run s) (map-append (λ (y : Entry). y.event) xs ys) ∙ ran)
+        (grind (arith, preceded_entries))
 
 -- a step that was just made may be undone, which gives the world before it
 pub record WasJustStepped (w v : World) (x : Entry) : Type 0 where
@@ -155,3 +148,47 @@ just_stepped w v e x formed goes = record {
   };
   back = undoes w e (record { world = v; entry = x }) formed goes;
 }
+
+-- the last of the steps that lead to a world may be undone, and then the others lead to what is
+-- left
+pub record MayStepBack (start w : World) (xs : List Entry) (x : Entry) : Type 0 where
+  pub was : WasStepped w x
+  pub left : LeadsTo start (unstep w x) xs
+
+pub may_step_back : (start w : World) (xs : List Entry) (x : Entry) → LeadsTo start w (xs ++ x ∷ []) → MayStepBack start w xs x
+may_step_back start w xs x leads =
+    let v = unstep w x in
+    let back : world_before w (xs ++ x ∷ []) ≡ start = goes_back start w (xs ++ x ∷ []) leads.well_formed leads.ran in
+    let may = may_take_out w xs [] [] x (grind arith) refl in
+    let out = taken_out w x may.was in
+    record {
+      was = may.was;
+      left =
+          subst (λ (l : List Entry). LeadsTo start v l) (append-nil xs)
+          (record { well_formed = leads.well_formed; ran = ap (λ (u : World). run u (events (xs ++ []))) (sym ((may.left v out).start ∙ back)) ∙ (may.left v out).runs.live_ran });
+    }
+
+-- the live steps lead from the start to the world
+pub live_lead : (j : Journal) (steps : List Entry) → IsRun j → steps ≡ j.live → LeadsTo (start_of j) j.world steps
+live_lead j steps runs all = subst (λ (xs : List Entry). LeadsTo (start_of j) j.world xs) (sym all) (record { well_formed = runs.well_formed; ran = runs.live_ran })
+
+-- no step leads from a world to that world alone
+pub led_nowhere : (start w : World) → LeadsTo start w [] → w ≡ start
+led_nowhere start w leads = grind arith
+
+-- the first n and one more
+pub one_more : {X : Type 0} (xs : List X) (n : ℕ) (x : X) → 1 ≤ n → n ≤ length xs → x ≡ get_or xs (n - 1) x → take n xs ≡ take (n - 1) xs ++ x ∷ []
+one_more {X} xs n x some within here = grind (arith, take_more)
+
+pub one_before : {X : Type 0} (xs : List X) (n : ℕ) (x : X) → 1 ≤ n → n ≤ length xs → x ≡ get_or xs (n - 1) x → drop (n - 1) xs ≡ x ∷ drop n xs
+one_before {X} xs n x some within here = grind (arith, drop_one_less)
+
+-- The event of an undone step
+
+-- none has this number
+pub event_missing : (xs : List Entry) (i : ℕ) → (i ≡ 0) ⊎ (length xs < i) → None ≡ numbered (events xs) i
+event_missing xs i h = grind (arith, slice_get-map, option_map, slice_get_past)
+
+-- it is that of the entry at its place
+pub event_found : (xs : List Entry) (i : ℕ) (x : Entry) → 1 ≤ i → i ≤ length xs → x ≡ get_or xs (i - 1) x → Some x.event ≡ numbered (events xs) i
+event_found xs i x some within here = grind (arith, slice_get, slice_get-get_or, slice_get-map, option_map)

@@ -1,9 +1,8 @@
 -- Undoing a journal's last live steps and redoing its first undone ones, and how the state changes.
-use Rattle.std.proofs.Common.{◌≡◌, ℕ, zero, suc, ◌+◌, ◌-◌, ◌≤◌, sym, ◌∙◌, ap, subst, List, ◌++◌, length, take, drop, Ok, arith, length-append}
-use Rattle.rd_journal.proofs.Prelude.{le-ltb, cond-false, append-nil, append_assoc, map-append, length-map, take-map, drop-map, take-append-drop, take-take, length-take-le, drop-append-le, drop-drop, World, run, IsWellFormed, Event, Entry, runs_to, Journal, events, world_before, start_of, IsRun, IsRunFrom, LeadsTo, IsSession, IsMovedBack, IsMovedForward, room_returned_by, HasRoom, state_of, back, forward}
+use Rattle.std.proofs.Common.{◌≡◌, ℕ, ◌+◌, ◌-◌, ◌≤◌, sym, ◌∙◌, ap, subst, List, ◌++◌, length, take, drop, Ok, arith, length-append}
+use Rattle.rd_journal.proofs.Prelude.{le-ltb, cond-false, append_assoc, map-append, length-map, take-map, drop-map, take-append-drop, World, run, Entry, runs_to, Journal, events, start_of, IsRun, IsRunFrom, LeadsTo, IsSession, IsMovedBack, IsMovedForward, room_returned_by, HasRoom, state_of, back, forward}
 use Rattle.rd_journal.specs.Journal.{run_entries}
-use Rattle.rd_journal.proofs.Runs.{run_joined, goes_back}
-use Rattle.rd_journal.proofs.Starting.{live_lead}
+use Rattle.rd_journal.proofs.Runs.{run_joined, runs_since, live_lead}
 use Rattle.rd_journal.proofs.Switching.{returned_joined, runs_on}
 
 -- What is left is a session
@@ -29,25 +28,24 @@ moved_back n left old new steps before after within session all many leads gives
     let s = start_of old in
     let k = length old.live - n in
     let l = take k old.live in
-    let u = drop k old.live ++ old.undone in
     let led : LeadsTo s new.world l =
     subst (λ (xs : List Entry). LeadsTo s new.world xs) (λ i. take (many i) (all i)) (leads s (live_lead old steps session.runs all)) in
-    let whole : new ≡ record { world = new.world; live = l; undone = u } = λ i. record { world = new.world; live = moved.live i; undone = moved.undone i } in
-    let back : world_before new.world l ≡ s = goes_back s new.world l led.well_formed led.ran in
-    let cut : l ++ u ≡ old.live ++ old.undone =
-    sym (append_assoc l (drop k old.live) old.undone) ∙ ap (λ (xs : List Entry). xs ++ old.undone) (take-append-drop k old.live) in
+    let cut : l ++ new.undone ≡ old.live ++ old.undone =
+    ap (λ (xs : List Entry). l ++ xs) moved.undone ∙ sym (append_assoc l (drop k old.live) old.undone)
+    ∙ ap (λ (xs : List Entry). xs ++ old.undone) (take-append-drop k old.live) in
+    let since = runs_since s new led.well_formed
+    (subst (λ (xs : List Entry). run s (events xs) ≡ Ok (record { world = new.world; entries = xs })) (sym moved.live) led.ran)
+    (runs_on s new.world l new.undone led.ran (subst (λ (xs : List Entry). IsRunFrom s xs) (sym cut) (whole_run old session.runs))) in
     let gone : drop left steps ≡ drop k old.live = λ i. drop (many i) (all i) in
     record {
-      session = subst (λ (j : Journal). IsSession j after) (sym whole) (record {
-        few = omega (arith, session.few, ap length cut, length-append l u, length-append old.live old.undone);
-        runs = record {
-          well_formed = subst (λ (w : World). IsWellFormed w) (sym back) led.well_formed;
-          live_ran = ap (λ (w : World). run w (events l)) back ∙ led.ran;
-          undone_run_on = runs_on s new.world l u led.ran (subst (λ (xs : List Entry). IsRunFrom s xs) (sym cut) (whole_run old session.runs));
-        };
-        has_room = record { at = λ m. omega (arith, session.has_room.at m, gives m, ap (λ (xs : List Entry). room_returned_by xs m) gone, returned_joined (drop k old.live) old.undone m) };
-      });
-      start = ap start_of whole ∙ back;
+      session = record {
+        few = omega (arith, session.few, ap length moved.live, ap length cut, length-append l new.undone, length-append old.live old.undone);
+        runs = since.runs;
+        has_room =
+            subst (λ (xs : List Entry). HasRoom xs after) (sym moved.undone)
+            (record { at = λ m. omega (arith, session.has_room.at m, gives m, ap (λ (xs : List Entry). room_returned_by xs m) gone, returned_joined (drop k old.live) old.undone m) });
+      };
+      start = since.start;
     }
 
 -- n steps forward, where they run to the world
@@ -56,26 +54,21 @@ pub moved_forward : (n : ℕ) (old new : Journal) (steps : List Entry) (before a
     → IsMovedForward n old new → IsMoved old new after
 moved_forward n old new steps before after session first goes has moved =
     let s = start_of old in
-    let l = old.live ++ steps in
-    let u = drop n old.undone in
-    let cut : steps ++ u ≡ old.undone = ap (λ (xs : List Entry). xs ++ u) first ∙ take-append-drop n old.undone in
-    let whole : new ≡ record { world = new.world; live = l; undone = u } =
-    λ i. record { world = new.world; live = (moved.live ∙ ap (λ (xs : List Entry). old.live ++ xs) (sym first)) i; undone = moved.undone i } in
-    let all : run s (events l) ≡ Ok (record { world = new.world; entries = l }) =
+    let live : new.live ≡ old.live ++ steps = moved.live ∙ ap (λ (xs : List Entry). old.live ++ xs) (sym first) in
+    let cut : steps ++ new.undone ≡ old.undone = (λ i. first i ++ moved.undone i) ∙ take-append-drop n old.undone in
+    let all : run s (events (old.live ++ steps)) ≡ Ok (record { world = new.world; entries = old.live ++ steps }) =
     ap (run s) (map-append (λ (x : Entry). x.event) old.live steps)
     ∙ run_joined s (events old.live) (events steps) (record { world = old.world; entries = old.live }) (record { world = new.world; entries = steps }) session.runs.live_ran goes in
-    let back : world_before new.world l ≡ s = goes_back s new.world l session.runs.well_formed all in
+    let since = runs_since s new session.runs.well_formed
+    (subst (λ (xs : List Entry). run s (events xs) ≡ Ok (record { world = new.world; entries = xs })) (sym live) all)
+    (runs_on old.world new.world steps new.undone goes (subst (λ (xs : List Entry). IsRunFrom old.world xs) (sym cut) session.runs.undone_run_on)) in
     record {
-      session = subst (λ (j : Journal). IsSession j after) (sym whole) (record {
-        few = omega (arith, session.few, ap length cut, length-append steps u, length-append old.live steps);
-        runs = record {
-          well_formed = subst (λ (w : World). IsWellFormed w) (sym back) session.runs.well_formed;
-          live_ran = ap (λ (w : World). run w (events l)) back ∙ all;
-          undone_run_on = runs_on old.world new.world steps u goes (subst (λ (xs : List Entry). IsRunFrom old.world xs) (sym cut) session.runs.undone_run_on);
-        };
-        has_room = has u (subst (λ (xs : List Entry). HasRoom xs before) (sym cut) session.has_room);
-      });
-      start = ap start_of whole ∙ back;
+      session = record {
+        few = omega (arith, session.few, ap length cut, ap length live, length-append steps new.undone, length-append old.live steps);
+        runs = since.runs;
+        has_room = has new.undone (subst (λ (xs : List Entry). HasRoom xs before) (sym cut) session.has_room);
+      };
+      start = since.start;
     }
 
 -- there is room for the first of some entries where there is for all

@@ -1,5 +1,5 @@
 -- The journal that entries are of in a world, and what a session keeps of it.
-use Rattle.std.specs.Prelude.{ℕ, ◌+◌, ◌≤◌, length, take}
+use Rattle.std.specs.Prelude.{ℕ, ◌+◌, ◌≤◌, length}
 use Rattle.rd_step.specs.Prelude.{World, MOST_STEPS}
 use Rattle.rd_journal.specs.declared.entries.Entries.{Entries}
 use Rattle.rd_journal.specs.Journal.{Journal, IsRun}
@@ -9,14 +9,6 @@ use Rattle.rd_journal.specs.Room.{HasRoom}
 -- the journal of a world and its entries, in which all that are ahead are undone
 abbrev pub whole_journal : World → Entries → Journal
 whole_journal w r = record { world = w; live = live_entries r; undone = ahead_entries r }
-
--- a journal in which no more than the first n of these are undone
-abbrev pub with_undone : ℕ → Journal → Journal
-with_undone n j = record { world = j.world; live = j.live; undone = take n j.undone }
-
--- the journal of a world and its entries, of which the first n that are ahead are undone
-abbrev pub journal_of : World → Entries → ℕ → Journal
-journal_of w r n = with_undone n (whole_journal w r)
 
 -- a session's journal is one run that leads through its world, with no more entries than may be
 -- live, and there is room for all that is undone

@@ -7,15 +7,14 @@ use Rattle.rd_journal.specs.declared.sessions.Session.{Session}
 use Rattle.rd_step.specs.declared.entries.Event.{Event}
 use Rattle.rd_step.specs.declared.entries.Entry.{Entry}
 use Rattle.rd_journal.specs.Journal.{Journal, events}
-use Rattle.rd_journal.specs.Kept.{journal_of}
-use Rattle.rd_journal.specs.Entries.{ahead_entries, entries_capacity}
+use Rattle.rd_journal.specs.Entries.{live_entries, ahead_entries, entries_capacity}
 use Rattle.rd_journal.specs.Room.{IsOutOfMemory, LacksRoom}
 use Rattle.rd_journal.specs.State.{State, state_of, apply}
 use Rattle.rd_cell.specs.declared.refusal.Refusal.TheVariants as refusal
 
--- the session's world and entries
+-- the session's world and entries: of those ahead, the first ones are undone
 abbrev pub journal : {R : ℕ} → Session R → Journal
-journal s = journal_of (model s.world) s.entries s.undone
+journal s = record { world = model s.world; live = live_entries s.entries; undone = take s.undone (ahead_entries s.entries) }
 
 -- the session's start, live events and undone events
 abbrev pub state : {R : ℕ} → Session R → State

@@ -9,14 +9,14 @@ ghost use Rattle.rd_journal.specs.State.{State, state_of, undo_at, back, redo, f
 
 /// The loop lemma for states: going back and then forward as far gives the start, the live events
 /// and the undone events from before.
-#[tactic(auto, using(crate::proofs::There::forward_back))]
+#[tactic(auto, using(crate::proofs::LawLemmas::forward_back))]
 pub fn forward_after_back_gives_the_state_back()
     ensures { (s t : State) (n : ℕ) → back s n ≡ Ok t → forward t n ≡ Ok s }
 {}
 
 /// A start, live events and undone events determine the world and every entry: what a call does to
 /// the state determines what it does to the whole session.
-#[tactic(auto, using(crate::proofs::There::one_journal))]
+#[tactic(auto, using(crate::proofs::LawLemmas::one_journal))]
 pub fn a_state_has_one_journal()
     ensures { (i j : Journal) → IsRun i → IsRun j → state_of i ≡ state_of j → i ≡ j }
 {}
@@ -24,7 +24,7 @@ pub fn a_state_has_one_journal()
 /// The loop lemma: going back and then forward as far gives the world and every entry, live and
 /// undone, from before. For one step it is among the laws of rd_step, as
 /// `entries_undo_their_steps`.
-#[tactic(auto, using(crate::proofs::There::forward_back_journal))]
+#[tactic(auto, using(crate::proofs::LawLemmas::forward_back_journal))]
 pub fn forward_after_back_gives_the_journal_back()
     ensures { (i j k : Journal) (n : ℕ) → IsRun i → IsRun k → back (state_of i) n ≡ Ok (state_of j)
         → forward (state_of j) n ≡ Ok (state_of k) → k ≡ i }
@@ -37,7 +37,7 @@ pub fn the_start_has_the_ring_of_the_world()
 
 /// The live events followed by the undone ones are one run from the start. So the front of the
 /// undone ones can always be redone.
-#[tactic(auto, using(crate::proofs::RedoneLast::one_run))]
+#[tactic(auto, using(crate::proofs::Walks::whole_run))]
 pub fn live_and_undone_are_one_run()
     ensures { (j : Journal) → IsRun j → IsOneRun j }
 {}

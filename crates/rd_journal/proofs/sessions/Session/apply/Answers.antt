@@ -1,11 +1,9 @@
 use Rattle.std.proofs.Common.{ℕ, Err, ◌≡◌, ◌∙◌, ◌<◌, List, [], ◌∷◌, ◌++◌, length, take, drop, inl, inr, refl, sym, ap, subst, arith}
-use Rattle.rd_journal.proofs.Prelude.{append-nil, take_all, take-append-le, drop-append_seam, Entry, HasRoomInstead, kept_entries, model, room, MOST_STEPS, error_passed_up, fact_passed_up, ok_then, IsLengthened, whole_journal, journal_of, live_entries, ahead_entries, journal}
-use Rattle.rd_journal.proofs.Ahead.{is_session, none_taken}
+use Rattle.rd_journal.proofs.Prelude.{append-nil, take_all, take-append-le, drop-append_seam, Entry, HasRoomInstead, kept_entries, model, room, MOST_STEPS, error_passed_up, fact_passed_up, ok_then, IsLengthened, whole_journal, live_entries, ahead_entries, journal}
+use Rattle.rd_journal.proofs.Ahead.{with_undone, is_session, none_taken}
 use Rattle.rd_journal.proofs.Calls.{apply_refused, apply_goes, longer_session, still, unchanged, said_of_state}
-use Rattle.rd_journal.proofs.Outcomes.{err_then}
+use Rattle.rd_journal.proofs.RoomLemmas.{err_then, lacks_fewer, stepped_back}
 use Rattle.rd_journal.proofs.EntryLemmas.{full_entries}
-use Rattle.rd_journal.proofs.IndexRoom.{lacks_fewer}
-use Rattle.rd_journal.proofs.RoomLemmas.{stepped_back}
 use Rattle.rd_journal.proofs.Runs.{now_formed, just_stepped}
 use Rattle.rd_journal.proofs.sessions.Session.apply.Goals as goal
 use Rattle.rd_cell.specs.declared.refusal.Refusal.TheVariants as refusal
@@ -21,7 +19,7 @@ returns-in_err-make_room_for-clause-memory g c =
     let less : length (journal self).live < MOST_STEPS = omega (arith, c.live_len.ensures, self.kept.few) in
     let full = full_entries self.entries (omega (arith, c.in_err-make_room_for.ensures.err, c.live_len-live.ensures)) in
     error_passed_up _ refusal.NoMemory c.from_residual.result c.from_residual.ensures.1
-    (inr (refl, record { not_full = less; asked = inl (none_taken self.undone (ahead_entries self.entries) full.none, full.filled) }))
+    (inr (refl, record { not_full = less; asked = inl (none_taken self.undone (ahead_entries self.entries) full.0, full.1) }))
 
 pub returns-in_err-make_room_for-clause-err : goal.returns-in_err-make_room_for-clause-err
 returns-in_err-make_room_for-clause-err g c = said_of_state c.args.self.now c.args.event c.from_residual.result (returns-in_err-make_room_for-clause-memory g c)
@@ -132,7 +130,7 @@ pub returns-clause-ok : goal.returns-clause-ok
 returns-clause-ok g c =
     let self = c.args.self.now in
     let old = journal self in
-    let new = journal_of (model c.step.new.self) c.exchange.new.self 0 in
+    let new = with_undone 0 (whole_journal (model c.step.new.self) c.exchange.new.self) in
     let less : length old.live < MOST_STEPS = omega (arith, c.live_len.ensures, self.kept.few) in
     let whole : take c.live_len-live.result (live_entries c.make_room_for.new.self) ≡ old.live =
     ap (take c.live_len-live.result) c.make_room_for.ensures.live ∙ take_all c.live_len-live.result old.live (omega (arith, c.live_len-live.ensures)) in

@@ -2,7 +2,7 @@ use Rattle.std.proofs.Common.{◌-◌, inl, inr, arith}
 use Rattle.rd_journal.proofs.Prelude.{journal}
 use Rattle.rd_journal.proofs.Ahead.{is_session}
 use Rattle.rd_journal.proofs.Calls.{entry_missing, entry_found}
-use Rattle.rd_journal.proofs.Words.{step_after}
+use Rattle.rd_journal.proofs.LawLemmas.{step_after}
 use Rattle.rd_journal.proofs.sessions.Session.entry.Goals as goal
 use Rattle.rd_journal.proofs.sessions.Session.entry.Goals.{then-k-eq0-via-then-k-eq0, then-k-eq0-via-else-k-eq0+then-k-len}
 

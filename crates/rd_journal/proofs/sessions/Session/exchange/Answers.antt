@@ -1,8 +1,8 @@
 use Rattle.std.proofs.Common.{◌≡◌, ◌∙◌, ◌≤◌, ℕ, List, ◌++◌, length, take, drop, refl, ap, subst, arith}
-use Rattle.rd_journal.proofs.Prelude.{append-nil, length-take-le, take-append-le, drop_at, drop-append-le, error_passed_up, HasRoomInstead, model, room, Entry, IsIndexOf, start_of, whole_journal, journal_of, live_entries, ahead_entries, journal}
-use Rattle.rd_journal.proofs.Ahead.{is_session}
-use Rattle.rd_journal.proofs.IndexRoom.{lacks_fewer}
-use Rattle.rd_journal.proofs.Starting.{live_lead}
+use Rattle.rd_journal.proofs.Prelude.{append-nil, length-take-le, take-append-le, drop_at, drop-append-le, error_passed_up, HasRoomInstead, model, room, Entry, IsIndexOf, start_of, whole_journal, live_entries, ahead_entries, journal}
+use Rattle.rd_journal.proofs.Ahead.{with_undone, is_session}
+use Rattle.rd_journal.proofs.RoomLemmas.{lacks_fewer}
+use Rattle.rd_journal.proofs.Runs.{live_lead}
 use Rattle.rd_journal.proofs.Switching.{may_exchange, exchanged}
 use Rattle.rd_journal.proofs.sessions.Session.exchange.Goals as goal
 use Rattle.rd_cell.specs.declared.refusal.Refusal.TheVariants as refusal
@@ -66,7 +66,7 @@ returns-clause-state g c =
     let j = journal self in
     let n = c.args.n in
     let given = c.args.given.now in
-    (exchanged n j (journal_of (model c.step_all.new.world) c.exchange.new.self 0) given c.behind.result c.live.result (model c.undo_after.new.world) (room c.step_all.new.world)
+    (exchanged n j (with_undone 0 (whole_journal (model c.step_all.new.world) c.exchange.new.self)) given c.behind.result c.live.result (model c.undo_after.new.world) (room c.step_all.new.world)
     (is_session self).runs c.requires.within c.requires.few c.live.ensures c.undo_after.ensures.leads
     (given_again j.live given _ _ _ n c.requires.within c.behind.ensures c.live-2.ensures c.exchange.ensures.live) c.step_all.ensures.ran
     (record { live = c.exchange.ensures.live; undone = refl })).state

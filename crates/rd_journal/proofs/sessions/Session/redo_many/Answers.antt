@@ -1,5 +1,5 @@
-use Rattle.rd_journal.proofs.Prelude.{common_steps, length-take, take-append-drop, model, room, run, Entry, IsIndexOf, events, whole_journal, journal_of, IsMovedForward, HasRoom, journal}
-use Rattle.std.proofs.Common.{◌≡◌, ◌-◌, ◌++◌, ◌∙◌, Ok, List, length, take, drop, sym, ap, subst, arith, length-drop}
+use Rattle.rd_journal.proofs.Prelude.{common_steps, length-take, model, room, Entry, IsIndexOf, whole_journal, IsMovedForward, journal}
+use Rattle.std.proofs.Common.{List, length, sym, ap, subst, arith, length-drop}
 use Rattle.rd_journal.proofs.Ahead.{first_run, forward_undone}
 use Rattle.rd_journal.proofs.Walks.{moved_forward, room_first, state_forward}
 use Rattle.rd_journal.proofs.sessions.Session.redo_many.Goals as goal

@@ -1,7 +1,7 @@
 use Rattle.std.proofs.Common.{sym, subst, arith}
 use Rattle.rd_journal.proofs.Prelude.{World, model, start_of, LeadsTo, journal}
 use Rattle.rd_journal.proofs.Ahead.{is_session}
-use Rattle.rd_journal.proofs.Starting.{live_lead, led_nowhere}
+use Rattle.rd_journal.proofs.Runs.{live_lead, led_nowhere}
 use Rattle.rd_journal.proofs.sessions.Session.start_world.Goals as goal
 
 pub undo_after-requires : goal.undo_after-requires

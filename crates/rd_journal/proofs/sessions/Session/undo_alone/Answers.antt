@@ -1,4 +1,4 @@
-use Rattle.std.proofs.Common.{ℕ, ◌+◌, ◌∙◌, List, ap, sym, subst, arith, length, rules}
+use Rattle.std.proofs.Common.{ℕ, ◌∙◌, List, ap, sym, subst, arith, length}
 use Rattle.rd_journal.proofs.Prelude.{model, room, Entry, IsIndexOf, moved_to, kept_entries, IsUndoneAlone, whole_journal}
 use Rattle.rd_journal.proofs.Ahead.{out_undone}
 use Rattle.rd_journal.proofs.LoneUndo.{IsNumber, may_undo_at, taken_out_front, taken_out_few}
@@ -26,7 +26,7 @@ invariant_of-self g c =
     record {
       kept = record {
         few = taken_out_few c.args.k old new x at moved self.kept.few;
-        runs = may.runs new (c.unstep.ensures.taken_out may.was) moved;
+        runs = (may.left new (c.unstep.ensures.taken_out may.was) moved).runs;
         has_room = given_back old.undone new.undone x (room self.world) (room c.unstep.new.world) front self.kept.has_room c.unstep.ensures.room;
       };
       within = omega (arith, self.within, ap length front);
@@ -36,11 +36,8 @@ invariant_of-self g c =
           (c.move_to.ensures.moved (kept_entries self.entries) self.indexed);
     }
 
-pub returns-clause-entries : goal.returns-clause-entries
-returns-clause-entries g c = search (rules, out_undone, arith)
-
-pub returns-clause-start : goal.returns-clause-start
-returns-clause-start g c =
+pub returns : goal.returns
+returns g c =
     let self = c.args.self.now in
     let old = whole_journal (model self.world) self.entries in
     let new = whole_journal (model c.unstep.new.world) c.undo_alone.new.self in
@@ -48,4 +45,8 @@ returns-clause-start g c =
     let at : IsNumber old.live c.args.k x = record { some = c.requires.some; within = c.requires.position; here = c.live_at.ensures } in
     let moved : IsUndoneAlone c.args.k old new = record { live = c.undo_alone.ensures.live; undone = c.undo_alone.ensures.ahead } in
     let may = may_undo_at old c.args.k x at c.requires.free self.kept.runs in
-    may.start new (c.unstep.ensures.taken_out may.was) moved
+    record {
+      entries = out_undone self.undone c.args.k old new c.requires.some c.requires.position moved;
+      start = (may.left new (c.unstep.ensures.taken_out may.was) moved).start;
+      capacity = c.undo_alone.ensures.capacity;
+    }

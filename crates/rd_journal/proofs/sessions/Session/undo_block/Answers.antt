@@ -1,8 +1,8 @@
-use Rattle.rd_journal.proofs.Prelude.{common_steps, append-nil, length-take-le, take_at, drop_at, take-append-le, drop-append-le, model, room, closure_of, without_closure, Entry, IsIndexOf, HasRoomFor, live_entries, ahead_entries, kept_entries, whole_journal, journal_of, journal}
+use Rattle.rd_journal.proofs.Prelude.{common_steps, append-nil, length-take-le, take_at, drop_at, take-append-le, drop-append-le, model, room, closure_of, without_closure, Entry, IsIndexOf, HasRoomFor, live_entries, ahead_entries, kept_entries, whole_journal, journal}
 use Rattle.std.proofs.Common.{◌≡◌, ◌∙◌, ◌-◌, List, [], ◌++◌, refl, ap, subst, arith, take, drop, length}
-use Rattle.rd_journal.proofs.Ahead.{is_session}
+use Rattle.rd_journal.proofs.Ahead.{with_undone, is_session}
 use Rattle.rd_journal.proofs.Finding.{cut_before}
-use Rattle.rd_journal.proofs.IndexRoom.{fits_none, fits_back, fits_turned}
+use Rattle.rd_journal.proofs.RoomLemmas.{fits_none, fits_back, fits_turned}
 use Rattle.rd_journal.proofs.RolledBack.{IsGatheredLast, gathered_session, rolled_start}
 use Rattle.rd_journal.proofs.sessions.Session.undo_block.Goals as goal
 
@@ -62,7 +62,7 @@ returns-clause-entries g c = grind (arith, common_steps)
 pub returns-clause-start : goal.returns-clause-start
 returns-clause-start g c =
     let self = c.args.self.now in
-    let mid = journal_of (model self.world) c.gather_closure-count.new.self self.undone in
+    let mid = with_undone self.undone (whole_journal (model self.world) c.gather_closure-count.new.self) in
     let said = c.gather_closure-count.ensures in
     let gathered : IsGatheredLast c.args.k (journal self) mid = record { world = refl; live = said.live; undone = ap (take self.undone) said.ahead; len = said.len } in
     rolled_start c.args.k c.gather_closure-count.result (journal self) mid (journal c.undo_many.new.self) (is_session self).runs c.requires.some

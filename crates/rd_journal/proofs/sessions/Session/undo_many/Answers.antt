@@ -1,7 +1,7 @@
-use Rattle.std.proofs.Common.{◌-◌, ◌+◌, ℕ, length, drop, refl, sym, ap, subst, arith, length-append, length-drop, rules, List}
-use Rattle.rd_journal.proofs.Prelude.{model, room, Entry, IsIndexOf, start_of, whole_journal, journal_of, IsMovedBack, journal}
+use Rattle.std.proofs.Common.{◌-◌, ℕ, length, drop, refl, sym, ap, subst, arith, length-append, length-drop, List}
+use Rattle.rd_journal.proofs.Prelude.{model, room, Entry, IsIndexOf, start_of, whole_journal, IsMovedBack, journal}
 use Rattle.rd_journal.proofs.Ahead.{back_undone, track_back}
-use Rattle.rd_journal.proofs.Starting.{live_lead}
+use Rattle.rd_journal.proofs.Runs.{live_lead}
 use Rattle.rd_journal.proofs.Walks.{moved_back, state_back}
 use Rattle.rd_journal.proofs.sessions.Session.undo_many.Goals as goal
 
@@ -40,7 +40,7 @@ returns g c =
     record {
       entries = of_undone;
       state =
-          state_back n (journal self) (journal_of new.world c.step_back.new.self (self.undone + n)) c.requires.enough
+          state_back n (journal self) _ c.requires.enough
           (moved_back n _ old new c.live.result (room self.world) (room c.undo_after.new.world) c.requires.enough self.kept c.live.ensures
           (ap (λ (m : ℕ). m - n) c.live_len.ensures) c.undo_after.ensures.leads c.undo_after.ensures.room moved).start of_undone;
       along = record { track = track_back n old new moved; index = refl; capacity = c.step_back.ensures.capacity };

@@ -1,8 +1,8 @@
 use Rattle.std.proofs.Common.{◌≡◌, ◌∙◌, ◌+◌, ◌<◌, List, [], ◌∷◌, ◌++◌, Ok, take, drop, length, refl, sym, ap, subst, arith}
-use Rattle.rd_journal.proofs.Prelude.{drop_all, map-append, take_all, take_more, World, Stepped, model, room, run, Entry, first_step, run-cons, events, IsRunFrom}
+use Rattle.rd_journal.proofs.Prelude.{drop_all, take_all, take_more, World, Stepped, model, room, run, Entry, first_step, events, IsRunFrom}
 use Rattle.rd_journal.proofs.ListLemmas.{drop_one_less}
 use Rattle.rd_journal.proofs.RoomLemmas.{redo_room, redone_room}
-use Rattle.rd_journal.proofs.Runs.{run_joined}
+use Rattle.rd_journal.proofs.Runs.{ran_more}
 use Rattle.rd_journal.proofs.sessions.starting.step_all.Goals as goal
 
 pub loop-next-init : goal.loop-next-init
@@ -35,16 +35,11 @@ loop-next-preserved g c =
     let first = first_step w x (drop (n + 1) xs) (subst (λ (ys : List Entry). IsRunFrom w ys) here c.loop-next.invariant.rest) in
     let both : record { world = first.after; entry = x } ≡ record { world = v; entry = x } = cc (first.goes, c.step_again.ensures.done) in
     let same : first.after ≡ v = ap (λ (s : Stepped). s.world) both in
-    let one : run w (x.event ∷ []) ≡ Ok (record { world = v; entries = x ∷ [] }) =
-    run-cons w x.event [] (record { world = v; entry = x }) (record { world = v; entries = [] }) c.step_again.ensures.done refl in
     let more : take (n + 1) xs ≡ take n xs ++ x ∷ [] = take_more xs n x within ∙ ap (λ (y : Entry). take n xs ++ y ∷ []) (sym c.at.ensures) in
     record {
       ran =
-          ap (λ (ys : List Entry). run (model c.args.world.now) (events ys)) more
-          ∙ ap (run (model c.args.world.now)) (map-append (λ (y : Entry). y.event) (take n xs) (x ∷ []))
-          ∙ run_joined (model c.args.world.now) (events (take n xs)) (x.event ∷ []) (record { world = w; entries = take n xs })
-          (record { world = v; entries = x ∷ [] }) c.loop-next.invariant.ran one
-          ∙ ap (λ (ys : List Entry). Ok (record { world = v; entries = ys })) (sym more);
+          subst (λ (ys : List Entry). run (model c.args.world.now) (events ys) ≡ Ok (record { world = v; entries = ys })) (sym more)
+          (ran_more (model c.args.world.now) w v (take n xs) x c.loop-next.invariant.ran c.step_again.ensures.done);
       rest = subst (λ (u : World). IsRunFrom u (drop (n + 1) xs)) same first.rest;
       room =
           redone_room w v (drop n xs) (drop (n + 1) xs) x (room c.loop-next.world) (room c.step_again.new.self) here c.step_again.ensures.done
@@ -56,10 +51,8 @@ loop-next-preserved g c =
 
 pub returns-clause-ran : goal.returns-clause-ran
 returns-clause-ran g c =
-    let xs = c.args.steps.now in
-    let all : take c.loop-next.next xs ≡ xs = take_all c.loop-next.next xs (omega (arith, c.loop-next-test.false, c.len-next-end.ensures)) in
-    ap (λ (ys : List Entry). run (model c.args.world.now) (events ys)) (sym all) ∙ c.loop-next.invariant.ran
-    ∙ ap (λ (ys : List Entry). Ok (record { world = model c.loop-next.world; entries = ys })) all
+    subst (λ (ys : List Entry). run (model c.args.world.now) (events ys) ≡ Ok (record { world = model c.loop-next.world; entries = ys }))
+    (take_all c.loop-next.next c.args.steps.now (omega (arith, c.loop-next-test.false, c.len-next-end.ensures))) c.loop-next.invariant.ran
 
 pub returns-clause-room : goal.returns-clause-room
 returns-clause-room g c = grind (arith, drop_all, c.loop-next-test.false, c.len-next-end.ensures, c.loop-next.invariant.more)

@@ -1,0 +1,140 @@
+-- What the laws state: going back and forward again, steps undone out of their order and redone, and
+-- the old words of an entry.
+use Rattle.std.proofs.Common.{◌≡◌, ℕ, sym, ◌∙◌, Ok, arith, length-append, length-drop, ◌-◌, ◌≤◌, refl, ap, List, [], ◌∷◌, ◌++◌, length, take, drop, Option, Some, None, Result, subst, get_or, ◌+◌, ◌<◌}
+use Rattle.rd_journal.proofs.Prelude.{le-ltb, ltb-false, cond-false, take_at, drop_at, take-append-drop, Journal, IsRun, State, state_of, back, forward, length-map, first_dependant, Ran, step, unstep, Entry, IsTakenOut, taken_out, IsMovedLast, IsUndoneAlone, run_of, live_event, undo_at, redo, and_then, Refusal, result_map, map-append, World, closure, closure_of, without_closure, Event, events, start_of, IsClosureLast, undone_marked, roll, take-map, run, IsWellFormed, run_keeps, IsStepAfter, middle}
+use Rattle.rd_journal.proofs.Runs.{as_ok, as_ok-same, step_event, grown}
+use Rattle.rd_journal.proofs.ListLemmas.{nth, drop_one_less}
+use Rattle.rd_journal.proofs.LoneUndo.{IsNumber, from_it, may_undo_at, undo_at_goes}
+use Rattle.rd_journal.proofs.Calls.{is_live, went_through}
+use Rattle.rd_journal.proofs.Walks.{state_forward}
+use Rattle.rd_journal.proofs.RolledBack.{closure_last, reordered, marked-map, unmarked-map}
+use Rattle.rd_step.proofs.OldWords.{keeps_old_words}
+
+-- going forward as far gives the state from before
+pub forward_back : (s t : State) (n : ℕ) → back s n ≡ Ok t → forward t n ≡ Ok s
+forward_back s t n h = grind (arith, le-ltb, ltb-false, cond-false, take_at, drop_at, take-append-drop, length-append, length-drop)
+
+-- a state has one journal
+pub one_journal : (i j : Journal) → IsRun i → IsRun j → state_of i ≡ state_of j → i ≡ j
+one_journal i j ri rj same = grind arith
+
+-- going forward as far gives the journal from before
+pub forward_back_journal : (i j k : Journal) (n : ℕ) → IsRun i → IsRun k → back (state_of i) n ≡ Ok (state_of j)
+    → forward (state_of j) n ≡ Ok (state_of k) → k ≡ i
+forward_back_journal i j k n ri rk went goes =
+    let both : as_ok (state_of k) ≡ Ok (state_of i) = sym goes ∙ forward_back (state_of i) (state_of j) n went in
+    one_journal k i rk ri (as_ok-same (state_of k) (state_of i) both)
+
+-- Calls that were not refused
+
+-- a lone undo that was not refused, where the live steps ran so
+went_out : (s t : State) (r : Ran) (n : ℕ) → run_of s ≡ Ok r → undo_at s n ≡ Ok t → (1 ≤ n) × (n ≤ length s.live) × (first_dependant r.entries n ≡ None)
+went_out s t r n ran h =
+    let live = went_through (live_event s n) _ t h in
+    let of_live = is_live s n live.0 live.1 in
+    (of_live.0, of_live.1, free (first_dependant r.entries n) refl)
+  where
+    free : (found : Option ℕ) → first_dependant r.entries n ≡ found → found ≡ None
+    free None is = refl
+    free (Some k) is = absurd (grind (arith, ran, h))
+
+-- Redone last
+
+-- the journal where the n-th live step, which is x, was undone alone and redone
+abbrev pub again_journal : Journal → ℕ → Entry → Journal
+again_journal old n x = record { world = old.world; live = (take (n - 1) old.live ++ drop n old.live) ++ x ∷ []; undone = old.undone }
+
+again : (old : Journal) (n : ℕ) (x : Entry) → IsNumber old.live n x → first_dependant old.live n ≡ None → IsRun old
+    → IsRun (again_journal old n x) × (and_then (undo_at (state_of old) n) redo ≡ Ok (state_of (again_journal old n x)))
+again old n x at none runs =
+    let may = may_undo_at old n x at none runs in
+    let v = unstep old.world x in
+    let out : IsTakenOut old.world v x may.was = taken_out old.world x may.was in
+    let xs = take (n - 1) old.live ++ drop n old.live in
+    let left : Journal = record { world = v; live = xs; undone = x ∷ old.undone } in
+    let moved : IsUndoneAlone n old left = record { live = refl; undone = sym (ap (λ (ys : List Entry). take 1 ys ++ old.undone) (from_it old.live n x at)) } in
+    let is = may.left left out moved in
+    let its : x.event ≡ may.was.event = step_event v may.was.event (record { world = old.world; entry = x }) out.again in
+    let goes : step v x.event ≡ Ok (record { world = old.world; entry = x }) = ap (step v) its ∙ out.again in
+    let back_on = grown v old.world xs (x ∷ old.undone) old.undone x x.event is.runs goes runs.undone_run_on in (
+      back_on.runs,
+      ap (λ (r : Result State Refusal). and_then r redo) (undo_at_goes n old left runs at.some at.within none moved is.start).0
+          ∙ state_forward 1 left (again_journal old n x) (omega arith) back_on.start (record { live = refl; undone = refl }),
+    )
+
+pub redone_last : (i j k : Journal) (n : ℕ) → IsRun i → IsRun k → undo_at (state_of i) n ≡ Ok (state_of j)
+    → redo (state_of j) ≡ Ok (state_of k) → IsMovedLast n i k
+redone_last i j k n ri rk undone redone =
+    let went = went_out (state_of i) (state_of j) (record { world = i.world; entries = i.live }) n ri.live_ran undone in
+    let len = length-map i.live (λ (x : Entry). x.event) in
+    let within : n ≤ length i.live = omega (arith, went.1) in
+    let found = nth i.live (n - 1) (omega arith) in
+    let at : IsNumber i.live n found.0 = record { some = went.0; within = within; here = found.1 } in
+    let is = again i n found.0 at went.2 ri in
+    let same : state_of k ≡ state_of (again_journal i n found.0) =
+    as_ok-same _ _ (sym redone ∙ ap (λ (r : Result State Refusal). and_then r redo) (sym undone) ∙ is.1) in
+    let one : k ≡ again_journal i n found.0 = one_journal k (again_journal i n found.0) rk is.0 same in
+    record {
+      world = ap (λ (l : Journal). l.world) one;
+      live =
+          grind (arith, from_it);
+      undone = ap (λ (l : Journal). l.undone) one;
+    }
+
+-- redoing this many steps puts them last
+forward_all : (w : World) (n : ℕ) (xs ys zs : List Event) → n ≡ length ys
+    → forward (record { start = w; live = xs; undone = ys ++ zs }) n ≡ Ok (record { start = w; live = xs ++ ys; undone = zs })
+forward_all w n xs ys zs len = grind (arith, le-ltb, cond-false, length-append, take_at, drop_at)
+
+-- a rollback that was not refused, where the live steps ran so
+rolled : (s t : State) (r : Ran) (n : ℕ) → run_of s ≡ Ok r → roll s n ≡ Ok t → (1 ≤ n) × (n ≤ length s.live) × (t ≡ undone_marked s (closure r.entries n))
+rolled s t r n ran k =
+    let live = went_through (live_event s n) (λ _. result_map (λ (q : Ran). undone_marked s (closure q.entries n)) (run_of s)) t k in
+    let of_live = is_live s n live.0 live.1 in
+    (of_live.0, of_live.1, grind arith)
+
+pub closure_redone : (i j k : Journal) (n : ℕ) → IsRun i → IsRun k → roll (state_of i) n ≡ Ok (state_of j)
+    → forward (state_of j) (length (closure_of i.live n)) ≡ Ok (state_of k) → IsClosureLast n i k
+closure_redone i j k n ri rk back on =
+    let went = rolled (state_of i) (state_of j) (record { world = i.world; entries = i.live }) n ri.live_ran back in
+    let its = λ (x : Entry). x.event in
+    let within : n ≤ length i.live = omega (arith, went.1, length-map i.live its) in
+    let re = reordered i n went.0 within ri in
+    let ms = closure i.live n in
+    let xs = without_closure i.live n in
+    let ys = closure_of i.live n in
+    let left : state_of j ≡ record { start = start_of i; live = events xs; undone = events ys ++ events i.undone } =
+    grind (arith, went.2, unmarked-map, marked-map) in
+    let there : state_of k ≡ record { start = start_of i; live = events xs ++ events ys; undone = events i.undone } =
+    as_ok-same _ _ (sym on ∙ ap (λ (s : State). forward s (length ys)) left ∙ forward_all (start_of i) (length ys) (events xs) (events ys) (events i.undone) (sym (length-map ys its))) in
+    let same : state_of k ≡ state_of (closure_last i n) =
+    there ∙ (λ t. record { start = sym re.start t; live = sym (map-append its xs ys) t; undone = events i.undone }) in
+    let one : k ≡ closure_last i n = one_journal k (closure_last i n) rk re.runs same in
+    record {
+      world = ap (λ (l : Journal). l.world) one;
+      live = ap (λ (l : Journal). l.live) one;
+      undone = ap (λ (l : Journal). l.undone) one;
+    }
+
+-- the entry at a position among the live ones
+pub step_after : (j : Journal) (k : ℕ) (x : Entry) → IsRun j → k < length j.live → x ≡ get_or j.live k x → IsStepAfter k j x
+step_after j k x runs low at =
+    let w = j.world in
+    let xs = take k j.live in
+    let ys = drop (k + 1) j.live in
+    let cut : j.live ≡ xs ++ x ∷ ys =
+    sym (take-append-drop k j.live) ∙ ap (λ (zs : List Entry). xs ++ zs) (drop_one_less j.live k x low at) in
+    let start = start_of j in
+    let ran : run start (events (xs ++ x ∷ ys)) ≡ Ok (record { world = w; entries = xs ++ x ∷ ys }) =
+    subst (λ (zs : List Entry). run start (events zs) ≡ Ok (record { world = w; entries = zs })) cut runs.live_ran in
+    let m = middle start xs x ys w ran in
+    let formed : IsWellFormed m.before = run_keeps start (events xs) (record { world = m.before; entries = xs }) runs.well_formed m.ran in
+    let words = keeps_old_words m.before x.event (record { world = m.after; entry = x }) formed m.goes in
+    record {
+      before = m.before;
+      ran = ap (run start) (take-map (λ (y : Entry). y.event) k j.live) ∙ m.ran;
+      after = m.after;
+      goes = m.goes;
+      old_actor = words.actor;
+      old_content = words.content;
+    }
