@@ -1,22 +1,17 @@
 -- Draws, by a pass that is willing to wait and by one that isn't.
-use Rattle.std.proofs.Common.{◌≡◌, ◌≢◌, ℕ, ◌+◌, ◌^◌, ◌<◌, eqb, List, [], ◌∷◌, set, sym, refl, ap, ◌∙◌, subst, inl, inr, arith, eq-eqb, ne_eqb}
-use Rattle.rd_lock.proofs.Prelude.{AllByRecursion, Allows, Continues, Draws, Facts, HasTicket, Holds, IsAloneAt, IsFound, IsKept, IsPlaced, Lock, LockRule, MemberFits, Out, PassView, Place, Stage, StageFits, Tries, View, Waits, after_next, away, dite, either, get_elem?, home, keeps, knows_next, set_else, set_here, some, some-injective, some-ne-none, ticket, view_of, ℕ_discrete}
+use Rattle.std.proofs.Common.{◌≡◌, ◌≢◌, ℕ, ◌+◌, ◌^◌, ◌<◌, eqb, List, [], ◌∷◌, set, sym, refl, ap, ◌∙◌, subst, arith, eq-eqb, ne_eqb, length, Option}
+use Rattle.rd_lock.proofs.Prelude.{AllByRecursion, Allows, Continues, Draws, Facts, HasTicket, Holds, IsAloneAt, IsFound, IsKept, IsPlaced, LoadsServed, Lock, LockRule, Me, MemberFits, Out, PassView, Place, Stage, StageFits, Tries, View, Waits, ℕ_discrete, after_next, away, dite, either, get_elem?, home, in_hand, keeps, knows_next, knows_served, only, set_here, some, some-ne-none, ticket, view_of}
 use Rattle.rd_lock.proofs.Lists.{inside}
 use Rattle.rd_lock.proofs.Facts.{put, put_here, put_else}
-use Rattle.rd_lock.proofs.Keeps.{alone_with, moved, allowed, Owed, unmoved, takes_home}
+use Rattle.rd_lock.proofs.Keeps.{alone_with, allowed, moved, Owed, place_still, single, still, takes_home, unmoved}
 use Rattle.rd_lock.proofs.Looks.{maps_fit, others_fit, one_seat, newest_next, next_kept}
 
 module _ {T E O : Type 0} (lock : Lock T E O) where
   open lock use {history, origin, seats, root}
 
   -- a seat that neither waits nor holds has no ticket
-  pub no_ticket : (views : List (View E O)) (id : ℕ) (members : List (PassView E O)) (k t : ℕ) → get_elem? views id ≡ some (view_of members Out) → HasTicket views k t → k ≢ id
-  no_ticket views id members k t at has e = some-ne-none t (sym has.2 ∙ ap (λ (u : View E O). ticket u.stage) (some-injective has.0 (view_of members Out) (sym has.1 ∙ (ap (λ (j : ℕ). get_elem? views j) e ∙ at))))
-
-  -- the value stays where it was when a seat that doesn't hold changes
-  pub place_else : (f g : Facts T E) (views : List (View E O)) (id : ℕ) (v w : View E O) (place : Place T) → get_elem? views id ≡ some v → (v.stage ≢ Holds f.served f.log) → g.log ≡ f.log → g.served ≡ f.served
-      → IsPlaced lock f views place → IsPlaced lock g (set views id w) place
-  place_else f g views id v w place at free log served h = grind (arith, set_else)
+  pub no_ticket : (views : List (View E O)) (id k t : ℕ) (v : View E O) → get_elem? views id ≡ some v → v.stage ≡ Out → HasTicket views k t → k ≢ id
+  no_ticket views id k t v at out has e = grind arith
 
   -- the facts after the ticket n is drawn
   abbrev drawn : Facts T E → ℕ → Place T → Facts T E
@@ -42,9 +37,10 @@ module _ {T E O : Type 0} (lock : Lock T E O) where
       moved lock f g views id v w kept at (omega arith) (omega arith) kept.names
       (maps_fit lock f g id (knows_next (f.next + 1)) v s (λ q. refl) (drawer_suits f id place) stage alone fits) refl refl
       (λ j u ne here h. others_fit lock f g j u (λ q. drawn_suits f id j place p q fits.members.0 ne) (drawn_stays f id j place (stays j ne)) h)
-      (λ t low high. dite (ℕ_discrete t f.next) (λ e. inl (put_here f.taker f.next id t e, has ∙ ap (λ (k : ℕ). some k) (sym e)))
-      (λ ne. let old = kept.each_ticket t low (omega arith) in let same = put_else f.taker f.next id t ne in
-      inr (subst (λ (k : ℕ). (k ≢ id) × HasTicket views k t) (sym same) (no_ticket views id (p ∷ []) (f.taker t) t at old, old))))
+      (λ t low high. dite (ℕ_discrete t f.next)
+      (λ e. (w, subst (λ (k : ℕ). get_elem? (set views id w) k ≡ some w) (sym (put_here f.taker f.next id t e)) (set_here views id w (inside views id v at)), has ∙ ap (λ (k : ℕ). some k) (sym e)))
+      (λ ne. subst (λ (k : ℕ). HasTicket (set views id w) k t) (sym (put_else f.taker f.next id t ne))
+      (still (λ u. ticket u.stage ≡ some t) views id (f.taker t) v w at (λ none_is. absurd (some-ne-none t (sym none_is))) (kept.each_ticket t low (omega arith)))))
       placed
 
   -- the words after a draw that wins
@@ -59,9 +55,10 @@ module _ {T E O : Type 0} (lock : Lock T E O) where
   abbrev draw : ℕ → ℕ → ℕ
   draw n x = either (eqb x n) (n + 1) x
 
-  pub draws : (slots id : ℕ) (p : PassView E O) (n : ℕ) → n < 2 ^ 63 → Allows (LockRule lock) slots id (view_of (p ∷ []) Out, []) 1 (λ x. either (eqb x n) (n + 1) x) (Draws n (view_of (p ∷ []) Out, []))
-  draws slots id p n room = let v : View E O = view_of (p ∷ []) Out in let then = Draws {T = T} n (v, []) in
-      allowed lock slots id (v, []) 1 (draw n) then (λ f views kept at.
+  pub draws : (slots id : ℕ) (m : Me (Option T) (View E O)) (n : ℕ) → length m.0.members ≡ 1 → m.0.stage ≡ Out → m.1 ≡ in_hand m.0.stage → n < 2 ^ 63
+      → Allows (LockRule lock) slots id m 1 (λ x. either (eqb x n) (n + 1) x) (Draws n m)
+  draws slots id m n one out hand room = let p = only m.0.members one in let v : View E O = view_of (p ∷ []) Out in let then = Draws {T = T} n (v, []) in
+      subst (λ (y : Me (Option T) (View E O)). Allows (LockRule lock) slots id y 1 (draw n) (Draws n y)) (sym (single m one Out out hand)) (allowed lock slots id (v, []) 1 (draw n) then (λ f views kept at.
       let fits = kept.each_view id v at in dite (ℕ_discrete f.next n)
       (λ hit. let stage : Stage E = Waits f.next in let order = kept.order in (
         after_next (f.next + 1) stage v,
@@ -71,50 +68,58 @@ module _ {T E O : Type 0} (lock : Lock T E O) where
         tt,
         refl,
         drawn_kept f views id p stage f.place kept at (omega arith) refl (order, omega arith, put_here f.taker f.next id f.next refl) (p, refl) (λ j ne e. e)
-            (place_else f (drawn f id f.place) views id v (after_next (f.next + 1) stage v) f.place at (λ e. cc) refl refl kept.is_placed),
+            (place_still lock f (drawn f id f.place) views id v (after_next (f.next + 1) stage v) f.place at (λ e. absurd (cc)) refl refl kept.is_placed),
         record { newest = newest_next lock f views id v kept fits; won = λ _. refl; lost = λ miss. absurd (miss hit) },
       ))
       (λ miss. unmoved lock id (v, []) 1 (draw n) then f views (after_next f.next Out v) (missed_words f n miss) (next_kept lock f views id v kept at)
-      (record { newest = newest_next lock f views id v kept fits; won = λ hit. absurd (miss hit); lost = λ _. refl })))
+      (record { newest = newest_next lock f views id v kept fits; won = λ hit. absurd (miss hit); lost = λ _. refl }))))
 
   -- a place that is at home isn't away
   pub elsewhere : {x : T} (j : ℕ) → home x ≡ away j → ⊥
   elsewhere j e = cc
 
+  -- while a ticket is drawn and not finished, some pass has the one that is served
+  pub taken_by : (f : Facts T E) (views : List (View E O)) → IsKept lock f views → f.served ≢ f.next → (k : ℕ) × (p : PassView E O) × HasTicket views k f.served × MemberFits lock f k p
+  taken_by f views kept ne = let order = kept.order in let has = kept.each_ticket f.served (omega arith) (omega arith) in let k : ℕ = f.taker f.served in let theirs = kept.each_view k has.0 has.1 in
+      let who = alone_with f.served has.0.stage has.0.members has.2 theirs.alone in (k, who.0, has, (subst (AllByRecursion (MemberFits lock f k)) who.1 theirs.members).0)
+
   -- the one pass there is draws what is served
-  alone_hits : (f : Facts T E) (views : List (View E O)) (id : ℕ) (p : PassView E O) (n : ℕ) → IsKept lock f views → get_elem? views id ≡ some (view_of (p ∷ []) Out) → p.served ≡ n → seats ≡ 1 → f.next ≡ n
-  alone_hits f views id p n kept at served one = let v : View E O = view_of (p ∷ []) Out in let fits = kept.each_view id v at in let mine = fits.members.0 in let words = (mine.one_seat one).1 in let order = kept.order in
-      dite (ℕ_discrete f.served f.next) (λ e. omega arith)
-      (λ ne. let has = kept.each_ticket f.served (omega arith) (omega arith) in let k : ℕ = f.taker f.served in let theirs = kept.each_view k has.0 has.1 in
-      let who = alone_with f.served has.0.stage has.0.members has.2 theirs.alone in let suits = subst (AllByRecursion (MemberFits lock f k)) who.1 theirs.members in
-      absurd (no_ticket views id (p ∷ []) k f.served at has (one_seat lock f id k p who.0 one mine suits.0)))
+  alone_hits : (f : Facts T E) (views : List (View E O)) (id : ℕ) (p : PassView E O) → IsKept lock f views → get_elem? views id ≡ some (view_of (p ∷ []) Out) → seats ≡ 1 → f.next ≡ p.served
+  alone_hits f views id p kept at one = let mine = (kept.each_view id (view_of (p ∷ []) Out) at).members.0 in let words = (mine.one_seat one).1 in dite (ℕ_discrete f.served f.next) (λ e. omega arith)
+      (λ ne. let who = taken_by f views kept ne in absurd (no_ticket views id who.0 f.served (view_of (p ∷ []) Out) at refl who.2 (one_seat lock f id who.0 p who.1 one mine who.3)))
 
   pub found : (f : Facts T E) (id : ℕ) (x : T) (p : PassView E O) → (history x ≡ f.log) × (origin x ≡ root) → MemberFits lock f id p → IsFound history origin x p
   found f id x p at_home h = (at_home.1 ∙ sym h.knows_opening.1, subst (Continues p.pass p.seen) (sym at_home.0) h.continues)
 
-  -- with no ticket drawn and not done with the value is at home
-  pub idle_home : (f : Facts T E) (views : List (View E O)) (place : Place T) → IsKept lock f views → f.place ≡ place → f.served ≡ f.next → (x : T) × (place ≡ home x) × (history x ≡ f.log) × (origin x ≡ root)
-  idle_home f views (home x) kept is same = let h = subst (IsPlaced lock f views) is kept.is_placed in (x, refl, h.0, h.1)
-  idle_home f views (away k) kept is same = let h = subst (IsPlaced lock f views) is kept.is_placed in
-      let stage = subst (StageFits lock f k) h.2 ((kept.each_view k h.0 h.1).stage) in let low = stage.1 in absurd (omega arith)
+  -- where no seat holds, the value is at home
+  pub at_home : (f : Facts T E) (views : List (View E O)) (place : Place T) → IsKept lock f views → f.place ≡ place → ((k : ℕ) (v : View E O) → get_elem? views k ≡ some v → v.stage ≡ Holds f.served f.log → ⊥)
+      → (x : T) × (place ≡ home x) × (history x ≡ f.log) × (origin x ≡ root)
+  at_home f views (home x) kept is none = let h = subst (IsPlaced lock f views) is kept.is_placed in (x, refl, h.0, h.1)
+  at_home f views (away k) kept is none = let h = subst (IsPlaced lock f views) is kept.is_placed in absurd (none k h.0 h.1 h.2)
+
+  -- with no ticket drawn and not finished no seat holds
+  pub idle_home : (f : Facts T E) (views : List (View E O)) → IsKept lock f views → f.served ≡ f.next → (x : T) × (f.place ≡ home x) × (history x ≡ f.log) × (origin x ≡ root)
+  idle_home f views kept same = at_home f views f.place kept refl (λ k v here holds. let low = (subst (StageFits lock f k) holds (kept.each_view k v here).stage).1 in omega arith)
 
   won : (id : ℕ) (p : PassView E O) (f : Facts T E) (views : List (View E O)) → IsKept lock f views → get_elem? views id ≡ some (view_of (p ∷ []) Out) → f.next < 2 ^ 63 → f.served ≡ f.next
       → Owed lock id (view_of (p ∷ []) Out, []) 1 (draw f.next) (Tries history origin f.next (view_of (p ∷ []) Out, [])) f views
-  won id p f views kept at room same = let v : View E O = view_of (p ∷ []) Out in let fits = kept.each_view id v at in let there = idle_home f views f.place kept refl same in let x : T = there.0 in
+  won id p f views kept at room same = let v : View E O = view_of (p ∷ []) Out in let fits = kept.each_view id v at in let there = idle_home f views kept same in let x : T = there.0 in
       let at_home : (history x ≡ f.log) × (origin x ≡ root) = (there.2, there.3) in let stage : Stage E = Holds f.next (history x) in let w : View E O = after_next (f.next + 1) stage v in
       takes_home lock id v 1 (draw f.next) (Tries history origin f.next (v, [])) f (drawn f id (away id)) views w x there.1 refl (drawn_words f)
       (drawn_kept f views id p stage (away id) kept at room refl (sym same, omega arith, put_here f.taker f.next id f.next refl, refl, there.2) (p, refl)
       (λ j ne e. absurd (elsewhere j (sym there.1 ∙ e))) (w, set_here views id w (inside views id v at), (λ i. Holds (sym same i) (there.2 i))))
       (record { newest = newest_next lock f views id v kept fits; won = λ _. (x, (found f id x p at_home fits.members.0, tt), refl); lost = λ miss. absurd (miss refl) })
 
-  pub tries : (slots id : ℕ) (p : PassView E O) (n : ℕ) → n < 2 ^ 63 → p.served ≡ n
-      → Allows (LockRule lock) slots id (view_of (p ∷ []) Out, []) 1 (λ x. either (eqb x n) (n + 1) x) (Tries history origin n (view_of (p ∷ []) Out, []))
-  tries slots id p n room served = let v : View E O = view_of (p ∷ []) Out in let then = Tries history origin n (v, []) in
-      allowed lock slots id (v, []) 1 (draw n) then (λ f views kept at.
+  -- a try, after the load of what it expects
+  pub tries : (slots id : ℕ) (m m1 : Me (Option T) (View E O)) (n : ℕ) → length m.0.members ≡ 1 → m.0.stage ≡ Out → m.1 ≡ in_hand m.0.stage → LoadsServed m n m1 → n < 2 ^ 63
+      → Allows (LockRule lock) slots id m1 1 (λ x. either (eqb x n) (n + 1) x) (Tries history origin n m1)
+  tries slots id m m1 n one out hand loads room = let p = knows_served n (only m.0.members one) in let v : View E O = view_of (p ∷ []) Out in let then = Tries history origin n (v, []) in
+      let is : m1 ≡ (v, []) = (subst (λ (y : Me (Option T) (View E O)). LoadsServed y n m1) (single m one Out out hand) loads).after in
+      subst (λ (y : Me (Option T) (View E O)). Allows (LockRule lock) slots id y 1 (draw n) (Tries history origin n y)) (sym is) (allowed lock slots id (v, []) 1 (draw n) then (λ f views kept at.
       let fits = kept.each_view id v at in let words = fits.members.0.words.1 in let order = kept.order in dite (ℕ_discrete f.next n)
       (λ hit. subst (λ (k : ℕ). Owed lock id (v, []) 1 (draw k) (Tries history origin k (v, [])) f views) hit (won id p f views kept at (omega arith) (omega arith)))
       (λ miss. unmoved lock id (v, []) 1 (draw n) then f views (after_next f.next Out v) (missed_words f n miss) (next_kept lock f views id v kept at) (record {
         newest = newest_next lock f views id v kept fits;
         won = λ hit. absurd (miss hit);
-        lost = λ _. (((λ one. miss (alone_hits f views id p n kept at served (sym fits.members.0.knows_opening.0 ∙ one))), tt), refl);
-      })))
+        lost = λ _. (((λ one. miss (alone_hits f views id p kept at (sym fits.members.0.knows_opening.0 ∙ one))), tt), refl);
+      }))))

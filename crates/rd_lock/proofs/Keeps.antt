@@ -1,7 +1,7 @@
 -- How a change of one seat's view keeps the rule.
-use Rattle.std.proofs.Common.{◌≡◌, ◌≢◌, ℕ, ◌^◌, ◌<◌, ◌≤◌, ◌⊎◌, List, [], ◌∷◌, map, get_or, set, sym, refl, ap, ◌∙◌, subst, ⊎_elim, Option, arith, Some}
-use Rattle.rd_lock.proofs.Prelude.{Act, Allows, Facts, HasPass, HasTicket, Holds, IsAloneAt, IsIn, IsKept, IsPlaced, Lock, LockRule, Me, NamesUpTo, Out, PassView, Place, Stage, Valid, View, ViewFits, Waits, at_set, away, carried_after, dite, get_elem?, home, homes_after, keeps, numbers_of, set_else, set_here, single_slot, some, some-injective, some-ne-none, takes, ticket, ℕ_discrete}
-use Rattle.rd_lock.proofs.Lists.{inside}
+use Rattle.std.proofs.Common.{◌≡◌, ◌≢◌, ℕ, ◌^◌, ◌<◌, ◌≤◌, List, [], ◌∷◌, get_or, set, sym, refl, ap, ◌∙◌, subst, ⊎_elim, Option, arith, Some, length}
+use Rattle.rd_lock.proofs.Prelude.{Act, Allows, Facts, HasPass, HasTicket, Holds, IsAloneAt, IsIn, IsKept, IsPlaced, Lock, LockRule, Me, NamesUpTo, Out, PassView, Place, Stage, Valid, View, ViewFits, Waits, ℕ_discrete, at_set, away, carried_after, dite, get_elem?, home, homes_after, in_hand, keeps, numbers_of, only, set_else, set_here, single_slot, some, some-injective, some-ne-none, takes, ticket, view_of}
+use Rattle.rd_lock.proofs.Lists.{inside, one_of}
 
 module _ {E O : Type 0} where
   -- the ticket of a seat that waits or holds shows that it is alone
@@ -10,20 +10,23 @@ module _ {E O : Type 0} where
   alone_with t (Waits u) ps e h = h
   alone_with t (Holds u found) ps e h = h
 
-  -- members who come to know more are the same passes
-  pub same_passes : (k : PassView E O → PassView E O) → ((p : PassView E O) → (k p).pass ≡ p.pass) → (ps : List (PassView E O)) → numbers_of (map k ps) ≡ numbers_of ps
-  same_passes k same [] = refl
-  same_passes k same (p ∷ ps) = λ i. same p i ∷ same_passes k same ps i
-
-  -- a pass is where it was after a change of a seat's view that keeps its passes
-  pass_stays : (views : List (View E O)) (id : ℕ) (v w : View E O) → get_elem? views id ≡ some v → numbers_of w.members ≡ numbers_of v.members → (k pass : ℕ) → HasPass views k pass → HasPass (set views id w) k pass
-  pass_stays views id v w at same k pass (u, here, has) = dite (ℕ_discrete k id)
-      (λ e. let is : u ≡ v = some-injective u v (sym here ∙ (ap (λ (j : ℕ). get_elem? views j) e ∙ at)) in (
-        w,
-        subst (λ (j : ℕ). get_elem? (set views id w) j ≡ some w) (sym e) (set_here views id w (inside views id v at)),
-        subst (λ (ns : List ℕ). IsIn pass ns) (ap (λ (x : View E O). numbers_of x.members) is ∙ sym same) has,
-      ))
+  -- what holds of the view of some seat still does after a change of one view that keeps it
+  pub still : (P : View E O → Type 0) (views : List (View E O)) (id k : ℕ) (v w : View E O) → get_elem? views id ≡ some v → (P v → P w) → (u : View E O) × (get_elem? views k ≡ some u) × P u
+      → (u : View E O) × (get_elem? (set views id w) k ≡ some u) × P u
+  still P views id k v w at on (u, here, has) = dite (ℕ_discrete k id)
+      (λ e. (w, subst (λ (j : ℕ). get_elem? (set views id w) j ≡ some w) (sym e) (set_here views id w (inside views id v at)), on (subst P (some-injective u v (sym here ∙ (ap (λ (j : ℕ). get_elem? views j) e ∙ at))) has)))
       (λ ne. (u, set_else views id k w ne ∙ here, has))
+
+  -- and so does what holds of each view, if it holds of the new one
+  pub each_set : (P : ℕ → View E O → Type 0) (views : List (View E O)) (id : ℕ) (w : View E O) → P id w → ((j : ℕ) (u : View E O) → j ≢ id → get_elem? views j ≡ some u → P j u)
+      → (j : ℕ) (u : View E O) → get_elem? (set views id w) j ≡ some u → P j u
+  each_set P views id w mine others j u e = ⊎_elim (λ (z : (j ≡ id) × (w ≡ u)). subst (λ (x : ℕ × View E O). P x.0 x.1) (λ i. (sym z.0 i, z.1 i)) mine)
+      (λ (z : (j ≢ id) × (get_elem? views j ≡ some u)). others j u z.0 z.1) (at_set views id j w u e)
+
+module _ {T E O : Type 0} where
+  -- a seat with one member at this stage
+  pub single : (m : Me (Option T) (View E O)) (one : length m.0.members ≡ 1) (s : Stage E) → m.0.stage ≡ s → m.1 ≡ in_hand m.0.stage → m ≡ (view_of (only m.0.members one ∷ []) s, in_hand s)
+  single m one s stage hand = λ i. (view_of (one_of m.0.members one i) (stage i), (hand ∙ ap (λ (x : Stage E). in_hand x) stage) i)
 
 module _ {T E O : Type 0} (lock : Lock T E O) where
   open lock use {seats}
@@ -33,39 +36,30 @@ module _ {T E O : Type 0} (lock : Lock T E O) where
   pub moved : (f g : Facts T E) (views : List (View E O)) (id : ℕ) (v w : View E O) → IsKept lock f views → get_elem? views id ≡ some v → g.served ≤ g.next → g.next ≤ 2 ^ 63 → NamesUpTo seats g.log → ViewFits lock g id w
       → g.owner ≡ f.owner → numbers_of w.members ≡ numbers_of v.members
       → ((j : ℕ) (u : View E O) → j ≢ id → get_elem? views j ≡ some u → ViewFits lock f j u → ViewFits lock g j u)
-      → ((t : ℕ) → g.served ≤ t → t < g.next → ((g.taker t ≡ id) × (ticket w.stage ≡ some t)) ⊎ ((g.taker t ≢ id) × HasTicket views (g.taker t) t))
+      → ((t : ℕ) → g.served ≤ t → t < g.next → HasTicket (set views id w) (g.taker t) t)
       → IsPlaced lock g (set views id w) g.place → IsKept lock g (set views id w)
   moved f g views id v w kept at order limit names mine owner passes others tickets place = record {
     order = order;
     limit = limit;
     names = names;
-    each_view = λ j u e. ⊎_elim (λ (z : (j ≡ id) × (w ≡ u)). subst (λ (x : ℕ × View E O). ViewFits lock g x.0 x.1) (λ i. (sym z.0 i, z.1 i)) mine)
-        (λ (z : (j ≢ id) × (get_elem? views j ≡ some u)). others j u z.0 z.1 (kept.each_view j u z.1)) (at_set views id j w u e);
-    each_pass = λ k low high. subst (λ (o : ℕ → ℕ). HasPass (set views id w) (o k) k) (sym owner) (pass_stays views id v w at passes (f.owner k) k (kept.each_pass k low high));
-    each_ticket = λ t low high. ⊎_elim
-        (λ (z : (g.taker t ≡ id) × (ticket w.stage ≡ some t)). (w, subst (λ (k : ℕ). get_elem? (set views id w) k ≡ some w) (sym z.0) (set_here views id w (inside views id v at)), z.1))
-        (λ (z : (g.taker t ≢ id) × HasTicket views (g.taker t) t). (z.1.0, set_else views id (g.taker t) w z.0 ∙ z.1.1, z.1.2)) (tickets t low high);
+    each_view = each_set (ViewFits lock g) views id w mine (λ j u ne here. others j u ne here (kept.each_view j u here));
+    each_pass = λ k low high. subst (λ (o : ℕ → ℕ). HasPass (set views id w) (o k) k) (sym owner)
+        (still (λ x. IsIn k (numbers_of x.members)) views id (f.owner k) v w at (subst (IsIn k) (sym passes)) (kept.each_pass k low high));
+    each_ticket = tickets;
     is_placed = place;
   }
 
-  -- a seat that holds a ticket still does after a change of its view that keeps the stage
-  ticket_stays : (f : Facts T E) (views : List (View E O)) (id : ℕ) (v w : View E O) → get_elem? views id ≡ some v → w.stage ≡ v.stage → (k t : ℕ) → HasTicket views k t
-      → ((k ≡ id) × (ticket w.stage ≡ some t)) ⊎ ((k ≢ id) × HasTicket views k t)
-  ticket_stays f views id v w at same k t h = grind arith
-
-  -- so is the value where it was
-  place_stays : (f : Facts T E) (views : List (View E O)) (id : ℕ) (v w : View E O) (place : Place T) → get_elem? views id ≡ some v → w.stage ≡ v.stage → IsPlaced lock f views place
-      → IsPlaced lock f (set views id w) place
-  place_stays f views id v w (home x) at same h = h
-  place_stays f views id v w (away k) at same (u, here, holds) = dite (ℕ_discrete k id)
-      (λ e. let is : u ≡ v = some-injective u v (sym here ∙ (ap (λ (j : ℕ). get_elem? views j) e ∙ at)) in
-      (w, subst (λ (j : ℕ). get_elem? (set views id w) j ≡ some w) (sym e) (set_here views id w (inside views id v at)), same ∙ (ap (λ (x : View E O). x.stage) (sym is) ∙ holds)))
-      (λ ne. (u, set_else views id k w ne ∙ here, holds))
+  -- so is the value where it was, unless the seat holds and doesn't any more
+  pub place_still : (f g : Facts T E) (views : List (View E O)) (id : ℕ) (v w : View E O) (place : Place T) → get_elem? views id ≡ some v → (v.stage ≡ Holds f.served f.log → w.stage ≡ Holds g.served g.log)
+      → g.log ≡ f.log → g.served ≡ f.served → IsPlaced lock f views place → IsPlaced lock g (set views id w) place
+  place_still f g views id v w (home x) at holds log served h = grind arith
+  place_still f g views id v w (away k) at holds log served h = still (λ u. u.stage ≡ Holds g.served g.log) views id k v w at (λ e. holds (grind arith)) (grind arith)
 
   -- a step after which only this seat knows more
   pub knows_more : (f : Facts T E) (views : List (View E O)) (id : ℕ) (v w : View E O) → IsKept lock f views → get_elem? views id ≡ some v → w.stage ≡ v.stage → numbers_of w.members ≡ numbers_of v.members → ViewFits lock f id w → IsKept lock f (set views id w)
   knows_more f views id v w kept at same passes fits = moved f f views id v w kept at kept.order kept.limit kept.names fits refl passes (λ j u ne here h. h)
-      (λ t low high. ticket_stays f views id v w at same (f.taker t) t (kept.each_ticket t low high)) (place_stays f views id v w f.place at same kept.is_placed)
+      (λ t low high. still (λ u. ticket u.stage ≡ some t) views id (f.taker t) v w at (λ e. ap ticket same ∙ e) (kept.each_ticket t low high))
+      (place_still f f views id v w f.place at (λ e. same ∙ e) refl refl kept.is_placed)
 
   -- what a step on a word owes, with the words and the slot put as the facts have them
   abbrev pub Owed : ℕ → Me (Option T) (View E O) → ℕ → (ℕ → ℕ) → (ℕ → Me (Option T) (View E O) → Type 0) → Facts T E → List (View E O) → Type 0

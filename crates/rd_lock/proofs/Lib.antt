@@ -7,7 +7,6 @@ pub mod Draws
 pub mod Waits
 pub mod Releases
 pub mod Seats
-pub mod Calls
 pub mod Ends
 pub mod PassLists
 pub mod Meetings

@@ -1,8 +1,9 @@
 -- Loads of the words, and draws.
 use Rattle.std.proofs.Common.{◌≡◌, ◌≢◌, ℕ, ◌^◌, ◌≤◌, List, map, set, sym, refl, ap, ◌∙◌, arith, Option}
+use Rattle.std.proofs.lemmas.Simd.{map-map}
 use Rattle.rd_lock.proofs.Prelude.{Allows, AreComparable, Facts, Holds, IsAloneAt, IsKept, IsNewestNext, IsNewestServed, LoadsNext, LoadsServed, Lock, LockRule, Me, MemberFits, Out, PassView, Stage, StageFits, View, ViewFits, Waits, after_next, after_served, get_elem?, knows_next, knows_served, some, view_of}
 use Rattle.rd_lock.proofs.Lists.{every_from, every_map, pairwise_from, pairwise_map, pairwise_all, in_order}
-use Rattle.rd_lock.proofs.Keeps.{same_passes, knows_more, allowed, unmoved}
+use Rattle.rd_lock.proofs.Keeps.{knows_more, allowed, unmoved}
 
 module _ {E O : Type 0} where
   alone_map : (k : PassView E O → PassView E O) (s : Stage E) (ps : List (PassView E O)) → IsAloneAt s ps → IsAloneAt s (map k ps)
@@ -47,13 +48,13 @@ module _ {T E O : Type 0} (lock : Lock T E O) where
   -- the view after a load of next
   pub next_kept : (f : Facts T E) (views : List (View E O)) (id : ℕ) (v : View E O) → IsKept lock f views → get_elem? views id ≡ some v → IsKept lock f (set views id (after_next f.next v.stage v))
   next_kept f views id v kept at = let fits = kept.each_view id v at in
-      knows_more lock f views id v (after_next f.next v.stage v) kept at refl (same_passes (knows_next f.next) (λ p. refl) v.members)
+      knows_more lock f views id v (after_next f.next v.stage v) kept at refl (map-map (λ p. p.pass) (knows_next f.next) v.members)
       (maps_fit f f id (knows_next f.next) v v.stage (λ p. refl) (next_suits f id) fits.stage fits.alone fits)
 
   -- the view after a load of served
   pub served_kept : (f : Facts T E) (views : List (View E O)) (id : ℕ) (v : View E O) → IsKept lock f views → get_elem? views id ≡ some v → IsKept lock f (set views id (after_served f.served v.stage v))
   served_kept f views id v kept at = let fits = kept.each_view id v at in
-      knows_more lock f views id v (after_served f.served v.stage v) kept at refl (same_passes (knows_served f.served) (λ p. refl) v.members)
+      knows_more lock f views id v (after_served f.served v.stage v) kept at refl (map-map (λ p. p.pass) (knows_served f.served) v.members)
       (maps_fit f f id (knows_served f.served) v v.stage (λ p. refl) (λ p. served_suits f id p kept.order) fits.stage fits.alone fits)
 
   pub looks_next : (slots id : ℕ) (me : Me (Option T) (View E O)) → Allows (LockRule lock) slots id me 1 (λ n. n) (LoadsNext me)

@@ -1,21 +1,12 @@
 -- The release, which gives the value back.
-use Rattle.rd_lock.proofs.Prelude.{Adds, Allows, Continues, Facts, Holds, IsKept, Lock, LockRule, MemberFits, NamesUpTo, Out, PassView, Place, Releases, Stage, StageFits, View, away, get_elem?, gives, has_put, home, homes_after, signed, single_slot, some, some-injective, ticket, view_of}
-use Rattle.std.proofs.Common.{◌≡◌, ◌≢◌, ℕ, ◌+◌, ◌%◌, ◌^◌, ◌<◌, ◌≤◌, List, [], ◌∷◌, ◌++◌, sym, refl, ap, ◌∙◌, subst, inr, arith, Option, Some, None}
-use Rattle.rd_lock.proofs.Lists.{every_append, continues_same, continues_on, names_signed}
-use Rattle.rd_lock.proofs.Keeps.{moved, allowed, Owed}
+use Rattle.rd_lock.proofs.Prelude.{Adds, Allows, Continues, Facts, Holds, IsKept, KnowsOpening, Lock, LockRule, Me, MemberFits, NamesUpTo, Out, PassView, Place, Releases, Stage, StageFits, View, away, get_elem?, gives, has_put, home, homes_after, only, signed, single_slot, some, some-injective, ticket, view_of}
+use Rattle.std.proofs.Common.{◌≡◌, ◌≢◌, ℕ, ◌+◌, ◌%◌, ◌^◌, ◌<◌, ◌≤◌, List, [], ◌∷◌, ◌++◌, sym, refl, ap, ◌∙◌, subst, arith, Some, length, Option}
+use Rattle.rd_lock.proofs.Lists.{one_of, every_append, continues_same, continues_on, names_signed}
+use Rattle.rd_lock.proofs.Keeps.{allowed, moved, Owed, still}
 use Rattle.rd_lock.proofs.Looks.{others_fit, one_seat, newest_served}
 
-module _ {T : Type 0} where
-  abbrev pub value_or : T → Option T → T
-  value_or d (Some x) = x
-  value_or d None = d
-
-  abbrev pub first_value_or : T → List (ℕ × Option T) → T
-  first_value_or d [] = d
-  first_value_or d (c ∷ cs) = value_or d c.1
-
 module _ {T E O : Type 0} (lock : Lock T E O) where
-  open lock use {history, origin, seats}
+  open lock use {history, origin, seats, root}
 
   abbrev done : Facts T E → T → Facts T E
   done f x = record { next = f.next; served = f.served + 1; log = history x; owner = f.owner; taker = f.taker; place = home x }
@@ -56,21 +47,18 @@ module _ {T E O : Type 0} (lock : Lock T E O) where
             (subst (NamesUpTo seats) (sym more) (every_append (λ (y : ℕ × E). (0 < y.0) × (y.0 ≤ seats)) f.log (signed p.pass es) kept.names (names_signed seats p.pass es number.0 number.1)))
             (record { members = (putter_suits f id x p mine, tt); apart = (tt, tt); stage = tt; alone = tt }) refl refl
             (λ j u ne there h. others_fit lock f g j u (λ q. done_suits f id j x es p q mine ne more) (done_stays f id j x ne here stage.3) h)
-            (λ u low high. let has = kept.each_ticket u (omega arith) high in inr (
-              (λ e. let has_t : Holds t log ≡ has.0.stage = ap (λ (z : View E O). z.stage) (some-injective v has.0 (sym at ∙ (ap (λ (j : ℕ). get_elem? views j) (sym e) ∙ has.1))) in
-                  let same : t ≡ u = some-injective t u (ap ticket has_t ∙ has.2) in absurd (omega arith)),
-              has,
-            ))
+            (λ u low high. still (λ z. ticket z.stage ≡ some u) views id (f.taker u) v w at (λ e. let same : t ≡ u = some-injective t u e in absurd (omega arith)) (kept.each_ticket u (omega arith) high))
             (refl, root_is ∙ mine.knows_opening.1),
         record {
           newest = newest_served lock f views id v kept fits;
-          found = λ u found is. let same : log ≡ found = cc in (subst (Continues p.pass p.seen) (sym stage.4 ∙ same) mine.continues, tt);
-          after = λ y is. let same : x ≡ y = ap (first_value_or x) is in ap (λ (z : T). (view_of (has_put (history z) (f.served + 1) p ∷ []) Out, [])) same;
+          found = (t, log, refl, (subst (Continues p.pass p.seen) (sym stage.4) mine.continues, tt));
+          after = (x, refl, refl);
         },
       )
 
-  pub releases : (slots id : ℕ) (p : PassView E O) (t : ℕ) (log : List (ℕ × E)) (x : T) → Adds p.pass log (history x) → origin x ≡ p.origin
-      → Allows (LockRule lock) slots id (view_of (p ∷ []) (Holds t log), (0, Some x) ∷ []) 0 (λ n. (n + 1) % 2 ^ 64) (Releases history origin (view_of (p ∷ []) (Holds t log), (0, Some x) ∷ []))
-  releases slots id p t log x added root_is = let v : View E O = view_of (p ∷ []) (Holds t log) in let c = (0, Some x) ∷ [] in
-      allowed lock slots id (v, c) 0 (λ n. (n + 1) % 2 ^ 64) (Releases history origin (v, c))
-      (λ f views kept at. gives_back id p t log x added.0 f views added.1 root_is kept at)
+  -- a holder with the value that it puts back
+  pub releases : (slots id : ℕ) (v : View E O) (m : Me (Option T) (View E O)) (x : T) (one : length v.members ≡ 1) (t : ℕ) (log : List (ℕ × E)) → KnowsOpening seats root (only v.members one) → origin x ≡ root
+      → v.stage ≡ Holds t log → Adds (only v.members one).pass log (history x) → m ≡ (v, (0, Some x) ∷ []) → Allows (LockRule lock) slots id m 0 (λ n. (n + 1) % 2 ^ 64) (Releases history origin m)
+  releases slots id v m x one t log knows rooted stage adds is = let p = only v.members one in let held : Me (Option T) (View E O) = (view_of (p ∷ []) (Holds t log), (0, Some x) ∷ []) in
+      subst (λ (y : Me (Option T) (View E O)). Allows (LockRule lock) slots id y 0 (λ n. (n + 1) % 2 ^ 64) (Releases history origin y)) (sym (is ∙ (λ i. (view_of (one_of v.members one i) (stage i), (0, Some x) ∷ []))))
+      (allowed lock slots id held 0 (λ n. (n + 1) % 2 ^ 64) (Releases history origin held) (λ f views kept at. gives_back id p t log x adds.0 f views adds.1 (rooted ∙ sym knows.1) kept at))

@@ -1,10 +1,10 @@
 -- Two seats made one, and one made two.
 use Rattle.std.proofs.Common.{◌≡◌, ◌≢◌, ℕ, cond, eqb, List, [], ◌∷◌, ◌++◌, length, set, sym, refl, ap, ◌∙◌, subst, inl, inr, ⊎_elim, eq-eqb, ne_eqb, arith}
-use Rattle.rd_lock.proofs.Prelude.{AllByRecursion, Facts, HasPass, IsIn, IsPlaced, Joins, Lock, LockRule, MemberFits, Out, PassView, Place, Splits, Stage, StageFits, View, ViewFits, at_last, at_longer, at_set, dite, get_elem?, numbers_of, set_else, set_here, some, some-injective, view_of, ℕ_discrete}
+use Rattle.rd_lock.proofs.Prelude.{AllByRecursion, Facts, HasPass, IsIn, IsPlaced, Joins, Lock, LockRule, MemberFits, Out, PassView, Place, Splits, Stage, StageFits, View, ViewFits, at_last, at_longer, dite, get_elem?, numbers_of, set_else, set_here, some, some-injective, ticket, view_of, ℕ_discrete}
 use Rattle.rd_lock.proofs.Lists.{inside, at_end, every_append, every_both, pairwise_append, every_from}
 use Rattle.rd_lock.proofs.Facts.{put, put_here, put_else}
+use Rattle.rd_lock.proofs.Keeps.{each_set, place_still, still}
 use Rattle.rd_lock.proofs.Looks.{others_fit}
-use Rattle.rd_lock.proofs.Draws.{no_ticket, place_else}
 
 module _ {E O : Type 0} where
   is_in_front : (k : ℕ) (ps qs : List (PassView E O)) → IsIn k (numbers_of ps) → IsIn k (numbers_of (ps ++ qs))
@@ -15,20 +15,18 @@ module _ {E O : Type 0} where
   is_in_back k [] qs h = h
   is_in_back k (p ∷ ps) qs h = inr (is_in_back k ps qs h)
 
-  -- a pass that is in a seat is in the view that the seat has
-  in_view : (views : List (View E O)) (seat k : ℕ) (v : View E O) → get_elem? views seat ≡ some v → (has : HasPass views seat k) → IsIn k (numbers_of v.members)
-  in_view views seat k v at (u, here, has) = subst (λ (x : View E O). IsIn k (numbers_of x.members)) (some-injective u v (sym here ∙ at)) has
-
   -- after two seats are made one, each pass is in the seat that has its view
-  joined_passes : (views : List (View E O)) (id other : ℕ) (ps qs : List (PassView E O)) (seat k : ℕ) → other ≢ id → get_elem? views id ≡ some (view_of ps Out) → get_elem? views other ≡ some (view_of qs Out)
-      → HasPass views seat k → HasPass (set (set views id (view_of (qs ++ ps) Out)) other (view_of [] Out)) (cond (eqb seat other) id seat) k
-  joined_passes views id other ps qs seat k apart at there has = let both : View E O = view_of (qs ++ ps) Out in let spent : View E O = view_of [] Out in let joining = set views id both in
-      let at_id : get_elem? (set joining other spent) id ≡ some both = set_else joining other id spent (λ e. apart (sym e)) ∙ set_here views id both (inside views id (view_of ps Out) at) in dite (ℕ_discrete seat other)
-      (λ e. subst (λ (j : ℕ). HasPass (set joining other spent) j k) (sym (ap (λ b. cond b id seat) (eq-eqb seat other e)))
-      (both, at_id, is_in_front k qs ps (in_view views seat k (view_of qs Out) (ap (λ (j : ℕ). get_elem? views j) e ∙ there) has)))
-      (λ ne. subst (λ (j : ℕ). HasPass (set joining other spent) j k) (sym (ap (λ b. cond b id seat) (ne_eqb seat other ne))) (dite (ℕ_discrete seat id)
-      (λ e. (both, ap (λ (j : ℕ). get_elem? (set joining other spent) j) e ∙ at_id, is_in_back k qs ps (in_view views seat k (view_of ps Out) (ap (λ (j : ℕ). get_elem? views j) e ∙ at) has)))
-      (λ no. (has.0, set_else joining other seat spent ne ∙ (set_else views id seat both no ∙ has.1), has.2))))
+  joined_passes : (views : List (View E O)) (id other : ℕ) (v w both spent : View E O) (seat k : ℕ) → other ≢ id → both.members ≡ w.members ++ v.members → get_elem? views id ≡ some v → get_elem? views other ≡ some w
+      → HasPass views seat k → HasPass (set (set views id both) other spent) (cond (eqb seat other) id seat) k
+  joined_passes views id other v w both spent seat k apart is at there has = let joining = set views id both in let at_id : get_elem? joining id ≡ some both = set_here views id both (inside views id v at) in
+      let at_end : get_elem? (set joining other spent) id ≡ some both = set_else joining other id spent (λ e. apart (sym e)) ∙ at_id in dite (ℕ_discrete seat other)
+      (λ e. subst (λ (j : ℕ). HasPass (set joining other spent) j k) (sym (ap (λ b. cond b id seat) (eq-eqb seat other e))) (
+        both,
+        at_end,
+        subst (λ ps. IsIn k (numbers_of ps)) (sym is) (is_in_front k w.members v.members (subst (λ (x : View E O). IsIn k (numbers_of x.members)) (some-injective has.0 w (sym has.1 ∙ (ap (λ (j : ℕ). get_elem? views j) e ∙ there))) has.2)),
+      ))
+      (λ ne. subst (λ (j : ℕ). HasPass (set joining other spent) j k) (sym (ap (λ b. cond b id seat) (ne_eqb seat other ne)))
+      (let r = still (λ x. IsIn k (numbers_of x.members)) views id seat v both at (λ h. subst (λ ps. IsIn k (numbers_of ps)) (sym is) (is_in_back k w.members v.members h)) has in (r.0, set_else joining other seat spent ne ∙ r.1, r.2)))
 
   -- after one seat is made two, each pass is in the seat that has its view
   parted_passes : (views : List (View E O)) (id : ℕ) (p : PassView E O) (ps : List (PassView E O)) (owner : ℕ → ℕ) (k : ℕ) → get_elem? views id ≡ some (view_of (p ∷ ps) Out) → HasPass views (owner k) k
@@ -36,13 +34,9 @@ module _ {E O : Type 0} where
   parted_passes views id p ps owner k at has = let left : View E O = view_of ps Out in let right : View E O = view_of (p ∷ []) Out in let leaving = set views id left in let new = length leaving in
       dite (ℕ_discrete k p.pass)
       (λ e. subst (λ (j : ℕ). HasPass (leaving ++ right ∷ []) j k) (sym (put_here owner p.pass new k e)) (right, at_last leaving right new refl, inl (sym e)))
-      (λ ne. subst (λ (j : ℕ). HasPass (leaving ++ right ∷ []) j k) (sym (put_else owner p.pass new k ne)) (dite (ℕ_discrete (owner k) id)
-      (λ e. (
-        left,
-        at_longer leaving (right ∷ []) (owner k) left (ap (λ (j : ℕ). get_elem? leaving j) e ∙ set_here views id left (inside views id (view_of (p ∷ ps) Out) at)),
-        ⊎_elim (λ (same : p.pass ≡ k). absurd (ne (sym same))) (λ (later : IsIn k (numbers_of ps)). later) (in_view views (owner k) k (view_of (p ∷ ps) Out) (ap (λ (j : ℕ). get_elem? views j) e ∙ at) has),
-      ))
-      (λ no. (has.0, at_longer leaving (right ∷ []) (owner k) has.0 (set_else views id (owner k) left no ∙ has.1), has.2))))
+      (λ ne. subst (λ (j : ℕ). HasPass (leaving ++ right ∷ []) j k) (sym (put_else owner p.pass new k ne))
+      (let r = still (λ x. IsIn k (numbers_of x.members)) views id (owner k) (view_of (p ∷ ps) Out) left at (⊎_elim (λ (same : p.pass ≡ k). absurd (ne (sym same))) (λ (later : IsIn k (numbers_of ps)). later)) has in
+      (r.0, at_longer leaving (right ∷ []) (owner k) r.0 r.1, r.2)))
 
 module _ {T E O : Type 0} (lock : Lock T E O) where
   open lock use {seats}
@@ -67,10 +61,10 @@ module _ {T E O : Type 0} (lock : Lock T E O) where
   across f id other ps qs ne mine theirs = grind (arith, every_from)
 
   -- a ticket or the value is with neither of two seats that are out
-  pub joins : (id other : ℕ) (ps qs : List (PassView E O)) → Joins (LockRule lock) id (view_of ps Out) other (view_of qs Out) (view_of (qs ++ ps) Out) (view_of [] Out)
-  joins id other ps qs s r at apart there = let f = r.0 in let kept = r.3 in let v : View E O = view_of ps Out in let u : View E O = view_of qs Out in let both : View E O = view_of (qs ++ ps) Out in let spent : View E O = view_of [] Out in
-      let g = joined f id other in let views = set s.views id both in let was : get_elem? s.views other ≡ some u = sym (set_else s.views id other both apart) ∙ there in
-      let mine = kept.each_view id v at in let theirs = kept.each_view other u was in (
+  pub joins : (id other : ℕ) (v w : View E O) → v.stage ≡ Out → w.stage ≡ Out → Joins (LockRule lock) id v other w (view_of (w.members ++ v.members) Out) (view_of [] Out)
+  joins id other v w out out' s r at apart there = let f = r.0 in let kept = r.3 in let both : View E O = view_of (w.members ++ v.members) Out in let spent : View E O = view_of [] Out in
+      let g = joined f id other in let views = set s.views id both in let was : get_elem? s.views other ≡ some w = sym (set_else s.views id other both apart) ∙ there in
+      let mine = kept.each_view id v at in let theirs = kept.each_view other w was in (
         g,
         r.1,
         r.2,
@@ -78,23 +72,19 @@ module _ {T E O : Type 0} (lock : Lock T E O) where
           order = kept.order;
           limit = kept.limit;
           names = kept.names;
-          each_view = λ j w e. ⊎_elim (λ (z : (j ≡ other) × (spent ≡ w)). subst (λ (x : View E O). ViewFits lock g j x) z.1 (record { members = tt; apart = tt; stage = tt; alone = tt }))
-              (λ (z : (j ≢ other) × (get_elem? views j ≡ some w)). ⊎_elim
-              (λ (y : (j ≡ id) × (both ≡ w)). subst (λ (x : ℕ × View E O). ViewFits lock g x.0 x.1) (λ i. (sym y.0 i, y.1 i)) (record {
-                members = every_append (MemberFits lock g id) qs ps (every_from (MemberFits lock f other) (MemberFits lock g id) (comes f id other) qs theirs.members)
-                    (every_from (MemberFits lock f id) (MemberFits lock g id) (λ p. stays f id other id p (λ e. apart (sym e))) ps mine.members);
-                apart = pairwise_append (λ p q. q.pass ≢ p.pass) qs ps theirs.apart mine.apart (across f id other ps qs apart mine.members theirs.members);
+          each_view = each_set (ViewFits lock g) views other spent (record { members = tt; apart = tt; stage = tt; alone = tt }) (λ j u ne here. each_set (λ i x. i ≢ other → ViewFits lock g i x) s.views id both
+              (λ _. record {
+                members = every_append (MemberFits lock g id) w.members v.members (every_from (MemberFits lock f other) (MemberFits lock g id) (comes f id other) w.members theirs.members)
+                    (every_from (MemberFits lock f id) (MemberFits lock g id) (λ p. stays f id other id p (λ e. apart (sym e))) v.members mine.members);
+                apart = pairwise_append (λ p q. q.pass ≢ p.pass) w.members v.members theirs.apart mine.apart (across f id other v.members w.members apart mine.members theirs.members);
                 stage = tt;
                 alone = tt;
-              }))
-              (λ (y : (j ≢ id) × (get_elem? s.views j ≡ some w)). others_fit lock f g j w (λ p. stays f id other j p z.0) (same_stage f id other j) (kept.each_view j w y.1))
-              (at_set s.views id j both w z.1)) (at_set views other j spent w e);
-          each_pass = λ k low high. joined_passes s.views id other ps qs (f.owner k) k apart at was (kept.each_pass k low high);
-          each_ticket = λ t low high. let has = kept.each_ticket t low high in let k = f.taker t in
-              let a = no_ticket lock s.views id ps k t at has in let b = no_ticket lock s.views other qs k t was has in
-              (has.0, set_else views other k spent b ∙ (set_else s.views id k both a ∙ has.1), has.2);
-          is_placed = place_else lock f g views other u spent f.place there (λ e. cc) refl refl
-              (place_else lock f g s.views id v both f.place at (λ e. cc) refl refl kept.is_placed);
+              })
+              (λ i x no at_i ne_i. others_fit lock f g i x (λ p. stays f id other i p ne_i) (same_stage f id other i) (kept.each_view i x at_i)) j u here ne);
+          each_pass = λ k low high. joined_passes s.views id other v w both spent (f.owner k) k apart refl at was (kept.each_pass k low high);
+          each_ticket = λ t low high. let P : View E O → Type 0 = λ u. ticket u.stage ≡ some t in
+              still P views other (f.taker t) w spent there (λ e. grind arith) (still P s.views id (f.taker t) v both at (λ e. grind arith) (kept.each_ticket t low high));
+          is_placed = place_still lock f g views other w spent f.place there (λ e. absurd (cc)) refl refl (place_still lock f f s.views id v both f.place at (λ e. absurd (cc)) refl refl kept.is_placed);
         },
       )
 
@@ -125,21 +115,18 @@ module _ {T E O : Type 0} (lock : Lock T E O) where
           order = kept.order;
           limit = kept.limit;
           names = kept.names;
-          each_view = λ j w e. ⊎_elim (λ (z : get_elem? views j ≡ some w). ⊎_elim
-              (λ (y : (j ≡ id) × (left ≡ w)). subst (λ (x : ℕ × View E O). ViewFits lock g x.0 x.1) (λ i. (sym y.0 i, y.1 i)) (record {
+          each_view = λ j w e. ⊎_elim (each_set (ViewFits lock g) s.views id left
+              (record {
                 members = every_both (λ q. q.pass ≢ p.pass) (MemberFits lock f id) (MemberFits lock g id) (λ q ne. stays_in f id p.pass new q ne) ps mine.apart.0 mine.members.1;
                 apart = mine.apart.1;
                 stage = tt;
                 alone = tt;
-              }))
-              (λ (y : (j ≢ id) × (get_elem? s.views j ≡ some w)). others_fit lock f g j w
-              (λ q h. stays_in f j p.pass new q (λ e. y.0 (sym h.owned ∙ (ap f.owner e ∙ first.owned))) h) (stage_in f j p.pass new) (kept.each_view j w y.1))
-              (at_set s.views id j left w z))
+              })
+              (λ i u ne here. others_fit lock f g i u (λ q h. stays_in f i p.pass new q (λ e. ne (sym h.owned ∙ (ap f.owner e ∙ first.owned))) h) (stage_in f i p.pass new) (kept.each_view i u here)) j w)
               (λ (z : (j ≡ new) × (right ≡ w)). subst (λ (x : ℕ × View E O). ViewFits lock g x.0 x.1) (λ i. (sym z.0 i, z.1 i)) (record { members = (moves_out f id new p first, tt); apart = (tt, tt); stage = tt; alone = tt }))
               (at_end views right w j e);
           each_pass = λ k low high. parted_passes s.views id p ps f.owner k at (kept.each_pass k low high);
-          each_ticket = λ t low high. let has = kept.each_ticket t low high in let k = f.taker t in let a = no_ticket lock s.views id (p ∷ ps) k t at has in
-              (has.0, at_longer views (right ∷ []) k has.0 (set_else s.views id k left a ∙ has.1), has.2);
-          is_placed = place_longer f g views right f.place refl refl (place_else lock f f s.views id v left f.place at (λ e. cc) refl refl kept.is_placed);
+          each_ticket = λ t low high. let r = still (λ u. ticket u.stage ≡ some t) s.views id (f.taker t) v left at (λ e. e) (kept.each_ticket t low high) in (r.0, at_longer views (right ∷ []) (f.taker t) r.0 r.1, r.2);
+          is_placed = place_longer f f views right f.place refl refl (place_still lock f f s.views id v left f.place at (λ e. e) refl refl kept.is_placed);
         },
       )

@@ -1,23 +1,13 @@
 -- Loads of served by a pass that waits.
-use Rattle.std.proofs.Common.{◌≡◌, ℕ, List, [], ◌∷◌, sym, refl, ap, ◌∙◌, subst, inl, inr, arith}
-use Rattle.rd_lock.proofs.Prelude.{Allows, Facts, Holds, IsKept, IsPlaced, Lock, LockRule, MemberFits, PassView, Place, Polls, Stage, StageFits, View, Waits, after_served, away, dite, get_elem?, home, knows_served, set_here, some, some-injective, ticket, view_of, ℕ_discrete}
+use Rattle.std.proofs.Common.{◌≡◌, ℕ, List, [], ◌∷◌, sym, refl, ap, ◌∙◌, subst, arith, length, Option}
+use Rattle.rd_lock.proofs.Prelude.{Allows, Facts, Holds, IsKept, Lock, LockRule, Me, MemberFits, PassView, Polls, Stage, StageFits, View, Waits, ℕ_discrete, after_served, away, dite, get_elem?, home, in_hand, knows_served, only, set_here, some, ticket, view_of}
 use Rattle.rd_lock.proofs.Lists.{inside}
-use Rattle.rd_lock.proofs.Keeps.{moved, allowed, Owed, unmoved, takes_home}
+use Rattle.rd_lock.proofs.Keeps.{allowed, moved, Owed, single, still, takes_home, unmoved}
 use Rattle.rd_lock.proofs.Looks.{others_fit, served_suits, newest_served, served_kept}
-use Rattle.rd_lock.proofs.Draws.{found}
+use Rattle.rd_lock.proofs.Draws.{at_home, found}
 
 module _ {T E O : Type 0} (lock : Lock T E O) where
   open lock use {history, origin, root}
-
-  -- what a seat that waits for the ticket served finds at home
-  served_home : (f : Facts T E) (views : List (View E O)) (id : ℕ) (p : PassView E O) (place : Place T) → IsKept lock f views → get_elem? views id ≡ some (view_of (p ∷ []) (Waits f.served)) → f.place ≡ place
-      → (x : T) × (place ≡ home x) × (history x ≡ f.log) × (origin x ≡ root)
-  served_home f views id p (home x) kept at is = let h = subst (IsPlaced lock f views) is kept.is_placed in (x, refl, h.0, h.1)
-  served_home f views id p (away k) kept at is = let h = subst (IsPlaced lock f views) is kept.is_placed in
-      let theirs = subst (StageFits lock f k) h.2 ((kept.each_view k h.0 h.1).stage) in let mine = (kept.each_view id (view_of (p ∷ []) (Waits f.served)) at).stage in
-      let same : k ≡ id = sym theirs.2 ∙ mine.2 in
-      let one : Waits f.served ≡ Holds f.served f.log = ap (λ (u : View E O). u.stage) (some-injective (view_of (p ∷ []) (Waits f.served)) h.0 (sym at ∙ (ap (λ (j : ℕ). get_elem? views j) (sym same) ∙ h.1))) ∙ h.2 in
-      absurd (cc)
 
   abbrev taken : Facts T E → ℕ → Facts T E
   taken f id = record { next = f.next; served = f.served; log = f.log; owner = f.owner; taker = f.taker; place = away id }
@@ -30,23 +20,22 @@ module _ {T E O : Type 0} (lock : Lock T E O) where
 
   served_takes : (id : ℕ) (p : PassView E O) (f : Facts T E) (views : List (View E O)) → IsKept lock f views → get_elem? views id ≡ some (view_of (p ∷ []) (Waits f.served))
       → Owed lock id (view_of (p ∷ []) (Waits f.served), []) 0 (λ n. n) (Polls history origin (view_of (p ∷ []) (Waits f.served), [])) f views
-  served_takes id p f views kept at = let v : View E O = view_of (p ∷ []) (Waits f.served) in let fits = kept.each_view id v at in let there = served_home f views id p f.place kept at refl in let x : T = there.0 in
+  served_takes id p f views kept at = let v : View E O = view_of (p ∷ []) (Waits f.served) in let fits = kept.each_view id v at in let there = at_home lock f views f.place kept refl (λ k u here holds. let theirs = subst (StageFits lock f k) holds (kept.each_view k u here).stage in let mine = fits.stage in grind arith) in let x : T = there.0 in
       let at_home : (history x ≡ f.log) × (origin x ≡ root) = (there.2, there.3) in let stage : Stage E = Holds f.served (history x) in let w : View E O = after_served f.served stage v in
       let g : Facts T E = taken f id in let mine = fits.stage in let suits = served_suits lock f id p kept.order fits.members.0 in
       takes_home lock id v 0 (λ n. n) (Polls history origin (v, [])) f g views w x there.1 refl refl
       (moved lock f g views id v w kept at kept.order kept.limit kept.names
       (record { members = (taken_suits f id id (knows_served f.served p) suits, tt); apart = (tt, tt); stage = (refl, mine.1, mine.2, refl, there.2); alone = (knows_served f.served p, refl) }) refl refl
       (λ j u ne here h. others_fit lock f g j u (taken_suits f id j) (taken_stays f id j x there.1) h)
-      (λ t low high. let has = kept.each_ticket t low high in dite (ℕ_discrete (f.taker t) id)
-      (λ e. inl (e, ap (λ (u : View E O). ticket u.stage) (some-injective v has.0 (sym at ∙ (ap (λ (j : ℕ). get_elem? views j) (sym e) ∙ has.1))) ∙ has.2))
-      (λ ne. inr (ne, has)))
+      (λ t low high. still (λ u. ticket u.stage ≡ some t) views id (f.taker t) v w at (λ e. e) (kept.each_ticket t low high))
       (w, set_here views id w (inside views id v at), (λ i. Holds f.served (there.2 i))))
       (record { newest = newest_served lock f views id v kept fits; served = λ is. (x, (found lock f id x p at_home fits.members.0, tt), refl); waits = λ ne. absurd (ne refl) })
 
-  pub listens : (slots id : ℕ) (p : PassView E O) (t : ℕ) → Allows (LockRule lock) slots id (view_of (p ∷ []) (Waits t), []) 0 (λ n. n) (Polls history origin (view_of (p ∷ []) (Waits t), []))
-  listens slots id p t = let v : View E O = view_of (p ∷ []) (Waits t) in let then = Polls history origin (v, []) in
-      allowed lock slots id (v, []) 0 (λ n. n) then (λ f views kept at. let fits = kept.each_view id v at in dite (ℕ_discrete f.served t)
+  pub polls : (slots id : ℕ) (m : Me (Option T) (View E O)) (t : ℕ) → length m.0.members ≡ 1 → m.0.stage ≡ Waits t → m.1 ≡ in_hand m.0.stage → Allows (LockRule lock) slots id m 0 (λ n. n) (Polls history origin m)
+  polls slots id m t one waits hand = let p = only m.0.members one in let v : View E O = view_of (p ∷ []) (Waits t) in let then = Polls history origin (v, []) in
+      subst (λ (y : Me (Option T) (View E O)). Allows (LockRule lock) slots id y 0 (λ n. n) (Polls history origin y)) (sym (single m one (Waits t) waits hand))
+      (allowed lock slots id (v, []) 0 (λ n. n) then (λ f views kept at. let fits = kept.each_view id v at in dite (ℕ_discrete f.served t)
       (λ hit. subst (λ (k : ℕ). Owed lock id (view_of (p ∷ []) (Waits k), []) 0 (λ n. n) (Polls history origin (view_of (p ∷ []) (Waits k), [])) f views) hit
       (served_takes id p f views kept (at ∙ ap (λ (k : ℕ). some (view_of (p ∷ []) (Waits k))) (sym hit))))
       (λ miss. unmoved lock id (v, []) 0 (λ n. n) then f views (after_served f.served (Waits t) v) refl (served_kept lock f views id v kept at)
-      (record { newest = newest_served lock f views id v kept fits; served = λ is. let same : t ≡ f.served = cc in absurd (miss (sym same)); waits = λ _. refl })))
+      (record { newest = newest_served lock f views id v kept fits; served = λ is. let same : t ≡ f.served = cc in absurd (miss (sym same)); waits = λ _. refl }))))

@@ -1,27 +1,31 @@
 -- What contracts state of opening a lock, and of closing it.
-use Rattle.std.specs.Prelude.{◌≡◌, ℕ, ◌≤◌, List, [], ◌∷◌, ◌++◌, map}
-use Rattle.atomic_table.specs.Seated.{TableId}
+use Rattle.std.specs.Prelude.{◌≡◌, ℕ, ◌^◌, ◌≤◌, List, [], map, Option, Some}
+use mathlib.Core.Option.{some}
+use lib.ListN.{get_elem?}
 use Rattle.rd_lock.specs.declared.views.PassView.{PassView}
 use Rattle.rd_lock.specs.declared.views.Recorded.{Ghosts}
 use Rattle.rd_lock.specs.declared.passes.Pass.{Pass}
 use Rattle.rd_lock.specs.declared.tickets.Busy.{Busy}
 use Rattle.rd_lock.specs.declared.locks.TicketLock.{TicketLock}
-use Rattle.rd_lock.specs.Histories.{Continues, NamesUpTo, numbers}
+use Rattle.rd_lock.specs.Histories.{AreAll, Continues, NamesUpTo, numbers}
+use Rattle.rd_lock.specs.Rule.{Lock, numbers_of}
 use Rattle.std.specs.List.{AllByRecursion}
-use Rattle.rd_lock.specs.Locks.{me, number, seen, next_seen, served_seen, seats, opened_origin, IsOut, IsPassOf}
+use Rattle.rd_lock.specs.Locks.{number, seen, next_seen, served_seen, seats, opened_origin, IsOut, IsPassOf}
 
-module _ {T E O : Type 0} (history : T → List (ℕ × E)) (origin : T → O) where
-  -- this value may be left when the lock is closed: it has the lock's origin, its entries name the
-  -- lock's passes, and its history goes on from what each member that was handed in had seen
-  pub record IsLeft (seats : ℕ) (root : O) (ps : List (PassView E O)) (x : T) : Type 0 where
-    pub rooted : origin x ≡ root
-    pub names : NamesUpTo seats (history x)
-    pub continues : AllByRecursion (λ (p : PassView E O). Continues p.pass p.seen (history x)) ps
+module _ {T E O : Type 0} (lock : Lock T E O) where
+  -- the last state of a lock that was closed with these members, which were out: its words are in
+  -- order and nobody has seen greater ones, equal words leave the value in the slot, and with all
+  -- passes the words are equal
+  pub record IsEnded (ps : List (PassView E O)) (served next : ℕ) (slot : Option T) : Type 0 where
+    pub order : served ≤ next
+    pub limit : next ≤ 2 ^ 63
+    pub newest : AllByRecursion (λ (p : PassView E O). (p.next ≤ next) × (p.served ≤ served)) ps
+    pub value : served ≡ next → (x : T) × (slot ≡ Some x) × (lock.origin x ≡ lock.root) × NamesUpTo lock.seats (lock.history x) × AllByRecursion (λ (p : PassView E O). Continues p.pass p.seen (lock.history x)) ps
+    pub all : AreAll lock.seats (numbers_of ps) → served ≡ next
 
-module _ {E O : Type 0} where
-  -- this member knows of no words greater than these
-  abbrev pub KnowsUpTo : Busy → PassView E O → Type 0
-  KnowsUpTo words p = (p.next ≤ words.next) × (p.served ≤ words.served)
+  -- the same of a table with these words and slots
+  abbrev pub IsEndedWith : List (PassView E O) → List ℕ → List (Option T) → Type 0
+  IsEndedWith ps ws xs = (served next : ℕ) (slot : Option T) → get_elem? ws 0 ≡ some served → get_elem? ws 1 ≡ some next → get_elem? xs 0 ≡ some slot → IsEnded ps served next slot
 
 module _ {T E O : Type 0} {K : Ghosts T E O} where
   -- a pass of a lock that has just been opened with both words at `first`
@@ -49,13 +53,4 @@ module _ {T E O : Type 0} {K : Ghosts T E O} where
 
   -- this pass has seen no words greater than these
   abbrev pub HasSeenUpTo : Busy → Pass T E O K → Type 0
-  HasSeenUpTo words pass = KnowsUpTo words (me pass)
-
-  -- the members of the views of all these passes
-  abbrev pub members_of : List (Pass T E O K) → List (PassView E O)
-  members_of [] = []
-  members_of (pass ∷ passes) = pass.seat.me.0.members ++ members_of passes
-
-  -- the pass is one of this table, and is out
-  abbrev pub IsSeatOf : TableId → Pass T E O K → Type 0
-  IsSeatOf table pass = (pass.seat.table_id ≡ table) × IsOut pass
+  HasSeenUpTo words pass = (next_seen pass ≤ words.next) × (served_seen pass ≤ words.served)

@@ -90,5 +90,5 @@ module _ {T E O : Type 0} where
     -- the release, which adds one to the word `served` and gives the value back
     pub record Releases (m : Me (Option T) (View E O)) (n : ℕ) (m' : Me (Option T) (View E O)) : Type 0 where
       pub newest : IsNewestServed n m.0
-      pub found : (t : ℕ) (log : List (ℕ × E)) → m.0.stage ≡ Holds t log → AllByRecursion (λ (p : PassView E O). Continues p.pass p.seen log) m.0.members
-      pub after : (x : T) → m.1 ≡ (0, Some x) ∷ [] → m' ≡ (view_of (map (has_put (history x) (n + 1)) m.0.members) Out, [])
+      pub found : (t : ℕ) × (log : List (ℕ × E)) × (m.0.stage ≡ Holds t log) × AllByRecursion (λ (p : PassView E O). Continues p.pass p.seen log) m.0.members
+      pub after : (x : T) × (m.1 ≡ (0, Some x) ∷ []) × (m' ≡ (view_of (map (has_put (history x) (n + 1)) m.0.members) Out, []))

@@ -6,7 +6,6 @@
 //! whatever the other passes did in between.
 #![tactic(auto)]
 
-mod joining;
 mod laws;
 mod locks;
 mod meeting;

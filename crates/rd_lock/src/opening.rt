@@ -5,10 +5,11 @@ ghost use Rattle.rd_lock.specs.Histories.{AreAll};
 ghost use Rattle.std.specs.List.{AllByRecursion};
 ghost use Rattle.rd_lock.specs.Locks.{number as number_of, seats as seats_of, IsPassOf, IsOut};
 
-use super::joining::{join_seats, split_seats};
 use super::locks::{NoMemory, TicketLock};
 use super::passes::Pass;
-use super::tables::{close_table, close_with_seat, make_table};
+use super::plays::Parts;
+use super::rule::{NEXT, SERVED, SLOT};
+use super::tables::{close_table, make_table};
 use super::tickets::Busy;
 use super::views::{Opened, Recorded};
 use std::alloc::Global;
@@ -59,13 +60,20 @@ impl<T: Recorded> TicketLock<T> {
             first,
             value: Snapshot::of(&value),
         };
-        match make_table(alloc, value, &about) {
-            Ok((table, seat)) => {
-                split_seats(&table.shared, seat, seats, &mut passes);
-                Ok((TicketLock { table }, passes))
-            }
-            Err(value) => Err((NoMemory, value)),
+        let (table, mut seat) = match make_table(alloc, value, &about) {
+            Ok(laid) => laid,
+            Err(value) => return Err((NoMemory, value)),
+        };
+        for number in 0..seats {
+            let pass = table.shared.split_seat::<Parts>(&mut seat);
+            let Ok(()) = passes.push(Pass {
+                seat: pass,
+                number: number + 1,
+            }) else {
+                unreachable!()
+            };
         }
+        Ok((TicketLock { table }, passes))
     }
 
     /// Ends the lock and returns the value.
@@ -84,9 +92,15 @@ impl<T: Recorded> TicketLock<T> {
         ensures succeeds { AreAll (seats_of self) (map number_of passes.items) → IsOk result }
     {
         let TicketLock { table } = self;
-        match join_seats(&table.shared, passes) {
-            Some(seat) => close_with_seat(table, seat),
-            None => close_table(table),
+        let mut closed = close_table(table, passes);
+        let served = closed.word(SERVED);
+        let next = closed.word(NEXT);
+        let slot = closed.take(SLOT);
+        closed.free();
+        if served != next {
+            return Err(Busy { next, served });
         }
+        let Some(value) = slot else { unreachable!() };
+        Ok(value)
     }
 }

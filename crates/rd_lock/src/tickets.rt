@@ -74,8 +74,8 @@ impl<T: Recorded> TicketLock<T> {
         Err(TryTakeError::Busy(Busy { next, served }))
     }
 
-    /// Draws a ticket, waits until it is served by loading the word `served`, and returns the
-    /// value.
+    /// Draws a ticket, again as long as another pass draws it first, then waits until it is served
+    /// by loading the word `served`, and returns the value.
     ///
     /// # Errors
     ///
@@ -89,21 +89,6 @@ impl<T: Recorded> TicketLock<T> {
         ensures left { OnOk result (next_seen pass.old < 2 ^ 63) }
         ensures err { OnErr result ((next_seen pass.new ≡ 2 ^ 63) × IsOut pass.new) }
     {
-        let ticket = self.draw(rt, pass)?;
-        Ok(self.wait_for(rt, pass, ticket))
-    }
-
-    /// Draws a ticket and returns it, or `TicketsEnded`. It tries again as long as another pass
-    /// draws the ticket first.
-    fn draw<R: Wait>(&self, rt: &R, pass: &mut Pass<T>) -> Result<u64, TicketsEnded>
-        requires own { IsPassOf self.now pass.old }
-        requires out { IsOut pass.old }
-        ensures pass { IsPassOf self.now pass.new }
-        ensures unchanged { IsSamePass pass.old pass.new }
-        ensures ok { IfOk result (λ ticket. (ticket < 2 ^ 63) × IsWaiting pass.new ticket) }
-        ensures left { OnOk result (next_seen pass.old < 2 ^ 63) }
-        ensures err { OnErr result ((next_seen pass.new ≡ 2 ^ 63) × IsOut pass.new) }
-    {
         let shared = &self.table.shared;
         let mut ticket = shared.load::<LoadsNext>(&mut pass.seat, NEXT);
         'draws: for _ in rt.forever() {
@@ -112,7 +97,7 @@ impl<T: Recorded> TicketLock<T> {
             }
             let next = shared.compare_exchange::<Draws>(&mut pass.seat, NEXT, ticket, ticket + 1);
             if next == ticket {
-                return Ok(ticket);
+                return Ok(self.wait_for(rt, pass, ticket));
             }
             ticket = next;
         }

@@ -1,14 +1,27 @@
-use Rattle.std.proofs.Common.{map, sym, ap, ◌∙◌, subst, arith}
-use Rattle.rd_lock.proofs.Prelude.{AreAll}
-use Rattle.rd_lock.proofs.PassLists.{if_ok_map, if_err_map, of_each, same_numbers}
+use Rattle.std.proofs.Common.{◌≡◌, sym, subst, arith}
+use Rattle.std.proofs.lemmas.Simd.{map-map}
+use Rattle.rd_lock.proofs.Prelude.{AreAll, IsClosedOver, me}
+use Rattle.rd_lock.proofs.Lists.{every_from}
+use Rattle.rd_lock.proofs.PassLists.{of_each}
 use Rattle.rd_lock.proofs.locks.TicketLock.close.Goals as goal
 
-pub returns-in-Some-clause-ok : goal.returns-in-Some-clause-ok
-returns-in-Some-clause-ok g c = grind (arith, if_ok_map, of_each)
+pub close_table-closed-requires-clause-own : goal.close_table-closed-requires-clause-own
+close_table-closed-requires-clause-own g c = grind (arith, every_from)
 
-pub returns-in-Some-clause-succeeds : goal.returns-in-Some-clause-succeeds
-returns-in-Some-clause-succeeds g c all = let members = ap (λ m. m.0.members) c.in-Some.ensures.some.1 in
-    c.close_with_seat.ensures.succeeds (subst (AreAll c.args.self.table.shared.key.seats) (sym (ap (map (λ p. p.pass)) members ∙ same_numbers c.args.passes.items)) all)
+pub returns-then-served-next-clause-err : goal.returns-then-served-next-clause-err
+returns-then-served-next-clause-err g c = let e = c.close_table-closed.ensures.ended _ _ _ c.word-served.ensures c.word-next.ensures c.take-slot.ensures.value in let order = e.order in let differ = c.if-served-next.true in (omega arith, e.limit)
 
-pub returns-in-Some-clause-newest : goal.returns-in-Some-clause-newest
-returns-in-Some-clause-newest g c = grind (arith, if_err_map, of_each)
+pub returns-then-served-next-clause-newest : goal.returns-then-served-next-clause-newest
+returns-then-served-next-clause-newest g c = let e = c.close_table-closed.ensures.ended _ _ _ c.word-served.ensures c.word-next.ensures c.take-slot.ensures.value in of_each me _ c.args.passes.items e.newest
+
+pub returns-then-served-next-clause-succeeds : goal.returns-then-served-next-clause-succeeds
+returns-then-served-next-clause-succeeds g c all = let e = c.close_table-closed.ensures.ended _ _ _ c.word-served.ensures c.word-next.ensures c.take-slot.ensures.value in
+    absurd (c.if-served-next.true (e.all (subst (AreAll _) (sym (map-map (λ p. p.pass) me c.args.passes.items)) all)))
+
+pub unreachable-requires : goal.unreachable-requires
+unreachable-requires g c = let e = c.close_table-closed.ensures.ended _ _ _ c.word-served.ensures c.word-next.ensures c.take-slot.ensures.value in grind (arith, e.value)
+
+pub returns-clause-ok : goal.returns-clause-ok
+returns-clause-ok g c = let e = c.close_table-closed.ensures.ended _ _ _ c.word-served.ensures c.word-next.ensures c.take-slot.ensures.value in let v = e.value c.if-served-next.false in
+    let found = v.1 in let is = c.in-Some.is in let same : v.0 ≡ c.in-Some.value = cc in
+    subst (IsClosedOver c.args.self c.args.passes.items) same (record { rooted = v.2; names = v.3; continues = of_each me _ c.args.passes.items v.4 })

@@ -1,7 +1,8 @@
 use Rattle.std.proofs.Common.{rules, map, ap, ◌∙◌, subst}
 use Rattle.rd_lock.proofs.Prelude.{AreComparable, Pairwise, in_hand, knows_served, lock_of}
 use Rattle.rd_lock.proofs.Looks.{looks_served}
-use Rattle.rd_lock.proofs.PassLists.{joins_it, splits_it}
+use Rattle.rd_lock.proofs.PassLists.{splits_it}
+use Rattle.rd_lock.proofs.Seats.{joins}
 use Rattle.rd_lock.proofs.Meetings.{both_look, in_line}
 use Rattle.rd_lock.proofs.locks.TicketLock.meet.Goals as goal
 
@@ -11,7 +12,7 @@ join_seat-requires g c = let one = c.args.one in let other = c.args.other in (
   c.requires.own.1.table,
   other.hand ∙ ap in_hand c.requires.out.1,
   search rules,
-  joins_it (lock_of g.T.Recorded.history g.T.Recorded.origin _ _) _ _ one.seat.me.0 other.seat.me.0 c.requires.out.0 c.requires.out.1,
+  joins (lock_of g.T.Recorded.history g.T.Recorded.origin _ _) _ _ one.seat.me.0 other.seat.me.0 c.requires.out.0 c.requires.out.1,
 )
 
 pub load-served-requires : goal.load-served-requires

@@ -1,6 +1,22 @@
-use Rattle.std.proofs.Common.{arith}
-use Rattle.rd_lock.proofs.PassLists.{opened_new, opened_numbers}
+use Rattle.std.proofs.Common.{rules, ap, ◌∙◌, arith}
+use Rattle.std.proofs.lemmas.List.{map-append}
+use Rattle.rd_lock.proofs.Prelude.{lock_of}
+use Rattle.rd_lock.proofs.Lists.{every_append, every_from}
+use Rattle.rd_lock.proofs.PassLists.{next_new, numbers_more, splits_it}
 use Rattle.rd_lock.proofs.locks.TicketLock.open_at.Goals as goal
 
-pub returns-in-Ok-make_table-clause-ok : goal.returns-in-Ok-make_table-clause-ok
-returns-in-Ok-make_table-clause-ok g c = grind (arith, opened_new, opened_numbers)
+pub split_seat-pass-requires : goal.split_seat-pass-requires
+split_seat-pass-requires g c = let i = c.loop-number.invariant in (
+  i.table,
+  search rules,
+  splits_it (lock_of g.T.Recorded.history g.T.Recorded.origin _ _) _ c.loop-number.seat.me.0 _ _ (ap (λ m. m.0.stage) i.left) (ap (λ m. m.0.members) i.left ∙ next_new _ _ _ _ (search rules)),
+)
+
+pub invariant_of-push : goal.invariant_of-push
+invariant_of-push g c = let next = next_new {E = g.row.T-Entry.Denot} c.args.seats (g.T.Recorded.origin c.args.value) c.args.first c.loop-number.number (search rules) in grind (arith, next)
+
+pub loop-number-preserved : goal.loop-number-preserved
+loop-number-preserved g c = let next = next_new {E = g.row.T-Entry.Denot} c.args.seats (g.T.Recorded.origin c.args.value) c.args.first c.loop-number.number (search rules) in grind (arith, every_append, map-append, next, numbers_more)
+
+pub returns-clause-ok : goal.returns-clause-ok
+returns-clause-ok g c = grind (arith, every_from)

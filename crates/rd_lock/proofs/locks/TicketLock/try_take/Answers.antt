@@ -1,7 +1,7 @@
 use Rattle.std.proofs.Common.{rules, arith}
 use Rattle.rd_lock.proofs.Prelude.{lock_of}
 use Rattle.rd_lock.proofs.Looks.{looks_served}
-use Rattle.rd_lock.proofs.Calls.{tries_it}
+use Rattle.rd_lock.proofs.Draws.{tries}
 use Rattle.rd_lock.proofs.locks.TicketLock.try_take.Goals as goal
 
 pub load-served-requires : goal.load-served-requires
@@ -11,5 +11,5 @@ pub compare_exchange-next-requires : goal.compare_exchange-next-requires
 compare_exchange-next-requires g c = let pass = c.args.pass.now in (
   search rules,
   search rules,
-  tries_it (lock_of g.T.Recorded.history g.T.Recorded.origin _ _) _ _ pass.seat.me c.load-served.new.seat.me c.load-served.result pass.alone c.requires.out pass.hand c.load-served.ensures.2 (omega arith),
+  tries (lock_of g.T.Recorded.history g.T.Recorded.origin _ _) _ _ pass.seat.me c.load-served.new.seat.me c.load-served.result pass.alone c.requires.out pass.hand c.load-served.ensures.2 (omega arith),
 )

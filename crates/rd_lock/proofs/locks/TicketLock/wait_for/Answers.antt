@@ -1,11 +1,11 @@
 use Rattle.std.proofs.Common.{rules}
 use Rattle.rd_lock.proofs.Prelude.{lock_of}
-use Rattle.rd_lock.proofs.Calls.{polls_it}
+use Rattle.rd_lock.proofs.Waits.{polls}
 use Rattle.rd_lock.proofs.locks.TicketLock.wait_for.Goals as goal
 
 pub load-requires : goal.load-requires
 load-requires g c = let pass = c.looks.pass in let i = c.looks.invariant in (
   search rules,
   search rules,
-  polls_it (lock_of g.T.Recorded.history g.T.Recorded.origin _ _) _ _ pass.seat.me c.args.ticket pass.alone i.waits pass.hand,
+  polls (lock_of g.T.Recorded.history g.T.Recorded.origin _ _) _ _ pass.seat.me c.args.ticket pass.alone i.waits pass.hand,
 )

@@ -1,0 +1,16 @@
+use Rattle.std.proofs.Common.{◌≡◌, [], ◌++◌, map, vec_len}
+use Rattle.rd_lock.proofs.Prelude.{AllByRecursion, IsOut, Out, me}
+use Rattle.rd_lock.proofs.tables.close_table.Given as goal
+
+abbrev pub invariant-loop-pass : goal.invariant-loop-pass
+invariant-loop-pass g l = record {
+  table : l.seat.table_id ≡ l.table.shared.table_id;
+  out : l.seat.me.0.stage ≡ Out;
+  hand : l.seat.me.1 ≡ [];
+  own : AllByRecursion (λ pass. pass.seat.table_id ≡ l.table.shared.table_id) l.passes.items;
+  each_out : AllByRecursion IsOut l.passes.items;
+  members : map me l.passes.items ++ l.seat.me.0.members ≡ map me l.fn.passes.items;
+}
+
+abbrev pub decreases-loop-pass : goal.decreases-loop-pass
+decreases-loop-pass g l = vec_len l.passes
