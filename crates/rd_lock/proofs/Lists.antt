@@ -1,6 +1,6 @@
 -- Histories, and facts of each element of a list.
-use Rattle.rd_lock.proofs.Prelude.{AllByRecursion, AreComparable, Continues, IsPrefix, NamesUpTo, Pairwise, append-nil, common_steps, get_elem?, named, only, signed, some, some-injective, some-ne-none}
-use Rattle.std.proofs.Common.{◌≡◌, ◌≢◌, ℕ, zero, suc, ◌+◌, ◌<◌, ◌≤◌, ◌⊎◌, List, [], ◌∷◌, ◌++◌, map, length, sym, refl, ap, ◌∙◌, inl, inr, ⊎_elim, arith, append_assoc, add-zero, ne_eqb}
+use Rattle.rd_lock.proofs.Prelude.{AllByRecursion, AreComparable, Continues, IsPrefix, NamesUpTo, Pairwise, append-nil, common_steps, get_elem?, named, only, placed, signed, some, some-injective, some-ne-none}
+use Rattle.std.proofs.Common.{◌≡◌, ◌≢◌, ℕ, zero, suc, ◌+◌, ◌<◌, ◌≤◌, ◌⊎◌, List, [], ◌∷◌, ◌++◌, map, length, sym, refl, ap, ◌∙◌, inl, inr, ⊎_elim, arith, append_assoc, add-zero, ne_eqb, eq-eqb}
 
 module _ {A : Type 0} where
   pub one_of : (xs : List A) (one : length xs ≡ 1) → xs ≡ only xs one ∷ []
@@ -100,6 +100,14 @@ module _ {E : Type 0} where
   pub own_grows : (pass : ℕ) (old found es : List (ℕ × E)) → Continues pass old found → named pass 1 (found ++ es) ≡ named pass 1 old ++ named pass (1 + length found) es
   own_grows pass old found es c = named_append pass 1 found es ∙ ap (λ l. l ++ named pass (1 + length found) es)
       (ap (named pass 1) c.1 ∙ (named_append pass 1 old c.0 ∙ (ap (λ l. named pass 1 old ++ l) (named_else pass (1 + length old) c.0 c.2) ∙ append-nil (named pass 1 old))))
+
+  named_signed : (pass k : ℕ) (es : List E) → named pass k (signed pass es) ≡ placed k es
+  named_signed pass k [] = refl
+  named_signed pass k (e ∷ es) = rw (eq-eqb pass pass refl) (ap (λ l. (k, e) ∷ l) (named_signed pass (suc k) es))
+
+  -- the same, where the pass puts these itself
+  pub own_signed : (pass : ℕ) (old found : List (ℕ × E)) (es : List E) → Continues pass old found → named pass 1 (found ++ signed pass es) ≡ named pass 1 old ++ placed (1 + length found) es
+  own_signed pass old found es c = own_grows pass old found (signed pass es) c ∙ ap (λ l. named pass 1 old ++ l) (named_signed pass (1 + length found) es)
 
   pub own_same : (pass : ℕ) (old new : List (ℕ × E)) → Continues pass old new → named pass 1 new ≡ named pass 1 old
   own_same pass old new c = ap (named pass 1) (sym (append-nil new)) ∙ (own_grows pass old new [] c ∙ append-nil (named pass 1 old))

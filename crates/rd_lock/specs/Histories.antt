@@ -49,6 +49,11 @@ module _ {E : Type 0} where
   abbrev pub signed : ℕ → List E → List (ℕ × E)
   signed pass es = map (λ (e : E). (pass, e)) es
 
+  -- these entries, each with its position, where the first is at position k
+  abbrev pub placed : ℕ → List E → List (ℕ × E)
+  placed k [] = []
+  placed k (e ∷ es) = (k, e) ∷ placed (suc k) es
+
   -- the history `new` is `old` and then entries of this pass
   abbrev pub Adds : ℕ → List (ℕ × E) → List (ℕ × E) → Type 0
   Adds pass old new = (es : List E) × (new ≡ old ++ signed pass es)

@@ -1,12 +1,12 @@
 -- What contracts state of a lock and of its passes.
-use Rattle.std.specs.Prelude.{◌≡◌, ℕ, ◌^◌, ◌<◌, ◌≤◌, List}
+use Rattle.std.specs.Prelude.{◌≡◌, ℕ, ◌+◌, ◌^◌, ◌<◌, ◌≤◌, List, ◌++◌, length}
 use Rattle.rd_lock.specs.declared.views.PassView.{PassView}
 use Rattle.rd_lock.specs.declared.views.Recorded.{Ghosts}
 use Rattle.rd_lock.specs.declared.views.Stage.TheVariants.{Out, Waits, Holds}
 use Rattle.rd_lock.specs.declared.passes.Pass.{Pass}
 use Rattle.rd_lock.specs.declared.locks.TicketLock.{TicketLock}
 use Rattle.rd_lock.specs.declared.tickets.TryTakeError.{TryTakeError}
-use Rattle.rd_lock.specs.Histories.{only, named, Adds, Continues}
+use Rattle.rd_lock.specs.Histories.{only, named, signed, placed, Adds, Continues}
 use Rattle.rd_lock.specs.Rule.{KnowsOpening}
 
 module _ {T E O : Type 0} where
@@ -91,9 +91,11 @@ module _ {T E O : Type 0} {K : Ghosts T E O} where
     pub held : (ticket : ℕ) × (found : List (ℕ × E)) × IsHolding pass ticket found × Adds (number pass) found (K.history value)
 
   -- after a put the pass has seen just this value's history; what it found went on from what it had
-  -- seen by entries of others alone
+  -- seen by entries of others alone, so its own entries are those that it had and then those that it
+  -- put, each with its position
   pub record HasPut (old new : Pass T E O K) (value : T) : Type 0 where
     pub same_number : number new ≡ number old
     pub continues : (ticket : ℕ) (found : List (ℕ × E)) → IsHolding old ticket found → Continues (number old) (seen old) found
     pub has_seen : seen new ≡ K.history value
+    pub own_grows : (ticket : ℕ) (found : List (ℕ × E)) (es : List E) → IsHolding old ticket found → K.history value ≡ found ++ signed (number old) es → own new ≡ own old ++ placed (1 + length found) es
     pub words : KnowsMore old new

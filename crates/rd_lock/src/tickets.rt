@@ -124,6 +124,7 @@ impl<T: Recorded> TicketLock<T> {
     }
 
     /// Puts the value back and lets the next ticket be served.
+    #[tactic(auto, using(crate::proofs::Lists::own_signed))]
     pub fn put_back(&self, pass: &mut Pass<T>, value: T)
         requires own { IsPassOf self.now pass.old }
         requires value { IsDue self.now pass.old value }
