@@ -4,8 +4,8 @@
 -- 1     LoadsNext     next    next := n
 -- 2     Draws         next    next := n + 1, and it waits with ticket n; where another was first, as 1
 -- 2     Tries         next    next := n + 1, and it holds by ticket n; where another was first, as 1
--- 3     LoadsServed   served  served := n
--- 3     Polls         served  served := n, and it holds where n is its ticket
+-- 3     LoadsServed   served  served := n, and next, where it is less, is raised to n
+-- 3     Polls         served  the same, and it holds where n is its ticket
 -- 6     Releases      served  served := n + 1, seen := what it put, and it is out
 --
 -- Kinds 4 and 5 move the value, and 7 and 8 join and split seats: `src/slot.rt`, `src/plays.rt`.
