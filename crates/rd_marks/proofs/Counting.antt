@@ -1,7 +1,7 @@
 -- The entries of the stretches are as many as the lists that begin the events of a bookmark, the
 -- empty one apart.
 use Rattle.std.proofs.Common.{◌≡◌, ℕ, zero, suc, ◌+◌, ◌-◌, ◌<◌, ◌≤◌, inl, inr, refl, sym, ap, ◌∙◌, subst, List, [], ◌∷◌, ◌++◌, length, take, map, sum_by, Contains, length-append, length-take, arith}
-use Rattle.rd_marks.proofs.Prelude.{range_with_len, take-length, cases_lt, cases_eq, nat_tests, get_or-map, length-map, length-take-le, take-map, take-take, sum_by-cons, Contains-append_left, Contains-append_right, Contains-append_cases, Event, Entry, IsPrefix, MarkName, Stretch, Place, mark_of, marks_of, named_lists, stretch_list, shared_at, entries_at, AreNested, AreFresh, number_if_in, greatest_in, AreNeeded, IsAlong, IsDeepest, count_of, events}
+use Rattle.rd_marks.proofs.Prelude.{range_with_len, take-length, cases_lt, cases_eq, nat_tests, get_or-map, length-map, length-take-le, take-map, take-take, sum_by-cons, Contains-append_left, Contains-append_right, Contains-append_cases, Event, Entry, IsPrefix, MarkName, Stretch, Node, mark_of, marks_of, named_lists, stretch_list, shared_at, entries_at, AreNested, AreFresh, number_if_in, greatest_in, AreNeeded, IsAlong, IsDeepest, count_of, events}
 use Rattle.std.proofs.lemmas.List.FromFn.{length-map-range_with_len, get_or-map-range_with_len}
 use Rattle.rd_marks.specs.Beginnings.{IsBeginning, AreDistinct, CountsBeginnings, NeedsNoEntry}
 use Rattle.rd_marks.proofs.StretchLists.{own_at, list_past, shared_past, shared_within, total, begins_shared}
@@ -83,10 +83,10 @@ begun_taken : (es : List Event) (xs ys : List Entry) → take (length es) xs ≡
 begun_taken es xs ys same b = grind (arith, take-map)
 
 -- what begins the events of a bookmark begins those of a stretch's list
-begins_list : (ss : List Stretch) (ms : List (MarkName × Place)) (es : List Event) → IsBeginning (marks_of (named_lists ss ms)) es → (i : ℕ) × IsPrefix es (events (stretch_list ss i))
+begins_list : (ss : List Stretch) (ms : List (MarkName × Node)) (es : List Event) → IsBeginning (marks_of (named_lists ss ms)) es → (i : ℕ) × IsPrefix es (events (stretch_list ss i))
 begins_list ss ms es h =
     let found = mapped_contains (λ (x : MarkName × List Entry). mark_of x) (named_lists ss ms) h.mark h.kept in
-    let named = mapped_contains (λ (x : MarkName × Place). (x.0, entries_at ss x.1)) ms found.0 found.1 in
+    let named = mapped_contains (λ (x : MarkName × Node). (x.0, entries_at ss x.1)) ms found.0 found.1 in
     let p = named.0.1 in
     let b : IsPrefix es (events (entries_at ss p)) =
     grind arith in
@@ -95,7 +95,7 @@ begins_list ss ms es h =
     (p.stretch, begun_taken es (entries_at ss p) (stretch_list ss p.stretch) (take-take (length es) p.number (stretch_list ss p.stretch) short) b)
 
 -- where a bookmark needs no new entry, some list begins with all of its events
-pub all_along : (ss : List Stretch) (ms : List (MarkName × Place)) (at n : ℕ) (es : List Event) → IsAlong ss at n es → IsDeepest ss n es
+pub all_along : (ss : List Stretch) (ms : List (MarkName × Node)) (at n : ℕ) (es : List Event) → IsAlong ss at n es → IsDeepest ss n es
     → NeedsNoEntry (marks_of (named_lists ss ms)) es → n ≡ length es
 all_along ss ms at n es along deepest none =
     elim (cases_lt n (length es)) [
@@ -106,7 +106,7 @@ all_along ss ms at n es along deepest none =
       | inr all ↦ omega (arith, all, along.enough)
     ]
 
-greatest_there : (i n : ℕ) (ps : List Place) → 0 < n → n ≤ greatest_in i ps → (p : Place) × Contains ps p × (p.stretch ≡ i) × (n ≤ p.number)
+greatest_there : (i n : ℕ) (ps : List Node) → 0 < n → n ≤ greatest_in i ps → (p : Node) × Contains ps p × (p.stretch ≡ i) × (n ≤ p.number)
 greatest_there i n [] some h = absurd (omega (arith, some, h))
 greatest_there i n (p ∷ ps) some h =
     elim (cases_lt (number_if_in i p) n) [
@@ -157,15 +157,15 @@ module _ (ss : List Stretch) (rule : AreNested ss) where
             (l.0, omega (arith, l.1), l.2, l.3)
       ]
 
-  module _ (ms : List (MarkName × Place)) (needed : AreNeeded ss (map (λ (m : MarkName × Place). m.1) ms)) where
+  module _ (ms : List (MarkName × Node)) (needed : AreNeeded ss (map (λ (m : MarkName × Node). m.1) ms)) where
     reached : (fuel i n : ℕ) → length ss ≤ i + fuel → i < length ss → n ≤ length (stretch_list ss i)
-        → (m : MarkName × Place) × Contains ms m × (take n (entries_at ss m.1) ≡ take n (stretch_list ss i))
+        → (m : MarkName × Node) × Contains ms m × (take n (entries_at ss m.1) ≡ take n (stretch_list ss i))
     reached zero i n enough inside h = absurd (omega (arith, enough, inside))
     reached (suc fuel) i n enough inside h =
-        elim (cases_lt (greatest_in i (map (λ (m : MarkName × Place). m.1) ms)) (length (stretch_list ss i))) [
+        elim (cases_lt (greatest_in i (map (λ (m : MarkName × Node). m.1) ms)) (length (stretch_list ss i))) [
           | inr there ↦
-              let p = greatest_there i (length (stretch_list ss i)) (map (λ (m : MarkName × Place). m.1) ms) (omega (arith, rule.some i inside)) there in
-              let m = mapped_contains (λ (m : MarkName × Place). m.1) ms p.0 p.1 in (
+              let p = greatest_there i (length (stretch_list ss i)) (map (λ (m : MarkName × Node). m.1) ms) (omega (arith, rule.some i inside)) there in
+              let m = mapped_contains (λ (m : MarkName × Node). m.1) ms p.0 p.1 in (
                 m.0,
                 m.1,
                 grind (arith, take-take),
@@ -181,7 +181,7 @@ module _ (ss : List Stretch) (rule : AreNested ss) where
         ]
 
     -- each beginning of the list of a stretch begins the entries of a bookmark
-    pub begins_one : (i n : ℕ) → i < length ss → n ≤ length (stretch_list ss i) → (m : MarkName × Place) × Contains ms m × (take n (entries_at ss m.1) ≡ take n (stretch_list ss i))
+    pub begins_one : (i n : ℕ) → i < length ss → n ≤ length (stretch_list ss i) → (m : MarkName × Node) × Contains ms m × (take n (entries_at ss m.1) ≡ take n (stretch_list ss i))
     begins_one i n inside h = reached (length ss) i n (omega arith) inside h
 
     pub counts : AreFresh ss → CountsBeginnings (marks_of (named_lists ss ms)) (count_of ss)
@@ -202,7 +202,7 @@ module _ (ss : List Stretch) (rule : AreNested ss) where
               mark = mark_of (m.0, entries_at ss m.1);
               kept =
                   contains_mapped (λ (x : MarkName × List Entry). mark_of x) (named_lists ss ms) (m.0, entries_at ss m.1)
-                  (contains_mapped (λ (x : MarkName × Place). (x.0, entries_at ss x.1)) ms m r.1);
+                  (contains_mapped (λ (x : MarkName × Node). (x.0, entries_at ss x.1)) ms m r.1);
               begins = begun_taken es (stretch_list ss l.0) (entries_at ss m.1) (sym r.2) l.3;
             }
 
@@ -212,28 +212,28 @@ module _ (ss : List Stretch) (rule : AreNested ss) where
             let l = owner b.0 es h.some b.1 in
             grind (arith, l.2, l.3, is_listed (length ss) l.0 es, list_past ss l.0, begun_within ss l.0 es)
 
--- The entries are no more than those of the places together
+-- The entries are no more than those of the nodes together
 
-abbrev greatest_to : List Place → ℕ → ℕ
+abbrev greatest_to : List Node → ℕ → ℕ
 greatest_to ps zero = 0
 greatest_to ps (suc n) = greatest_to ps n + greatest_in n ps
 
--- a place counts in its stretch alone
-greatest_one : (p : Place) (ps : List Place) (n : ℕ)
+-- a node counts in its stretch alone
+greatest_one : (p : Node) (ps : List Node) (n : ℕ)
     → (greatest_to (p ∷ ps) n ≤ p.number + greatest_to ps n) × (n ≤ p.stretch → greatest_to (p ∷ ps) n ≤ greatest_to ps n)
 greatest_one p ps zero = (omega arith, λ h. omega arith)
 greatest_one p ps (suc n) = let rest = greatest_one p ps n in (grind (arith, nat_tests, rest), λ h. grind (arith, nat_tests, rest))
 
-greatest_bound : (ps : List Place) (n : ℕ) → greatest_to ps n ≤ sum_by (λ (p : Place). p.number) ps
+greatest_bound : (ps : List Node) (n : ℕ) → greatest_to ps n ≤ sum_by (λ (p : Node). p.number) ps
 greatest_bound [] zero = omega arith
 greatest_bound [] (suc n) = omega (arith, greatest_bound [] n)
-greatest_bound (p ∷ ps) n = omega (arith, (greatest_one p ps n).0, greatest_bound ps n, sum_by-cons (λ (q : Place). q.number) p ps)
+greatest_bound (p ∷ ps) n = omega (arith, (greatest_one p ps n).0, greatest_bound ps n, sum_by-cons (λ (q : Node). q.number) p ps)
 
-module _ (ss : List Stretch) (rule : AreNested ss) (places : List Place) (needed : AreNeeded ss places) where
-  count_bound : (n : ℕ) → n ≤ length ss → length (lists_to ss n) ≤ shared_at ss n + greatest_to places n
+module _ (ss : List Stretch) (rule : AreNested ss) (nodes : List Node) (needed : AreNeeded ss nodes) where
+  count_bound : (n : ℕ) → n ≤ length ss → length (lists_to ss n) ≤ shared_at ss n + greatest_to nodes n
   count_bound zero h = omega arith
   count_bound (suc n) h = omega (arith, count_bound n (omega (arith, h)), total ss rule n, lists_length ss n, needed n (omega (arith, h)))
 
-  pub count_bounded : count_of ss ≤ sum_by (λ (p : Place). p.number) places
+  pub count_bounded : count_of ss ≤ sum_by (λ (p : Node). p.number) nodes
   count_bounded =
-      omega (arith, count_bound (length ss) (omega arith), shared_past ss (length ss) (omega arith), lists_counted ss, greatest_bound places (length ss))
+      omega (arith, count_bound (length ss) (omega arith), shared_past ss (length ss) (omega arith), lists_counted ss, greatest_bound nodes (length ss))

@@ -1,6 +1,6 @@
 -- Where the session's track lies among the bookmarks' entries, and what each call leaves of that.
 use Rattle.std.proofs.Common.{◌≡◌, ℕ, zero, suc, ◌-◌, ◌≤◌, refl, ap, List, [], ◌∷◌, ◌++◌, length, take, drop, Ok, arith}
-use Rattle.rd_marks.proofs.Prelude.{take-append_seam, take-length, take-map, take-take, take-append-le, length-map, length-take, closure, unmarked, Event, Entry, IsPrefix, Session, Journal, ahead_entries, state, track, State, undo_at, roll, Place, Stretch, stretch_list, entries_at, IsWithin, IsAlong, events}
+use Rattle.rd_marks.proofs.Prelude.{take-append_seam, take-length, take-map, take-take, take-append-le, length-map, length-take, closure, unmarked, Event, Entry, IsPrefix, Session, Journal, ahead_entries, state, track, State, undo_at, roll, Node, Stretch, stretch_list, entries_at, IsWithin, IsAlong, events}
 use Rattle.rd_journal.specs.State.{live_event}
 use Rattle.rd_journal.proofs.Calls.{is_live, went_through}
 use Rattle.rd_journal.specs.Moves.{IsLengthened, IsUndoneAlone, IsRolledBack}
@@ -57,11 +57,11 @@ module _ (here there : List Entry) (begins : IsPrefix there here) where
 pub live_begin : {R : ℕ} (session : Session R) (xs : List Entry) → events xs ≡ (state session).live → IsPrefix (events xs) (track session)
 live_begin session xs its = grind (arith, take-append_seam)
 
--- The place of the entries of a list with which the live steps begin
+-- The node of the entries of a list with which the live steps begin
 
 module _ (ss : List Stretch) where
-  -- where they are: no further than they are, at the place where their track lies
-  pub live_along : {R : ℕ} (session : Session R) (here at : Place) (xs : List Entry) → events xs ≡ (state session).live → IsWithin ss here
+  -- where they are: no further than they are, at the node where their track lies
+  pub live_along : {R : ℕ} (session : Session R) (here at : Node) (xs : List Entry) → events xs ≡ (state session).live → IsWithin ss here
       → IsPrefix (events (entries_at ss here)) (track session) → at.stretch ≡ here.stretch → at.number ≤ here.number → at.number ≤ length xs
       → IsWithin ss at × IsAlong ss at.stretch at.number (events xs)
   live_along session here at xs its within stands same fewer few =
@@ -72,7 +72,7 @@ module _ (ss : List Stretch) where
       (first.0, grind (arith, its, few, all, seam, still, events_length ss at first.0, events_of_first at.number (stretch_list ss at.stretch)))
 
   -- so its steps are the first ones of the track
-  pub along_to : (at here : Place) (steps : List Event) → IsWithin ss at → IsWithin ss here → IsPrefix (events (entries_at ss here)) steps → (n : ℕ) → n ≡ at.number → n ≤ here.number
+  pub along_to : (at here : Node) (steps : List Event) → IsWithin ss at → IsWithin ss here → IsPrefix (events (entries_at ss here)) steps → (n : ℕ) → n ≡ at.number → n ≤ here.number
       → take n (entries_at ss here) ≡ take n (entries_at ss at) → (n ≤ length steps) × (take n steps ≡ events (entries_at ss at))
   along_to at here steps is within stands n all fewer alike =
       let long = events_length ss here within in

@@ -1,7 +1,7 @@
 -- The marks that a list of names with entries is: looking one up, putting one last, taking one
 -- away.
 use Rattle.std.proofs.Common.{inr, ◌↔◌, IsTrue, is_ok, ◌⊎◌, ◌≢◌, suc, Result, Ok, Err, IsOk, IfErr, ne_eqb, ◌≡◌, ℕ, Bool, true, false, cond, map, refl, sym, ap, ◌∙◌, subst, List, [], ◌∷◌, ◌++◌, length, is_some, option_map, ok_or, Option, Some, None, All, slice_get, arith}
-use Rattle.rd_marks.proofs.Prelude.{lookup, remove_entry, insert_entry, All-cons, All-head, All-tail, Entry, Event, MarkName, mark_name_eq, eq-eqb, false≢true, length-map, get_or_from_slice_get, slice_get-map, slice_get_within, Refusal, World, MOST_MARKS, AreEntriesOfRun, IsPrefix, Mark, BookState, with_marks, marked_events, without_mark, mark, drop_mark, goto_mark, mark_at, mark_events, name_and_length, result_map, MakesSteps, AnswersSame, IsEquivalent, DecidesEquivalence, mark_of, marks_of, events, Place, book_state, entries_in}
+use Rattle.rd_marks.proofs.Prelude.{lookup, remove_entry, insert_entry, All-cons, All-head, All-tail, Entry, Event, MarkName, mark_name_eq, eq-eqb, false≢true, length-map, get_or_from_slice_get, slice_get-map, slice_get_within, Refusal, World, MOST_MARKS, AreEntriesOfRun, IsPrefix, Mark, BookState, with_marks, marked_events, without_mark, mark, drop_mark, goto_mark, mark_at, mark_events, name_and_length, result_map, MakesSteps, AnswersSame, IsEquivalent, DecidesEquivalence, mark_of, marks_of, events, Node, book_state, entries_in}
 use Rattle.rd_journal.specs.Sessions.{LacksRoomFor}
 use Rattle.rd_marks.specs.BookViews.{MayRefuseToGo}
 use Rattle.rd_marks.specs.Kept.{IsInPieces}
@@ -123,10 +123,10 @@ pub mark_refused : {P : Type 0} (b : BookState) (name : MarkName) (refusal : Ref
 mark_refused b name refusal h goes = absurd (false≢true (sym (ap is_ok h) ∙ goes))
 
 -- going to a mark that is there is refused memory where room is missing
-pub goto_lacks : {R : ℕ} {X : Type 0} (r : Result X Refusal) (b : Book R) (name : MarkName) (place : Place) → marked_events (book_state b).marks name ≡ Some (events (entries_in b.bookmarks place))
-    → IfErr r (λ cause. (cause ≡ refusal.NoMemory) × (LacksRoomFor b.session (events (entries_in b.bookmarks place)) ⊎ IsInPieces b.bookmarks place)) → IfErr r (MayRefuseToGo b name)
-goto_lacks (Ok x) b name place its h = tt
-goto_lacks (Err cause) b name place its h = inr (h.0, record { place = place; its = its; lacks = h.1 })
+pub goto_lacks : {R : ℕ} {X : Type 0} (r : Result X Refusal) (b : Book R) (name : MarkName) (node : Node) → marked_events (book_state b).marks name ≡ Some (events (entries_in b.bookmarks node))
+    → IfErr r (λ cause. (cause ≡ refusal.NoMemory) × (LacksRoomFor b.session (events (entries_in b.bookmarks node)) ⊎ IsInPieces b.bookmarks node)) → IfErr r (MayRefuseToGo b name)
+goto_lacks (Ok x) b name node its h = tt
+goto_lacks (Err cause) b name node its h = inr (h.0, record { node = node; its = its; lacks = h.1 })
 
 -- what is said of an error, where there is one
 pub if_then_for : {X : Type 0} (r : Result X Refusal) (P : Refusal → Type 0) → IfErr r P → (refusal : Refusal) → r ≡ Err refusal → P refusal

@@ -1,6 +1,6 @@
 -- Changing what each name has, one after another, and reading it.
 use Rattle.std.proofs.Common.{◌≡◌, ℕ, zero, suc, ◌≤◌, max, refl, sym, ap, subst, List, [], ◌∷◌, ◌++◌, map, length, take, drop, slice_get, Some, All, arith}
-use Rattle.rd_marks.proofs.Prelude.{values_of, All-head, All-tail, set_value_at, MarkName, Place, places_of, greatest_in, number_if_in}
+use Rattle.rd_marks.proofs.Prelude.{values_of, All-head, All-tail, set_value_at, MarkName, Node, nodes_of, greatest_in, number_if_in}
 
 module _ {K V : Type 0} (f : V → V) where
   -- the first n changed
@@ -30,8 +30,8 @@ module _ {K V : Type 0} (f : V → V) where
 
 -- The greatest number of those that are left to read
 
-pub greatest_next : (i k : ℕ) (ms : List (MarkName × Place)) (m : MarkName × Place) → slice_get ms k ≡ Some m
-    → greatest_in i (places_of (drop k ms)) ≡ max (number_if_in i m.1) (greatest_in i (places_of (drop (suc k) ms)))
+pub greatest_next : (i k : ℕ) (ms : List (MarkName × Node)) (m : MarkName × Node) → slice_get ms k ≡ Some m
+    → greatest_in i (nodes_of (drop k ms)) ≡ max (number_if_in i m.1) (greatest_in i (nodes_of (drop (suc k) ms)))
 greatest_next i k [] m h = cc
-greatest_next i zero (n ∷ ms) m h = (let same : n ≡ m = cc in ap (λ (d : MarkName × Place). max (number_if_in i d.1) (greatest_in i (places_of ms))) same)
+greatest_next i zero (n ∷ ms) m h = (let same : n ≡ m = cc in ap (λ (d : MarkName × Node). max (number_if_in i d.1) (greatest_in i (nodes_of ms))) same)
 greatest_next i (suc k) (n ∷ ms) m h = greatest_next i k ms m h

@@ -28,8 +28,8 @@ pub use Rattle.rd_marks.specs.BookViews.{book_state}
 pub use Rattle.rd_marks.specs.Books.{AnswersEvents, AnswersSame, BookState, MakesSteps, Mark, at_events, drop_mark, goto_mark, mark, mark_at, mark_events, marked_events, name_and_length, with_marks, with_session, without_mark}
 pub use Rattle.rd_marks.specs.Changes.{IsGrown, IsLow, IsShrunk, IsUnchanged, Stays, shifted}
 pub use Rattle.rd_marks.specs.Commands.{Answered, AreObeyed, Happened, IsMade, IsObeyed, NeedsNoMemory, answer_with, happens, move_answer}
-pub use Rattle.rd_marks.specs.Kept.{IsPlaceIn, here_in, lists_in, entries_in}
-pub use Rattle.rd_marks.specs.Layout.{AreRuns, IsKept, IsPruned, AreEntriesOfRun, named_lists, places_of}
+pub use Rattle.rd_marks.specs.Kept.{IsNodeIn, here_in, lists_in, entries_in}
+pub use Rattle.rd_marks.specs.Layout.{AreRuns, IsKept, IsPruned, AreEntriesOfRun, named_lists, nodes_of}
 pub use Rattle.rd_marks.specs.Marks.{mark_of, marks_of}
 pub use Rattle.rd_marks.specs.NameBytes.{MOST_MARKS, MOST_NAME_BYTES, is_mark_name, is_name_byte}
 pub use Rattle.rd_marks.specs.Names.{mark_name_eq}
@@ -37,6 +37,6 @@ pub use Rattle.rd_marks.specs.Stretches.{AreFresh, AreNeeded, AreNeededFrom, Are
 pub use Rattle.rd_marks.specs.declared.bookmarks.Bookmarks.{Bookmarks}
 pub use Rattle.rd_marks.specs.declared.commands.Command.{Command}
 pub use Rattle.rd_marks.specs.declared.names.MarkName.{MarkName}
-pub use Rattle.rd_marks.specs.declared.stretches.Place.{Place}
+pub use Rattle.rd_marks.specs.declared.stretches.Node.{Node}
 pub use Rattle.rd_marks.specs.declared.stretches.Stretch.{Stretch}
 pub use Rattle.rd_marks.specs.declared.stretches.changes.Shift.{Shift}

@@ -1,74 +1,74 @@
 -- What the bookmarks are after one was put, and after stretches were shrunk.
 use Rattle.std.proofs.Common.{◌≡◌, ℕ, zero, suc, ◌^◌, ◌<◌, ◌≤◌, inl, inr, refl, sym, ap, ◌∙◌, subst, List, [], ◌∷◌, ◌++◌, map, length, take, drop, length-append, option_map, Option, None, All, arith}
-use Rattle.rd_marks.proofs.Prelude.{cases_lt, sum_by-le, length-map, map-append, take-append-drop, All-push, All-contains, All-head, All-map, All-nil, All-tail, World, MOST_STEPS, Event, Entry, IsPrefix, MarkName, Place, Stretch, Shift, shifted, Stays, IsGrown, IsShrunk, IsUnchanged, MOST_MARKS, AreEntriesOfRun, AreRuns, IsKept, IsPruned, named_lists, places_of, count_of, stretch_list, entries_at, greatest_in, needed_at, IsWithin, IsAlong, AreNested, AreNeeded, AreNeededFrom, nat_tests, events, IsRunFrom, run}
+use Rattle.rd_marks.proofs.Prelude.{cases_lt, sum_by-le, length-map, map-append, take-append-drop, All-push, All-contains, All-head, All-map, All-nil, All-tail, World, MOST_STEPS, Event, Entry, IsPrefix, MarkName, Node, Stretch, Shift, shifted, Stays, IsGrown, IsShrunk, IsUnchanged, MOST_MARKS, AreEntriesOfRun, AreRuns, IsKept, IsPruned, named_lists, nodes_of, count_of, stretch_list, entries_at, greatest_in, needed_at, IsWithin, IsAlong, AreNested, AreNeeded, AreNeededFrom, nat_tests, events, IsRunFrom, run}
 use Rattle.rd_marks.specs.declared.stretches.changes.Grown.{Grown}
 use Rattle.rd_marks.proofs.Counting.{begins_one, contains_mapped, count_bounded}
 use Rattle.rd_marks.proofs.EntryLemmas.{begin_alike}
 use Rattle.rd_marks.proofs.Starting.{begins_itself, begins_trans, events_of_first, fewer_begin, stretch_within}
 
--- the names with where their places moved
-abbrev pub names_shifted : Shift → List (MarkName × Place) → List (MarkName × Place)
-names_shifted shift ms = map (λ (m : MarkName × Place). (m.0, shifted shift m.1)) ms
+-- the names with where their nodes moved
+abbrev pub names_shifted : Shift → List (MarkName × Node) → List (MarkName × Node)
+names_shifted shift ms = map (λ (m : MarkName × Node). (m.0, shifted shift m.1)) ms
 
 -- the names of the lists
-pub names_same : (ss : List Stretch) (ms : List (MarkName × Place)) → map (λ (l : MarkName × List Entry). l.0) (named_lists ss ms) ≡ map (λ (m : MarkName × Place). m.0) ms
+pub names_same : (ss : List Stretch) (ms : List (MarkName × Node)) → map (λ (l : MarkName × List Entry). l.0) (named_lists ss ms) ≡ map (λ (m : MarkName × Node). m.0) ms
 names_same ss [] = refl
 names_same ss (m ∷ ms) = ap (λ (names : List MarkName). m.0 ∷ names) (names_same ss ms)
 
-pub places_shifted : (shift : Shift) (ms : List (MarkName × Place)) → places_of (names_shifted shift ms) ≡ map (shifted shift) (places_of ms)
-places_shifted shift [] = refl
-places_shifted shift (m ∷ ms) = ap (λ (ps : List Place). shifted shift m.1 ∷ ps) (places_shifted shift ms)
+pub nodes_shifted : (shift : Shift) (ms : List (MarkName × Node)) → nodes_of (names_shifted shift ms) ≡ map (shifted shift) (nodes_of ms)
+nodes_shifted shift [] = refl
+nodes_shifted shift (m ∷ ms) = ap (λ (ps : List Node). shifted shift m.1 ∷ ps) (nodes_shifted shift ms)
 
 module _ (old new : List Stretch) (shift : Shift) where
   -- what each name has stays
-  pub lists_shifted : (ms : List (MarkName × Place)) → All (λ (m : MarkName × Place). Stays old new shift m.1) ms → named_lists new (names_shifted shift ms) ≡ named_lists old ms
+  pub lists_shifted : (ms : List (MarkName × Node)) → All (λ (m : MarkName × Node). Stays old new shift m.1) ms → named_lists new (names_shifted shift ms) ≡ named_lists old ms
   lists_shifted [] h = refl
   lists_shifted (m ∷ ms) h =
-      (λ i. (m.0, (All-head (λ (n : MarkName × Place). Stays old new shift n.1) m ms h).same i) ∷ lists_shifted ms (All-tail (λ (n : MarkName × Place). Stays old new shift n.1) m ms h) i)
+      (λ i. (m.0, (All-head (λ (n : MarkName × Node). Stays old new shift n.1) m ms h).same i) ∷ lists_shifted ms (All-tail (λ (n : MarkName × Node). Stays old new shift n.1) m ms h) i)
 
-  pub within_shifted : (ms : List (MarkName × Place)) → All (λ (m : MarkName × Place). Stays old new shift m.1) ms → All (λ (m : MarkName × Place). IsWithin new m.1) (names_shifted shift ms)
+  pub within_shifted : (ms : List (MarkName × Node)) → All (λ (m : MarkName × Node). Stays old new shift m.1) ms → All (λ (m : MarkName × Node). IsWithin new m.1) (names_shifted shift ms)
   within_shifted ms h =
-      All-map (λ (m : MarkName × Place). IsWithin new m.1) (λ (m : MarkName × Place). (m.0, shifted shift m.1)) ms (λ k d inside. (h k d inside).within)
+      All-map (λ (m : MarkName × Node). IsWithin new m.1) (λ (m : MarkName × Node). (m.0, shifted shift m.1)) ms (λ k d inside. (h k d inside).within)
 
--- what holds of each place that is there
-pub each : (P Q : Place → Type 0) (ms : List (MarkName × Place)) → ((p : Place) → P p → Q p) → All (λ (m : MarkName × Place). P m.1) ms → All (λ (m : MarkName × Place). Q m.1) ms
+-- what holds of each node that is there
+pub each : (P Q : Node → Type 0) (ms : List (MarkName × Node)) → ((p : Node) → P p → Q p) → All (λ (m : MarkName × Node). P m.1) ms → All (λ (m : MarkName × Node). Q m.1) ms
 each P Q ms f h = λ k d inside. f _ (h k d inside)
 
-module _ (old new : List Stretch) (at : Place) (live : List Entry) (grown : Grown) (grows : IsGrown old new at live grown) (name : MarkName) (ms : List (MarkName × Place))
-    (within : All (λ (m : MarkName × Place). IsWithin old m.1) ms) where
-  stay : All (λ (m : MarkName × Place). Stays old new grown.shift m.1) ms
+module _ (old new : List Stretch) (at : Node) (live : List Entry) (grown : Grown) (grows : IsGrown old new at live grown) (name : MarkName) (ms : List (MarkName × Node))
+    (within : All (λ (m : MarkName × Node). IsWithin old m.1) ms) where
+  stay : All (λ (m : MarkName × Node). Stays old new grown.shift m.1) ms
   stay = each (IsWithin old) (Stays old new grown.shift) ms grows.stays within
 
-  abbrev put : List (MarkName × Place)
-  put = names_shifted grown.shift ms ++ (name, grown.place) ∷ []
+  abbrev put : List (MarkName × Node)
+  put = names_shifted grown.shift ms ++ (name, grown.node) ∷ []
 
-  pub lists_put : named_lists new put ≡ named_lists old ms ++ (name, entries_at new grown.place) ∷ []
+  pub lists_put : named_lists new put ≡ named_lists old ms ++ (name, entries_at new grown.node) ∷ []
   lists_put =
-      map-append (λ (m : MarkName × Place). (m.0, entries_at new m.1)) (names_shifted grown.shift ms) ((name, grown.place) ∷ [])
-      ∙ ap (λ (ls : List (MarkName × List Entry)). ls ++ (name, entries_at new grown.place) ∷ []) (lists_shifted old new grown.shift ms stay)
+      map-append (λ (m : MarkName × Node). (m.0, entries_at new m.1)) (names_shifted grown.shift ms) ((name, grown.node) ∷ [])
+      ∙ ap (λ (ls : List (MarkName × List Entry)). ls ++ (name, entries_at new grown.node) ∷ []) (lists_shifted old new grown.shift ms stay)
 
-  pub within_put : All (λ (m : MarkName × Place). IsWithin new m.1) put
+  pub within_put : All (λ (m : MarkName × Node). IsWithin new m.1) put
   within_put =
-      All-push (λ (m : MarkName × Place). IsWithin new m.1) (names_shifted grown.shift ms) (name, grown.place) (within_shifted old new grown.shift ms stay) grows.within
+      All-push (λ (m : MarkName × Node). IsWithin new m.1) (names_shifted grown.shift ms) (name, grown.node) (within_shifted old new grown.shift ms stay) grows.within
 
-  pub needed_put : AreNeeded old (places_of ms) → AreNeeded new (places_of put)
+  pub needed_put : AreNeeded old (nodes_of ms) → AreNeeded new (nodes_of put)
   needed_put needed =
-      rw (map-append (λ (m : MarkName × Place). m.1) (names_shifted grown.shift ms) ((name, grown.place) ∷ []), places_shifted grown.shift ms) (grows.needed (places_of ms) needed)
+      rw (map-append (λ (m : MarkName × Node). m.1) (names_shifted grown.shift ms) ((name, grown.node) ∷ []), nodes_shifted grown.shift ms) (grows.needed (nodes_of ms) needed)
 
   -- the rule is kept
-  pub kept_put : (here there : Place) → IsKept old ms here → length ms < MOST_MARKS → (es : List (MarkName × Place)) → es ≡ put → IsWithin new there → IsKept new es there
+  pub kept_put : (here there : Node) → IsKept old ms here → length ms < MOST_MARKS → (es : List (MarkName × Node)) → es ≡ put → IsWithin new there → IsKept new es there
   kept_put here there kept fewer es its lies =
-      subst (λ (fs : List (MarkName × Place)). IsKept new fs there) (sym its) (record {
+      subst (λ (fs : List (MarkName × Node)). IsKept new fs there) (sym its) (record {
         few =
-            omega (arith, fewer, length-append (names_shifted grown.shift ms) ((name, grown.place) ∷ []), length-map {B = MarkName × Place} ms (λ m. (m.0, shifted grown.shift m.1)));
+            omega (arith, fewer, length-append (names_shifted grown.shift ms) ((name, grown.node) ∷ []), length-map {B = MarkName × Node} ms (λ m. (m.0, shifted grown.shift m.1)));
         within = within_put;
         needed = needed_put kept.needed;
         lies = lies;
       })
 
   -- and the track begins with the entries of where it lies
-  here_put : (here there : Place) (n : ℕ) (steps : List Event) → IsWithin old here → IsPrefix (events (entries_at old here)) steps → IsPrefix (events (entries_at new grown.place)) steps
-      → (here.number ≤ n → there ≡ grown.place) → (n < here.number → there ≡ shifted grown.shift here) → IsWithin new there × IsPrefix (events (entries_at new there)) steps
+  here_put : (here there : Node) (n : ℕ) (steps : List Event) → IsWithin old here → IsPrefix (events (entries_at old here)) steps → IsPrefix (events (entries_at new grown.node)) steps
+      → (here.number ≤ n → there ≡ grown.node) → (n < here.number → there ≡ shifted grown.shift here) → IsWithin new there × IsPrefix (events (entries_at new there)) steps
   here_put here there n steps lies stands begins near far =
       elim (cases_lt n here.number) [
         | inl over ↦ let stays = grows.stays here lies in rw (far over) (stays.within, rw stays.same stands)
@@ -78,19 +78,19 @@ module _ (old new : List Stretch) (at : Place) (live : List Entry) (grown : Grow
 -- Nothing was put
 
 module _ (old new : List Stretch) (unchanged : IsUnchanged old new) where
-  lists_same : (ms : List (MarkName × Place)) → All (λ (m : MarkName × Place). IsWithin old m.1) ms → named_lists new ms ≡ named_lists old ms
+  lists_same : (ms : List (MarkName × Node)) → All (λ (m : MarkName × Node). IsWithin old m.1) ms → named_lists new ms ≡ named_lists old ms
   lists_same [] h = refl
-  lists_same (m ∷ ms) h = λ i. (m.0, (unchanged.stays m.1 (All-head (λ (n : MarkName × Place). IsWithin old n.1) m ms h)).same i)
-      ∷ lists_same ms (All-tail (λ (n : MarkName × Place). IsWithin old n.1) m ms h) i
+  lists_same (m ∷ ms) h = λ i. (m.0, (unchanged.stays m.1 (All-head (λ (n : MarkName × Node). IsWithin old n.1) m ms h)).same i)
+      ∷ lists_same ms (All-tail (λ (n : MarkName × Node). IsWithin old n.1) m ms h) i
 
-  pub kept_same : (ms es : List (MarkName × Place)) (here : Place) → es ≡ ms → IsKept old ms here
+  pub kept_same : (ms es : List (MarkName × Node)) (here : Node) → es ≡ ms → IsKept old ms here
       → IsKept new es here × (named_lists new es ≡ named_lists old ms) × (entries_at new here ≡ entries_at old here)
   kept_same ms es here its kept = grind (arith, its, kept, each, lists_same ms kept.within, unchanged.stays here kept.lies, unchanged.needed)
 
--- The entries of a place with which the live steps begin are theirs
+-- The entries of a node with which the live steps begin are theirs
 
-pub same_entries : (w : World) (ss : List Stretch) → AreNested ss → (ms : List (MarkName × Place)) → AreNeeded ss (places_of ms) → AreRuns w (named_lists ss ms)
-    → (at : Place) → IsWithin ss at → (live : List Entry) → IsRunFrom w live → IsAlong ss at.stretch at.number (events live) → entries_at ss at ≡ take at.number live
+pub same_entries : (w : World) (ss : List Stretch) → AreNested ss → (ms : List (MarkName × Node)) → AreNeeded ss (nodes_of ms) → AreRuns w (named_lists ss ms)
+    → (at : Node) → IsWithin ss at → (live : List Entry) → IsRunFrom w live → IsAlong ss at.stretch at.number (events live) → entries_at ss at ≡ take at.number live
 same_entries w ss rule ms needed runs at within live run along = by at.number refl
   where
     by : (n : ℕ) → at.number ≡ n → entries_at ss at ≡ take at.number live
@@ -98,22 +98,22 @@ same_entries w ss rule ms needed runs at within live run along = by at.number re
     by (suc n) some =
         let r = begins_one ss rule ms needed at.stretch at.number (stretch_within ss at within (omega (arith, some))) within in
         let all = All-contains (λ (l : MarkName × List Entry). AreEntriesOfRun w l.1) (named_lists ss ms) (r.0.0, entries_at ss r.0.1) runs
-        (contains_mapped (λ (m : MarkName × Place). (m.0, entries_at ss m.1)) ms r.0 r.1) in
+        (contains_mapped (λ (m : MarkName × Node). (m.0, entries_at ss m.1)) ms r.0 r.1) in
         grind (arith, r.2, along, events_of_first at.number (entries_at ss r.0.1), events_of_first at.number (stretch_list ss at.stretch), begin_alike at.number w (entries_at ss r.0.1) live all.ran run)
 
 -- Shrinking
 
-pub greatest_of : (i : ℕ) (ms : List (MarkName × Place)) → All (λ (m : MarkName × Place). m.1.stretch ≡ i → m.1.number ≤ greatest_in i (places_of ms)) ms
-greatest_of i [] = All-nil (λ (m : MarkName × Place). m.1.stretch ≡ i → m.1.number ≤ 0)
+pub greatest_of : (i : ℕ) (ms : List (MarkName × Node)) → All (λ (m : MarkName × Node). m.1.stretch ≡ i → m.1.number ≤ greatest_in i (nodes_of ms)) ms
+greatest_of i [] = All-nil (λ (m : MarkName × Node). m.1.stretch ≡ i → m.1.number ≤ 0)
 greatest_of i (m ∷ ms) = grind (arith, nat_tests, greatest_of i ms)
 
-module _ (old new : List Stretch) (i n : ℕ) (shift : Shift) (shrunk : IsShrunk old new i n shift) (ms : List (MarkName × Place)) (its : n ≡ needed_at old (places_of ms) i)
-    (within : All (λ (m : MarkName × Place). IsWithin old m.1) ms) (needed : AreNeededFrom (suc i) old (places_of ms)) where
-  stay_left : All (λ (m : MarkName × Place). Stays old new shift m.1) ms
+module _ (old new : List Stretch) (i n : ℕ) (shift : Shift) (shrunk : IsShrunk old new i n shift) (ms : List (MarkName × Node)) (its : n ≡ needed_at old (nodes_of ms) i)
+    (within : All (λ (m : MarkName × Node). IsWithin old m.1) ms) (needed : AreNeededFrom (suc i) old (nodes_of ms)) where
+  stay_left : All (λ (m : MarkName × Node). Stays old new shift m.1) ms
   stay_left = λ k d inside. shrunk.stays _ (within k d inside) (λ here. omega (arith, greatest_of i ms k d inside here, its))
 
-  -- what the bookmarks and a place are then
-  pub pruned : (here kept : Place) → IsWithin old here → kept.stretch ≡ here.stretch → kept.number ≤ here.number → (kept.stretch ≡ i → kept.number ≤ n)
+  -- what the bookmarks and a node are then
+  pub pruned : (here kept : Node) → IsWithin old here → kept.stretch ≡ here.stretch → kept.number ≤ here.number → (kept.stretch ≡ i → kept.number ≤ n)
       → IsPruned i old new ms (names_shifted shift ms) here (shifted shift kept)
   pruned here kept lies same fewer left =
       let first = fewer_begin old here kept lies same fewer in
@@ -121,30 +121,30 @@ module _ (old new : List Stretch) (i n : ℕ) (shift : Shift) (shrunk : IsShrunk
       record {
         lists = lists_shifted old new shift ms stay_left;
         within = within_shifted old new shift ms stay_left;
-        needed = subst (λ (ps : List Place). AreNeededFrom i new ps) (sym (places_shifted shift ms)) (shrunk.needed (places_of ms) needed its);
+        needed = subst (λ (ps : List Node). AreNeededFrom i new ps) (sym (nodes_shifted shift ms)) (shrunk.needed (nodes_of ms) needed its);
         lies = stays.within;
         begins = subst (λ (xs : List Entry). IsPrefix xs (entries_at old here)) (sym stays.same) first.1;
       }
 
 -- nothing pruned yet, and once more
-pub not_pruned : (ss : List Stretch) (ms : List (MarkName × Place)) (here : Place) → All (λ (m : MarkName × Place). IsWithin ss m.1) ms → IsWithin ss here
+pub not_pruned : (ss : List Stretch) (ms : List (MarkName × Node)) (here : Node) → All (λ (m : MarkName × Node). IsWithin ss m.1) ms → IsWithin ss here
     → IsPruned (length ss) ss ss ms ms here here
 not_pruned ss ms here within lies = grind (arith, begins_itself)
 
-pub pruned_on : (i k : ℕ) (a b c : List Stretch) (ms ns ls : List (MarkName × Place)) (p q r : Place) → IsPruned k a b ms ns p q → IsPruned i b c ns ls q r → IsPruned i a c ms ls p r
+pub pruned_on : (i k : ℕ) (a b c : List Stretch) (ms ns ls : List (MarkName × Node)) (p q r : Node) → IsPruned k a b ms ns p q → IsPruned i b c ns ls q r → IsPruned i a c ms ls p r
 pruned_on i k a b c ms ns ls p q r first second = grind (arith, begins_trans)
 
 -- The number of all entries
 
-number_few : (ss : List Stretch) → AreNested ss → (p : Place) → IsWithin ss p → p.number ≤ MOST_STEPS
+number_few : (ss : List Stretch) → AreNested ss → (p : Node) → IsWithin ss p → p.number ≤ MOST_STEPS
 number_few ss rule p within = grind (arith, stretch_within)
 
 -- it is a number of a machine
-pub count_fits : (ss : List Stretch) → AreNested ss → (ms : List (MarkName × Place)) → AreNeeded ss (places_of ms) → All (λ (m : MarkName × Place). IsWithin ss m.1) ms
+pub count_fits : (ss : List Stretch) → AreNested ss → (ms : List (MarkName × Node)) → AreNeeded ss (nodes_of ms) → All (λ (m : MarkName × Node). IsWithin ss m.1) ms
     → length ms ≤ MOST_MARKS → count_of ss < 2 ^ 64
 count_fits ss rule ms needed within few =
-    let all = All-map (λ (p : Place). p.number ≤ MOST_STEPS) (λ (m : MarkName × Place). m.1) ms (λ k d inside. number_few ss rule _ (within k d inside)) in
-    omega (arith, count_bounded ss rule (places_of ms) needed, sum_by-le (λ (p : Place). p.number) MOST_STEPS (places_of ms) all, length-map ms (λ (m : MarkName × Place). m.1), few)
+    let all = All-map (λ (p : Node). p.number ≤ MOST_STEPS) (λ (m : MarkName × Node). m.1) ms (λ k d inside. number_few ss rule _ (within k d inside)) in
+    omega (arith, count_bounded ss rule (nodes_of ms) needed, sum_by-le (λ (p : Node). p.number) MOST_STEPS (nodes_of ms) all, length-map ms (λ (m : MarkName × Node). m.1), few)
 
 -- The entries of the new list are those of a run as well
 
@@ -153,28 +153,28 @@ runs_put w ls ms name xs runs run its =
     rw its (All-push (λ (l : MarkName × List Entry). AreEntriesOfRun w l.1) ls (name, xs) runs run)
 
 -- a name that none of the lists has is none of the names
-pub none_named : (f : Place → List Entry) (o : Option Place) → option_map f o ≡ None → o ≡ None
+pub none_named : (f : Node → List Entry) (o : Option Node) → option_map f o ≡ None → o ≡ None
 none_named f o h = grind arith
 
 -- Setting a bookmark
 
--- what the bookmarks and the place where the track lies are then
-pub record IsSet (w : World) (old new : List Stretch) (ms es : List (MarkName × Place)) (name : MarkName) (live : List Entry) (steps : List Event) (there : Place) : Type 0 where
+-- what the bookmarks and the node where the track lies are then
+pub record IsSet (w : World) (old new : List Stretch) (ms es : List (MarkName × Node)) (name : MarkName) (live : List Entry) (steps : List Event) (there : Node) : Type 0 where
   pub kept : IsKept new es there
   pub lists : named_lists new es ≡ named_lists old ms ++ (name, live) ∷ []
   pub runs : AreRuns w (named_lists new es)
   pub stands : IsPrefix (events (entries_at new there)) steps
 
-module _ (w : World) (old : List Stretch) (rule : AreNested old) (ms : List (MarkName × Place)) (here : Place) (kept : IsKept old ms here) (fewer : length (named_lists old ms) < MOST_MARKS)
+module _ (w : World) (old : List Stretch) (rule : AreNested old) (ms : List (MarkName × Node)) (here : Node) (kept : IsKept old ms here) (fewer : length (named_lists old ms) < MOST_MARKS)
     (runs : AreRuns w (named_lists old ms)) (live : List Entry) (run : AreEntriesOfRun w live) (steps : List Event) (stands : IsPrefix (events (entries_at old here)) steps)
-    (began : IsPrefix (events live) steps) (at : Place) (within : IsWithin old at) (along : IsAlong old at.stretch at.number (events live)) where
-  pub is_set : (new : List Stretch) (grown : Grown) → IsGrown old new at live grown → (name : MarkName) (mid es : List (MarkName × Place)) → mid ≡ ms
-      → es ≡ names_shifted grown.shift mid ++ (name, grown.place) ∷ [] → (there : Place) (n : ℕ) → (here.number ≤ n → there ≡ grown.place) → (n < here.number → there ≡ shifted grown.shift here)
+    (began : IsPrefix (events live) steps) (at : Node) (within : IsWithin old at) (along : IsAlong old at.stretch at.number (events live)) where
+  pub is_set : (new : List Stretch) (grown : Grown) → IsGrown old new at live grown → (name : MarkName) (mid es : List (MarkName × Node)) → mid ≡ ms
+      → es ≡ names_shifted grown.shift mid ++ (name, grown.node) ∷ [] → (there : Node) (n : ℕ) → (here.number ≤ n → there ≡ grown.node) → (n < here.number → there ≡ shifted grown.shift here)
       → IsSet w old new ms es name live steps there
   is_set new grown grows name mid es reserved its there n near far =
-      let all : entries_at new grown.place ≡ live =
+      let all : entries_at new grown.node ≡ live =
       grows.put ∙ ap (λ (xs : List Entry). xs ++ drop at.number live) (same_entries w old rule ms kept.needed runs at within live run.ran along) ∙ take-append-drop at.number live in
-      let put_now = its ∙ ap (λ (fs : List (MarkName × Place)). names_shifted grown.shift fs ++ (name, grown.place) ∷ []) reserved in
+      let put_now = its ∙ ap (λ (fs : List (MarkName × Node)). names_shifted grown.shift fs ++ (name, grown.node) ∷ []) reserved in
       let lists : named_lists new es ≡ named_lists old ms ++ (name, live) ∷ [] =
       ap (named_lists new) put_now ∙ lists_put old new at live grown grows name ms kept.within ∙ ap (λ (xs : List Entry). named_lists old ms ++ (name, xs) ∷ []) all in
       let lies =

@@ -1,6 +1,6 @@
--- Reading the entries of a place, and what the stretches have in common with other entries.
+-- Reading the entries of a node, and what the stretches have in common with other entries.
 use Rattle.std.proofs.Common.{◌≡◌, ◌⊎◌, ℕ, zero, suc, ◌+◌, ◌-◌, ◌<◌, ◌≤◌, min, refl, sym, ap, ◌∙◌, List, [], ◌∷◌, ◌++◌, length, take, drop, get_or, reverse, slice_get, option_map, Some, arith}
-use Rattle.rd_marks.proofs.Prelude.{drop-cons, take-add, cases_lt, append_assoc, drop-map, drop-take, length-map, reverse-append, take-take, slice_get-map, slice_get_read, slice_get_within, Event, Entry, Place, Stretch, count_of, stretch_list, list_before, shared_at, entries_at, IsWithin, IsOwn, IsAlong, AreNested, AreFresh, events}
+use Rattle.rd_marks.proofs.Prelude.{drop-cons, take-add, cases_lt, append_assoc, drop-map, drop-take, length-map, reverse-append, take-take, slice_get-map, slice_get_read, slice_get_within, Event, Entry, Node, Stretch, count_of, stretch_list, list_before, shared_at, entries_at, IsWithin, IsOwn, IsAlong, AreNested, AreFresh, events}
 use Rattle.rd_step.specs.Lists.{numbered}
 use Rattle.rd_marks.proofs.StretchLists.{own_at, stretch_there, total, shared_within, begins_shared, behind_shared, list_past}
 use Rattle.rd_marks.proofs.Fresh.{Follows, follows_compared, follows_skipped, along_itself, between, apart}
@@ -68,11 +68,11 @@ pub count_on : (ss : List Stretch) (i : ℕ) (s : Stretch) → i < length ss →
 count_on ss i s inside its = grind (arith, drop-cons)
 
 module _ (ss : List Stretch) (rule : AreNested ss) where
-  -- a place none of whose entries is its stretch's own, and that in the stretch before
+  -- a node none of whose entries is its stretch's own, and that in the stretch before
   pub one_down : (k n : ℕ) → n ≤ shared_at ss (suc k) → (n ≤ length (stretch_list ss k)) × (take n (stretch_list ss k) ≡ take n (stretch_list ss (suc k)))
   one_down k n h = (omega (arith, h, shared_within ss rule (suc k)), sym (begins_shared ss rule (suc k) n h))
 
-  pub down : (p : Place) → 0 < p.stretch → p.number ≤ shared_at ss p.stretch
+  pub down : (p : Node) → 0 < p.stretch → p.number ≤ shared_at ss p.stretch
       → IsWithin ss (record { stretch = p.stretch - 1; number = p.number }) × (entries_at ss (record { stretch = p.stretch - 1; number = p.number }) ≡ entries_at ss p)
   down p some h = grind (arith, one_down (p.stretch - 1) p.number)
 
@@ -81,18 +81,18 @@ module _ (ss : List Stretch) (rule : AreNested ss) where
   common_on one i c d less shared same =
       begins_shared ss rule (suc i) d shared ∙ sym (take-take d c (stretch_list ss i) less) ∙ ap (take d) same ∙ take-take d c (stretch_list ss one) less
 
-  pub own_cases : (p : Place) → IsOwn ss p → (p.stretch ≡ 0) ⊎ (shared_at ss p.stretch < p.number)
+  pub own_cases : (p : Node) → IsOwn ss p → (p.stretch ≡ 0) ⊎ (shared_at ss p.stretch < p.number)
   own_cases p own = grind arith
 
-  -- the number of a place in its own stretch is no less than what is shared
-  pub own_number : (p : Place) → IsOwn ss p → shared_at ss p.stretch ≤ p.number
+  -- the number of a node in its own stretch is no less than what is shared
+  pub own_number : (p : Node) → IsOwn ss p → shared_at ss p.stretch ≤ p.number
   own_number p own = grind (arith, shared_within)
 
-  pub own_less : (p : Place) → IsOwn ss p → 0 < p.number → shared_at ss p.stretch < p.number
+  pub own_less : (p : Node) → IsOwn ss p → 0 < p.number → shared_at ss p.stretch < p.number
   own_less p own some = grind (arith, shared_within)
 
-  -- a place has one entry more than that of one fewer
-  pub without_last : (p : Place) (x : Entry) → 0 < p.number → slice_get (entries_at ss p) (p.number - 1) ≡ Some x
+  -- a node has one entry more than that of one fewer
+  pub without_last : (p : Node) (x : Entry) → 0 < p.number → slice_get (entries_at ss p) (p.number - 1) ≡ Some x
       → entries_at ss p ≡ entries_at ss (record { stretch = p.stretch; number = p.number - 1 }) ++ x ∷ []
   without_last p x some its =
       let parts : p.number ≡ suc (p.number - 1) = omega (arith, some) in
@@ -100,12 +100,12 @@ module _ (ss : List Stretch) (rule : AreNested ss) where
       ∙ one_more (stretch_list ss p.stretch) (p.number - 1) x (sym (slice_get_take (stretch_list ss p.stretch) p.number (p.number - 1) (omega (arith, some))) ∙ its)
 
   -- the entries after the first n, where they are the stretch's own
-  pub lent : (p : Place) (n : ℕ) → IsWithin ss p → shared_at ss p.stretch ≤ n → n ≤ p.number
+  pub lent : (p : Node) (n : ℕ) → IsWithin ss p → shared_at ss p.stretch ≤ n → n ≤ p.number
       → take (p.number - shared_at ss p.stretch - (n - shared_at ss p.stretch)) (drop (n - shared_at ss p.stretch) (own_at ss p.stretch)) ≡ drop n (entries_at ss p)
   lent p n within shared fewer = grind (arith, behind_shared ss rule p.stretch n shared, drop-take n (p.number - n) (stretch_list ss p.stretch))
 
   -- the last one
-  pub last_own : (p : Place) (x : Entry) → shared_at ss p.stretch < p.number → slice_get (own_at ss p.stretch) (p.number - shared_at ss p.stretch - 1) ≡ Some x
+  pub last_own : (p : Node) (x : Entry) → shared_at ss p.stretch < p.number → slice_get (own_at ss p.stretch) (p.number - shared_at ss p.stretch - 1) ≡ Some x
       → slice_get (entries_at ss p) (p.number - 1) ≡ Some x
   last_own p x less its =
       let fact = slice_get_drop (stretch_list ss p.stretch) (shared_at ss p.stretch) (p.number - shared_at ss p.stretch - 1) in
@@ -126,17 +126,17 @@ module _ (ss : List Stretch) (rule : AreNested ss) where
 
 -- Following
 
-module _ (ss : List Stretch) (rule : AreNested ss) (fresh : AreFresh ss) (es : List Event) (k : ℕ) (at : Place) (f : Follows ss es k at.stretch at.number) (high : at.stretch ≤ k) where
+module _ (ss : List Stretch) (rule : AreNested ss) (fresh : AreFresh ss) (es : List Event) (k : ℕ) (at : Node) (f : Follows ss es k at.stretch at.number) (high : at.stretch ≤ k) where
   pub step_compared : (at.stretch ≡ k) ⊎ (at.number ≤ shared_at ss k) → shared_at ss k ≤ at.number → (m : ℕ) → at.number ≤ m → IsAlong ss k m es → (IsAlong ss k (suc m) es → ⊥)
-      → (next : Place) → (at.number < m → next ≡ record { stretch = k; number = m }) → (m ≡ at.number → next ≡ at) → Follows ss es (suc k) next.stretch next.number × (next.stretch ≤ k)
+      → (next : Node) → (at.number < m → next ≡ record { stretch = k; number = m }) → (m ≡ at.number → next ≡ at) → Follows ss es (suc k) next.stretch next.number × (next.stretch ≤ k)
   step_compared low shared m h along most next more others = grind (arith, cases_lt at.number m, more, others, follows_compared ss rule fresh es k at.stretch at.number m f h along most)
 
   pub step_skipped : (at.stretch ≡ k → shared_at ss k ≤ at.number) → at.number < shared_at ss k → Follows ss es (suc k) at.stretch at.number × (at.stretch ≤ k)
   step_skipped own more = grind (arith, own, more, high, follows_skipped ss rule fresh es k at.stretch at.number f)
 
--- What two places have in common
+-- What two nodes have in common
 
-module _ (ss : List Stretch) (rule : AreNested ss) (fresh : AreFresh ss) (one other : Place) (within : IsWithin ss one) (within_too : IsWithin ss other) where
+module _ (ss : List Stretch) (rule : AreNested ss) (fresh : AreFresh ss) (one other : Node) (within : IsWithin ss one) (within_too : IsWithin ss other) where
   pub common_most : (n : ℕ) → n ≤ one.number → n ≤ other.number → take n (events (entries_at ss one)) ≡ take n (events (entries_at ss other))
       → (k : ℕ) → one.stretch < k → k ≤ other.stretch → n ≤ shared_at ss k
   common_most zero h l same k low high = omega arith
@@ -146,14 +146,14 @@ module _ (ss : List Stretch) (rule : AreNested ss) (fresh : AreFresh ss) (one ot
       (record { enough = omega (arith, length-map (stretch_list ss other.stretch) (λ (x : Entry). x.event), within_too, l); alike = sym (first_events ss one (suc n) h) ∙ same ∙ first_events ss other (suc n) l })
       (along_itself ss other.stretch (suc n) (omega (arith, within_too, l))) k low high
 
--- The next stretch that no longer goes on as a place's does
+-- The next stretch that no longer goes on as a node's does
 
--- the list before a stretch begins with the entries of the place
-pub record Reaches (ss : List Stretch) (at : Place) (i : ℕ) : Type 0 where
+-- the list before a stretch begins with the entries of the node
+pub record Reaches (ss : List Stretch) (at : Node) (i : ℕ) : Type 0 where
   pub enough : at.number ≤ length (list_before ss i)
   pub same : take at.number (list_before ss i) ≡ entries_at ss at
 
-module _ (ss : List Stretch) (rule : AreNested ss) (at : Place) (within : IsWithin ss at) where
+module _ (ss : List Stretch) (rule : AreNested ss) (at : Node) (within : IsWithin ss at) where
   pub reaches_on : (i : ℕ) → (at.stretch ≡ i) ⊎ (at.number < shared_at ss i) → (at.stretch < i → Reaches ss at i) → at.stretch ≤ i → Reaches ss at (suc i)
   reaches_on i h before high = grind (arith, total, begins_shared)
 

@@ -1,6 +1,6 @@
--- Lists that begin others, and the entries up to a place.
+-- Lists that begin others, and the entries up to a node.
 use Rattle.std.proofs.Common.{◌≡◌, ℕ, ◌<◌, ◌≤◌, sym, ap, ◌∙◌, List, length, take, length-take, arith}
-use Rattle.rd_marks.proofs.Prelude.{take-length, length-map, length-take-le, take-map, take-take, Entry, IsPrefix, Place, Stretch, stretch_list, entries_at, IsWithin, events}
+use Rattle.rd_marks.proofs.Prelude.{take-length, length-map, length-take-le, take-map, take-take, Entry, IsPrefix, Node, Stretch, stretch_list, entries_at, IsWithin, events}
 use Rattle.rd_marks.proofs.StretchLists.{list_past}
 
 pub begins_itself : {X : Type 0} (xs : List X) → IsPrefix xs xs
@@ -24,26 +24,26 @@ pub events_of_first : (n : ℕ) (xs : List Entry) → take n (events xs) ≡ eve
 events_of_first n xs = take-map (λ (x : Entry). x.event) n xs
 
 module _ (ss : List Stretch) where
-  -- up to a place there are as many as its number says
-  pub entries_length : (p : Place) → IsWithin ss p → length (entries_at ss p) ≡ p.number
+  -- up to a node there are as many as its number says
+  pub entries_length : (p : Node) → IsWithin ss p → length (entries_at ss p) ≡ p.number
   entries_length p within = length-take-le p.number (stretch_list ss p.stretch) within
 
-  pub events_length : (p : Place) → IsWithin ss p → length (events (entries_at ss p)) ≡ p.number
+  pub events_length : (p : Node) → IsWithin ss p → length (events (entries_at ss p)) ≡ p.number
   events_length p within = event_length (entries_at ss p) ∙ entries_length p within
 
   -- it is in a stretch if it has any
-  pub stretch_within : (p : Place) → IsWithin ss p → 0 < p.number → p.stretch < length ss
+  pub stretch_within : (p : Node) → IsWithin ss p → 0 < p.number → p.stretch < length ss
   stretch_within p within some = grind (arith, list_past)
 
   -- the first of them are the first of the list
-  pub first_entries : (p : Place) (n : ℕ) → n ≤ p.number → take n (entries_at ss p) ≡ take n (stretch_list ss p.stretch)
+  pub first_entries : (p : Node) (n : ℕ) → n ≤ p.number → take n (entries_at ss p) ≡ take n (stretch_list ss p.stretch)
   first_entries p n h = take-take n p.number (stretch_list ss p.stretch) h
 
-  pub first_events : (p : Place) (n : ℕ) → n ≤ p.number → take n (events (entries_at ss p)) ≡ take n (events (stretch_list ss p.stretch))
+  pub first_events : (p : Node) (n : ℕ) → n ≤ p.number → take n (events (entries_at ss p)) ≡ take n (events (stretch_list ss p.stretch))
   first_events p n h = events_of_first n (entries_at ss p) ∙ ap events (first_entries p n h) ∙ sym (events_of_first n (stretch_list ss p.stretch))
 
-  -- those up to a place of the same list with no greater number begin them
-  pub fewer_begin : (p q : Place) → IsWithin ss p → q.stretch ≡ p.stretch → q.number ≤ p.number → IsWithin ss q × IsPrefix (entries_at ss q) (entries_at ss p)
+  -- those up to a node of the same list with no greater number begin them
+  pub fewer_begin : (p q : Node) → IsWithin ss p → q.stretch ≡ p.stretch → q.number ≤ p.number → IsWithin ss q × IsPrefix (entries_at ss q) (entries_at ss p)
   fewer_begin p q within same fewer =
       let is : IsWithin ss q = omega (arith, within, fewer, ap (λ (i : ℕ). length (stretch_list ss i)) same) in (
         is,

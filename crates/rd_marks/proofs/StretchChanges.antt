@@ -1,30 +1,30 @@
--- The rule of the stretches is kept, and each place keeps its entries, where a stretch comes, goes
+-- The rule of the stretches is kept, and each node keeps its entries, where a stretch comes, goes
 -- or changes.
 use Rattle.std.proofs.Common.{◌≡◌, ◌⊎◌, ℕ, zero, suc, ◌+◌, ◌-◌, ◌<◌, ◌≤◌, inl, inr, refl, sym, ap, ◌∙◌, subst, List, [], ◌∷◌, ◌++◌, map, length, take, length-take, arith}
-use Rattle.rd_marks.proofs.Prelude.{cases_lt, cases_eq, cases_order, nat_tests, length-map, take-append-le, take-take, take-map, MOST_STEPS, Event, Entry, Stretch, Place, stretch_list, list_before, shared_at, entries_at, IsWithin, AreNested, AreFresh, greatest_in, needed_at, AreNeeded, AreNeededFrom, IsAlong, IsDeepest, raised, lowered, events}
+use Rattle.rd_marks.proofs.Prelude.{cases_lt, cases_eq, cases_order, nat_tests, length-map, take-append-le, take-take, take-map, MOST_STEPS, Event, Entry, Stretch, Node, stretch_list, list_before, shared_at, entries_at, IsWithin, AreNested, AreFresh, greatest_in, needed_at, AreNeeded, AreNeededFrom, IsAlong, IsDeepest, raised, lowered, events}
 use Rattle.rd_marks.proofs.StretchLists.{shared_within, goes_back, IsChanged, IsInserted, IsReplaced}
 use Rattle.rd_marks.proofs.Fresh.{along_within, along_taken, AreApart, apart, fresh_apart, later_apart}
 
--- The places
+-- The nodes
 
--- the places, and one more
-abbrev pub with_place : List Place → ℕ → ℕ → List Place
-with_place ps i n = ps ++ record { stretch = i; number = n } ∷ []
+-- the nodes, and one more
+abbrev pub with_node : List Node → ℕ → ℕ → List Node
+with_node ps i n = ps ++ record { stretch = i; number = n } ∷ []
 
-pub greatest_left : (i : ℕ) (ps qs : List Place) → greatest_in i ps ≤ greatest_in i (ps ++ qs)
+pub greatest_left : (i : ℕ) (ps qs : List Node) → greatest_in i ps ≤ greatest_in i (ps ++ qs)
 greatest_left i [] qs = omega arith
 greatest_left i (p ∷ ps) qs = omega (arith, greatest_left i ps qs)
 
-greatest_last : (i n : ℕ) (ps : List Place) → n ≤ greatest_in i (with_place ps i n)
+greatest_last : (i n : ℕ) (ps : List Node) → n ≤ greatest_in i (with_node ps i n)
 greatest_last i n [] = grind (arith, nat_tests)
 greatest_last i n (p ∷ ps) = omega (arith, greatest_last i n ps)
 
-greatest_raised : (i j : ℕ) (ps qs : List Place)
+greatest_raised : (i j : ℕ) (ps qs : List Node)
     → (i < j → greatest_in i ps ≤ greatest_in i (map (raised j) ps ++ qs)) × (j ≤ i → greatest_in i ps ≤ greatest_in (suc i) (map (raised j) ps ++ qs))
 greatest_raised i j [] qs = (λ h. omega arith, λ h. omega arith)
 greatest_raised i j (p ∷ ps) qs = let rest = greatest_raised i j ps qs in (λ h. grind (arith, nat_tests, rest.0 h), λ h. grind (arith, nat_tests, rest.1 h))
 
-greatest_lowered : (i j : ℕ) (ps : List Place) → j ≤ i → greatest_in (suc i) ps ≤ greatest_in i (map (lowered j) ps)
+greatest_lowered : (i j : ℕ) (ps : List Node) → j ≤ i → greatest_in (suc i) ps ≤ greatest_in i (map (lowered j) ps)
 greatest_lowered i j [] h = omega arith
 greatest_lowered i j (p ∷ ps) h = grind (arith, nat_tests, greatest_lowered i j ps h)
 
@@ -37,7 +37,7 @@ record IsMoved (old new : List Stretch) (j more i k : ℕ) : Type 0 where
   shared : shared_at new i ≡ shared_at old k
   next : shared_at old (suc k) ≤ shared_at new (suc i)
   fits : shared_at old (suc k) ≤ length (stretch_list old k) → shared_at new (suc i) ≤ length (stretch_list old k)
-  place : ((i < j) × (k ≡ i)) ⊎ ((j < i) × (i ≡ more + k))
+  node : ((i < j) × (k ≡ i)) ⊎ ((j < i) × (i ≡ more + k))
 
 module _ (old new : List Stretch) (j more : ℕ) (change : IsChanged old new j more) where
   moved : (i : ℕ) → (i ≡ j → ⊥) → i < length new → (k : ℕ) × IsMoved old new j more i k
@@ -76,10 +76,10 @@ module _ (old new : List Stretch) (j more : ℕ) (change : IsChanged old new j m
                 ]
           ]
 
-  -- if the changed list is needed, and the places count for no less
-  needed_changed : (ps qs : List Place) (i : ℕ) → i < length new → ((k : ℕ) → IsMoved old new j more i k → length (stretch_list old k) ≤ needed_at old ps k)
+  -- if the changed list is needed, and the nodes count for no less
+  needed_changed : (ps qs : List Node) (i : ℕ) → i < length new → ((k : ℕ) → IsMoved old new j more i k → length (stretch_list old k) ≤ needed_at old ps k)
       → length (stretch_list new j) ≤ needed_at new qs j → ((k : ℕ) → IsMoved old new j more i k → greatest_in k ps ≤ greatest_in i qs) → length (stretch_list new i) ≤ needed_at new qs i
-  needed_changed ps qs i h needed own places = grind (arith, own, cases_eq i j, moved i, needed, places)
+  needed_changed ps qs i h needed own nodes = grind (arith, own, cases_eq i j, moved i, needed, nodes)
 
 -- A stretch comes or goes
 
@@ -95,12 +95,12 @@ module _ (old new : List Stretch) (j : ℕ) (s : Stretch) (change : IsInserted o
       (λ m h a. grind (arith, h, a, change.here, change.changed.within, its, deepest m, along_within, length-map))
       (λ k high there a. later_apart old rule fresh es at s.shared k (omega (arith, low (omega (arith, there)), high)) there along deepest (rw its at a))
 
-  -- the end of the new one is needed by a place there
-  pub needed_inserted : (ps : List Place) (n : ℕ) → length (stretch_list new j) ≤ n → AreNeeded old ps → AreNeeded new (with_place (map (raised j) ps) j n)
+  -- the end of the new one is needed by a node there
+  pub needed_inserted : (ps : List Node) (n : ℕ) → length (stretch_list new j) ≤ n → AreNeeded old ps → AreNeeded new (with_node (map (raised j) ps) j n)
   needed_inserted ps n all needed i h =
-      needed_changed old new j 1 change.changed ps (with_place (map (raised j) ps) j n) i h (λ k m. needed k m.inside)
+      needed_changed old new j 1 change.changed ps (with_node (map (raised j) ps) j n) i h (λ k m. needed k m.inside)
       (omega (arith, greatest_last j n (map (raised j) ps), all))
-      (λ k m. grind (arith, m.place, greatest_raised k j ps (record { stretch = j; number = n } ∷ [])))
+      (λ k m. grind (arith, m.node, greatest_raised k j ps (record { stretch = j; number = n } ∷ [])))
 
   -- the other way round
   up : (k : ℕ) → k < length old
@@ -125,16 +125,16 @@ module _ (old new : List Stretch) (j : ℕ) (s : Stretch) (change : IsInserted o
   pub fresh_removed : AreNested old → AreFresh new → AreFresh old
   fresh_removed rule fresh = fresh_apart old rule (λ i m h l a. grind (arith, a, h, along_taken, up i l, up m, apart new fresh))
 
-  pub needed_removed : (ps : List Place) → AreNeededFrom (suc j) new ps → AreNeededFrom j old (map (lowered j) ps)
+  pub needed_removed : (ps : List Node) → AreNeededFrom (suc j) new ps → AreNeededFrom j old (map (lowered j) ps)
   needed_removed ps needed k high h =
       let above = λ (i : ℕ). change.changed.above (suc i) i (omega arith) in
       grind (arith, needed (suc k), change.changed.count, above k, above (suc k), greatest_lowered k j ps high)
 
-  -- each place has its entries
-  pub entries_raised : (p : Place) → entries_at new (raised j p) ≡ entries_at old p
+  -- each node has its entries
+  pub entries_raised : (p : Node) → entries_at new (raised j p) ≡ entries_at old p
   entries_raised p = grind (arith, nat_tests, change.changed.below p.stretch, change.changed.above (suc p.stretch) p.stretch (omega arith))
 
-  pub entries_lowered : (p : Place) → (p.stretch ≡ j → p.number ≤ s.shared) → entries_at old (lowered j p) ≡ entries_at new p
+  pub entries_lowered : (p : Node) → (p.stretch ≡ j → p.number ≤ s.shared) → entries_at old (lowered j p) ≡ entries_at new p
   entries_lowered p own =
       grind (arith, nat_tests, change.changed.below p.stretch, λ (high : j ≤ p.stretch). above p.stretch p.number high own)
     where
@@ -144,8 +144,8 @@ module _ (old new : List Stretch) (j : ℕ) (s : Stretch) (change : IsInserted o
           (let down : q ≡ suc q - 1 = omega arith in
           grind (arith, down, cases_order (suc q) j, own, change.here.0, goes_back (list_before old j) s n, change.changed.there, change.here.1, change.changed.above (suc q) q (omega arith)))
 
--- a place with the same entries is within
-pub within_at : (old new : List Stretch) (p q : Place) → q.number ≡ p.number → entries_at new q ≡ entries_at old p → IsWithin old p → IsWithin new q
+-- a node with the same entries is within
+pub within_at : (old new : List Stretch) (p q : Node) → q.number ≡ p.number → entries_at new q ≡ entries_at old p → IsWithin old p → IsWithin new q
 within_at old new p q same entries h =
     omega (arith, length-take q.number (stretch_list new q.stretch), ap length entries, length-take p.number (stretch_list old p.stretch), same, h)
 
@@ -180,19 +180,19 @@ module _ (old new : List Stretch) (j : ℕ) (change : IsReplaced old new j) wher
       apart old fresh k j h l (grind (arith, a, cut, long, length-map (stretch_list old j) (λ (x : Entry). x.event), take-take (suc (shared_at old k)) n (events (stretch_list old j))))
       ))
 
-  pub needed_appended : (ps : List Place) (n : ℕ) → length (stretch_list new j) ≤ n → AreNeeded old ps → AreNeeded new (with_place ps j n)
+  pub needed_appended : (ps : List Node) (n : ℕ) → length (stretch_list new j) ≤ n → AreNeeded old ps → AreNeeded new (with_node ps j n)
   needed_appended ps n all needed i h =
-      needed_changed old new j 0 change.changed ps (with_place ps j n) i h (λ k m. needed k m.inside) (omega (arith, greatest_last j n ps, all))
-      (λ k m. grind (arith, m.place, greatest_left i ps (record { stretch = j; number = n } ∷ [])))
+      needed_changed old new j 0 change.changed ps (with_node ps j n) i h (λ k m. needed k m.inside) (omega (arith, greatest_last j n ps, all))
+      (λ k m. grind (arith, m.node, greatest_left i ps (record { stretch = j; number = n } ∷ [])))
 
-  pub needed_cut : (ps : List Place) → length (stretch_list new j) ≤ needed_at old ps j → AreNeededFrom (suc j) old ps → AreNeededFrom j new ps
+  pub needed_cut : (ps : List Node) → length (stretch_list new j) ≤ needed_at old ps j → AreNeededFrom (suc j) old ps → AreNeededFrom j new ps
   needed_cut ps all needed i low h = grind (arith, needed_changed old new j 0 change.changed ps ps i h, needed, all, low, change.changed.above (suc j) (suc j))
 
-  entries_replaced : (p : Place) → (p.stretch ≡ j → take p.number (stretch_list new j) ≡ take p.number (stretch_list old j)) → entries_at new p ≡ entries_at old p
+  entries_replaced : (p : Node) → (p.stretch ≡ j → take p.number (stretch_list new j) ≡ take p.number (stretch_list old j)) → entries_at new p ≡ entries_at old p
   entries_replaced p own = grind (arith, own, cases_order p.stretch j, change.changed.below p.stretch, change.changed.above p.stretch p.stretch (omega arith))
 
-  pub entries_appended : (rest : List Entry) → stretch_list new j ≡ stretch_list old j ++ rest → (p : Place) → IsWithin old p → entries_at new p ≡ entries_at old p
+  pub entries_appended : (rest : List Entry) → stretch_list new j ≡ stretch_list old j ++ rest → (p : Node) → IsWithin old p → entries_at new p ≡ entries_at old p
   entries_appended rest its p h = entries_replaced p (λ same. grind (arith, same, its, h, take-append-le))
 
-  pub entries_cut : (n : ℕ) → stretch_list new j ≡ take n (stretch_list old j) → (p : Place) → (p.stretch ≡ j → p.number ≤ n) → entries_at new p ≡ entries_at old p
+  pub entries_cut : (n : ℕ) → stretch_list new j ≡ take n (stretch_list old j) → (p : Node) → (p.stretch ≡ j → p.number ≤ n) → entries_at new p ≡ entries_at old p
   entries_cut n its p own = entries_replaced p (λ same. ap (take p.number) its ∙ take-take p.number n (stretch_list old j) (own same))

@@ -1,14 +1,14 @@
 -- What growing a list and shrinking a stretch leave, in the words of their contracts.
 use Rattle.std.proofs.Common.{◌≡◌, ℕ, zero, suc, ◌-◌, ◌<◌, ◌≤◌, ◌^◌, refl, sym, ap, ◌∙◌, subst, List, [], ◌∷◌, ◌++◌, length, take, drop, set, insert, remove, length-take, arith}
-use Rattle.rd_marks.proofs.Prelude.{drop-length, nat_tests, append-nil, length-map, map-append, map-id, take-append-drop, take-map, take_all, MOST_STEPS, Entry, Place, Stretch, Shift, greatest_in, stretch_list, list_before, shared_at, entries_at, IsWithin, IsEnd, IsAlong, IsDeepest, AreNested, AreFresh, IsLow, IsGrown, IsShrunk, IsUnchanged, events, cases_order}
+use Rattle.rd_marks.proofs.Prelude.{drop-length, nat_tests, append-nil, length-map, map-append, map-id, take-append-drop, take-map, take_all, MOST_STEPS, Entry, Node, Stretch, Shift, greatest_in, stretch_list, list_before, shared_at, entries_at, IsWithin, IsEnd, IsAlong, IsDeepest, AreNested, AreFresh, IsLow, IsGrown, IsShrunk, IsUnchanged, events, cases_order}
 use Rattle.rd_marks.specs.declared.stretches.changes.Shift.TheVariants.{Same, Up, Down}
 use Rattle.rd_marks.proofs.StretchLists.{own_at, shared_within, inserted_at, removed_at, appended_at, cut_at}
 use Rattle.rd_marks.proofs.Fresh.{along_taken}
 use Rattle.rd_marks.proofs.StretchChanges.{greatest_left, within_at, nested_inserted, nested_removed, fresh_inserted, fresh_removed, needed_inserted, needed_removed, entries_raised, entries_lowered, nested_replaced, fresh_appended, fresh_cut, needed_appended, needed_cut, entries_appended, entries_cut}
 use Rattle.rd_marks.proofs.Starting.{stretch_within}
 
--- a place in few stretches has a next number
-pub is_low : (ss : List Stretch) → length ss < 2 ^ 64 → (p : Place) → IsWithin ss p → IsLow p
+-- a node in few stretches has a next number
+pub is_low : (ss : List Stretch) → length ss < 2 ^ 64 → (p : Node) → IsWithin ss p → IsLow p
 is_low ss few p within some = omega (arith, few, stretch_within ss p within some)
 
 -- the events of a list with those of others after it
@@ -18,24 +18,24 @@ joined_events xs ys zs n its same =
     grind (arith, its, same, take-map (λ (x : Entry). x.event) n ys, map-append (λ (x : Entry). x.event) xs (drop n ys), fact, take-append-drop n ys)
 
 -- all that is put is there
-pub all_there : (ss : List Stretch) (few : length ss < 2 ^ 64) (at : Place) (live : List Entry) → IsWithin ss at → at.number ≡ length live
-    → IsGrown ss ss at live (record { place = at; shift = Same })
+pub all_there : (ss : List Stretch) (few : length ss < 2 ^ 64) (at : Node) (live : List Entry) → IsWithin ss at → at.number ≡ length live
+    → IsGrown ss ss at live (record { node = at; shift = Same })
 all_there ss few at live within all = record {
   within = within;
   put = sym (append-nil (entries_at ss at)) ∙ (λ i. entries_at ss at ++ (sym (drop-length live) ∙ ap (λ (n : ℕ). drop n live) (sym all)) i);
   low = is_low ss few;
   stays = λ p is. record { within = is; same = refl };
-  needed = λ places needed i inside.
-      omega (arith, needed i inside, ap (greatest_in i) (ap (λ (ps : List Place). ps ++ at ∷ []) (map-id places)), greatest_left i places (at ∷ []));
+  needed = λ nodes needed i inside.
+      omega (arith, needed i inside, ap (greatest_in i) (ap (λ (ps : List Node). ps ++ at ∷ []) (map-id nodes)), greatest_left i nodes (at ∷ []));
 }
 
 -- what a change leaves
-pub record Grows (old new : List Stretch) (at : Place) (entries : List Entry) (shift : Shift) (place : Place) : Type 0 where
+pub record Grows (old new : List Stretch) (at : Node) (entries : List Entry) (shift : Shift) (node : Node) : Type 0 where
   pub nested : AreNested new
   pub fresh : AreFresh new
-  pub grown : IsGrown old new at entries (record { place = place; shift = shift })
+  pub grown : IsGrown old new at entries (record { node = node; shift = shift })
 
-module _ (ss : List Stretch) (few : length ss < 2 ^ 64) (rule : AreNested ss) (fresh : AreFresh ss) (live : List Entry) (most : length live ≤ MOST_STEPS) (at : Place)
+module _ (ss : List Stretch) (few : length ss < 2 ^ 64) (rule : AreNested ss) (fresh : AreFresh ss) (live : List Entry) (most : length live ≤ MOST_STEPS) (at : Node)
     (more : at.number < length live) (along : IsAlong ss at.stretch at.number (events live)) (deepest : IsDeepest ss at.number (events live)) where
   -- at the end of a stretch
   pub extended : IsEnd ss at → (t : Stretch) → t.shared ≡ shared_at ss at.stretch → t.entries.items ≡ own_at ss at.stretch ++ drop at.number live
@@ -63,8 +63,8 @@ module _ (ss : List Stretch) (few : length ss < 2 ^ 64) (rule : AreNested ss) (f
           put = take_all (length live) (stretch_list new j) (omega (arith, long)) ∙ list ∙ ap (λ (xs : List Entry). xs ++ rest) (sym whole);
           low = is_low ss few;
           stays = grind (arith, both, entries_appended ss new j change rest list, within_at);
-          needed = λ places needed.
-              rw (map-id places) (needed_appended ss new j change places (length live) (omega (arith, long)) needed);
+          needed = λ nodes needed.
+              rw (map-id nodes) (needed_appended ss new j change nodes (length live) (omega (arith, long)) needed);
         };
       }
 
@@ -93,7 +93,7 @@ module _ (ss : List Stretch) (few : length ss < 2 ^ 64) (rule : AreNested ss) (f
           put = take_all (length live) (stretch_list new j) (omega (arith, long)) ∙ list;
           low = is_low ss few;
           stays = grind (arith, nat_tests, entries_raised ss new j s change, within_at);
-          needed = λ places needed. needed_inserted ss new j s change places (length live) (omega (arith, long)) needed;
+          needed = λ nodes needed. needed_inserted ss new j s change nodes (length live) (omega (arith, long)) needed;
         };
       }
     where
@@ -124,7 +124,7 @@ module _ (ss : List Stretch) (few : length ss < 2 ^ 64) (rule : AreNested ss) (f
           below = omega (arith, found.2.changed.count, inside);
           low = is_low ss few;
           stays = grind (arith, found, entries_lowered, within_at, nat_tests);
-          needed = λ places needed its. needed_removed (remove ss j) ss j found.0 found.2 places needed;
+          needed = λ nodes needed its. needed_removed (remove ss j) ss j found.0 found.2 nodes needed;
         };
       }
 
@@ -156,6 +156,6 @@ module _ (ss : List Stretch) (few : length ss < 2 ^ 64) (rule : AreNested ss) (f
           below = omega (arith, change.changed.count, inside);
           low = is_low ss few;
           stays = grind (arith, both, entries_cut, within_at);
-          needed = λ places needed its. rw (map-id places) (needed_cut ss new j change places (omega (arith, long, its)) needed);
+          needed = λ nodes needed its. rw (map-id nodes) (needed_cut ss new j change nodes (omega (arith, long, its)) needed);
         };
       }

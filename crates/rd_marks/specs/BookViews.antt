@@ -9,7 +9,7 @@ use Rattle.rd_marks.specs.declared.books.Book.{Book}
 use Rattle.rd_marks.specs.declared.commands.Command.{Command}
 use Rattle.rd_marks.specs.declared.commands.Command.TheVariants.{GotoMark}
 use Rattle.rd_marks.specs.declared.names.MarkName.{MarkName}
-use Rattle.rd_marks.specs.declared.stretches.Place.{Place}
+use Rattle.rd_marks.specs.declared.stretches.Node.{Node}
 use Rattle.rd_marks.specs.Books.{BookState, marked_events, goto_mark}
 use Rattle.rd_marks.specs.Kept.{lists_in, entries_in, entries_kept, IsInPieces}
 use Rattle.rd_marks.specs.Marks.{marks_of}
@@ -34,9 +34,9 @@ mark_entries b = entries_kept b.bookmarks
 -- a book lacks room for going to the mark of this name: in its session, or for a copy of the mark's
 -- entries, which are not all in one stretch
 pub record LacksRoomToGo {R : ℕ} (b : Book R) (name : MarkName) : Type 0 where
-  pub place : Place
-  pub its : marked_events (book_state b).marks name ≡ Some (events (entries_in b.bookmarks place))
-  pub lacks : LacksRoomFor b.session (events (entries_in b.bookmarks place)) ⊎ IsInPieces b.bookmarks place
+  pub node : Node
+  pub its : marked_events (book_state b).marks name ≡ Some (events (entries_in b.bookmarks node))
+  pub lacks : LacksRoomFor b.session (events (entries_in b.bookmarks node)) ⊎ IsInPieces b.bookmarks node
 
 -- a book may refuse to go to a mark so: as that is refused in its state, or for lack of memory where
 -- room is missing

@@ -3,7 +3,7 @@
 use Rattle.std.specs.Prelude.{ℕ, List}
 use Rattle.rd_step.specs.declared.entries.Entry.{Entry}
 use Rattle.rd_marks.specs.declared.names.MarkName.{MarkName}
-use Rattle.rd_marks.specs.declared.stretches.Place.{Place}
+use Rattle.rd_marks.specs.declared.stretches.Node.{Node}
 use Rattle.rd_marks.specs.declared.bookmarks.Bookmarks.{Bookmarks}
 use Rattle.rd_marks.specs.Layout.{named_lists}
 use Rattle.rd_marks.specs.Stretches.{entries_at, count_of, IsWithin, AreInPieces}
@@ -12,13 +12,13 @@ use Rattle.rd_marks.specs.Stretches.{entries_at, count_of, IsWithin, AreInPieces
 abbrev pub lists_in : Bookmarks → List (MarkName × List Entry)
 lists_in b = named_lists b.stretches.list.items b.names.entries
 
--- the entries of a place
-abbrev pub entries_in : Bookmarks → Place → List Entry
+-- the entries of a node
+abbrev pub entries_in : Bookmarks → Node → List Entry
 entries_in b p = entries_at b.stretches.list.items p
 
--- a place is one that these bookmarks have
-abbrev pub IsPlaceIn : Bookmarks → Place → Type 0
-IsPlaceIn b p = IsWithin b.stretches.list.items p
+-- a node is one that these bookmarks have
+abbrev pub IsNodeIn : Bookmarks → Node → Type 0
+IsNodeIn b p = IsWithin b.stretches.list.items p
 
 -- the entries with which the session's track begins
 abbrev pub here_in : Bookmarks → List Entry
@@ -28,6 +28,6 @@ here_in b = entries_in b b.here
 abbrev pub entries_kept : Bookmarks → ℕ
 entries_kept b = count_of b.stretches.list.items
 
--- the entries of a place are not all in one stretch
-abbrev pub IsInPieces : Bookmarks → Place → Type 0
+-- the entries of a node are not all in one stretch
+abbrev pub IsInPieces : Bookmarks → Node → Type 0
 IsInPieces b p = AreInPieces b.stretches.list.items p

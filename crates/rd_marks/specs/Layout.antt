@@ -1,4 +1,4 @@
--- How a book keeps its bookmarks: the place of the entries of each, which are those of a run from
+-- How a book keeps its bookmarks: the node of the entries of each, which are those of a run from
 -- the session's start; and no entry is kept that no bookmark needs.
 use Rattle.std.specs.Prelude.{◌≡◌, ℕ, ◌≤◌, List, map, length}
 use Rattle.std.specs.List.{All}
@@ -7,7 +7,7 @@ use Rattle.rd_step.specs.declared.entries.Entry.{Entry}
 use Rattle.rd_depend.specs.Beginnings.{IsPrefix}
 use Rattle.rd_journal.specs.Journal.{IsRunFrom}
 use Rattle.rd_marks.specs.declared.names.MarkName.{MarkName}
-use Rattle.rd_marks.specs.declared.stretches.Place.{Place}
+use Rattle.rd_marks.specs.declared.stretches.Node.{Node}
 use Rattle.rd_marks.specs.declared.stretches.Stretch.{Stretch}
 use Rattle.rd_marks.specs.NameBytes.{MOST_MARKS}
 use Rattle.rd_marks.specs.Stretches.{entries_at, IsWithin, AreNeeded, AreNeededFrom}
@@ -18,30 +18,30 @@ pub record AreEntriesOfRun (start : World) (entries : List Entry) : Type 0 where
   pub ran : IsRunFrom start entries
 
 -- each name with its entries
-abbrev pub named_lists : List Stretch → List (MarkName × Place) → List (MarkName × List Entry)
+abbrev pub named_lists : List Stretch → List (MarkName × Node) → List (MarkName × List Entry)
 named_lists ss names = map (λ m. (m.0, entries_at ss m.1)) names
 
 -- the entries of each name are those of a run from the start
 abbrev pub AreRuns : World → List (MarkName × List Entry) → Type 0
 AreRuns start lists = All (λ l. AreEntriesOfRun start l.1) lists
 
--- the places of the names
-abbrev pub places_of : List (MarkName × Place) → List Place
-places_of names = map (λ m. m.1) names
+-- the nodes of the names
+abbrev pub nodes_of : List (MarkName × Node) → List Node
+nodes_of names = map (λ m. m.1) names
 
 -- how bookmarks are kept: they are no more than there may be, the entries of each are there, as are
 -- those with which the session's track begins, and no entry is kept that no bookmark needs
-pub record IsKept (ss : List Stretch) (names : List (MarkName × Place)) (here : Place) : Type 0 where
+pub record IsKept (ss : List Stretch) (names : List (MarkName × Node)) (here : Node) : Type 0 where
   pub few : length names ≤ MOST_MARKS
   pub within : All (λ m. IsWithin ss m.1) names
-  pub needed : AreNeeded ss (places_of names)
+  pub needed : AreNeeded ss (nodes_of names)
   pub lies : IsWithin ss here
 
 -- stretches from this one on were shrunk to what is needed: the bookmarks have their entries, and
--- any other place has a beginning of the entries that it had
-pub record IsPruned (from : ℕ) (old new : List Stretch) (names left : List (MarkName × Place)) (here there : Place) : Type 0 where
+-- any other node has a beginning of the entries that it had
+pub record IsPruned (from : ℕ) (old new : List Stretch) (names left : List (MarkName × Node)) (here there : Node) : Type 0 where
   pub lists : named_lists new left ≡ named_lists old names
   pub within : All (λ m. IsWithin new m.1) left
-  pub needed : AreNeededFrom from new (places_of left)
+  pub needed : AreNeededFrom from new (nodes_of left)
   pub lies : IsWithin new there
   pub begins : IsPrefix (entries_at new there) (entries_at old here)

@@ -7,7 +7,7 @@ use Rattle.rd_step.specs.declared.entries.Event.{Event}
 use Rattle.rd_step.specs.declared.entries.Entry.{Entry}
 use Rattle.rd_depend.specs.Beginnings.{IsPrefix}
 use Rattle.rd_marks.specs.declared.stretches.Stretch.{Stretch}
-use Rattle.rd_marks.specs.declared.stretches.Place.{Place}
+use Rattle.rd_marks.specs.declared.stretches.Node.{Node}
 
 -- the list of entries of a stretch, where this is the list of the stretch before it
 abbrev pub continued : List Entry → Stretch → List Entry
@@ -36,21 +36,21 @@ shared_at [] i = 0
 shared_at (s ∷ ss) zero = s.shared
 shared_at (s ∷ ss) (suc i) = shared_at ss i
 
--- the entries up to a place
-abbrev pub entries_at : List Stretch → Place → List Entry
+-- the entries up to a node
+abbrev pub entries_at : List Stretch → Node → List Entry
 entries_at ss p = take p.number (stretch_list ss p.stretch)
 
--- the list of the place's stretch has at least as many entries as the place
-abbrev pub IsWithin : List Stretch → Place → Type 0
+-- the list of the node's stretch has at least as many entries as the node
+abbrev pub IsWithin : List Stretch → Node → Type 0
 IsWithin ss p = p.number ≤ length (stretch_list ss p.stretch)
 
--- the place is the end of its stretch's list: all entries of that
-pub record IsEnd (ss : List Stretch) (p : Place) : Type 0 where
+-- the node is the end of its stretch's list: all entries of that
+pub record IsEnd (ss : List Stretch) (p : Node) : Type 0 where
   pub there : p.stretch < length ss
   pub all : p.number ≡ length (stretch_list ss p.stretch)
 
--- the last entry of a place is its stretch's own, and not shared
-abbrev pub IsOwn : List Stretch → Place → Type 0
+-- the last entry of a node is its stretch's own, and not shared
+abbrev pub IsOwn : List Stretch → Node → Type 0
 IsOwn ss p = 0 < p.stretch → shared_at ss p.stretch < p.number
 
 -- each stretch shares no more entries than there are, has at least one of its own, and its list is
@@ -69,27 +69,27 @@ opening ss i = take (suc (shared_at ss i)) (events (stretch_list ss i))
 abbrev pub AreFresh : List Stretch → Type 0
 AreFresh ss = (i j : ℕ) → j < i → i < length ss → IsPrefix (opening ss i) (events (stretch_list ss j)) → ⊥
 
--- the number of entries of a place if it is in this stretch, else 0
-abbrev pub number_if_in : ℕ → Place → ℕ
+-- the number of entries of a node if it is in this stretch, else 0
+abbrev pub number_if_in : ℕ → Node → ℕ
 number_if_in i p = if p.stretch == i then p.number else 0
 
--- the greatest number of entries of the places in this stretch; 0 if none is
-abbrev pub greatest_in : ℕ → List Place → ℕ
+-- the greatest number of entries of the nodes in this stretch; 0 if none is
+abbrev pub greatest_in : ℕ → List Node → ℕ
 greatest_in i [] = 0
 greatest_in i (p ∷ ps) = max (number_if_in i p) (greatest_in i ps)
 
 -- how many entries of a stretch's list are needed: by the next stretch, which shares them, or up to
--- a place
-abbrev pub needed_at : List Stretch → List Place → ℕ → ℕ
-needed_at ss places i = max (shared_at ss (suc i)) (greatest_in i places)
+-- a node
+abbrev pub needed_at : List Stretch → List Node → ℕ → ℕ
+needed_at ss nodes i = max (shared_at ss (suc i)) (greatest_in i nodes)
 
 -- all entries of each stretch's list are needed
-abbrev pub AreNeeded : List Stretch → List Place → Type 0
-AreNeeded ss places = (i : ℕ) → i < length ss → length (stretch_list ss i) ≤ needed_at ss places i
+abbrev pub AreNeeded : List Stretch → List Node → Type 0
+AreNeeded ss nodes = (i : ℕ) → i < length ss → length (stretch_list ss i) ≤ needed_at ss nodes i
 
 -- all entries of the lists of the stretches from this one on are needed
-abbrev pub AreNeededFrom : ℕ → List Stretch → List Place → Type 0
-AreNeededFrom k ss places = (i : ℕ) → k ≤ i → i < length ss → length (stretch_list ss i) ≤ needed_at ss places i
+abbrev pub AreNeededFrom : ℕ → List Stretch → List Node → Type 0
+AreNeededFrom k ss nodes = (i : ℕ) → k ≤ i → i < length ss → length (stretch_list ss i) ≤ needed_at ss nodes i
 
 -- the list of a stretch begins with this many of these events
 pub record IsAlong (ss : List Stretch) (i n : ℕ) (es : List Event) : Type 0 where
@@ -100,13 +100,13 @@ pub record IsAlong (ss : List Stretch) (i n : ℕ) (es : List Event) : Type 0 wh
 abbrev pub IsDeepest : List Stretch → ℕ → List Event → Type 0
 IsDeepest ss n es = (i : ℕ) → i < length ss → IsAlong ss i (suc n) es → ⊥
 
--- the place of the same entries after a stretch was put before that of this number
-abbrev pub raised : ℕ → Place → Place
+-- the node of the same entries after a stretch was put before that of this number
+abbrev pub raised : ℕ → Node → Node
 raised j p = if p.number == 0 then p else if nat_le j p.stretch then record { stretch = suc p.stretch; number = p.number } else p
 
--- the place of the same entries after the stretch of this number was taken away, none of whose own
+-- the node of the same entries after the stretch of this number was taken away, none of whose own
 -- entries it had
-abbrev pub lowered : ℕ → Place → Place
+abbrev pub lowered : ℕ → Node → Node
 lowered j p = if nat_le j p.stretch then record { stretch = p.stretch - 1; number = p.number } else p
 
 -- how many entries the stretches have in all
@@ -114,9 +114,9 @@ abbrev pub count_of : List Stretch → ℕ
 count_of [] = 0
 count_of (s ∷ ss) = length s.entries.items + count_of ss
 
--- the entries of a place are of more than one stretch: that of the last one shares some of them
-pub record AreInPieces (ss : List Stretch) (p : Place) : Type 0 where
-  pub at : Place
+-- the entries of a node are of more than one stretch: that of the last one shares some of them
+pub record AreInPieces (ss : List Stretch) (p : Node) : Type 0 where
+  pub at : Node
   pub same : entries_at ss at ≡ entries_at ss p
   pub own : IsOwn ss at
   pub shares : 0 < shared_at ss at.stretch

@@ -16,7 +16,7 @@ mod going;
 mod keeping;
 
 use super::names::MarkName;
-use super::stretches::{Place, Stretches};
+use super::stretches::{Node, Stretches};
 use indexmap::IndexMap;
 use keeping::{here_after, prune, put};
 use rd_cell::Refusal;
@@ -29,18 +29,18 @@ use std::alloc::{AllocError, Global};
 /// The bookmarks.
 #[derive(Drop)]
 pub(crate) struct Bookmarks {
-    /// The place of each bookmark's entries.
-    names: IndexMap<MarkName, Place>,
+    /// The node of each bookmark's entries.
+    names: IndexMap<MarkName, Node>,
     stretches: Stretches,
-    /// The place of entries whose steps begin the session's track, which is the live steps with
+    /// The node of entries whose steps begin the session's track, which is the live steps with
     /// those ahead of them. Setting a bookmark and going to one begin there, and not at the start.
-    here: Place,
+    here: Node,
     ghost kept: { IsKept stretches.list.items names.entries here },
 }
 
 impl Bookmarks {
     ghost use Rattle.rd_marks.specs.Beginnings.{CountsBeginnings, NeedsNoEntry};
-    ghost use Rattle.rd_marks.specs.Kept.{lists_in, entries_in, entries_kept, here_in, IsPlaceIn};
+    ghost use Rattle.rd_marks.specs.Kept.{lists_in, entries_in, entries_kept, here_in, IsNodeIn};
     ghost use Rattle.rd_marks.specs.Layout.{AreRuns};
     ghost use Rattle.rd_marks.specs.Marks.{marks_of};
     ghost use Rattle.rd_marks.specs.Names.{mark_name_eq};
@@ -53,7 +53,7 @@ impl Bookmarks {
         Bookmarks {
             names: IndexMap::new(alloc),
             stretches: Stretches::new(alloc),
-            here: Place::START,
+            here: Node::START,
         }
     }
 
@@ -74,44 +74,44 @@ impl Bookmarks {
         self.stretches.entries()
     }
 
-    /// Returns the place of the entries of the bookmark of this name, if there is one.
-    pub(crate) fn find(&self, name: &MarkName) -> Option<Place>
-        ensures found { option_map (λ place. entries_in self.now place) result ≡ lookup (mark_name_eq name.now) (lists_in self.now) }
-        ensures within { IfSome result (λ place. IsPlaceIn self.now place) }
+    /// Returns the node of the entries of the bookmark of this name, if there is one.
+    pub(crate) fn find(&self, name: &MarkName) -> Option<Node>
+        ensures found { option_map (λ node. entries_in self.now node) result ≡ lookup (mark_name_eq name.now) (lists_in self.now) }
+        ensures within { IfSome result (λ node. IsNodeIn self.now node) }
     {
         match self.names.get(name) {
             None => None,
-            Some(place) => Some(*place),
+            Some(node) => Some(*node),
         }
     }
 
-    /// Returns the name of the bookmark at this index, from 0, and the place of its entries, if
+    /// Returns the name of the bookmark at this index, from 0, and the node of its entries, if
     /// there is one.
-    pub(crate) fn at(&self, index: usize) -> Option<(MarkName, Place)>
+    pub(crate) fn at(&self, index: usize) -> Option<(MarkName, Node)>
         ensures found { option_map (λ m. (m.0, entries_in self.now m.1)) result ≡ slice_get (lists_in self.now) index }
-        ensures within { IfSome result (λ m. IsPlaceIn self.now m.1) }
+        ensures within { IfSome result (λ m. IsNodeIn self.now m.1) }
     {
         match self.names.get_index(index) {
             None => None,
-            Some((name, place)) => Some((*name, *place)),
+            Some((name, node)) => Some((*name, *node)),
         }
     }
 
-    /// The event of this number, from 1, of the entries of a place, if there is one.
-    pub(crate) fn event_at(&self, of: Place, n: u64) -> Option<Event>
-        requires { IsPlaceIn self.now of }
+    /// The event of this number, from 1, of the entries of a node, if there is one.
+    pub(crate) fn event_at(&self, of: Node, n: u64) -> Option<Event>
+        requires { IsNodeIn self.now of }
         ensures { result ≡ numbered (events (entries_in self.now of)) n }
     {
         self.stretches.event_at(of, n)
     }
 
-    /// The events of the entries of a place.
+    /// The events of the entries of a node.
     ///
     /// # Errors
     ///
     /// `AllocError` if memory was refused for them, which never happens if there are none.
-    pub(crate) fn events(&self, alloc: Global, of: Place) -> Result<Vec<Event>, AllocError>
-        requires { IsPlaceIn self.now of }
+    pub(crate) fn events(&self, alloc: Global, of: Node) -> Result<Vec<Event>, AllocError>
+        requires { IsNodeIn self.now of }
         ensures ok { IfOk result (λ list. list.items ≡ events (entries_in self.now of)) }
         ensures succeeds { of.number ≡ 0 → IsOk result }
     {
@@ -168,21 +168,16 @@ impl Bookmarks {
         }
     }
 
-    /// Whether the entries of two places are of equivalent events. What they have in common is not
+    /// Whether the entries of two nodes are of equivalent events. What they have in common is not
     /// looked at.
     ///
     /// # Errors
     ///
     /// `AllocError` if memory was refused for the comparison, which never happens if one list
     /// begins the other.
-    pub(crate) fn are_same(
-        &self,
-        alloc: Global,
-        one: Place,
-        other: Place,
-    ) -> Result<bool, AllocError>
-        requires one { IsPlaceIn self.now one }
-        requires other { IsPlaceIn self.now other }
+    pub(crate) fn are_same(&self, alloc: Global, one: Node, other: Node) -> Result<bool, AllocError>
+        requires one { IsNodeIn self.now one }
+        requires other { IsNodeIn self.now other }
         ensures answer { IfOk result (DecidesEquivalence (entries_in self.now one) (entries_in self.now other)) }
         ensures memory { OnErr result (NeitherIsPrefix (events (entries_in self.now one)) (events (entries_in self.now other))) }
     {

@@ -163,10 +163,10 @@ impl<const R: usize> Book<R> {
         ensures memory { IfErr result (MayRefuseToGo self.old name) }
         ensures unchanged { OnErr result (book_state self.new ≡ book_state self.old) }
     {
-        let Some(place) = self.bookmarks.find(&name) else {
+        let Some(node) = self.bookmarks.find(&name) else {
             return Err(Refusal::NoMark);
         };
-        self.bookmarks.go_to(self.alloc, &mut self.session, place)
+        self.bookmarks.go_to(self.alloc, &mut self.session, node)
     }
 
     /// Whether the steps of two bookmarks are causally equivalent: one list is the other up to the
@@ -224,7 +224,7 @@ impl<const R: usize> Book<R> {
         }
         match self.bookmarks.at(i as usize - 1) {
             None => Err(Refusal::NoMark),
-            Some((name, place)) => Ok((name, place.number as u64)),
+            Some((name, node)) => Ok((name, node.number as u64)),
         }
     }
 }

@@ -2,8 +2,8 @@
 //! list shares with the list of the stretch before it, and the rest. So lists that begin alike
 //! share what they have in common.
 //!
-//! A place is a number of entries from the start, of the list of one stretch. No list goes on as
-//! one before it does where it no longer shares, so what two places have in common is known by the
+//! A node is a number of entries from the start, of the list of one stretch. No list goes on as
+//! one before it does where it no longer shares, so what two nodes have in common is known by the
 //! numbers that the stretches between them share.
 
 ghost use Rattle.std.specs.Prelude.{◌≡◌, ◌<◌, ◌≤◌, ◌^◌, ℕ, [], length, take, min};
@@ -29,28 +29,29 @@ struct Stretch {
     entries: Vec<Entry>,
 }
 
-/// This many entries from the start, of the list of a stretch. Where no stretch is, they are none.
+/// This many entries from the start, of the list of a stretch: a node of the tree that all lists
+/// make. Where no stretch is, they are none.
 #[derive(Clone, Copy, PartialEq, Eq)]
-pub(crate) struct Place {
+pub(crate) struct Node {
     /// The number of the stretch, from 0.
     pub(crate) stretch: usize,
     /// How many entries.
     pub(crate) number: usize,
 }
 
-impl Place {
-    /// The place of no entries.
-    pub(crate) const START: Place = Place {
+impl Node {
+    /// The node of no entries.
+    pub(crate) const START: Node = Node {
         stretch: 0,
         number: 0,
     };
 
-    /// Returns the place of the first `n` entries of this one, or this one if it has no more.
-    pub(crate) fn cut(self, n: usize) -> Place
+    /// Returns the node of the first `n` entries of this one, or this one if it has no more.
+    pub(crate) fn cut(self, n: usize) -> Node
         ensures stretch { result.stretch ≡ self.stretch }
         ensures number { result.number ≡ min n self.number }
     {
-        Place {
+        Node {
             stretch: self.stretch,
             number: n.min(self.number),
         }
@@ -107,9 +108,9 @@ impl Stretches {
         }
     }
 
-    /// Returns the place of the same entries in the first stretch that has them, where the last one
+    /// Returns the node of the same entries in the first stretch that has them, where the last one
     /// is that stretch's own.
-    pub(crate) fn own_place(&self, of: Place) -> Place
+    pub(crate) fn own_node(&self, of: Node) -> Node
         requires within { IsWithin self.now.list.items of }
         ensures number { result.number ≡ of.number }
         ensures within { IsWithin self.now.list.items result }
@@ -123,8 +124,8 @@ impl Stretches {
         at
     }
 
-    /// How many entries two places have in common from the start.
-    pub(crate) fn common(&self, one: Place, other: Place) -> usize
+    /// How many entries two nodes have in common from the start.
+    pub(crate) fn common(&self, one: Node, other: Node) -> usize
         requires one { IsWithin self.now.list.items one }
         requires other { IsWithin self.now.list.items other }
         ensures first { result ≤ one.number }
@@ -140,9 +141,9 @@ impl Stretches {
         }
     }
 
-    /// How many entries two places have in common from the start, where the second is in the first
+    /// How many entries two nodes have in common from the start, where the second is in the first
     /// one's stretch or a later one.
-    fn common_up(&self, one: Place, other: Place) -> usize
+    fn common_up(&self, one: Node, other: Node) -> usize
         requires one { IsWithin self.now.list.items one }
         requires other { IsWithin self.now.list.items other }
         requires later { one.stretch ≤ other.stretch }

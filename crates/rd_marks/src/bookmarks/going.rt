@@ -7,16 +7,16 @@ ghost use Rattle.rd_journal.specs.Sessions.{state, track, journal, LacksRoomFor}
 ghost use Rattle.rd_marks.specs.Layout.{AreEntriesOfRun};
 ghost use Rattle.rd_marks.specs.Stretches.{entries_at, IsWithin, AreInPieces};
 
-use super::super::stretches::{Place, Stretches};
+use super::super::stretches::{Node, Stretches};
 use super::Bookmarks;
 use rd_cell::Refusal;
 use rd_journal::Session;
 use std::alloc::Global;
 
 impl Bookmarks {
-    ghost use Rattle.rd_marks.specs.Kept.{lists_in, entries_in, here_in, IsPlaceIn, IsInPieces};
+    ghost use Rattle.rd_marks.specs.Kept.{lists_in, entries_in, here_in, IsNodeIn, IsInPieces};
 
-    /// Makes the steps of a place the live ones, with none undone. If they are on the session's
+    /// Makes the steps of a node the live ones, with none undone. If they are on the session's
     /// track, the session goes along it. Else the live steps with which they begin stay, and the
     /// track becomes that of these steps.
     ///
@@ -28,32 +28,32 @@ impl Bookmarks {
         &mut self,
         alloc: Global,
         session: &mut Session<R>,
-        place: Place,
+        node: Node,
     ) -> Result<(), Refusal>
-        requires within { IsPlaceIn self.old place }
-        requires run { AreEntriesOfRun (state session.old).start (entries_in self.old place) }
+        requires within { IsNodeIn self.old node }
+        requires run { AreEntriesOfRun (state session.old).start (entries_in self.old node) }
         requires stands { IsPrefix (events (here_in self.old)) (track session.old) }
         ensures ok { OnOk result (state session.new
-            ≡ record { start = (state session.old).start; live = events (entries_in self.old place); undone = [] }) }
+            ≡ record { start = (state session.old).start; live = events (entries_in self.old node); undone = [] }) }
         ensures lists { lists_in self.new ≡ lists_in self.old }
         ensures stands { IsPrefix (events (here_in self.new)) (track session.new) }
         ensures err { IfErr result (λ refusal. (refusal ≡ Refusal.NoMemory)
-            × (LacksRoomFor session.old (events (entries_in self.old place)) ⊎ IsInPieces self.old place)) }
-        ensures succeeds { IsPrefix (events (entries_in self.old place)) (state session.old).live → IsOk result }
-        ensures along { IsPrefix (events (entries_in self.old place)) (events (here_in self.old)) → IsOk result }
+            × (LacksRoomFor session.old (events (entries_in self.old node)) ⊎ IsInPieces self.old node)) }
+        ensures succeeds { IsPrefix (events (entries_in self.old node)) (state session.old).live → IsOk result }
+        ensures along { IsPrefix (events (entries_in self.old node)) (events (here_in self.old)) → IsOk result }
         ensures unchanged { OnErr result (journal session.new ≡ journal session.old) }
     {
-        if self.stretches.common(self.here, place) == place.number {
-            session.go_along(place.number as u64);
+        if self.stretches.common(self.here, node) == node.number {
+            session.go_along(node.number as u64);
             return Ok(());
         }
-        exchange(&self.stretches, alloc, session, self.here, place)?;
-        self.here = place;
+        switch_to(&self.stretches, alloc, session, self.here, node)?;
+        self.here = node;
         Ok(())
     }
 }
 
-/// Makes the steps of a place the live ones, with none undone, wherever they are. The search for
+/// Makes the steps of a node the live ones, with none undone, wherever they are. The search for
 /// what the live ones have in common with the bookmarks begins where the session's track is known
 /// to be among those. The others are copied if they can't be lent.
 ///
@@ -61,29 +61,29 @@ impl Bookmarks {
 ///
 /// `NoMemory` if room for the others or for a copy of them was refused, which never happens if there
 /// are none. Nothing has changed then.
-fn exchange<const R: usize>(
+fn switch_to<const R: usize>(
     stretches: &Stretches,
     alloc: Global,
     session: &mut Session<R>,
-    here: Place,
-    place: Place,
+    here: Node,
+    node: Node,
 ) -> Result<(), Refusal>
     requires here { IsWithin stretches.now.list.items here }
-    requires within { IsWithin stretches.now.list.items place }
-    requires run { AreEntriesOfRun (state session.old).start (entries_at stretches.now.list.items place) }
+    requires within { IsWithin stretches.now.list.items node }
+    requires run { AreEntriesOfRun (state session.old).start (entries_at stretches.now.list.items node) }
     requires stands { IsPrefix (events (entries_at stretches.now.list.items here)) (track session.old) }
     ensures ok { OnOk result (state session.new
-        ≡ record { start = (state session.old).start; live = events (entries_at stretches.now.list.items place); undone = [] }) }
+        ≡ record { start = (state session.old).start; live = events (entries_at stretches.now.list.items node); undone = [] }) }
     ensures err { IfErr result (λ refusal. (refusal ≡ Refusal.NoMemory)
-        × (LacksRoomFor session.old (events (entries_at stretches.now.list.items place)) ⊎ AreInPieces stretches.now.list.items place)) }
-    ensures succeeds { IsPrefix (events (entries_at stretches.now.list.items place)) (state session.old).live → IsOk result }
+        × (LacksRoomFor session.old (events (entries_at stretches.now.list.items node)) ⊎ AreInPieces stretches.now.list.items node)) }
+    ensures succeeds { IsPrefix (events (entries_at stretches.now.list.items node)) (state session.old).live → IsOk result }
     ensures unchanged { OnErr result (journal session.new ≡ journal session.old) }
     ensures track { OnErr result (track session.new ≡ track session.old) }
 {
     let live = session.live();
     let beginning = stretches.follow(here.cut(live.len()), &live);
-    let common = stretches.common(beginning, place);
-    match stretches.entries_behind(alloc, place, common) {
+    let common = stretches.common(beginning, node);
+    match stretches.entries_behind(alloc, node, common) {
         Err(_) => Err(Refusal::NoMemory),
         Ok(entries) => session.switch(common as u64, &entries),
     }

@@ -1,42 +1,42 @@
-//! Putting a bookmark last, giving back the entries that no bookmark has, and keeping places where
-//! their stretches are.
+//! Putting a bookmark last, giving back the entries that no bookmark has, and keeping nodes where
+//! their entries are.
 
 ghost use Rattle.std.specs.Prelude.{◌≡◌, ◌<◌, ◌≤◌, ◌++◌, [], ◌∷◌, None, suc, map, length};
 ghost use Rattle.std.specs.List.{All};
 ghost use Rattle.std.specs.Map.{lookup};
 ghost use Rattle.indexmap.specs.IndexMap.{spare};
 ghost use Rattle.rd_marks.specs.Changes.{shifted, IsLow};
-ghost use Rattle.rd_marks.specs.Layout.{places_of, IsPruned};
+ghost use Rattle.rd_marks.specs.Layout.{nodes_of, IsPruned};
 ghost use Rattle.rd_marks.specs.Names.{mark_name_eq};
 ghost use Rattle.rd_marks.specs.Stretches.{greatest_in, number_if_in, IsWithin, AreNeededFrom};
 
 use super::super::names::MarkName;
-use super::super::stretches::{Grown, Place, Shift, Stretches};
+use super::super::stretches::{Grown, Node, Shift, Stretches};
 use indexmap::IndexMap;
 
 /// Puts a bookmark of this name, which none has, last, in the room that was made.
-pub(super) fn put(names: &mut IndexMap<MarkName, Place>, name: MarkName, grown: Grown)
+pub(super) fn put(names: &mut IndexMap<MarkName, Node>, name: MarkName, grown: Grown)
     requires new { lookup (mark_name_eq name) names.old.entries ≡ None }
     requires room { 0 < spare names.old }
     requires low { All (λ m. IsLow m.1) names.old.entries }
-    ensures { names.new.entries ≡ map (λ m. (m.0, shifted grown.shift m.1)) names.old.entries ++ (name, grown.place) ∷ [] }
+    ensures { names.new.entries ≡ map (λ m. (m.0, shifted grown.shift m.1)) names.old.entries ++ (name, grown.node) ∷ [] }
 {
     move_all(names, grown.shift);
-    match names.insert(name, grown.place) {
+    match names.insert(name, grown.node) {
         Err(_) => unreachable!(),
         Ok(_) => {}
     }
 }
 
-/// Returns the place with which the session's track begins after this many live steps got a place:
+/// Returns the node with which the session's track begins after this many live steps were put:
 /// that one, or the old one if that goes further.
-pub(super) fn here_after(here: Place, len: usize, grown: Grown) -> Place
+pub(super) fn here_after(here: Node, len: usize, grown: Grown) -> Node
     requires { IsLow here }
-    ensures near { here.number ≤ len → result ≡ grown.place }
+    ensures near { here.number ≤ len → result ≡ grown.node }
     ensures far { len < here.number → result ≡ shifted grown.shift here }
 {
     if here.number <= len {
-        grown.place
+        grown.node
     } else {
         grown.shift.shifted(here)
     }
@@ -46,8 +46,8 @@ pub(super) fn here_after(here: Place, len: usize, grown: Grown) -> Place
 /// last stretch down. What lay on an entry that goes lies at the last one before it that is left.
 pub(super) fn prune(
     stretches: &mut Stretches,
-    names: &mut IndexMap<MarkName, Place>,
-    here: &mut Place,
+    names: &mut IndexMap<MarkName, Node>,
+    here: &mut Node,
 )
     requires within { All (λ m. IsWithin stretches.old.list.items m.1) names.old.entries }
     requires here { IsWithin stretches.old.list.items here.old }
@@ -63,16 +63,11 @@ pub(super) fn prune(
 
 /// Takes away the entries of one stretch that no bookmark needs, where all entries of the stretches
 /// after it are needed.
-fn trim(
-    stretches: &mut Stretches,
-    names: &mut IndexMap<MarkName, Place>,
-    here: &mut Place,
-    i: usize,
-)
+fn trim(stretches: &mut Stretches, names: &mut IndexMap<MarkName, Node>, here: &mut Node, i: usize)
     requires there { i < length stretches.old.list.items }
     requires within { All (λ m. IsWithin stretches.old.list.items m.1) names.old.entries }
     requires here { IsWithin stretches.old.list.items here.old }
-    requires needed { AreNeededFrom (suc i) stretches.old.list.items (places_of names.old.entries) }
+    requires needed { AreNeededFrom (suc i) stretches.old.list.items (nodes_of names.old.entries) }
     ensures pruned { IsPruned i stretches.old.list.items stretches.new.list.items names.old.entries names.new.entries here.old here.new }
     ensures below { i ≤ length stretches.new.list.items }
     ensures room { spare names.new ≡ spare names.old }
@@ -83,44 +78,40 @@ fn trim(
     *here = shift.shifted(kept_of(*here, i, needed));
 }
 
-/// Returns what is left of a place if the first `n` entries of this stretch's list are left.
-fn kept_of(place: Place, i: usize, n: usize) -> Place
-    ensures stretch { result.stretch ≡ place.stretch }
-    ensures number { result.number ≤ place.number }
+/// Returns what is left of a node if the first `n` entries of this stretch's list are left.
+fn kept_of(node: Node, i: usize, n: usize) -> Node
+    ensures stretch { result.stretch ≡ node.stretch }
+    ensures number { result.number ≤ node.number }
     ensures left { result.stretch ≡ i → result.number ≤ n }
 {
-    if place.stretch == i {
-        place.cut(n)
-    } else {
-        place
-    }
+    if node.stretch == i { node.cut(n) } else { node }
 }
 
-/// Returns the greatest number of entries of a bookmark's place in this stretch; 0 if no place is
+/// Returns the greatest number of entries of a bookmark's node in this stretch; 0 if no node is
 /// in it.
-fn greatest_in(names: &IndexMap<MarkName, Place>, i: usize) -> usize
-    ensures { result ≡ greatest_in i (places_of names.now.entries) }
+fn greatest_in(names: &IndexMap<MarkName, Node>, i: usize) -> usize
+    ensures { result ≡ greatest_in i (nodes_of names.now.entries) }
 {
     let mut greatest: usize = 0;
     for index in 0..names.len() {
-        let Some((_, place)) = names.get_index(index) else {
+        let Some((_, node)) = names.get_index(index) else {
             unreachable!();
         };
-        greatest = greatest.max(number_if_in(i, *place));
+        greatest = greatest.max(number_if_in(i, *node));
     }
     greatest
 }
 
-/// Returns the number of entries of a place if it is in this stretch, else 0.
-fn number_if_in(i: usize, place: Place) -> usize
-    ensures { result ≡ number_if_in i place }
+/// Returns the number of entries of a node if it is in this stretch, else 0.
+fn number_if_in(i: usize, node: Node) -> usize
+    ensures { result ≡ number_if_in i node }
 {
-    if place.stretch == i { place.number } else { 0 }
+    if node.stretch == i { node.number } else { 0 }
 }
 
-/// Changes the place of each bookmark to where its entries are after the stretches got other
+/// Changes the node of each bookmark to that of the same entries after the stretches got other
 /// numbers.
-fn move_all(names: &mut IndexMap<MarkName, Place>, shift: Shift)
+fn move_all(names: &mut IndexMap<MarkName, Node>, shift: Shift)
     requires { All (λ m. IsLow m.1) names.old.entries }
     ensures room { spare names.new ≡ spare names.old }
     ensures entries { names.new.entries ≡ map (λ m. (m.0, shifted shift m.1)) names.old.entries }

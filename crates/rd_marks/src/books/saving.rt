@@ -23,7 +23,7 @@ impl<const R: usize> Book<R> {
         }
         match self.bookmarks.at(i as usize - 1) {
             None => None,
-            Some((_, place)) => self.bookmarks.event_at(place, n),
+            Some((_, node)) => self.bookmarks.event_at(node, n),
         }
     }
 
@@ -40,10 +40,10 @@ impl<const R: usize> Book<R> {
         if i == 0 {
             return Err(Refusal::NoMark);
         }
-        let Some((_, place)) = self.bookmarks.at(i as usize - 1) else {
+        let Some((_, node)) = self.bookmarks.at(i as usize - 1) else {
             return Err(Refusal::NoMark);
         };
-        match self.bookmarks.events(alloc, place) {
+        match self.bookmarks.events(alloc, node) {
             Err(_) => Err(Refusal::NoMemory),
             Ok(events) => Ok(events),
         }

@@ -1,4 +1,4 @@
-//! Growing a list, and taking away what no place needs.
+//! Growing a list, and taking away what no node needs.
 
 ghost use Rattle.std.specs.Prelude.{◌≡◌, ◌↔◌, ◌<◌, ◌≤◌, ◌+◌, ◌++◌, suc, take, length, vec_capacity, IsTrue, OnOk, OnErr, IfOk, IsOk};
 ghost use Rattle.rd_marks.specs.Changes.{IsLow};
@@ -6,7 +6,7 @@ ghost use Rattle.rd_marks.specs.Stretches.{raised, lowered};
 ghost use Rattle.rd_step.specs.Prelude.{MOST_STEPS};
 ghost use Rattle.rd_step.specs.Run.{events};
 
-use super::{Place, Stretch, Stretches};
+use super::{Node, Stretch, Stretches};
 use rd_journal::LiveEntries;
 use rd_step::Entry;
 use std::alloc::{AllocError, Global};
@@ -25,51 +25,51 @@ pub(crate) enum Shift {
 impl Shift {
     ghost use Rattle.rd_marks.specs.Changes.{shifted, IsLow};
 
-    /// Returns the place of the same entries after the shift.
-    pub(crate) fn shifted(self, place: Place) -> Place
-        requires { IsLow place }
-        ensures { result ≡ shifted self place }
+    /// Returns the node of the same entries after the shift.
+    pub(crate) fn shifted(self, node: Node) -> Node
+        requires { IsLow node }
+        ensures { result ≡ shifted self node }
     {
         match self {
-            Shift::Same => place,
-            Shift::Up(i) => raised(i, place),
-            Shift::Down(i) => lowered(i, place),
+            Shift::Same => node,
+            Shift::Up(i) => raised(i, node),
+            Shift::Down(i) => lowered(i, node),
         }
     }
 }
 
-/// The place of the same entries after a stretch was put before that of this number.
-fn raised(i: usize, place: Place) -> Place
-    requires { IsLow place }
-    ensures { result ≡ raised i place }
+/// The node of the same entries after a stretch was put before that of this number.
+fn raised(i: usize, node: Node) -> Node
+    requires { IsLow node }
+    ensures { result ≡ raised i node }
 {
-    if place.number == 0 || place.stretch < i {
-        return place;
+    if node.number == 0 || node.stretch < i {
+        return node;
     }
-    Place {
-        stretch: place.stretch + 1,
-        number: place.number,
+    Node {
+        stretch: node.stretch + 1,
+        number: node.number,
     }
 }
 
-/// Returns the place of the same entries after the stretch of this number was taken away, none of
+/// Returns the node of the same entries after the stretch of this number was taken away, none of
 /// whose own entries it had.
-fn lowered(i: usize, place: Place) -> Place
-    ensures { result ≡ lowered i place }
+fn lowered(i: usize, node: Node) -> Node
+    ensures { result ≡ lowered i node }
 {
-    if place.stretch < i {
-        return place;
+    if node.stretch < i {
+        return node;
     }
-    Place {
-        stretch: place.stretch.saturating_sub(1),
-        number: place.number,
+    Node {
+        stretch: node.stretch.saturating_sub(1),
+        number: node.number,
     }
 }
 
 /// Where entries were put, and what became of the numbers of the stretches.
 #[derive(Clone, Copy)]
 pub(crate) struct Grown {
-    pub(crate) place: Place,
+    pub(crate) node: Node,
     pub(crate) shift: Shift,
 }
 
@@ -77,8 +77,8 @@ impl Stretches {
     ghost use Rattle.rd_marks.specs.Stretches.{list_before, shared_at, entries_at, IsWithin, IsEnd, IsAlong, IsDeepest};
     ghost use Rattle.rd_marks.specs.Changes.{IsGrown, IsShrunk, IsUnchanged};
 
-    /// Adds to the entries of a place, with which the live steps begin, those of the other live
-    /// steps, where no list has the next of these: at the end of the place's stretch, or in a new
+    /// Adds to the entries of a node, with which the live steps begin, those of the other live
+    /// steps, where no list has the next of these: at the end of the node's stretch, or in a new
     /// one.
     ///
     /// # Errors
@@ -88,7 +88,7 @@ impl Stretches {
     pub(crate) fn grow(
         &mut self,
         alloc: Global,
-        at: Place,
+        at: Node,
         live: &LiveEntries,
     ) -> Result<Grown, AllocError>
         requires within { IsWithin self.old.list.items at }
@@ -101,7 +101,7 @@ impl Stretches {
     {
         if at.number == live.len() {
             return Ok(Grown {
-                place: at,
+                node: at,
                 shift: Shift::Same,
             });
         }
@@ -112,8 +112,8 @@ impl Stretches {
         }
     }
 
-    /// Whether a place is the end of the list of its stretch.
-    fn is_end(&self, at: Place) -> bool
+    /// Whether a node is the end of the list of its stretch.
+    fn is_end(&self, at: Node) -> bool
         ensures { IsTrue result ↔ IsEnd self.now.list.items at }
     {
         match self.list.get(at.stretch) {
@@ -123,12 +123,12 @@ impl Stretches {
     }
 
     /// Puts the other entries of the live steps at the end of the stretch whose list ends at a
-    /// place.
+    /// node.
     ///
     /// # Errors
     ///
     /// `AllocError` if the room was refused. The lists stay.
-    fn extend(&mut self, at: Place, live: &LiveEntries) -> Result<Grown, AllocError>
+    fn extend(&mut self, at: Node, live: &LiveEntries) -> Result<Grown, AllocError>
         requires end { IsEnd self.old.list.items at }
         requires more { at.number < length live.now }
         requires few { length live.now ≤ MOST_STEPS }
@@ -140,7 +140,7 @@ impl Stretches {
         let rest = live.behind(at.number);
         append(&mut self.list[at.stretch].entries, &rest)?;
         Ok(Grown {
-            place: Place {
+            node: Node {
                 stretch: at.stretch,
                 number: live.len(),
             },
@@ -148,7 +148,7 @@ impl Stretches {
         })
     }
 
-    /// Puts the other entries of the live steps into a new stretch, which shares those of a place.
+    /// Puts the other entries of the live steps into a new stretch, which shares those of a node.
     ///
     /// # Errors
     ///
@@ -156,7 +156,7 @@ impl Stretches {
     fn branch_off(
         &mut self,
         alloc: Global,
-        at: Place,
+        at: Node,
         live: &LiveEntries,
     ) -> Result<Grown, AllocError>
         requires within { IsWithin self.old.list.items at }
@@ -178,7 +178,7 @@ impl Stretches {
         match self.list.insert(i, stretch) {
             Err(_) => unreachable!(),
             Ok(()) => Ok(Grown {
-                place: Place {
+                node: Node {
                     stretch: i,
                     number: live.len(),
                 },
@@ -187,9 +187,9 @@ impl Stretches {
         }
     }
 
-    /// Returns the first stretch after that of a place whose list shares, with the list before it,
-    /// at most as many entries as the place has; the number of stretches if there is none.
-    fn next_off(&self, at: Place) -> usize
+    /// Returns the first stretch after that of a node whose list shares, with the list before it,
+    /// at most as many entries as the node has; the number of stretches if there is none.
+    fn next_off(&self, at: Node) -> usize
         requires { IsWithin self.now.list.items at }
         ensures there { result ≤ length self.now.list.items }
         ensures first { 0 < length self.now.list.items → 0 < result }

@@ -4,23 +4,23 @@ ghost use Rattle.std.specs.Prelude.{◌≡◌, ◌↔◌, ◌<◌, ◌≤◌, �
 ghost use Rattle.rd_step.specs.Run.{events};
 ghost use Rattle.rd_step.specs.declared.entries.Event.{Event as Happening};
 
-use super::{Place, Stretches};
+use super::{Node, Stretches};
 use rd_journal::LiveEntries;
 use rd_step::{Entry, Event};
 
 impl Stretches {
     ghost use Rattle.rd_marks.specs.Stretches.{shared_at, IsWithin, IsAlong, IsDeepest};
 
-    /// Returns the place with the most entries with which the live steps begin, found from a place
+    /// Returns the node with the most entries with which the live steps begin, found from a node
     /// with whose entries they begin.
-    pub(crate) fn follow(&self, from: Place, live: &LiveEntries) -> Place
+    pub(crate) fn follow(&self, from: Node, live: &LiveEntries) -> Node
         requires within { IsWithin self.now.list.items from }
         requires along { IsAlong self.now.list.items from.stretch from.number (events live.now) }
         ensures within { IsWithin self.now.list.items result }
         ensures along { IsAlong self.now.list.items result.stretch result.number (events live.now) }
         ensures deepest { IsDeepest self.now.list.items result.number (events live.now) }
     {
-        let mut at = self.own_place(from);
+        let mut at = self.own_node(from);
         for i in at.stretch..self.list.len() {
             let shared = self.shared(i);
             if i > at.stretch && shared < at.number {
@@ -51,14 +51,14 @@ impl Stretches {
     }
 }
 
-/// Returns the place of `number` entries in this stretch if that is more than `at` has, else `at`.
-fn farther(at: Place, i: usize, number: usize) -> Place
+/// Returns the node of `number` entries in this stretch if that is more than `at` has, else `at`.
+fn farther(at: Node, i: usize, number: usize) -> Node
     requires { at.number ≤ number }
     ensures more { at.number < number → result ≡ record { stretch = i; number = number } }
     ensures others { number ≡ at.number → result ≡ at }
 {
     if number > at.number {
-        Place { stretch: i, number }
+        Node { stretch: i, number }
     } else {
         at
     }

@@ -1,11 +1,11 @@
-//! The entries of a place, lent and copied.
+//! The entries of a node, lent and copied.
 
 ghost use Rattle.std.specs.Prelude.{◌≡◌, ◌<◌, ◌≤◌, ◌-◌, Some, drop, slice_get, IsOk, IsSome, IfOk, IfSome, OnErr};
 ghost use Rattle.std.specs.Cow.{cow_slice_items};
 ghost use Rattle.rd_step.specs.Run.{events};
 ghost use Rattle.rd_step.specs.Lists.{numbered};
 
-use super::{Place, Stretches};
+use super::{Node, Stretches};
 use rd_step::{Entry, Event};
 use std::alloc::{AllocError, Global};
 use std::borrow::CowSlice;
@@ -13,19 +13,19 @@ use std::borrow::CowSlice;
 impl Stretches {
     ghost use Rattle.rd_marks.specs.Stretches.{entries_at, shared_at, IsWithin, IsOwn, AreInPieces};
 
-    /// The event of this number, from 1, of the entries of a place, if there is one.
-    pub(crate) fn event_at(&self, of: Place, n: u64) -> Option<Event>
+    /// The event of this number, from 1, of the entries of a node, if there is one.
+    pub(crate) fn event_at(&self, of: Node, n: u64) -> Option<Event>
         requires { IsWithin self.now.list.items of }
         ensures { result ≡ numbered (events (entries_at self.now.list.items of)) n }
     {
         if n == 0 || n > of.number as u64 {
             return None;
         }
-        Some(self.last(self.own_place(of.cut(n as usize))).event)
+        Some(self.last(self.own_node(of.cut(n as usize))).event)
     }
 
-    /// Returns the last entry of a place, which must be its stretch's own.
-    fn last(&self, of: Place) -> &Entry
+    /// Returns the last entry of a node, which must be its stretch's own.
+    fn last(&self, of: Node) -> &Entry
         requires within { IsWithin self.now.list.items of }
         requires own { IsOwn self.now.list.items of }
         requires some { 0 < of.number }
@@ -35,17 +35,17 @@ impl Stretches {
         &stretch.entries[of.number - stretch.shared - 1]
     }
 
-    /// Returns the entries of a place after the first `n`: lent if they are of one stretch, as for
-    /// most places, else copied.
+    /// Returns the entries of a node after the first `n`: lent if they are of one stretch, as for
+    /// most nodes, else copied.
     ///
     /// # Errors
     ///
     /// `AllocError` if memory was refused for a copy, which never happens if there are no such
-    /// entries, or all entries of the place are of one stretch.
+    /// entries, or all entries of the node are of one stretch.
     pub(crate) fn entries_behind(
         &self,
         alloc: Global,
-        of: Place,
+        of: Node,
         n: usize,
     ) -> Result<CowSlice<'_, Entry>, AllocError>
         requires present { IsWithin self.now.list.items of }
@@ -54,15 +54,15 @@ impl Stretches {
         ensures err { OnErr result (AreInPieces self.now.list.items of) }
         ensures succeeds { of.number ≡ n → IsOk result }
     {
-        let own = self.own_place(of);
+        let own = self.own_node(of);
         if let Some(entries) = self.slice(own, n) {
             return Ok(CowSlice::Borrowed(entries));
         }
         Ok(CowSlice::Owned(self.copy(alloc, own, n)?))
     }
 
-    /// Returns the entries of a place after the first `n`, if they are all of the place's stretch.
-    fn slice(&self, of: Place, n: usize) -> Option<&[Entry]>
+    /// Returns the entries of a node after the first `n`, if they are all of the node's stretch.
+    fn slice(&self, of: Node, n: usize) -> Option<&[Entry]>
         requires present { IsWithin self.now.list.items of }
         requires own { IsOwn self.now.list.items of }
         requires within { n ≤ of.number }
@@ -76,12 +76,12 @@ impl Stretches {
         Some(&stretch.entries[n - stretch.shared..of.number - stretch.shared])
     }
 
-    /// A copy of the entries of a place after the first `n`.
+    /// A copy of the entries of a node after the first `n`.
     ///
     /// # Errors
     ///
     /// `AllocError` if memory was refused for them, which never happens if there are none.
-    fn copy(&self, alloc: Global, of: Place, n: usize) -> Result<Vec<Entry>, AllocError>
+    fn copy(&self, alloc: Global, of: Node, n: usize) -> Result<Vec<Entry>, AllocError>
         requires present { IsWithin self.now.list.items of }
         requires within { n ≤ of.number }
         ensures ok { IfOk result (λ entries. entries.items ≡ drop n (entries_at self.now.list.items of)) }
@@ -90,7 +90,7 @@ impl Stretches {
         let mut entries = Vec::with_capacity(alloc, of.number - n)?;
         let mut at = of;
         while at.number > n {
-            at = self.own_place(at);
+            at = self.own_node(at);
             entries.push_reserved(*self.last(at));
             at.number -= 1;
         }
@@ -98,12 +98,12 @@ impl Stretches {
         Ok(entries)
     }
 
-    /// Returns the events of the entries of a place.
+    /// Returns the events of the entries of a node.
     ///
     /// # Errors
     ///
     /// `AllocError` if memory was refused for them, which never happens if there are none.
-    pub(crate) fn events(&self, alloc: Global, of: Place) -> Result<Vec<Event>, AllocError>
+    pub(crate) fn events(&self, alloc: Global, of: Node) -> Result<Vec<Event>, AllocError>
         requires { IsWithin self.now.list.items of }
         ensures ok { IfOk result (λ list. list.items ≡ events (entries_at self.now.list.items of)) }
         ensures succeeds { of.number ≡ 0 → IsOk result }

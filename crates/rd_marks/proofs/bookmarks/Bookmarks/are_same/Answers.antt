@@ -1,5 +1,5 @@
 use Rattle.std.proofs.Common.{◌≡◌, ◌∙◌, ℕ, ◌≤◌, take, arith}
-use Rattle.rd_marks.proofs.Prelude.{fact_passed_up, NeitherIsPrefix, DecidesEquivalence, Bookmarks, Place, entries_in, IsPlaceIn, events}
+use Rattle.rd_marks.proofs.Prelude.{fact_passed_up, NeitherIsPrefix, DecidesEquivalence, Bookmarks, Node, entries_in, IsNodeIn, events}
 use Rattle.std.proofs.lemmas.Result.{IfOk-weaker}
 use Rattle.rd_marks.proofs.Starting.{entries_length}
 use Rattle.rd_marks.proofs.SameLemmas.{decided_by_length, decided_behind, not_begun}
@@ -7,7 +7,7 @@ use Rattle.rd_marks.proofs.bookmarks.Bookmarks.are_same.Goals.{then-shared-one-v
 use Rattle.rd_marks.proofs.bookmarks.Bookmarks.are_same.Goals as goal
 
 -- where what two lists have in common is neither of them, neither begins the other
-apart : (b : Bookmarks) (one other : Place) (c : ℕ) → IsPlaceIn b one → IsPlaceIn b other → c ≤ one.number → c ≤ other.number
+apart : (b : Bookmarks) (one other : Node) (c : ℕ) → IsNodeIn b one → IsNodeIn b other → c ≤ one.number → c ≤ other.number
     → ((n : ℕ) → n ≤ one.number → n ≤ other.number → take n (events (entries_in b one)) ≡ take n (events (entries_in b other)) → n ≤ c)
     → (c ≡ one.number → ⊥) → (c ≡ other.number → ⊥) → NeitherIsPrefix (events (entries_in b one)) (events (entries_in b other))
 apart b one other c one_in other_in first second most not_one not_other =
@@ -33,7 +33,7 @@ pub returns-clause-answer : goal.returns-clause-answer
 returns-clause-answer c =
     let b = c.args.self.now in
     let said = c.common-shared.ensures in
-    let long = λ (p : Place) (is : IsPlaceIn b p). entries_length b.stretches.list.items p is in
+    let long = λ (p : Node) (is : IsNodeIn b p). entries_length b.stretches.list.items p is in
     IfOk-weaker c.are_equivalent.result _ (DecidesEquivalence (entries_in b c.args.one) (entries_in b c.args.other)) (λ same decides. decided_behind _ _ c.args.one.number c.args.other.number
     c.common-shared.result
     (long c.args.one c.requires.one) (long c.args.other c.requires.other) said.alike said.first said.second same _ _ (c.deref.ensures.value ∙ c.in_ok-ones.ensures.ok)

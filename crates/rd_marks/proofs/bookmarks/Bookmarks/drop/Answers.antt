@@ -1,5 +1,5 @@
 use Rattle.std.proofs.Common.{option_map, arith}
-use Rattle.rd_marks.proofs.Prelude.{lookup-map_values, MarkName, Place, entries_in, mark_name_eq, IsWithin}
+use Rattle.rd_marks.proofs.Prelude.{lookup-map_values, MarkName, Node, entries_in, mark_name_eq, IsWithin}
 use Rattle.rd_marks.proofs.MarkLemmas.{all_without, removed_mapped}
 use Rattle.rd_marks.proofs.bookmarks.Bookmarks.drop.Goals as goal
 
@@ -11,7 +11,7 @@ returns-in-None-clause-lists c = grind (arith, c.shift_remove.ensures.entries, r
 
 pub prune-requires-clause-within : goal.prune-requires-clause-within
 prune-requires-clause-within c =
-    rw c.shift_remove.ensures.entries (all_without (mark_name_eq c.args.name.now) (λ (m : MarkName × Place). IsWithin c.args.self.now.stretches.list.items m.1) c.args.self.now.names.entries
+    rw c.shift_remove.ensures.entries (all_without (mark_name_eq c.args.name.now) (λ (m : MarkName × Node). IsWithin c.args.self.now.stretches.list.items m.1) c.args.self.now.names.entries
     c.args.self.now.kept.within)
 
 pub returns-in-Some-clause-found : goal.returns-in-Some-clause-found

@@ -1,48 +1,48 @@
 use Rattle.std.proofs.Common.{sym, ◌≡◌, ◌≤◌, [], ℕ, List, length, take, lit<, refl, subst, ap, ◌∙◌, arith}
 use Rattle.rd_step.proofs.PassedUp.{error_passed_up}
-use Rattle.rd_marks.proofs.Prelude.{fact_passed_up, Event, IsPrefix, state, track, Bookmarks, Place, here_in, entries_in, IsPlaceIn, events}
+use Rattle.rd_marks.proofs.Prelude.{fact_passed_up, Event, IsPrefix, state, track, Bookmarks, Node, here_in, entries_in, IsNodeIn, events}
 use Rattle.rd_marks.proofs.Prelude.{entries_at, length-take, take-length}
 use Rattle.rd_marks.proofs.Here.{along_to}
 use Rattle.rd_marks.proofs.Starting.{events_length}
 use Rattle.rd_marks.proofs.bookmarks.Bookmarks.go_to.Goals as goal
 
--- the entries of the place begin the track
-on_track : (b : Bookmarks) (place : Place) (steps : List Event) (c : ℕ) → IsPlaceIn b place → IsPrefix (events (here_in b)) steps → c ≤ b.here.number
-    → take c (here_in b) ≡ take c (entries_in b place) → c ≡ place.number → (place.number ≤ length steps) × (take place.number steps ≡ events (entries_in b place))
-on_track b place steps c is stands first alike all =
-    along_to b.stretches.list.items place b.here steps is b.kept.lies stands place.number refl (omega (arith, first, all))
-    (subst (λ (n : ℕ). take n (here_in b) ≡ take n (entries_in b place)) all alike)
+-- the entries of the node begin the track
+on_track : (b : Bookmarks) (node : Node) (steps : List Event) (c : ℕ) → IsNodeIn b node → IsPrefix (events (here_in b)) steps → c ≤ b.here.number
+    → take c (here_in b) ≡ take c (entries_in b node) → c ≡ node.number → (node.number ≤ length steps) × (take node.number steps ≡ events (entries_in b node))
+on_track b node steps c is stands first alike all =
+    along_to b.stretches.list.items node b.here steps is b.kept.lies stands node.number refl (omega (arith, first, all))
+    (subst (λ (n : ℕ). take n (here_in b) ≡ take n (entries_in b node)) all alike)
 
 pub go_along-requires : goal.go_along-requires
 go_along-requires g c = (
   lit< tt,
-  (on_track c.args.self.now c.args.place (track c.args.session.now) c.common.result c.requires.within c.requires.stands c.common.ensures.first c.common.ensures.alike (omega (arith, c.if-common-place.true))).0,
+  (on_track c.args.self.now c.args.node (track c.args.session.now) c.common.result c.requires.within c.requires.stands c.common.ensures.first c.common.ensures.alike (omega (arith, c.if-common-node.true))).0,
 )
 
-pub returns-then-common-place-clause-ok : goal.returns-then-common-place-clause-ok
-returns-then-common-place-clause-ok g c =
+pub returns-then-common-node-clause-ok : goal.returns-then-common-node-clause-ok
+returns-then-common-node-clause-ok g c =
     c.go_along.ensures.state
     ∙ ap (λ (es : List Event). record { start = (state c.args.session.now).start; live = es; undone = [] })
-    (on_track c.args.self.now c.args.place (track c.args.session.now) c.common.result c.requires.within c.requires.stands c.common.ensures.first c.common.ensures.alike (omega (arith, c.if-common-place.true))).1
+    (on_track c.args.self.now c.args.node (track c.args.session.now) c.common.result c.requires.within c.requires.stands c.common.ensures.first c.common.ensures.alike (omega (arith, c.if-common-node.true))).1
 
-pub returns-then-common-place-clause-stands : goal.returns-then-common-place-clause-stands
-returns-then-common-place-clause-stands g c = rw c.go_along.ensures.along.track c.requires.stands
+pub returns-then-common-node-clause-stands : goal.returns-then-common-node-clause-stands
+returns-then-common-node-clause-stands g c = rw c.go_along.ensures.along.track c.requires.stands
 
-pub returns-in_err-exchange-clause-unchanged : goal.returns-in_err-exchange-clause-unchanged
-returns-in_err-exchange-clause-unchanged g c = fact_passed_up c.from_residual.result c.in_err-exchange.ensures.unchanged
+pub returns-in_err-switch_to-clause-unchanged : goal.returns-in_err-switch_to-clause-unchanged
+returns-in_err-switch_to-clause-unchanged g c = fact_passed_up c.from_residual.result c.in_err-switch_to.ensures.unchanged
 
-pub returns-in_err-exchange-clause-err : goal.returns-in_err-exchange-clause-err
-returns-in_err-exchange-clause-err g c = error_passed_up _ c.in_err-exchange.field-0.0 c.from_residual.result c.from_residual.ensures.1 c.in_err-exchange.ensures.err
+pub returns-in_err-switch_to-clause-err : goal.returns-in_err-switch_to-clause-err
+returns-in_err-switch_to-clause-err g c = error_passed_up _ c.in_err-switch_to.field-0.0 c.from_residual.result c.from_residual.ensures.1 c.in_err-switch_to.ensures.err
 
-pub returns-in_err-exchange-clause-along : goal.returns-in_err-exchange-clause-along
-returns-in_err-exchange-clause-along g c = λ h.
+pub returns-in_err-switch_to-clause-along : goal.returns-in_err-switch_to-clause-along
+returns-in_err-switch_to-clause-along g c = λ h.
     let ss = c.args.self.now.stretches.list.items in
-    let place = c.args.place in
-    let es = events (entries_at ss place) in
+    let node = c.args.node in
+    let es = events (entries_at ss node) in
     let hs = events (entries_at ss c.args.self.now.here) in
-    let len : length es ≡ place.number = events_length ss place c.requires.within in
+    let len : length es ≡ node.number = events_length ss node c.requires.within in
     let here : length hs ≡ c.args.self.now.here.number = events_length ss c.args.self.now.here c.args.self.now.kept.lies in
-    let alike : take place.number hs ≡ es = subst (λ (n : ℕ). take n hs ≡ es) len h in
-    let all : take place.number es ≡ es = subst (λ (n : ℕ). take n es ≡ es) len (take-length es) in
-    let fewer : place.number ≤ c.args.self.now.here.number = omega (arith, ap length alike, length-take place.number hs, len, here) in
-    absurd (omega (arith, c.common.ensures.second, c.common.ensures.most place.number fewer (omega arith) (alike ∙ sym all), c.if-common-place.false))
+    let alike : take node.number hs ≡ es = subst (λ (n : ℕ). take n hs ≡ es) len h in
+    let all : take node.number es ≡ es = subst (λ (n : ℕ). take n es ≡ es) len (take-length es) in
+    let fewer : node.number ≤ c.args.self.now.here.number = omega (arith, ap length alike, length-take node.number hs, len, here) in
+    absurd (omega (arith, c.common.ensures.second, c.common.ensures.most node.number fewer (omega arith) (alike ∙ sym all), c.if-common-node.false))

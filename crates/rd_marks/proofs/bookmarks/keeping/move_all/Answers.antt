@@ -1,5 +1,5 @@
 use Rattle.std.proofs.Common.{◌∙◌, List, sym, ap, slice_get, arith}
-use Rattle.rd_marks.proofs.Prelude.{values_of, MarkName, Place, shifted, IsLow}
+use Rattle.rd_marks.proofs.Prelude.{values_of, MarkName, Node, shifted, IsLow}
 use Rattle.rd_marks.proofs.Moving.{changed_next, value_next, all_changed}
 use Rattle.rd_marks.proofs.bookmarks.keeping.move_all.Goals as goal
 
@@ -7,7 +7,7 @@ pub shifted-requires : goal.shifted-requires
 shifted-requires c =
     let i = c.loop-index.index in
     value_next (shifted c.args.shift) IsLow i c.args.names.now.entries c.index.result.now c.requires
-    (ap (λ (es : List (MarkName × Place)). slice_get (values_of es) i) (sym c.loop-index.invariant.entries) ∙ c.index.ensures)
+    (ap (λ (es : List (MarkName × Node)). slice_get (values_of es) i) (sym c.loop-index.invariant.entries) ∙ c.index.ensures)
 
 pub loop-index-preserved : goal.loop-index-preserved
 loop-index-preserved c = grind (arith, changed_next (shifted c.args.shift) c.loop-index.index c.args.names.now.entries c.index.result.now)

@@ -10,7 +10,7 @@ returns-in_default-clause-err g c = grind (arith, found_events, option_map)
 pub go_to-requires : goal.go_to-requires
 go_to-requires g c =
     let fact = all_found (mark_name_eq c.args.name) (λ (xs : List Entry). AreEntriesOfRun (state c.args.self.now.session).start xs) (lists_in c.args.self.now.bookmarks)
-    (entries_in c.args.self.now.bookmarks c.in-Some.place) c.args.self.now.runs in
+    (entries_in c.args.self.now.bookmarks c.in-Some.node) c.args.self.now.runs in
     grind (arith, c.args.self.now.stands, c.in-Some.ensures.within, fact)
 
 pub returns-clause-ok : goal.returns-clause-ok
@@ -18,7 +18,7 @@ returns-clause-ok g c = grind (arith, found_events, option_map)
 
 pub returns-clause-err : goal.returns-clause-err
 returns-clause-err g c =
-    goto_not_done _ c.go_to.result (book_state c.args.self.now) c.args.name (events (entries_in c.args.self.now.bookmarks c.in-Some.place))
+    goto_not_done _ c.go_to.result (book_state c.args.self.now) c.args.name (events (entries_in c.args.self.now.bookmarks c.in-Some.node))
     (found_events c.args.name (lists_in c.args.self.now.bookmarks) ∙ ap (option_map events) (sym c.in-Some.ensures.found)) c.go_to.ensures.err c.go_to.ensures.succeeds
 
 pub invariant_of-self : goal.invariant_of-self
@@ -32,5 +32,5 @@ returns-in_default-clause-memory g c = grind (arith, found_events, option_map)
 
 pub returns-clause-memory : goal.returns-clause-memory
 returns-clause-memory g c =
-    goto_lacks c.go_to.result c.args.self.now c.args.name c.in-Some.place
+    goto_lacks c.go_to.result c.args.self.now c.args.name c.in-Some.node
     (found_events c.args.name (lists_in c.args.self.now.bookmarks) ∙ ap (option_map events) (sym c.in-Some.ensures.found)) c.go_to.ensures.err

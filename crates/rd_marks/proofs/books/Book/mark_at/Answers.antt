@@ -11,6 +11,6 @@ returns-in-None g c =
 pub returns-in-Some : goal.returns-in-Some
 returns-in-Some g c =
     let bookmarks = c.args.self.now.bookmarks in
-    let xs = entries_in bookmarks c.in-Some.place in
-    length_said c.in-Some.name c.in-Some.place.number xs (entries_length bookmarks.stretches.list.items c.in-Some.place c.in-Some.ensures.within)
+    let xs = entries_in bookmarks c.in-Some.node in
+    length_said c.in-Some.name c.in-Some.node.number xs (entries_length bookmarks.stretches.list.items c.in-Some.node c.in-Some.ensures.within)
     ∙ sym (mark_said (book_state c.args.self.now) (lists_in bookmarks) c.args.i (c.args.i - 1) (Some (c.in-Some.name, xs)) refl (omega arith) (sym c.in-Some.ensures.found))

@@ -9,11 +9,11 @@ returns-in_default g c = rw (events_said (book_state c.args.self.now) (lists_in 
 
 pub returns-in-Err : goal.returns-in-Err
 returns-in-Err g c =
-    rw (events_said (book_state c.args.self.now) (lists_in c.args.self.now.bookmarks) c.args.i (c.args.i - 1) (Some (c.in-Some.field-0-0, entries_in c.args.self.now.bookmarks c.in-Some.place)) refl
+    rw (events_said (book_state c.args.self.now) (lists_in c.args.self.now.bookmarks) c.args.i (c.args.i - 1) (Some (c.in-Some.field-0-0, entries_in c.args.self.now.bookmarks c.in-Some.node)) refl
     (omega arith) (sym c.in-Some.ensures.found))
-    (refl, λ none. grind (arith, none, c.in-Err.ensures.succeeds, events_length c.args.self.now.bookmarks.stretches.list.items c.in-Some.place c.in-Some.ensures.within))
+    (refl, λ none. grind (arith, none, c.in-Err.ensures.succeeds, events_length c.args.self.now.bookmarks.stretches.list.items c.in-Some.node c.in-Some.ensures.within))
 
 pub returns-in-Ok : goal.returns-in-Ok
 returns-in-Ok g c =
-    rw (events_said (book_state c.args.self.now) (lists_in c.args.self.now.bookmarks) c.args.i (c.args.i - 1) (Some (c.in-Some.field-0-0, entries_in c.args.self.now.bookmarks c.in-Some.place)) refl
+    rw (events_said (book_state c.args.self.now) (lists_in c.args.self.now.bookmarks) c.args.i (c.args.i - 1) (Some (c.in-Some.field-0-0, entries_in c.args.self.now.bookmarks c.in-Some.node)) refl
     (omega arith) (sym c.in-Some.ensures.found)) c.in-Ok.ensures.ok

@@ -1,6 +1,6 @@
 use Rattle.std.proofs.Common.{◌∙◌, arith}
 use Rattle.rd_marks.proofs.Reading.{down}
-use Rattle.rd_marks.proofs.stretches.Stretches.own_place.Goals as goal
+use Rattle.rd_marks.proofs.stretches.Stretches.own_node.Goals as goal
 
 pub loop-at-preserved : goal.loop-at-preserved
 loop-at-preserved c =

@@ -6,7 +6,7 @@ use Rattle.rd_marks.proofs.Here.{live_along}
 use Rattle.rd_marks.proofs.Starting.{entries_length}
 use Rattle.rd_marks.proofs.EntryLemmas.{switched, joined_events, lacked, may_switch, few_enough}
 use Rattle.rd_marks.proofs.Switches.{common_live, none_behind, whole_common}
-use Rattle.rd_marks.proofs.bookmarks.going.exchange.Goals as goal
+use Rattle.rd_marks.proofs.bookmarks.going.switch_to.Goals as goal
 
 pub follow-beginning-requires-clause-along : goal.follow-beginning-requires-clause-along
 follow-beginning-requires-clause-along g c =
@@ -19,23 +19,23 @@ switch-requires g c =
     let n = c.common-common.result in
     let said = c.common-common.ensures in
     let given = c.deref.ensures.value ∙ c.in-Ok.ensures.ok in
-    let same = common_live ss c.follow-beginning.result c.args.place n (events c.live-live.result) (state c.args.session.now).live c.live-live.ensures.events said.first
+    let same = common_live ss c.follow-beginning.result c.args.node n (events c.live-live.result) (state c.args.session.now).live c.live-live.ensures.events said.first
     c.follow-beginning.ensures.along said.alike in
     let run = subst (λ (xs : List Entry). IsRunFrom (state c.args.session.now).start xs) c.live-live.ensures.entries c.live-live.ensures.run in
     let live = length-map c.live-live.result (λ (x : Entry). x.event) in
-    let few = few_enough n c.deref.result.now (entries_at ss c.args.place) given (omega (arith, said.second, entries_length ss c.args.place c.requires.within)) c.requires.run.few in
-    let may = may_switch (journal c.args.session.now) n c.deref.result.now (entries_at ss c.args.place) given run c.requires.run same in
+    let few = few_enough n c.deref.result.now (entries_at ss c.args.node) given (omega (arith, said.second, entries_length ss c.args.node c.requires.within)) c.requires.run.few in
+    let may = may_switch (journal c.args.session.now) n c.deref.result.now (entries_at ss c.args.node) given run c.requires.run same in
     (lit< tt, (omega (arith, said.first, c.follow-beginning.ensures.along.enough, ap length c.live-live.ensures.entries, live), (few, may)))
 
 pub returns-in-Err-clause-succeeds : goal.returns-in-Err-clause-succeeds
 returns-in-Err-clause-succeeds g c =
-    λ h. c.in-Err.ensures.succeeds (whole_common c.args.stretches.now.list.items c.follow-beginning.result c.args.place c.common-common.result (events c.live-live.result) c.requires.within
+    λ h. c.in-Err.ensures.succeeds (whole_common c.args.stretches.now.list.items c.follow-beginning.result c.args.node c.common-common.result (events c.live-live.result) c.requires.within
     c.follow-beginning.ensures.along c.follow-beginning.ensures.deepest (grind (arith, c.live-live.ensures.events, h)) c.common-common.ensures.second c.common-common.ensures.most)
 
 pub returns-in-Ok-clause-ok : goal.returns-in-Ok-clause-ok
 returns-in-Ok-clause-ok g c =
-    let fact = switched c.switch.result (state c.args.session.now) (state c.switch.new.self) c.common-common.result c.deref.result.now (entries_at c.args.stretches.now.list.items c.args.place) in
-    let fact_2 = common_live c.args.stretches.now.list.items c.follow-beginning.result c.args.place c.common-common.result (events c.live-live.result) (state c.args.session.now).live in
+    let fact = switched c.switch.result (state c.args.session.now) (state c.switch.new.self) c.common-common.result c.deref.result.now (entries_at c.args.stretches.now.list.items c.args.node) in
+    let fact_2 = common_live c.args.stretches.now.list.items c.follow-beginning.result c.args.node c.common-common.result (events c.live-live.result) (state c.args.session.now).live in
     grind (arith, c.deref.ensures.value, c.in-Ok.ensures.ok, c.switch.ensures.ok, fact_2, fact)
 
 pub returns-in-Ok-clause-unchanged : goal.returns-in-Ok-clause-unchanged
@@ -46,18 +46,18 @@ returns-in-Ok-clause-track g c = on_err_weaker c.switch.result (λ is. is.track)
 
 pub returns-in-Ok-clause-succeeds : goal.returns-in-Ok-clause-succeeds
 returns-in-Ok-clause-succeeds g c = λ h.
-    let all = whole_common c.args.stretches.now.list.items c.follow-beginning.result c.args.place c.common-common.result (events c.live-live.result) c.requires.within c.follow-beginning.ensures.along
+    let all = whole_common c.args.stretches.now.list.items c.follow-beginning.result c.args.node c.common-common.result (events c.live-live.result) c.requires.within c.follow-beginning.ensures.along
     c.follow-beginning.ensures.deepest (grind (arith, c.live-live.ensures.events, h)) c.common-common.ensures.second c.common-common.ensures.most in
-    c.switch.ensures.succeeds (none_behind c.args.stretches.now.list.items c.args.place c.common-common.result c.deref.result.now c.requires.within all (c.deref.ensures.value ∙ c.in-Ok.ensures.ok))
+    c.switch.ensures.succeeds (none_behind c.args.stretches.now.list.items c.args.node c.common-common.result c.deref.result.now c.requires.within all (c.deref.ensures.value ∙ c.in-Ok.ensures.ok))
 
 pub returns-in-Ok-clause-err : goal.returns-in-Ok-clause-err
 returns-in-Ok-clause-err g c =
     let ss = c.args.stretches.now.list.items in
     let n = c.common-common.result in
     let said = c.common-common.ensures in
-    let ys = entries_at ss c.args.place in
+    let ys = entries_at ss c.args.node in
     let given = c.deref.ensures.value ∙ c.in-Ok.ensures.ok in
-    let same = common_live ss c.follow-beginning.result c.args.place n (events c.live-live.result) (state c.args.session.now).live c.live-live.ensures.events said.first
+    let same = common_live ss c.follow-beginning.result c.args.node n (events c.live-live.result) (state c.args.session.now).live c.live-live.ensures.events said.first
     c.follow-beginning.ensures.along said.alike in
     let all = ap (λ (xs : List Entry). take n (state c.args.session.now).live ++ events xs) given ∙ joined_events n (state c.args.session.now).live ys same in
-    lacked c.switch.result c.args.session.now n c.deref.result.now (events ys) (AreInPieces ss c.args.place) all c.switch.ensures.err
+    lacked c.switch.result c.args.session.now n c.deref.result.now (events ys) (AreInPieces ss c.args.node) all c.switch.ensures.err
