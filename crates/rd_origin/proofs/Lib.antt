@@ -1,5 +1,6 @@
 pub mod Prelude
 pub mod Search
+pub mod Writing
 pub mod Split
 pub mod Rows
 pub mod Ops

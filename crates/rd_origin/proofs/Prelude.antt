@@ -24,4 +24,3 @@ pub use Rattle.rd_step.specs.Prelude.{Access, Answer, ArrSlot, Cell, Content, Co
 pub use Rattle.rd_step.specs.declared.entries.Entry.{Entry}
 pub use Rattle.rd_step.specs.declared.entries.Event.{Event}
 pub use Rattle.rd_origin.specs.Origins.{argument, calls_by, is_call, is_first_cell, puts_into}
-pub use Rattle.rd_origin.specs.Searches.{is_of_kind}

@@ -1,5 +1,4 @@
 pub mod Positions
 pub mod Origins
 pub mod Writers
-pub mod Searches
 pub mod Laws

@@ -56,25 +56,19 @@ calls_by actor x = (actor == x.event.actor) && is_call x.event.act
 abbrev pub put_of : List Entry → ℕ → Option Place → Option ℕ
 put_of entries k place = option_and_then (λ cell. last_position (puts_into cell) (take (k - 1) entries)) place
 
--- the position of the last call before position j by the actor of that position's step; none if
--- there is no such call or step
-abbrev pub call_before : List Entry → ℕ → Option ℕ
-call_before entries j = option_and_then (λ x. last_position (calls_by x.event.actor) (take (j - 1) entries)) (numbered entries j)
-
--- the position of the call in which the put at this position was made; none if there is no such
--- position or call
+-- the position of the call in which the put at this position was made: the last one before it by the
+-- actor of that step; none if there is no such position, step or call
 abbrev pub call_of : List Entry → Option ℕ → Option ℕ
-call_of entries put = option_and_then (call_before entries) put
+call_of entries put =
+    option_and_then (λ j. option_and_then (λ x. last_position (calls_by x.event.actor) (take (j - 1) entries)) (numbered entries j)) put
 
--- the origin of the value taken at position k: that step, its put and its call
-abbrev pub origin_by : List Entry → ℕ → Option ℕ → Origin
-origin_by entries k put = record { call = call_of entries put; put = put; take = k }
-
--- the origin of the value taken at position k, from 1, among these steps, or why there is none
+-- the origin of the value taken at position k, from 1, among these steps (the number of that step,
+-- of its put and of its call), or why there is none
 abbrev pub origin_in : List Entry → ℕ → Result Origin Refusal
 origin_in entries k =
     and_then (ok_or (numbered entries k) (refusal.NoSuchStep (length entries))) (λ x.
-    if takes_value x.reply then Ok (origin_by entries k (put_of entries k x.place)) else Err refusal.NotATake)
+    let put = put_of entries k x.place in
+    if takes_value x.reply then Ok (record { call = call_of entries put; put = put; take = k }) else Err refusal.NotATake)
 
 -- the argument of an act that calls an enqueue, on either queue; none for any other act
 abbrev pub argument : Act → Option ℕ

@@ -9,7 +9,7 @@ ghost use Rattle.rd_origin.specs.Origins.{takes_value, put_of, call_of, origin_i
 ghost use Rattle.rd_origin.specs.Writers.{last_writer_in};
 
 use super::origins::Origin;
-use super::searches::{StepKind, last_below, step_of};
+use super::searches::{calls_by, last_below, puts_into, step_of};
 use rd_actor::OpReply;
 use rd_cell::{Place, Refusal};
 use rd_journal::{LiveEntries, Session};
@@ -54,7 +54,8 @@ fn takes_value(reply: Option<OpReply>) -> bool
 fn last_put(steps: &LiveEntries, k: u64, cell: Option<Place>) -> Option<u64>
     ensures { result ≡ put_of steps.now k cell }
 {
-    last_below(steps, k, StepKind::PutInto(cell?))
+    let cell = cell?;
+    last_below(steps, k, |step| puts_into(cell, step))
 }
 
 /// Returns the number of the last call before the step of this number by that step's actor; none if
@@ -64,7 +65,7 @@ fn last_call(steps: &LiveEntries, number: Option<u64>) -> Option<u64>
 {
     let number = number?;
     let step = step_of(steps, number)?;
-    last_below(steps, number, StepKind::CallBy(step.event.actor))
+    last_below(steps, number, |call| calls_by(step.event.actor, call))
 }
 
 /// Returns the number of the last live step that wrote this place, or one of the places that it

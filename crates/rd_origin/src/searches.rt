@@ -1,59 +1,38 @@
-//! The search by which an origin is found: back from a step to the last one before it of a given
-//! kind.
+//! The search by which an origin is found: back from a step to the last one before it that passes a
+//! test.
 
-ghost use Rattle.std.specs.Prelude.{◌≡◌, ◌-◌, take, Some, None, MatchOption};
+ghost use Rattle.std.specs.Prelude.{◌≡◌, ◌-◌, Bool, take, Some, None, MatchOption};
+ghost use Rattle.std.specs.Fn.{FnReturnsAt};
 ghost use Rattle.rd_step.specs.Lists.{numbered};
+ghost use Rattle.rd_step.specs.declared.entries.Entry.{Entry as SomeEntry};
 ghost use Rattle.rd_origin.specs.Origins.{is_call, is_at, is_first_cell, puts_into, calls_by};
 ghost use Rattle.rd_origin.specs.Positions.{last_position};
-ghost use Rattle.rd_origin.specs.Searches.{is_of_kind, is_of_kind_at};
 
 use rd_actor::{Act, Pc};
 use rd_cell::Place;
 use rd_journal::LiveEntries;
 use rd_step::Entry;
 
-/// A kind of step for which a query searches.
-#[derive(Clone, Copy, Debug, PartialEq, Eq)]
-pub enum StepKind {
-    /// A step that put a value into this cell of a segment, or slot of the array.
-    PutInto(Place),
-    /// A call by this actor.
-    CallBy(u8),
-}
-
-impl StepKind {
-    /// Whether the step is of this kind.
-    fn includes(self, step: &Entry) -> bool
-        ensures { result ≡ is_of_kind self step.now }
-    {
-        match self {
-            StepKind::PutInto(cell) => puts_into(cell, step),
-            StepKind::CallBy(actor) => calls_by(actor, step),
-        }
-    }
-}
-
-/// Returns the greatest number, below this one, of a step of the kind; none if there is no such
-/// step.
-pub(crate) fn last_below(steps: &LiveEntries, below: u64, kind: StepKind) -> Option<u64>
-    ensures { result ≡ last_position (is_of_kind kind) (take (below - 1) steps.now) }
+/// Returns the greatest number, below this one, of a step that passes the test; none if there is no
+/// such step.
+pub(crate) fn last_below<F: Fn(&Entry) -> bool>(
+    steps: &LiveEntries,
+    below: u64,
+    test: F,
+) -> Option<u64>
+    requires { F.IsAlwaysCallable test }
+    ensures { (passes : SomeEntry → Bool) → ((x : SomeEntry) (passed : Bool) → FnReturnsAt F.Fn test x passed → passed ≡ passes x)
+        → result ≡ last_position passes (take (below - 1) steps.now) }
 {
     for number in (1..below).rev() {
-        if is_of_kind_at(steps, number, kind) {
+        let Some(step) = step_of(steps, number) else {
+            continue;
+        };
+        if test(step) {
             return Some(number);
         }
     }
     None
-}
-
-/// Whether there is a step of this number, from 1, and it is of the kind.
-fn is_of_kind_at(steps: &LiveEntries, number: u64, kind: StepKind) -> bool
-    ensures { result ≡ is_of_kind_at kind steps.now number }
-{
-    match step_of(steps, number) {
-        None => false,
-        Some(step) => kind.includes(step),
-    }
 }
 
 /// Returns the step of this number, from 1, if there is one.
@@ -67,7 +46,7 @@ pub(crate) fn step_of<'a>(steps: &LiveEntries<'a>, number: u64) -> Option<&'a En
 }
 
 /// Whether the step put a value into this cell of a segment or slot of the array.
-fn puts_into(cell: Place, step: &Entry) -> bool
+pub(crate) fn puts_into(cell: Place, step: &Entry) -> bool
     ensures { result ≡ puts_into cell step.now }
 {
     match step.old_actor.pc {
@@ -99,7 +78,7 @@ fn is_first_cell(place: Option<Place>, cell: Place) -> bool
 }
 
 /// Whether the step is a call by this actor.
-fn calls_by(actor: u8, step: &Entry) -> bool
+pub(crate) fn calls_by(actor: u8, step: &Entry) -> bool
     ensures { result ≡ calls_by actor step.now }
 {
     actor == step.event.actor && is_call(step.event.act)
