@@ -1,6 +1,6 @@
 -- Which lists begin alike, and how far the stretches can be followed along a list of events.
 use Rattle.std.proofs.Common.{◌≡◌, ◌⊎◌, ℕ, zero, suc, ◌<◌, ◌≤◌, refl, sym, ap, ◌∙◌, List, length, take, length-take, arith}
-use Rattle.rd_marks.proofs.Prelude.{cases_eq, length-map, take-take, take-map, length-take-le, Event, Entry, IsPrefix, Stretch, stretch_list, shared_at, AreNested, AreFresh, IsAlong, IsDeepest, events}
+use Rattle.rd_marks.proofs.Prelude.{cases_eq, length-map, take-take, take-map, Event, Entry, Stretch, stretch_list, shared_at, AreNested, AreFresh, IsAlong, IsDeepest, events}
 use Rattle.rd_marks.proofs.StretchLists.{list_past, begins_shared, shared_entries}
 
 abbrev as_event : Entry → Event
@@ -23,31 +23,14 @@ pub along_itself : (ss : List Stretch) (i n : ℕ) → n ≤ length (stretch_lis
 along_itself ss i n h = let its = length-map (stretch_list ss i) as_event in record { enough = omega (arith, its, h); alike = refl }
 
 -- two that are along the same are along each other
-along_both : (ss rs : List Stretch) (i m n : ℕ) (es : List Event) → IsAlong ss i n es → IsAlong rs m n es → IsAlong ss i n (events (stretch_list rs m))
+pub along_both : (ss rs : List Stretch) (i m n : ℕ) (es : List Event) → IsAlong ss i n es → IsAlong rs m n es → IsAlong ss i n (events (stretch_list rs m))
 along_both ss rs i m n es a b = grind (arith, length-map, along_within)
-
--- beginning with the first events of a list is going along it
-pub opened : (ss : List Stretch) (i n : ℕ) (es : List Event) → n ≤ length (stretch_list ss i) → IsPrefix (take n (events (stretch_list ss i))) es → IsAlong ss i n es
-opened ss i n es h b = grind (arith, length-take-le, length-map, length-take)
-
-opens : (ss : List Stretch) (i n : ℕ) (es : List Event) → IsAlong ss i n es → IsPrefix (take n (events (stretch_list ss i))) es
-opens ss i n es a = grind (arith, length-map, along_within, length-take-le)
-
--- what freshness says of lists along the same events
-abbrev pub AreApart : List Stretch → Type 0
-AreApart ss = (i j : ℕ) → j < i → i < length ss → IsAlong ss i (suc (shared_at ss i)) (events (stretch_list ss j)) → ⊥
-
-pub apart : (ss : List Stretch) → AreFresh ss → AreApart ss
-apart ss fresh i j h k a = fresh i j h k (opens ss i (suc (shared_at ss i)) (events (stretch_list ss j)) a)
-
-pub fresh_apart : (ss : List Stretch) → AreNested ss → AreApart ss → AreFresh ss
-fresh_apart ss rule apart i j h k b = apart i j h k (opened ss i (suc (shared_at ss i)) (events (stretch_list ss j)) (omega (arith, rule.some i k)) b)
 
 module _ (ss : List Stretch) (rule : AreNested ss) (fresh : AreFresh ss) where
   pub not_both : (i j n : ℕ) (es : List Event) → j < i → i < length ss → shared_at ss i < n → IsAlong ss i n es → IsAlong ss j n es → ⊥
   not_both i j n es h k less a b =
       let d = suc (shared_at ss i) in
-      apart ss fresh i j h k (along_both ss ss i j d es (along_less ss i d n es (omega (arith, less)) a) (along_less ss j d n es (omega (arith, less)) b))
+      fresh i j h k (along_both ss ss i j d es (along_less ss i d n es (omega (arith, less)) a) (along_less ss j d n es (omega (arith, less)) b))
 
   -- if two lists have as many first events in common, all stretches between share as many
   pub between : (i m n : ℕ) (es : List Event) → m < length ss → IsAlong ss i n es → IsAlong ss m n es → (k : ℕ) → i < k → k ≤ m → n ≤ shared_at ss k

@@ -3,7 +3,7 @@ use Rattle.std.proofs.Common.{◌≡◌, ◌⊎◌, ℕ, zero, suc, ◌+◌, ◌
 use Rattle.rd_marks.proofs.Prelude.{drop-cons, take-add, cases_lt, append_assoc, drop-map, drop-take, length-map, reverse-append, take-take, slice_get-map, slice_get_read, slice_get_within, Event, Entry, Node, Stretch, count_of, stretch_list, list_before, shared_at, entries_at, IsWithin, IsOwn, IsAlong, AreNested, AreFresh, events}
 use Rattle.rd_step.specs.Lists.{numbered}
 use Rattle.rd_marks.proofs.StretchLists.{own_at, stretch_there, total, shared_within, begins_shared, behind_shared, list_past}
-use Rattle.rd_marks.proofs.Fresh.{Follows, follows_compared, follows_skipped, along_itself, between, apart}
+use Rattle.rd_marks.proofs.Fresh.{Follows, follows_compared, follows_skipped, along_itself, between}
 use Rattle.rd_marks.proofs.Starting.{first_events, stretch_within}
 
 -- Positions in lists

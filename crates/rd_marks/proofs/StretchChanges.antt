@@ -3,7 +3,7 @@
 use Rattle.std.proofs.Common.{◌≡◌, ◌⊎◌, ℕ, zero, suc, ◌+◌, ◌-◌, ◌<◌, ◌≤◌, inl, inr, refl, sym, ap, ◌∙◌, subst, List, [], ◌∷◌, ◌++◌, map, length, take, length-take, arith}
 use Rattle.rd_marks.proofs.Prelude.{cases_lt, cases_eq, cases_order, nat_tests, length-map, take-append-le, take-take, take-map, MOST_STEPS, Event, Entry, Stretch, Node, stretch_list, list_before, shared_at, entries_at, IsWithin, AreNested, AreFresh, greatest_in, needed_at, AreNeeded, AreNeededFrom, IsAlong, IsDeepest, raised, lowered, events}
 use Rattle.rd_marks.proofs.StretchLists.{shared_within, goes_back, IsChanged, IsInserted, IsReplaced}
-use Rattle.rd_marks.proofs.Fresh.{along_within, along_taken, AreApart, apart, fresh_apart, later_apart}
+use Rattle.rd_marks.proofs.Fresh.{along_within, along_taken, along_itself, along_both, later_apart}
 
 -- The nodes
 
@@ -58,23 +58,20 @@ module _ (old new : List Stretch) (j more : ℕ) (change : IsChanged old new j m
       within (suc i) h = (every i (omega (arith, h))).2
 
   -- if no earlier list opens as the changed one, and it opens as no later one
-  fresh_changed : AreFresh old → AreNested new → ((m : ℕ) → m < j → IsAlong new j (suc (shared_at new j)) (events (stretch_list old m)) → ⊥)
+  fresh_changed : AreFresh old → ((m : ℕ) → m < j → IsAlong new j (suc (shared_at new j)) (events (stretch_list old m)) → ⊥)
       → ((k : ℕ) → j < more + k → k < length old → IsAlong old k (suc (shared_at old k)) (events (stretch_list new j)) → ⊥) → AreFresh new
-  fresh_changed fresh after own later = fresh_apart new after go
-    where
-      go : AreApart new
-      go i m h l a =
-          elim (cases_eq i j) [
-            | inl same ↦ grind arith
-            | inr other ↦
-                let from = moved i other l in
-                let k = from.0 in
-                let b : IsAlong old k (suc (shared_at old k)) (events (stretch_list new m)) = grind (arith, a, from.1, along_taken old new k i) in
-                elim (cases_eq m j) [
-                  | inl same ↦ grind (arith, same, b, h, later k, from.1)
-                  | inr other_too ↦ grind (arith, b, h, l, change.small, moved m other_too, from.1, apart old fresh k)
-                ]
-          ]
+  fresh_changed fresh own later i m h l a =
+      elim (cases_eq i j) [
+        | inl same ↦ grind arith
+        | inr other ↦
+            let from = moved i other l in
+            let k = from.0 in
+            let b : IsAlong old k (suc (shared_at old k)) (events (stretch_list new m)) = grind (arith, a, from.1, along_taken old new k i) in
+            elim (cases_eq m j) [
+              | inl same ↦ grind (arith, same, b, h, later k, from.1)
+              | inr other_too ↦ grind (arith, b, h, l, change.small, moved m other_too, from.1, fresh k)
+            ]
+      ]
 
   -- if the changed list is needed, and the nodes count for no less
   needed_changed : (ps qs : List Node) (i : ℕ) → i < length new → ((k : ℕ) → IsMoved old new j more i k → length (stretch_list old k) ≤ needed_at old ps k)
@@ -88,11 +85,13 @@ module _ (old new : List Stretch) (j : ℕ) (s : Stretch) (change : IsInserted o
   nested_inserted rule some few = grind (arith, nested_changed old new j 1 change.changed rule, change.changed.above (suc j) j, change.changed.less, change.here)
 
   -- the new list goes on as none did after what it shares
-  pub fresh_inserted : AreNested old → AreFresh old → AreNested new → (at : ℕ) (es : List Event) → events (stretch_list new j) ≡ es → (0 < length old → at < j)
+  pub fresh_inserted : AreNested old → AreFresh old → (at : ℕ) (es : List Event) → events (stretch_list new j) ≡ es → (0 < length old → at < j)
       → IsAlong old at s.shared es → IsDeepest old s.shared es → AreFresh new
-  fresh_inserted rule fresh after at es its low along deepest =
-      fresh_changed old new j 1 change.changed fresh after
-      (λ m h a. grind (arith, h, a, change.here, change.changed.within, its, deepest m, along_within, length-map))
+  fresh_inserted rule fresh at es its low along deepest =
+      fresh_changed old new j 1 change.changed fresh
+      (λ m h a. deepest m (omega (arith, h, change.changed.within)) (subst (λ (n : ℕ). IsAlong old m (suc n) es) change.here.1
+      (subst (λ (fs : List Event). IsAlong old m (suc (shared_at new j)) fs) its
+      (along_both old new m j _ _ (along_itself old m _ (omega (arith, a.enough, length-map (stretch_list old m) (λ (x : Entry). x.event)))) a))))
       (λ k high there a. later_apart old rule fresh es at s.shared k (omega (arith, low (omega (arith, there)), high)) there along deepest (rw its at a))
 
   -- the end of the new one is needed by a node there
@@ -122,8 +121,8 @@ module _ (old new : List Stretch) (j : ℕ) (s : Stretch) (change : IsInserted o
           let were = shared_within new rule in
           grind (arith, cases_order (suc k) j, its.below k, its.below (suc k), its.less, its.there, above k, above (suc k), were (suc k), were (suc (suc k)))
 
-  pub fresh_removed : AreNested old → AreFresh new → AreFresh old
-  fresh_removed rule fresh = fresh_apart old rule (λ i m h l a. grind (arith, a, h, along_taken, up i l, up m, apart new fresh))
+  pub fresh_removed : AreFresh new → AreFresh old
+  fresh_removed fresh i m h l a = grind (arith, a, h, along_taken, up i l, up m, fresh)
 
   pub needed_removed : (ps : List Node) → AreNeededFrom (suc j) new ps → AreNeededFrom j old (map (lowered j) ps)
   needed_removed ps needed k high h =
@@ -157,27 +156,27 @@ module _ (old new : List Stretch) (j : ℕ) (change : IsReplaced old new j) wher
   nested_replaced rule some next few = grind (arith, nested_changed old new j 0 change.changed rule, change.shared, change.changed.above (suc j) (suc j))
 
   -- if it begins as before up to the first entry of its own, and opens as no later one
-  fresh_replaced : AreFresh old → AreNested new → take (suc (shared_at old j)) (stretch_list old j) ≡ take (suc (shared_at old j)) (stretch_list new j)
+  fresh_replaced : AreFresh old → take (suc (shared_at old j)) (stretch_list old j) ≡ take (suc (shared_at old j)) (stretch_list new j)
       → ((k : ℕ) → j < k → k < length old → IsAlong old k (suc (shared_at old k)) (events (stretch_list new j)) → ⊥) → AreFresh new
-  fresh_replaced fresh after opening later =
-      fresh_changed old new j 0 change.changed fresh after
-      (λ m h a. apart old fresh j m h change.inside (grind (arith, a, opening, change.shared, along_taken old new j j (suc (shared_at old j)))))
+  fresh_replaced fresh opening later =
+      fresh_changed old new j 0 change.changed fresh
+      (λ m h a. fresh j m h change.inside (grind (arith, a, opening, change.shared, along_taken old new j j (suc (shared_at old j)))))
       (λ k h there a. later k (omega (arith, h)) there a)
 
-  pub fresh_appended : AreNested old → AreFresh old → AreNested new → (rest : List Entry) (es : List Event) → stretch_list new j ≡ stretch_list old j ++ rest
+  pub fresh_appended : AreNested old → AreFresh old → (rest : List Entry) (es : List Event) → stretch_list new j ≡ stretch_list old j ++ rest
       → events (stretch_list new j) ≡ es → IsAlong old j (length (stretch_list old j)) es → IsDeepest old (length (stretch_list old j)) es → AreFresh new
-  fresh_appended rule fresh after rest es its all along deepest =
-      fresh_replaced fresh after (sym (ap (take (suc (shared_at old j))) its ∙ take-append-le (suc (shared_at old j)) (stretch_list old j) rest (omega (arith, rule.some j change.inside))))
+  fresh_appended rule fresh rest es its all along deepest =
+      fresh_replaced fresh (sym (ap (take (suc (shared_at old j))) its ∙ take-append-le (suc (shared_at old j)) (stretch_list old j) rest (omega (arith, rule.some j change.inside))))
       (λ k h l a. later_apart old rule fresh es j (length (stretch_list old j)) k h l along deepest
       (subst (λ (fs : List Event). IsAlong old k (suc (shared_at old k)) fs) all a))
 
-  pub fresh_cut : AreFresh old → AreNested new → (n : ℕ) → shared_at old j < n → stretch_list new j ≡ take n (stretch_list old j) → AreFresh new
-  fresh_cut fresh after n less its =
-      fresh_replaced fresh after (sym (ap (take (suc (shared_at old j))) its ∙ take-take (suc (shared_at old j)) n (stretch_list old j) (omega (arith, less))))
+  pub fresh_cut : AreFresh old → (n : ℕ) → shared_at old j < n → stretch_list new j ≡ take n (stretch_list old j) → AreFresh new
+  fresh_cut fresh n less its =
+      fresh_replaced fresh (sym (ap (take (suc (shared_at old j))) its ∙ take-take (suc (shared_at old j)) n (stretch_list old j) (omega (arith, less))))
       (λ k h l a. (
       let cut : events (stretch_list new j) ≡ take n (events (stretch_list old j)) = grind (arith, its, take-map (λ (x : Entry). x.event) n (stretch_list old j)) in
       let long = length-map (stretch_list new j) (λ (x : Entry). x.event) ∙ ap length its ∙ length-take n (stretch_list old j) in
-      apart old fresh k j h l (grind (arith, a, cut, long, length-map (stretch_list old j) (λ (x : Entry). x.event), take-take (suc (shared_at old k)) n (events (stretch_list old j))))
+      fresh k j h l (grind (arith, a, cut, long, length-map (stretch_list old j) (λ (x : Entry). x.event), take-take (suc (shared_at old k)) n (events (stretch_list old j))))
       ))
 
   pub needed_appended : (ps : List Node) (n : ℕ) → length (stretch_list new j) ≤ n → AreNeeded old ps → AreNeeded new (with_node ps j n)

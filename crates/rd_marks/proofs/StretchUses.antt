@@ -56,7 +56,7 @@ module _ (ss : List Stretch) (few : length ss < 2 ^ 64) (rule : AreNested ss) (f
       record {
         nested = nested;
         fresh =
-            fresh_appended ss new j change rule fresh nested rest (events live) list same (subst (λ (m : ℕ). IsAlong ss j m (events live)) end.all along)
+            fresh_appended ss new j change rule fresh rest (events live) list same (subst (λ (m : ℕ). IsAlong ss j m (events live)) end.all along)
             (subst (λ (m : ℕ). IsDeepest ss m (events live)) end.all deepest);
         grown = record {
           within = omega (arith, long);
@@ -86,7 +86,7 @@ module _ (ss : List Stretch) (few : length ss < 2 ^ 64) (rule : AreNested ss) (f
       record {
         nested = nested;
         fresh =
-            before j first begins (λ k low on. fresh_inserted ss new j s change rule fresh nested k (events live) same low (subst (λ (m : ℕ). IsAlong ss k m (events live)) (sym shared) on)
+            before j first begins (λ k low on. fresh_inserted ss new j s change rule fresh k (events live) same low (subst (λ (m : ℕ). IsAlong ss k m (events live)) (sym shared) on)
             (subst (λ (m : ℕ). IsDeepest ss m (events live)) (sym shared) deepest));
         grown = record {
           within = omega (arith, long);
@@ -119,7 +119,7 @@ module _ (ss : List Stretch) (few : length ss < 2 ^ 64) (rule : AreNested ss) (f
       let nested = nested_removed (remove ss j) ss j found.0 found.2 rule in
       record {
         nested = nested;
-        fresh = fresh_removed (remove ss j) ss j found.0 found.2 nested fresh;
+        fresh = fresh_removed (remove ss j) ss j found.0 found.2 fresh;
         shrunk = record {
           below = omega (arith, found.2.changed.count, inside);
           low = is_low ss few;
@@ -139,7 +139,7 @@ module _ (ss : List Stretch) (few : length ss < 2 ^ 64) (rule : AreNested ss) (f
       let both_same : (i : ℕ) → (stretch_list new i ≡ stretch_list ss i) × (shared_at new i ≡ shared_at ss i) =
       (λ i. grind (arith, cases_order i j, list, change.shared, change.changed.below i, change.changed.above i i)) in
       let nested : AreNested new = grind (arith, rule.some j inside, rule.few j inside, shared_within ss rule (suc j), list, nested_replaced ss new j change rule) in
-      (nested, fresh_cut ss new j change fresh nested (length (stretch_list ss j)) (rule.some j inside) all, grind (arith, within_at))
+      (nested, fresh_cut ss new j change fresh (length (stretch_list ss j)) (rule.some j inside) all, grind (arith, within_at))
 
   -- one of which some are left
   pub left : (n : ℕ) → shared_at ss (suc j) ≤ n → shared_at ss j < n → (t : Stretch) → t.shared ≡ shared_at ss j → t.entries.items ≡ take (n - shared_at ss j) (own_at ss j) → Shrinks ss (set ss j t) j n Same
@@ -151,7 +151,7 @@ module _ (ss : List Stretch) (few : length ss < 2 ^ 64) (rule : AreNested ss) (f
       let nested : AreNested new = grind (arith, some, next, long, rule.some j inside, rule.few j inside, shared_within ss rule (suc j), nested_replaced ss new j change rule) in
       record {
         nested = nested;
-        fresh = fresh_cut ss new j change fresh nested n some both.1;
+        fresh = fresh_cut ss new j change fresh n some both.1;
         shrunk = record {
           below = omega (arith, change.changed.count, inside);
           low = is_low ss few;

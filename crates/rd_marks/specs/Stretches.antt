@@ -5,7 +5,6 @@ use Rattle.rd_step.specs.Prelude.{MOST_STEPS}
 use Rattle.rd_step.specs.Run.{events}
 use Rattle.rd_step.specs.declared.entries.Event.{Event}
 use Rattle.rd_step.specs.declared.entries.Entry.{Entry}
-use Rattle.rd_depend.specs.Beginnings.{IsPrefix}
 use Rattle.rd_marks.specs.declared.stretches.Stretch.{Stretch}
 use Rattle.rd_marks.specs.declared.stretches.Node.{Node}
 
@@ -60,14 +59,15 @@ pub record AreNested (ss : List Stretch) : Type 0 where
   pub some : (i : ℕ) → i < length ss → shared_at ss i < length (stretch_list ss i)
   pub few : (i : ℕ) → i < length ss → length (stretch_list ss i) ≤ MOST_STEPS
 
--- the events of a stretch's list up to the first that is its own
-abbrev pub opening : List Stretch → ℕ → List Event
-opening ss i = take (suc (shared_at ss i)) (events (stretch_list ss i))
+-- the list of a stretch begins with this many of these events
+pub record IsAlong (ss : List Stretch) (i n : ℕ) (es : List Event) : Type 0 where
+  pub enough : n ≤ length es
+  pub alike : take n (events (stretch_list ss i)) ≡ take n es
 
--- no earlier stretch's list begins with the opening of a later one, its events up to the first that
--- is its own
+-- no stretch's list begins, up to the first event that is its own, with the events of an earlier
+-- one's list
 abbrev pub AreFresh : List Stretch → Type 0
-AreFresh ss = (i j : ℕ) → j < i → i < length ss → IsPrefix (opening ss i) (events (stretch_list ss j)) → ⊥
+AreFresh ss = (i j : ℕ) → j < i → i < length ss → IsAlong ss i (suc (shared_at ss i)) (events (stretch_list ss j)) → ⊥
 
 -- the number of entries of a node if it is in this stretch, else 0
 abbrev pub number_if_in : ℕ → Node → ℕ
@@ -90,11 +90,6 @@ AreNeeded ss nodes = (i : ℕ) → i < length ss → length (stretch_list ss i) 
 -- all entries of the lists of the stretches from this one on are needed
 abbrev pub AreNeededFrom : ℕ → List Stretch → List Node → Type 0
 AreNeededFrom k ss nodes = (i : ℕ) → k ≤ i → i < length ss → length (stretch_list ss i) ≤ needed_at ss nodes i
-
--- the list of a stretch begins with this many of these events
-pub record IsAlong (ss : List Stretch) (i n : ℕ) (es : List Event) : Type 0 where
-  pub enough : n ≤ length es
-  pub alike : take n (events (stretch_list ss i)) ≡ take n es
 
 -- no stretch's list begins with n + 1 of these events
 abbrev pub IsDeepest : List Stretch → ℕ → List Event → Type 0
