@@ -1,12 +1,20 @@
 -- The marks that a list of names with entries is: looking one up, putting one last, taking one
 -- away.
 use Rattle.std.proofs.Common.{inr, ◌↔◌, IsTrue, is_ok, ◌⊎◌, ◌≢◌, suc, Result, Ok, Err, IsOk, IfErr, ne_eqb, ◌≡◌, ℕ, Bool, true, false, cond, map, refl, sym, ap, ◌∙◌, subst, List, [], ◌∷◌, ◌++◌, length, is_some, option_map, ok_or, Option, Some, None, All, slice_get, arith}
-use Rattle.rd_marks.proofs.Prelude.{lookup, remove_entry, insert_entry, All-cons, All-head, All-tail, Entry, Event, MarkName, mark_name_eq, eq-eqb, false≢true, length-map, get_or_from_slice_get, slice_get-map, slice_get_within, Refusal, World, MOST_MARKS, AreEntriesOfRun, IsPrefix, Mark, BookState, with_marks, marked_events, without_mark, mark, drop_mark, goto_mark, mark_at, mark_events, name_and_length, result_map, MakesSteps, AnswersSame, IsEquivalent, DecidesEquivalence, mark_of, marks_of, events, Node, book_state, entries_in}
+use Rattle.rd_marks.proofs.Prelude.{lookup, remove_entry, remove_key, insert_entry, All-cons, All-head, All-tail, Entry, Event, MarkName, mark_name_eq, eq-eqb, false≢true, length-map, get_or_from_slice_get, slice_get-map, slice_get_within, Refusal, World, MOST_MARKS, AreEntriesOfRun, IsPrefix, Mark, BookState, with_marks, marked_events, mark, drop_mark, goto_mark, mark_at, mark_events, result_map, MakesSteps, AnswersSame, IsEquivalent, DecidesEquivalence, marks_of, events, Node, book_state, entries_in}
 use Rattle.rd_journal.specs.Sessions.{LacksRoomFor}
 use Rattle.rd_marks.specs.BookViews.{MayRefuseToGo}
 use Rattle.rd_marks.specs.Kept.{IsInPieces}
 use Rattle.rd_marks.specs.declared.books.Book.{Book}
 use Rattle.rd_cell.specs.declared.refusal.Refusal.TheVariants as refusal
+
+-- the mark of a name with its entries
+abbrev pub mark_of : MarkName × List Entry → Mark
+mark_of l = record { name = l.0; events = events l.1 }
+
+-- its name, and how many events it has
+abbrev pub name_and_length : Mark → MarkName × ℕ
+name_and_length m = (m.name, length m.events)
 
 -- taking an entry away, whatever is made of the values
 pub removed_mapped : {K V W : Type 0} (f : V → W) (test : K → Bool) (ms : List (K × V)) → map (λ m. (m.0, f m.1)) (remove_entry test ms) ≡ remove_entry test (map (λ m. (m.0, f m.1)) ms)
@@ -39,7 +47,7 @@ module _ (name : MarkName) where
   found_marked ls = ap is_some (found_events ls) ∙ is_some_map (λ xs. events xs) (lookup (mark_name_eq name) ls)
 
   -- without the entry of a name, the marks are without its mark
-  pub marks_without : (ls : List (MarkName × List Entry)) → marks_of (remove_entry (mark_name_eq name) ls) ≡ without_mark (marks_of ls) name
+  pub marks_without : (ls : List (MarkName × List Entry)) → marks_of (remove_entry (mark_name_eq name) ls) ≡ remove_key (λ m. mark_name_eq name m.name) (marks_of ls)
   marks_without [] = refl
   marks_without (l ∷ ls) = grind (arith, cond, marks_without ls)
 

@@ -2,14 +2,14 @@
 use Rattle.std.proofs.Common.{◌≡◌, ℕ, sym, subst, List, [], ◌∷◌, ◌++◌, length, Some, None, Result, Ok, Err, OnErr, IfErr, ◌∙◌, arith}
 use Rattle.std.proofs.lemmas.Option.{same_Some}
 use Rattle.rd_journal.specs.Sessions.{MayRefuse}
-use Rattle.rd_marks.proofs.Prelude.{Refusal, Event, Session, State, apply, reply_to, undo, undo_at, roll, back, redo, forward, Command, BookState, MarkName, with_session, goto_mark, Answered, answer_with, move_answer, happens, Happened, IsMade, NeedsNoMemory, IsObeyed, AreObeyed}
+use Rattle.rd_marks.proofs.Prelude.{Refusal, Event, Session, State, apply, reply_to, undo, undo_at, roll, back, redo, forward, Command, BookState, MarkName, with_session, goto_mark, Answered, answer_with, Happened, IsAnswered, NeedsNoMemory, IsObeyed, AreObeyed}
 use Rattle.rd_marks.specs.declared.commands.Command.TheVariants as command
 use Rattle.rd_marks.specs.declared.replies.Reply.{Reply}
 use Rattle.rd_marks.specs.declared.replies.Reply.TheVariants.{Applied}
 use Rattle.rd_actor.specs.declared.actors.Act.TheVariants as act
 use Rattle.rd_marks.specs.BookViews.{MayRefuseAsGoing}
+use Rattle.rd_marks.specs.Commands.{step_counts}
 use Rattle.rd_marks.specs.declared.books.Book.{Book}
-use Rattle.rd_marks.specs.Commands.{event}
 use Rattle.rd_marks.specs.Events.{as_event}
 use Rattle.rd_marks.proofs.Starts.{apply_start, undo_start, undo_at_start, roll_start, back_start, redo_start, forward_start}
 
@@ -18,15 +18,8 @@ pub record LeavesStart (b : BookState) (a : Answered) : Type 0 where
   pub start : a.state.session.start ≡ b.session.start
   pub unchanged : OnErr a.answer (a.state ≡ b)
 
-move_leaves : (b : BookState) (r : Result State Refusal) → ((t : State) → r ≡ Ok t → t.start ≡ b.session.start) → LeavesStart b (move_answer b r)
-move_leaves b r starts = grind arith
-
-happens_leaves : (b : BookState) (e : Event) → LeavesStart b (happens b e)
-happens_leaves b e = of_applied (apply b.session e) (apply_start b.session e)
-  where
-    of_applied : (r : Result State Refusal) → ((t : State) → r ≡ Ok t → t.start ≡ b.session.start)
-        → LeavesStart b (answer_with b (λ s. Applied (length s.live) (reply_to b.session e)) (with_session b) r)
-    of_applied r starts = grind arith
+state_leaves : (b : BookState) (reply : State → Reply) (r : Result State Refusal) → ((t : State) → r ≡ Ok t → t.start ≡ b.session.start) → LeavesStart b (answer_with b reply (with_session b) r)
+state_leaves b reply r starts = grind arith
 
 goto_start : (b : BookState) (name : MarkName) (t : BookState) → goto_mark b name ≡ Ok t → t.session.start ≡ b.session.start
 goto_start b name t h = grind arith
@@ -39,25 +32,25 @@ as_this : (b : BookState) (a c : Answered) → LeavesStart b c → a ≡ c → L
 as_this b a c leaves h = subst (λ (x : Answered). LeavesStart b x) (sym h) leaves
 
 pub happened_leaves : (b : BookState) (e : Event) (a : Answered) → Happened b e a → LeavesStart b a
-happened_leaves b e a k = grind (arith, as_this, happens_leaves)
+happened_leaves b e a k = grind (arith, as_this, state_leaves b (λ s. Applied (length s.live) (reply_to b.session e)) (apply b.session e) (apply_start b.session e))
 
 made_leaves : (b : BookState) (reply : BookState → Reply) (r : Result BookState Refusal) (P : Type 0) (a : Answered)
-    → ((t : BookState) → r ≡ Ok t → t.session.start ≡ b.session.start) → IsMade b reply r P a → LeavesStart b a
+    → ((t : BookState) → r ≡ Ok t → t.session.start ≡ b.session.start) → IsAnswered b (answer_with b reply (λ c. c) r) P a → LeavesStart b a
 made_leaves b reply r P a starts k = grind arith
 
 pub obeyed_leaves : (b : BookState) (c : Command) (a : Answered) → IsObeyed b c a → LeavesStart b a
-obeyed_leaves b (command.Enq actor value) a h = happened_leaves b (event actor (act.Enq value)) a h
-obeyed_leaves b (command.Deq actor) a h = happened_leaves b (event actor act.Deq) a h
-obeyed_leaves b (command.ArrayEnq actor value) a h = happened_leaves b (event actor (act.AEnq value)) a h
-obeyed_leaves b (command.ArrayDeq actor) a h = happened_leaves b (event actor act.ADeq) a h
-obeyed_leaves b (command.Go actor) a h = happened_leaves b (event actor act.Go) a h
-obeyed_leaves b (command.Starve actor choice) a h = happened_leaves b (event actor (act.Starve choice)) a h
-obeyed_leaves b command.Undo a h = as_this b a _ (move_leaves b (undo b.session) (undo_start b.session)) h
-obeyed_leaves b (command.UndoAt k) a h = as_this b a _ (move_leaves b (undo_at b.session k) (undo_at_start b.session k)) h
-obeyed_leaves b (command.Roll k) a h = as_this b a _ (move_leaves b (roll b.session k) (roll_start b.session k)) h
-obeyed_leaves b (command.Back n) a h = as_this b a _ (move_leaves b (back b.session n) (back_start b.session n)) h
-obeyed_leaves b command.Redo a h = as_this b a _ (move_leaves b (redo b.session) (redo_start b.session)) h
-obeyed_leaves b (command.Forward n) a h = as_this b a _ (move_leaves b (forward b.session n) (forward_start b.session n)) h
+obeyed_leaves b (command.Enq actor value) a h = happened_leaves b (record { actor = actor; act = act.Enq value }) a h
+obeyed_leaves b (command.Deq actor) a h = happened_leaves b (record { actor = actor; act = act.Deq }) a h
+obeyed_leaves b (command.ArrayEnq actor value) a h = happened_leaves b (record { actor = actor; act = act.AEnq value }) a h
+obeyed_leaves b (command.ArrayDeq actor) a h = happened_leaves b (record { actor = actor; act = act.ADeq }) a h
+obeyed_leaves b (command.Go actor) a h = happened_leaves b (record { actor = actor; act = act.Go }) a h
+obeyed_leaves b (command.Starve actor choice) a h = happened_leaves b (record { actor = actor; act = act.Starve choice }) a h
+obeyed_leaves b command.Undo a h = as_this b a _ (state_leaves b step_counts (undo b.session) (undo_start b.session)) h
+obeyed_leaves b (command.UndoAt k) a h = as_this b a _ (state_leaves b step_counts (undo_at b.session k) (undo_at_start b.session k)) h
+obeyed_leaves b (command.Roll k) a h = as_this b a _ (state_leaves b step_counts (roll b.session k) (roll_start b.session k)) h
+obeyed_leaves b (command.Back n) a h = as_this b a _ (state_leaves b step_counts (back b.session n) (back_start b.session n)) h
+obeyed_leaves b command.Redo a h = as_this b a _ (state_leaves b step_counts (redo b.session) (redo_start b.session)) h
+obeyed_leaves b (command.Forward n) a h = as_this b a _ (state_leaves b step_counts (forward b.session n) (forward_start b.session n)) h
 obeyed_leaves b (command.Mark name) a h = grind (arith, made_leaves)
 obeyed_leaves b (command.DropMark name) a h = grind (arith, as_this)
 obeyed_leaves b (command.GotoMark name) a h = made_leaves b _ (goto_mark b name) _ a (goto_start b name) h

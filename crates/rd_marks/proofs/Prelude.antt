@@ -10,6 +10,7 @@ pub use Rattle.std.proofs.lemmas.Map.Made.{lookup-map_values}
 pub use Rattle.std.proofs.lemmas.Option.{get_or_from_slice_get, slice_get-map, slice_get_read, slice_get_within}
 pub use Rattle.std.specs.List.{IsDistinct, list_all, range_with_len}
 pub use Rattle.std.specs.Map.{lookup, remove_entry, values_of}
+pub use Rattle.std.specs.Set.{remove_key}
 pub use Rattle.indexmap.specs.IndexMap.{insert_entry, set_value_at, spare}
 pub use Rattle.rd_depend.specs.Beginnings.{IsPrefix, NeitherIsPrefix}
 pub use Rattle.rd_depend.specs.Equivalence.{DecidesEquivalence}
@@ -25,12 +26,11 @@ pub use Rattle.rd_step.specs.Run.{events, IsRunFrom, Ran, preceded_by, run_entri
 pub use Rattle.rd_step.specs.declared.entries.Entry.{Entry}
 pub use Rattle.rd_step.specs.declared.entries.Event.{Event}
 pub use Rattle.rd_marks.specs.BookViews.{book_state}
-pub use Rattle.rd_marks.specs.Books.{AnswersEvents, AnswersSame, BookState, MakesSteps, Mark, at_events, drop_mark, goto_mark, mark, mark_at, mark_events, marked_events, name_and_length, with_marks, with_session, without_mark}
+pub use Rattle.rd_marks.specs.Books.{AnswersEvents, AnswersSame, BookState, MakesSteps, Mark, at_events, drop_mark, goto_mark, mark, mark_at, mark_events, marked_events, with_marks, with_session}
 pub use Rattle.rd_marks.specs.Changes.{IsGrown, IsLow, IsShrunk, IsUnchanged, Stays, shifted}
-pub use Rattle.rd_marks.specs.Commands.{Answered, AreObeyed, Happened, IsMade, IsObeyed, NeedsNoMemory, answer_with, happens, move_answer}
-pub use Rattle.rd_marks.specs.Kept.{IsNodeIn, here_in, lists_in, entries_in}
+pub use Rattle.rd_marks.specs.Commands.{Answered, AreObeyed, Happened, IsAnswered, IsObeyed, NeedsNoMemory, answer_with, move_answer}
+pub use Rattle.rd_marks.specs.Kept.{IsNodeIn, here_in, lists_in, entries_in, marks_of}
 pub use Rattle.rd_marks.specs.Layout.{AreRuns, IsKept, IsPruned, AreEntriesOfRun, named_lists, nodes_of}
-pub use Rattle.rd_marks.specs.Marks.{mark_of, marks_of}
 pub use Rattle.rd_marks.specs.NameBytes.{MOST_MARKS, MOST_NAME_BYTES, is_mark_name, is_name_byte}
 pub use Rattle.rd_marks.specs.Names.{mark_name_eq}
 pub use Rattle.rd_marks.specs.Stretches.{AreFresh, AreNeeded, AreNeededFrom, AreNested, IsAlong, IsDeepest, IsEnd, IsOwn, IsWithin, continued, count_of, greatest_in, list_after, list_before, lowered, needed_at, number_if_in, raised, entries_at, shared_at, stretch_list}

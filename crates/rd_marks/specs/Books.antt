@@ -1,6 +1,7 @@
 -- What a book is to its callers: its session's state, and a list of marks.
 use Rattle.std.specs.Prelude.{◌≡◌, ◌↔◌, IsTrue, Bool, ℕ, ◌==◌, if◌then◌else◌, is_some, List, [], ◌∷◌, ◌++◌, length, ok_or, option_map, option_and_then, Option, Some, None, Result, Ok, Err, Vec}
 use Rattle.std.specs.Global.{Global}
+use Rattle.std.specs.Set.{remove_key}
 use Rattle.rd_step.specs.Prelude.{World, Refusal, result_map}
 use Rattle.rd_step.specs.Equivalence.{IsEquivalent}
 use Rattle.rd_step.specs.declared.entries.Event.{Event}
@@ -35,11 +36,6 @@ abbrev pub marked_events : List Mark → MarkName → Option (List Event)
 marked_events [] name = None
 marked_events (m ∷ ms) name = if mark_name_eq name m.name then Some m.events else marked_events ms name
 
--- the marks without that of this name; the others stay in their order
-abbrev pub without_mark : List Mark → MarkName → List Mark
-without_mark [] name = []
-without_mark (m ∷ ms) name = if mark_name_eq name m.name then ms else m ∷ without_mark ms name
-
 -- the book after setting a mark, which has the live events and is the last one; refused if there is
 -- a mark of this name, or else if there are as many as there may be
 abbrev pub mark : BookState → MarkName → Result BookState Refusal
@@ -48,9 +44,11 @@ mark b name =
     else if length b.marks == MOST_MARKS then Err refusal.TooManyMarks
     else Ok (with_marks b (b.marks ++ record { name = name; events = b.session.live } ∷ []))
 
--- the book after dropping the mark of this name; refused if there is none
+-- the book after dropping the mark of this name, where the others stay in their order; refused if
+-- there is none
 abbrev pub drop_mark : BookState → MarkName → Result BookState Refusal
-drop_mark b name = if is_some (marked_events b.marks name) then Ok (with_marks b (without_mark b.marks name)) else Err refusal.NoMark
+drop_mark b name =
+    if is_some (marked_events b.marks name) then Ok (with_marks b (remove_key (λ m. mark_name_eq name m.name) b.marks)) else Err refusal.NoMark
 
 -- the book where just these events are live and nothing is undone
 abbrev pub at_events : BookState → List Event → BookState
@@ -71,8 +69,7 @@ MakesSteps b name = (es : List Event) × (marked_events b.marks name ≡ Some es
 abbrev pub AnswersSame : World → Option (List Event) → Option (List Event) → Result Bool Refusal → Type 0
 AnswersSame start (Some es) (Some fs) (Ok same) = IsTrue same ↔ IsEquivalent start es fs
 AnswersSame start (Some es) (Some fs) (Err cause) = (cause ≡ refusal.NoMemory) × NeitherIsPrefix es fs
-AnswersSame start (Some es) None said = said ≡ Err refusal.NoMark
-AnswersSame start None fs said = said ≡ Err refusal.NoMark
+AnswersSame start _ _ said = said ≡ Err refusal.NoMark
 
 -- the events of the mark of this number, from 1, if there is one
 abbrev pub mark_events : BookState → ℕ → Option (List Event)
@@ -93,11 +90,7 @@ AnswersEvents (Some es) (Err cause) = (cause ≡ refusal.NoMemory) × (es ≡ []
 abbrev pub to_start : BookState → BookState
 to_start b = at_events b []
 
--- the name of a mark and the number of its events
-abbrev pub name_and_length : Mark → MarkName × ℕ
-name_and_length m = (m.name, length m.events)
-
 -- the name of the mark of this number, from 1, and the number of its events; refused if there is no
 -- such mark
 abbrev pub mark_at : BookState → ℕ → Result (MarkName × ℕ) Refusal
-mark_at b i = result_map name_and_length (ok_or (numbered b.marks i) refusal.NoMark)
+mark_at b i = result_map (λ m. (m.name, length m.events)) (ok_or (numbered b.marks i) refusal.NoMark)

@@ -25,10 +25,6 @@ pub record Answered : Type 0 where
 abbrev pub refused : BookState → Refusal → Answered
 refused b refusal = record { answer = Err refusal; state = b }
 
--- the event of this actor and this act
-abbrev pub event : ℕ → Act → Event
-event actor done = record { actor = actor; act = done }
-
 -- the reply with the numbers of live and of undone steps
 abbrev pub step_counts : State → Reply
 step_counts s = reply.At (length s.live) (length s.undone)
@@ -49,20 +45,17 @@ move_answer b moved = answer_with b step_counts (with_session b) moved
 abbrev pub query_reply : {X : Type 0} → BookState → (X → Reply) → (Ran → Result X Refusal) → Result Reply Refusal
 query_reply b reply_of look = result_map reply_of (and_then (run_of b.session) look)
 
--- the answer to an event that happens in the last world of the live events, and the state after it:
--- the number of its step, the last live one, and the reply of the call that it ends, if it ends one
-abbrev pub happens : BookState → Event → Answered
-happens b e = answer_with b (λ s. reply.Applied (length s.live) (reply_to b.session e)) (with_session b) (apply b.session e)
+-- a command may be answered so and leave this state: as it is defined, or, only where memory may be
+-- refused to it, by NoMemory with nothing changed
+abbrev pub IsAnswered : BookState → Answered → Type 0 → Answered → Type 0
+IsAnswered b defined MayAskForMemory answered = (answered ≡ defined) ⊎ (MayAskForMemory × (answered ≡ refused b refusal.NoMemory))
 
--- an event may be answered so and leave this state: as it happens, or, where memory may be refused
--- to it, by NoMemory with nothing changed
+-- an event may be answered so and leave this state, as it happens in the last world of the live
+-- events: by the number of its step, the last live one, and the reply of the call that it ends, if
+-- it ends one
 abbrev pub Happened : BookState → Event → Answered → Type 0
-Happened b e answered = (answered ≡ happens b e) ⊎ (MayLackMemory b.session e × (answered ≡ refused b refusal.NoMemory))
-
--- setting or going to a mark may be answered so and leave this state: as it is defined, or, only if
--- it asks for room, by NoMemory with nothing changed
-abbrev pub IsMade : BookState → (BookState → Reply) → Result BookState Refusal → Type 0 → Answered → Type 0
-IsMade b reply_of made AsksForRoom answered = (answered ≡ answer_with b reply_of (λ c. c) made) ⊎ (AsksForRoom × (answered ≡ refused b refusal.NoMemory))
+Happened b e answered =
+    IsAnswered b (answer_with b (λ s. reply.Applied (length s.live) (reply_to b.session e)) (with_session b) (apply b.session e)) (MayLackMemory b.session e) answered
 
 -- a command to set a mark needs no memory: nothing else refuses it, there is room for this many
 -- more names, of which it takes one, and it needs no new entry
@@ -70,17 +63,12 @@ abbrev pub NeedsNoMemory : BookState → ℕ → Command → Type 0
 NeedsNoMemory b room (command.Mark name) = IsOk (mark b name) × (0 < room) × NeedsNoEntry b.marks b.session.live
 NeedsNoMemory b room _ = ⊥
 
--- the comparison of two marks may be answered so
-pub record IsCompared (b : BookState) (one other : MarkName) (answer : Result Reply Refusal) : Type 0 where
-  pub said : Result Bool Refusal
-  pub compared : AnswersSame b.session.start (marked_events b.marks one) (marked_events b.marks other) said
-  pub answers : answer ≡ result_map reply.Same said
-
 -- a query may be answered so; no other command is a query
 abbrev pub AnswersQuery : BookState → Command → Result Reply Refusal → Type 0
 AnswersQuery b command.Marks answer = answer ≡ Ok (reply.Marks (length b.marks))
 AnswersQuery b (command.MarkAt i) answer = answer ≡ result_map (λ m. reply.Mark m.0 m.1) (mark_at b i)
-AnswersQuery b (command.Same one other) answer = IsCompared b one other answer
+AnswersQuery b (command.Same one other) answer =
+    (said : Result Bool Refusal) × AnswersSame b.session.start (marked_events b.marks one) (marked_events b.marks other) said × (answer ≡ result_map reply.Same said)
 AnswersQuery b (command.Origin k) answer = answer ≡ query_reply b reply.Origin (λ ran. origin_in ran.entries k)
 AnswersQuery b (command.Writer place) answer = answer ≡ query_reply b reply.Writer (λ ran. last_writer_in ran place)
 AnswersQuery b (command.Show place) answer = answer ≡ query_reply b reply.Content (λ ran. ok_or (content_at ran.world.at place) refusal.NoSuchPlace)
@@ -91,26 +79,25 @@ AnswersQuery b _ answer = ⊥
 
 -- a command may be answered so, and leave this state; a query leaves the state as it is
 abbrev pub IsObeyed : BookState → Command → Answered → Type 0
-IsObeyed b (command.Enq actor value) answered = Happened b (event actor (act.Enq value)) answered
-IsObeyed b (command.Deq actor) answered = Happened b (event actor act.Deq) answered
-IsObeyed b (command.ArrayEnq actor value) answered = Happened b (event actor (act.AEnq value)) answered
-IsObeyed b (command.ArrayDeq actor) answered = Happened b (event actor act.ADeq) answered
-IsObeyed b (command.Go actor) answered = Happened b (event actor act.Go) answered
-IsObeyed b (command.Starve actor choice) answered = Happened b (event actor (act.Starve choice)) answered
+IsObeyed b (command.Enq actor value) answered = Happened b (record { actor = actor; act = act.Enq value }) answered
+IsObeyed b (command.Deq actor) answered = Happened b (record { actor = actor; act = act.Deq }) answered
+IsObeyed b (command.ArrayEnq actor value) answered = Happened b (record { actor = actor; act = act.AEnq value }) answered
+IsObeyed b (command.ArrayDeq actor) answered = Happened b (record { actor = actor; act = act.ADeq }) answered
+IsObeyed b (command.Go actor) answered = Happened b (record { actor = actor; act = act.Go }) answered
+IsObeyed b (command.Starve actor choice) answered = Happened b (record { actor = actor; act = act.Starve choice }) answered
 IsObeyed b command.Undo answered = answered ≡ move_answer b (undo b.session)
 IsObeyed b (command.UndoAt k) answered = answered ≡ move_answer b (undo_at b.session k)
 IsObeyed b (command.Roll k) answered = answered ≡ move_answer b (roll b.session k)
 IsObeyed b (command.Back n) answered = answered ≡ move_answer b (back b.session n)
 IsObeyed b command.Redo answered = answered ≡ move_answer b (redo b.session)
 IsObeyed b (command.Forward n) answered = answered ≡ move_answer b (forward b.session n)
-IsObeyed b (command.Mark name) answered = IsMade b (λ c. reply.Marked (length c.session.live)) (mark b name) (IsOk (mark b name)) answered
+IsObeyed b (command.Mark name) answered = IsAnswered b (answer_with b (λ c. reply.Marked (length c.session.live)) (λ c. c) (mark b name)) (IsOk (mark b name)) answered
 IsObeyed b (command.DropMark name) answered = answered ≡ answer_with b (λ c. reply.Dropped) (λ c. c) (drop_mark b name)
-IsObeyed b (command.GotoMark name) answered = IsMade b (λ c. step_counts c.session) (goto_mark b name) (MakesSteps b name) answered
+IsObeyed b (command.GotoMark name) answered = IsAnswered b (answer_with b (λ c. step_counts c.session) (λ c. c) (goto_mark b name)) (MakesSteps b name) answered
 IsObeyed b query answered = AnswersQuery b query answered.answer × (answered.state ≡ b)
 
 -- commands, one after another, may be answered so, and leave this last state
 abbrev pub AreObeyed : BookState → List Command → List (Result Reply Refusal) → BookState → Type 0
 AreObeyed b [] [] last = last ≡ b
-AreObeyed b [] (answer ∷ answers) last = ⊥
-AreObeyed b (c ∷ cs) [] last = ⊥
 AreObeyed b (c ∷ cs) (answer ∷ answers) last = (next : BookState) × IsObeyed b c (record { answer = answer; state = next }) × AreObeyed next cs answers last
+AreObeyed b _ _ last = ⊥

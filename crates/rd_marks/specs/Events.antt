@@ -8,16 +8,15 @@ use Rattle.rd_marks.specs.declared.commands.Command.TheVariants.{Enq, Deq, Array
 use Rattle.rd_marks.specs.declared.replies.EventReply.{EventReply}
 use Rattle.rd_marks.specs.declared.replies.Reply.{Reply}
 use Rattle.rd_marks.specs.declared.replies.Reply.TheVariants.{Applied}
-use Rattle.rd_marks.specs.Commands.{event}
 
 -- the event that a command is, if it is one
 abbrev pub as_event : Command → Option Event
-as_event (Enq actor value) = Some (event actor (act.Enq value))
-as_event (Deq actor) = Some (event actor act.Deq)
-as_event (ArrayEnq actor value) = Some (event actor (act.AEnq value))
-as_event (ArrayDeq actor) = Some (event actor act.ADeq)
-as_event (Go actor) = Some (event actor act.Go)
-as_event (Starve actor choice) = Some (event actor (act.Starve choice))
+as_event (Enq actor value) = Some (record { actor = actor; act = act.Enq value })
+as_event (Deq actor) = Some (record { actor = actor; act = act.Deq })
+as_event (ArrayEnq actor value) = Some (record { actor = actor; act = act.AEnq value })
+as_event (ArrayDeq actor) = Some (record { actor = actor; act = act.ADeq })
+as_event (Go actor) = Some (record { actor = actor; act = act.Go })
+as_event (Starve actor choice) = Some (record { actor = actor; act = act.Starve choice })
 as_event _ = None
 
 -- the reply to a command that is an event, by what the event is answered

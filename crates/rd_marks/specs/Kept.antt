@@ -1,7 +1,9 @@
--- A view of a book's bookmarks: each name with its entries, and the entries with which the
--- session's track begins.
-use Rattle.std.specs.Prelude.{ℕ, List}
+-- A view of a book's bookmarks: each name with its entries, the marks that these are, and the
+-- entries with which the session's track begins.
+use Rattle.std.specs.Prelude.{ℕ, List, map}
 use Rattle.rd_step.specs.declared.entries.Entry.{Entry}
+use Rattle.rd_journal.specs.Journal.{events}
+use Rattle.rd_marks.specs.Books.{Mark}
 use Rattle.rd_marks.specs.declared.names.MarkName.{MarkName}
 use Rattle.rd_marks.specs.declared.stretches.Node.{Node}
 use Rattle.rd_marks.specs.declared.bookmarks.Bookmarks.{Bookmarks}
@@ -11,6 +13,10 @@ use Rattle.rd_marks.specs.Stretches.{entries_at, count_of, IsWithin, AreInPieces
 -- each name of a bookmark with its entries
 abbrev pub lists_in : Bookmarks → List (MarkName × List Entry)
 lists_in b = named_lists b.stretches.list.items b.names.entries
+
+-- the marks of these names with entries, in their order
+abbrev pub marks_of : List (MarkName × List Entry) → List Mark
+marks_of lists = map (λ l. record { name = l.0; events = events l.1 }) lists
 
 -- the entries of a node
 abbrev pub entries_in : Bookmarks → Node → List Entry

@@ -4,7 +4,6 @@ pub mod Books
 pub mod Beginnings
 pub mod Stretches
 pub mod Changes
-pub mod Marks
 pub mod Layout
 pub mod Kept
 pub mod Rules

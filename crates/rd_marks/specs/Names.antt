@@ -9,4 +9,4 @@ bytes_of name = name.text.bytes
 
 -- whether two names are equal: byte by byte
 abbrev pub mark_name_eq : MarkName → MarkName → Bool
-mark_name_eq a b = pointwise nat_eq (bytes_of a) (bytes_of b)
+mark_name_eq a b = pointwise nat_eq a.text.bytes b.text.bytes

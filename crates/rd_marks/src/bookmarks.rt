@@ -40,9 +40,8 @@ pub(crate) struct Bookmarks {
 
 impl Bookmarks {
     ghost use Rattle.rd_marks.specs.Beginnings.{CountsBeginnings, NeedsNoEntry};
-    ghost use Rattle.rd_marks.specs.Kept.{lists_in, entries_in, entries_kept, here_in, IsNodeIn};
+    ghost use Rattle.rd_marks.specs.Kept.{lists_in, marks_of, entries_in, entries_kept, here_in, IsNodeIn};
     ghost use Rattle.rd_marks.specs.Layout.{AreRuns};
-    ghost use Rattle.rd_marks.specs.Marks.{marks_of};
     ghost use Rattle.rd_marks.specs.Names.{mark_name_eq};
 
     /// Returns bookmarks with none in them. It takes no memory.

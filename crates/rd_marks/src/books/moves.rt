@@ -7,13 +7,13 @@ use super::Book;
 use rd_cell::Refusal;
 
 impl<const R: usize> Book<R> {
-    ghost use Rattle.rd_journal.specs.State.{undo, undo_at, roll, back, redo, forward};
     ghost use Rattle.rd_marks.specs.BookViews.{book_state};
-    ghost use Rattle.rd_marks.specs.Commands.{move_answer, step_counts};
+    ghost use Rattle.rd_marks.specs.Commands.{IsObeyed, step_counts};
+    ghost use Rattle.rd_marks.specs.declared.commands.Command.TheVariants as command;
 
     /// Undoes the last live step. Returns how many steps are live and undone then.
     pub(super) fn answer_undo(&mut self) -> Result<Reply, Refusal>
-        ensures { record { answer = result; state = book_state self.new } ≡ move_answer (book_state self.old) (undo (book_state self.old).session) }
+        ensures { IsObeyed (book_state self.old) command.Undo (record { answer = result; state = book_state self.new }) }
     {
         let done = self.session.undo();
         self.counts_after(done)
@@ -21,7 +21,7 @@ impl<const R: usize> Book<R> {
 
     /// Undoes the live step of this number alone. Returns how many steps are live and undone then.
     pub(super) fn answer_undo_at(&mut self, k: u64) -> Result<Reply, Refusal>
-        ensures { record { answer = result; state = book_state self.new } ≡ move_answer (book_state self.old) (undo_at (book_state self.old).session k) }
+        ensures { IsObeyed (book_state self.old) (command.UndoAt k) (record { answer = result; state = book_state self.new }) }
     {
         self.session.undo_at(k)?;
         self.bookmarks.cut_here(k.saturating_sub(1) as usize);
@@ -31,7 +31,7 @@ impl<const R: usize> Book<R> {
     /// Undoes the live step of this number and just the later ones that depend on it. Returns how
     /// many steps are live and undone then.
     pub(super) fn answer_roll(&mut self, k: u64) -> Result<Reply, Refusal>
-        ensures { record { answer = result; state = book_state self.new } ≡ move_answer (book_state self.old) (roll (book_state self.old).session k) }
+        ensures { IsObeyed (book_state self.old) (command.Roll k) (record { answer = result; state = book_state self.new }) }
     {
         self.session.roll(k)?;
         self.bookmarks.cut_here(k.saturating_sub(1) as usize);
@@ -41,7 +41,7 @@ impl<const R: usize> Book<R> {
     /// Undoes the last `n` live steps, all or none. Returns how many steps are live and undone
     /// then.
     pub(super) fn answer_back(&mut self, n: u64) -> Result<Reply, Refusal>
-        ensures { record { answer = result; state = book_state self.new } ≡ move_answer (book_state self.old) (back (book_state self.old).session n) }
+        ensures { IsObeyed (book_state self.old) (command.Back n) (record { answer = result; state = book_state self.new }) }
     {
         let done = self.session.back(n);
         self.counts_after(done)
@@ -49,7 +49,7 @@ impl<const R: usize> Book<R> {
 
     /// Makes the step again that was undone last. Returns how many steps are live and undone then.
     pub(super) fn answer_redo(&mut self) -> Result<Reply, Refusal>
-        ensures { record { answer = result; state = book_state self.new } ≡ move_answer (book_state self.old) (redo (book_state self.old).session) }
+        ensures { IsObeyed (book_state self.old) command.Redo (record { answer = result; state = book_state self.new }) }
     {
         let done = self.session.redo();
         self.counts_after(done)
@@ -58,7 +58,7 @@ impl<const R: usize> Book<R> {
     /// Makes the `n` steps again that were undone last, all or none. Returns how many steps are
     /// live and undone then.
     pub(super) fn answer_forward(&mut self, n: u64) -> Result<Reply, Refusal>
-        ensures { record { answer = result; state = book_state self.new } ≡ move_answer (book_state self.old) (forward (book_state self.old).session n) }
+        ensures { IsObeyed (book_state self.old) (command.Forward n) (record { answer = result; state = book_state self.new }) }
     {
         let done = self.session.forward(n);
         self.counts_after(done)
