@@ -1,7 +1,7 @@
 -- The marks that a list of names with entries is: looking one up, putting one last, taking one
 -- away.
-use Rattle.std.proofs.Common.{inr, ◌↔◌, IsTrue, is_ok, ◌⊎◌, ◌≢◌, suc, Result, Ok, Err, IsOk, IfErr, ne_eqb, ◌≡◌, ℕ, Bool, true, false, cond, map, refl, sym, ap, ◌∙◌, subst, List, [], ◌∷◌, ◌++◌, length, is_some, option_map, ok_or, Option, Some, None, All, slice_get, arith}
-use Rattle.rd_marks.proofs.Prelude.{lookup, remove_entry, remove_key, insert_entry, All-cons, All-head, All-tail, Entry, Event, MarkName, mark_name_eq, eq-eqb, false≢true, length-map, get_or_from_slice_get, slice_get-map, slice_get_within, Refusal, World, MOST_MARKS, AreEntriesOfRun, IsPrefix, Mark, BookState, with_marks, marked_events, mark, drop_mark, goto_mark, mark_at, mark_events, result_map, MakesSteps, AnswersSame, IsEquivalent, DecidesEquivalence, marks_of, events, Node, book_state, entries_in}
+use Rattle.std.proofs.Common.{inr, is_ok, ◌⊎◌, ◌≢◌, suc, Result, Ok, Err, IsOk, IfErr, ne_eqb, ◌≡◌, ℕ, Bool, true, false, cond, map, refl, sym, ap, ◌∙◌, subst, List, [], ◌∷◌, ◌++◌, length, is_some, option_map, ok_or, Option, Some, All, slice_get, arith}
+use Rattle.rd_marks.proofs.Prelude.{lookup, remove_entry, remove_key, All-cons, All-head, All-tail, Entry, Event, MarkName, mark_name_eq, eq-eqb, false≢true, length-map, get_or_from_slice_get, slice_get-map, slice_get_within, Refusal, World, MOST_MARKS, IsPrefix, Mark, BookState, marked_events, mark, drop_mark, goto_mark, mark_at, mark_events, result_map, MakesSteps, AnswersSame, marks_of, events, Node, book_state, entries_in}
 use Rattle.rd_journal.specs.Sessions.{LacksRoomFor}
 use Rattle.rd_marks.specs.BookViews.{MayRefuseToGo}
 use Rattle.rd_marks.specs.Kept.{IsInPieces}
@@ -15,6 +15,10 @@ mark_of l = record { name = l.0; events = events l.1 }
 -- its name, and how many events it has
 abbrev pub name_and_length : Mark → MarkName × ℕ
 name_and_length m = (m.name, length m.events)
+
+-- the book with these marks, and its session as it is
+abbrev pub with_marks : BookState → List Mark → BookState
+with_marks b ms = record { session = b.session; marks = ms }
 
 -- taking an entry away, whatever is made of the values
 pub removed_mapped : {K V W : Type 0} (f : V → W) (test : K → Bool) (ms : List (K × V)) → map (λ m. (m.0, f m.1)) (remove_entry test ms) ≡ remove_entry test (map (λ m. (m.0, f m.1)) ms)
@@ -56,11 +60,6 @@ module _ {X : Type 0} (f : X → List Entry) (name : MarkName) (ls : List (MarkN
   pub found_at : is_some (marked_events (marks_of ls) name) ≡ b
   found_at = found_marked name ls ∙ ap is_some (sym found) ∙ is_some_map f o ∙ sym is
 
--- a new name goes last
-pub insert_last : {V : Type 0} (name : MarkName) (v : V) (ms : List (MarkName × V)) → lookup (mark_name_eq name) ms ≡ None → insert_entry mark_name_eq ms name v ≡ ms ++ (name, v) ∷ []
-insert_last name v [] h = refl
-insert_last name v (m ∷ ms) h = grind (arith, cond, insert_last name v ms)
-
 -- a mark is set if its name is new and there is room
 pub mark_goes : (b : BookState) (name : MarkName) → is_some (marked_events b.marks name) ≡ false → length b.marks ≢ MOST_MARKS
     → mark b name ≡ Ok (with_marks b (b.marks ++ record { name = name; events = b.session.live } ∷ []))
@@ -93,11 +92,6 @@ module _ (w : World) (o p : Option (List Event)) where
   pub both_there : (es fs : List Event) (said : Result Bool Refusal) → o ≡ Some es → p ≡ Some fs → AnswersSame w (Some es) (Some fs) said → AnswersSame w o p said
   both_there es fs said h k a = rw (h, k) a
 
--- entries that are those of runs from the start are compared from there
-pub decided : (w : World) (xs ys : List Entry) (same : Bool) → AreEntriesOfRun w xs → AreEntriesOfRun w ys
-    → DecidesEquivalence xs ys same → IsTrue same ↔ IsEquivalent w (events xs) (events ys)
-decided w xs ys same p q d = d w p.ran q.ran
-
 -- The mark of a number
 
 -- what is there
@@ -112,9 +106,6 @@ mark_said b ls i j o same e h = ap (mark_at b) e ∙ ap (λ (p : Option Mark). r
 pub events_said : (b : BookState) (ls : List (MarkName × List Entry)) (i j : ℕ) (o : Option (MarkName × List Entry)) → b.marks ≡ marks_of ls → i ≡ suc j → slice_get ls j ≡ o
     → mark_events b i ≡ option_map (λ (m : Mark). m.events) (option_map mark_of o)
 events_said b ls i j o same e h = ap (mark_events b) e ∙ ap (option_map (λ (m : Mark). m.events)) (mark_there b ls j o same h)
-
-pub no_mark : (b : BookState) (i : ℕ) → i ≡ 0 → mark_events b i ≡ None
-no_mark b i h = ap (mark_events b) h
 
 pub length_said : (name : MarkName) (n : ℕ) (xs : List Entry) → length xs ≡ n → Ok (name, n) ≡ result_map name_and_length (ok_or (Some (mark_of (name, xs))) refusal.NoMark)
 length_said name n xs long = ap (λ (k : ℕ). Ok (name, k)) (sym long ∙ sym (length-map xs (λ x. x.event)))
@@ -140,3 +131,8 @@ goto_lacks (Err cause) b name node its h = inr (h.0, record { node = node; its =
 pub if_then_for : {X : Type 0} (r : Result X Refusal) (P : Refusal → Type 0) → IfErr r P → (refusal : Refusal) → r ≡ Err refusal → P refusal
 if_then_for (Ok x) P h refusal is = absurd (cc)
 if_then_for (Err e) P h refusal is = subst P (let same : e ≡ refusal = cc in same) h
+
+-- What reads a bookmark by its index, and what goes to one or compares two by their names
+pub ruleset at_steps = (option_map, slice_get-map, all_at)
+
+pub ruleset goto_steps = (option_map, found_events, both_there, goto_lacks)

@@ -11,7 +11,7 @@ pub use Rattle.std.proofs.lemmas.Option.{get_or_from_slice_get, slice_get-map, s
 pub use Rattle.std.specs.List.{IsDistinct, list_all, range_with_len}
 pub use Rattle.std.specs.Map.{lookup, remove_entry, values_of}
 pub use Rattle.std.specs.Set.{remove_key}
-pub use Rattle.indexmap.specs.IndexMap.{insert_entry, set_value_at, spare}
+pub use Rattle.indexmap.specs.IndexMap.{set_value_at, spare}
 pub use Rattle.rd_depend.specs.Beginnings.{IsPrefix, NeitherIsPrefix}
 pub use Rattle.rd_depend.specs.Equivalence.{DecidesEquivalence}
 pub use Rattle.rd_journal.specs.Journal.{Journal, start_of}
@@ -26,7 +26,7 @@ pub use Rattle.rd_step.specs.Run.{events, IsRunFrom, Ran, preceded_by, run_entri
 pub use Rattle.rd_step.specs.declared.entries.Entry.{Entry}
 pub use Rattle.rd_step.specs.declared.entries.Event.{Event}
 pub use Rattle.rd_marks.specs.BookViews.{book_state}
-pub use Rattle.rd_marks.specs.Books.{AnswersEvents, AnswersSame, BookState, MakesSteps, Mark, at_events, drop_mark, goto_mark, mark, mark_at, mark_events, marked_events, with_marks, with_session}
+pub use Rattle.rd_marks.specs.Books.{AnswersEvents, AnswersSame, BookState, MakesSteps, Mark, at_events, drop_mark, goto_mark, mark, mark_at, mark_events, marked_events, with_session}
 pub use Rattle.rd_marks.specs.Changes.{IsGrown, IsLow, IsShrunk, IsUnchanged, Stays, shifted}
 pub use Rattle.rd_marks.specs.Commands.{Answered, AreObeyed, Happened, IsAnswered, IsObeyed, NeedsNoMemory, answer_with, move_answer}
 pub use Rattle.rd_marks.specs.Kept.{IsNodeIn, here_in, lists_in, entries_in, marks_of}

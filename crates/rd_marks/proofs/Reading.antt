@@ -1,9 +1,9 @@
 -- Reading the entries of a node, and what the stretches have in common with other entries.
-use Rattle.std.proofs.Common.{◌≡◌, ◌⊎◌, ℕ, zero, suc, ◌+◌, ◌-◌, ◌<◌, ◌≤◌, min, refl, sym, ap, ◌∙◌, List, [], ◌∷◌, ◌++◌, length, take, drop, get_or, reverse, slice_get, option_map, Some, arith}
+use Rattle.std.proofs.Common.{◌≡◌, ◌⊎◌, ℕ, zero, suc, ◌+◌, ◌-◌, ◌<◌, ◌≤◌, min, length-drop, refl, sym, ap, ◌∙◌, List, [], ◌∷◌, ◌++◌, length, take, drop, get_or, reverse, slice_get, option_map, Some, arith}
 use Rattle.rd_marks.proofs.Prelude.{drop-cons, take-add, cases_lt, append_assoc, drop-map, drop-take, length-map, reverse-append, take-take, slice_get-map, slice_get_read, slice_get_within, Event, Entry, Node, Stretch, count_of, stretch_list, list_before, shared_at, entries_at, IsWithin, IsOwn, IsAlong, AreNested, AreFresh, events}
 use Rattle.rd_step.specs.Lists.{numbered}
 use Rattle.rd_marks.proofs.StretchLists.{own_at, stretch_there, total, shared_within, begins_shared, behind_shared, list_past}
-use Rattle.rd_marks.proofs.Fresh.{Follows, follows_compared, follows_skipped, along_itself, between}
+use Rattle.rd_marks.proofs.Fresh.{Follows, follows_compared, follows_skipped, along_itself, along_within, between}
 use Rattle.rd_marks.proofs.Starting.{first_events, stretch_within}
 
 -- Positions in lists
@@ -160,3 +160,8 @@ module _ (ss : List Stretch) (rule : AreNested ss) (at : Node) (within : IsWithi
   -- after the last one
   pub reaches_end : (i n : ℕ) → n ≡ length ss → (at.stretch < length ss → i ≡ n) → (at.stretch < i → Reaches ss at i) → Reaches ss at n
   reaches_end i n all end before = grind (arith, list_past, cases_lt at.stretch (length ss), end, before)
+
+-- What reads the last entry of a node, and what counts how far a stretch goes along others
+pub ruleset last_steps = (stretch_within, stretch_at, own_less, last_own, slice_get, slice_get_read, total)
+
+pub ruleset along_steps = (stretch_at, along_within, along_further, along_no_further, slice_get, length-drop, length-map, events_behind, total)

@@ -1,5 +1,4 @@
 -- Lists of which one begins the other are equivalent only if they are one.
-use Rattle.rd_marks.proofs.MarkLemmas.{decided}
 use Rattle.std.proofs.Common.{◌≡◌, ℕ, ◌⊎◌, Bool, ◌==◌, refl, sym, ap, List, [], ◌∷◌, ◌++◌, length, take, drop, ◌≤◌, length-append, arith, eqb-true}
 use Rattle.rd_marks.proofs.Prelude.{eq-eqb, take_all, World, IsEquivalent, Event, Entry, IsPrefix, DecidesEquivalence, events, IsRunFrom}
 use Rattle.rd_depend.proofs.Exactness.{right_behind}

@@ -27,10 +27,6 @@ pub record BookState : Type 0 where
 abbrev pub with_session : BookState → State → BookState
 with_session b s = record { session = s; marks = b.marks }
 
--- the book with these marks, and its session as it is
-abbrev pub with_marks : BookState → List Mark → BookState
-with_marks b ms = record { session = b.session; marks = ms }
-
 -- the events of the mark of this name, if there is one
 abbrev pub marked_events : List Mark → MarkName → Option (List Event)
 marked_events [] name = None
@@ -42,13 +38,14 @@ abbrev pub mark : BookState → MarkName → Result BookState Refusal
 mark b name =
     if is_some (marked_events b.marks name) then Err refusal.MarkTaken
     else if length b.marks == MOST_MARKS then Err refusal.TooManyMarks
-    else Ok (with_marks b (b.marks ++ record { name = name; events = b.session.live } ∷ []))
+    else Ok (record { session = b.session; marks = b.marks ++ record { name = name; events = b.session.live } ∷ [] })
 
 -- the book after dropping the mark of this name, where the others stay in their order; refused if
 -- there is none
 abbrev pub drop_mark : BookState → MarkName → Result BookState Refusal
 drop_mark b name =
-    if is_some (marked_events b.marks name) then Ok (with_marks b (remove_key (λ m. mark_name_eq name m.name) b.marks)) else Err refusal.NoMark
+    if is_some (marked_events b.marks name) then Ok (record { session = b.session; marks = remove_key (λ m. mark_name_eq name m.name) b.marks })
+    else Err refusal.NoMark
 
 -- the book where just these events are live and nothing is undone
 abbrev pub at_events : BookState → List Event → BookState

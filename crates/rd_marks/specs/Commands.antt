@@ -1,13 +1,12 @@
 -- What each command answers and leaves, by the state of the book alone. The queries look at the run
 -- of the live events; there is no inverse and no old content here.
 use Rattle.std.specs.Prelude.{◌≡◌, ℕ, ◌<◌, ◌⊎◌, Bool, List, [], ◌∷◌, length, ok_or, Result, Ok, Err, IsOk}
-use Rattle.rd_step.specs.Prelude.{Refusal, content_at, Act, Ran, numbered, and_then, result_map}
+use Rattle.rd_step.specs.Prelude.{Refusal, content_at, Ran, numbered, and_then, result_map}
 use Rattle.rd_actor.specs.declared.actors.Act.TheVariants as act
 use Rattle.rd_step.specs.declared.entries.Event.{Event}
 use Rattle.rd_journal.specs.State.{State, run_of, apply, reply_to, MayLackMemory, undo, undo_at, roll, back, redo, forward}
 use Rattle.rd_origin.specs.Origins.{origin_in}
 use Rattle.rd_origin.specs.Writers.{last_writer_in}
-use Rattle.rd_marks.specs.declared.names.MarkName.{MarkName}
 use Rattle.rd_marks.specs.declared.commands.Command.{Command}
 use Rattle.rd_marks.specs.declared.commands.Command.TheVariants as command
 use Rattle.rd_marks.specs.declared.replies.Reply.{Reply}

@@ -57,6 +57,7 @@ impl Bookmarks {
     }
 
     /// How many bookmarks there are.
+    #[tactic(auto, using(crate::proofs::Putting::names_same))]
     pub(crate) fn len(&self) -> usize
         ensures count { result ≡ length (lists_in self.now) }
         ensures few { result ≤ MOST_MARKS }
@@ -66,6 +67,7 @@ impl Bookmarks {
     }
 
     /// Returns how many entries are kept for all bookmarks.
+    #[tactic(auto, using(crate::proofs::Counting::counts, crate::proofs::Putting::count_fits))]
     pub(crate) fn nodes(&self) -> usize
         ensures counts { CountsBeginnings (marks_of (lists_in self.now)) result }
         ensures entries { result ≡ entries_kept self.now }
@@ -86,6 +88,7 @@ impl Bookmarks {
 
     /// Returns the name of the bookmark at this index, from 0, and the node of its entries, if
     /// there is one.
+    #[tactic(auto, using(crate::proofs::MarkLemmas::at_steps))]
     pub(crate) fn at(&self, index: usize) -> Option<(MarkName, Node)>
         ensures found { option_map (λ m. (m.0, entries_in self.now m.1)) result ≡ slice_get (lists_in self.now) index }
         ensures within { IfSome result (λ m. IsNodeIn self.now m.1) }

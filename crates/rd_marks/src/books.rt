@@ -4,13 +4,12 @@
 //! from the session's start. Nothing outside this crate depends on that.
 //!
 //! The calls of a book are here; what each command answers is in `books/`: `obeying` has the
-//! commands, `moves` the undos and redos, `bookmarks` the bookmarks, and `queries` the rest;
-//! `saving` has what saves a book and loads it again.
+//! commands, with the answers to queries, `moves` the undos and redos, and `bookmarks` the
+//! bookmarks; `saving` has what saves a book and loads it again.
 
 mod bookmarks;
 mod moves;
 mod obeying;
-mod queries;
 mod saving;
 
 ghost use Rattle.std.specs.Prelude.{◌≡◌, ◌<◌, ◌≤◌, ◌⊎◌, [], length, Ok, Err, OnOk, OnErr, IfErr, IsOk};
@@ -156,6 +155,7 @@ impl<const R: usize> Book<R> {
     /// In this order: `NoMark` if there is none of that name; `NoMemory` if room for the steps that
     /// are made again was refused, or for a copy of their entries, which never happens if the live
     /// steps begin with the bookmark's. Nothing has changed then.
+    #[tactic(auto, using(crate::proofs::MarkLemmas::goto_steps))]
     pub fn goto_mark(&mut self, name: MarkName) -> Result<(), Refusal>
         ensures ok { OnOk result (goto_mark (book_state self.old) name ≡ Ok (book_state self.new)) }
         ensures err { IfErr result (λ refusal. (goto_mark (book_state self.old) name ≡ Err refusal)
@@ -176,6 +176,7 @@ impl<const R: usize> Book<R> {
     ///
     /// `NoMark` if one of the bookmarks is not there; `NoMemory` if memory was refused for the
     /// comparison, which lists of which one begins the other do not ask for.
+    #[tactic(auto, using(crate::proofs::MarkLemmas::goto_steps))]
     pub fn same(&self, one: MarkName, other: MarkName) -> Result<bool, Refusal>
         ensures { AnswersSame (book_state self.now).session.start (marked_events (book_state self.now).marks one)
             (marked_events (book_state self.now).marks other) result }

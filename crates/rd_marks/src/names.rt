@@ -25,6 +25,7 @@ impl MarkName {
     /// # Errors
     ///
     /// `BadName` if they are not 1 to 16 bytes of a-z, 0-9 and `-`.
+    #[tactic(auto, using(crate::proofs::NameLemmas::name_is_text))]
     pub fn new(text: &[u8]) -> Result<MarkName, Refusal>
         ensures ok { IfOk result (λ name. bytes_of name ≡ text.now) }
         ensures valid { OnOk result (is_mark_name text.now ≡ true) }

@@ -86,6 +86,7 @@ impl Stretches {
     }
 
     /// Returns how many entries the stretches have in all.
+    #[tactic(auto, using(crate::proofs::Reading::count_on))]
     pub(crate) fn entries(&self) -> usize
         requires { count_of self.now.list.items < 2 ^ 64 }
         ensures { result ≡ count_of self.now.list.items }
@@ -99,6 +100,7 @@ impl Stretches {
 
     /// Returns how many entries the list of this stretch shares with that of the one before it; 0
     /// after the last stretch.
+    #[tactic(auto, using(crate::proofs::Reading::stretch_at, crate::proofs::StretchLists::shared_past))]
     pub(crate) fn shared(&self, i: usize) -> usize
         ensures { result ≡ shared_at self.now.list.items i }
     {

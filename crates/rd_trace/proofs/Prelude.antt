@@ -28,7 +28,7 @@ pub use Rattle.rd_cell.specs.declared.places.SegName.{SegName}
 pub use Rattle.rd_journal.specs.Sessions.{journal, state}
 pub use Rattle.rd_journal.specs.State.{State, apply, back, reply_to, state_of, step_after, with_event}
 pub use Rattle.rd_marks.specs.BookViews.{book_state}
-pub use Rattle.rd_marks.specs.Books.{AnswersEvents, BookState, Mark, mark, mark_at, mark_events, marked_events, with_marks, with_session}
+pub use Rattle.rd_marks.specs.Books.{AnswersEvents, BookState, Mark, mark, mark_at, mark_events, marked_events, with_session}
 pub use Rattle.rd_marks.specs.NameBytes.{MOST_MARKS, is_mark_name, is_name_byte}
 pub use Rattle.rd_marks.specs.Names.{bytes_of, mark_name_eq}
 pub use Rattle.rd_marks.specs.Rules.{GoThrough, HaveDifferentNames, KeepsRules, MarksGoThrough}

@@ -24,6 +24,7 @@ impl Bookmarks {
     ///
     /// `NoMemory` if room for the others, or for a copy of them where they are not all in one
     /// stretch, was refused, which never happens if there are none. Nothing has changed then.
+    #[tactic(auto, using(rd_step::proofs::PassedUp::error_passed_up))]
     pub(crate) fn go_to<const R: usize>(
         &mut self,
         alloc: Global,

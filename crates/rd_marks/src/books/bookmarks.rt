@@ -9,7 +9,7 @@ use rd_cell::Refusal;
 
 impl<const R: usize> Book<R> {
     ghost use Rattle.rd_marks.specs.BookViews.{book_state, name_room, MayRefuseToGo};
-    ghost use Rattle.rd_marks.specs.Commands.{IsObeyed, AnswersQuery, NeedsNoMemory};
+    ghost use Rattle.rd_marks.specs.Commands.{IsObeyed, NeedsNoMemory};
     ghost use Rattle.rd_marks.specs.declared.commands.Command.TheVariants as command;
 
     /// Sets a bookmark. Returns how many steps are live.
@@ -30,26 +30,12 @@ impl<const R: usize> Book<R> {
     }
 
     /// Goes to a bookmark. Returns how many steps are live and undone then.
+    #[tactic(auto, using(rd_step::proofs::PassedUp::error_passed_up))]
     pub(super) fn answer_goto_mark(&mut self, name: MarkName) -> Result<Reply, Refusal>
         ensures answer { IsObeyed (book_state self.old) (command.GotoMark name) (record { answer = result; state = book_state self.new }) }
         ensures memory { IfErr result (MayRefuseToGo self.old name) }
     {
         self.goto_mark(name)?;
         Ok(self.step_counts())
-    }
-
-    /// The name and the length of the bookmark of this number.
-    pub(super) fn answer_mark_at(&self, i: u64) -> Result<Reply, Refusal>
-        ensures { AnswersQuery (book_state self.now) (command.MarkAt i) result }
-    {
-        let (name, len) = self.mark_at(i)?;
-        Ok(Reply::Mark { name, len })
-    }
-
-    /// Returns whether the steps of two bookmarks are causally equivalent.
-    pub(super) fn answer_same(&self, one: MarkName, other: MarkName) -> Result<Reply, Refusal>
-        ensures { AnswersQuery (book_state self.now) (command.Same one other) result }
-    {
-        Ok(Reply::Same(self.same(one, other)?))
     }
 }

@@ -64,6 +64,16 @@ impl<const R: usize> Book<R> {
         self.counts_after(done)
     }
 
+    /// How many steps are live and how many are undone.
+    pub(super) fn step_counts(&self) -> Reply
+        ensures { result ≡ step_counts (book_state self.now).session }
+    {
+        Reply::At {
+            live: self.session.len(),
+            undone: self.session.undone_len(),
+        }
+    }
+
     /// Returns the answer to a move through the run, after the move.
     fn counts_after(&self, done: Result<(), Refusal>) -> Result<Reply, Refusal>
         ensures ok { OnOk done (result ≡ Ok (step_counts (book_state self.now).session)) }

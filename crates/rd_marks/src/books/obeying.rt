@@ -10,6 +10,7 @@ use super::super::laws::a_book_is_the_run_of_its_live_events;
 use super::super::replies::{EventReply, Reply};
 use super::Book;
 use rd_cell::Refusal;
+use rd_origin::{last_writer, origin};
 use rd_step::Event;
 use std::alloc::Global;
 
@@ -25,6 +26,7 @@ impl<const R: usize> Book<R> {
     ///
     /// The refusal of the call of a book or of its session that the command is. Nothing has changed
     /// then.
+    #[tactic(auto, using(crate::proofs::ObeyLemmas::obeyed_leaves, crate::proofs::ObeyLemmas::event_needs, crate::proofs::ObeyLemmas::no_event_refused, crate::proofs::ObeyLemmas::event_goes_nowhere))]
     pub fn obey(&mut self, command: Command) -> Result<Reply, Refusal>
         ensures answer { IsObeyed (book_state self.old) command (record { answer = result; state = book_state self.new }) }
         ensures succeeds { NeedsNoMemory (book_state self.old) (name_room self.old) command → IsOk result }
@@ -69,6 +71,7 @@ impl<const R: usize> Book<R> {
     }
 
     /// Makes an event happen, and returns the reply to its command.
+    #[tactic(auto, using(rd_step::proofs::PassedUp::error_passed_up, crate::proofs::AnswerLemmas::event_passed_up))]
     fn answer_event(&mut self, event: Event) -> Result<Reply, Refusal>
         ensures happens { Happened (book_state self.old) event (record { answer = result; state = book_state self.new }) }
         ensures memory { IfErr result (MayRefuse (session_of self.old) event) }
@@ -95,13 +98,22 @@ impl<const R: usize> Book<R> {
             Command::DropMark(name) => self.answer_drop_mark(name),
             Command::GotoMark(name) => self.answer_goto_mark(name),
             Command::Marks => Ok(Reply::Marks(self.marks())),
-            Command::MarkAt(i) => self.answer_mark_at(i),
-            Command::Same(one, other) => self.answer_same(one, other),
-            Command::Origin(k) => self.answer_origin(k),
-            Command::Writer(place) => self.answer_writer(place),
-            Command::Show(place) => self.answer_show(place),
-            Command::Actor(actor) => self.answer_actor(actor),
-            Command::Step(number) => self.answer_step(number),
+            Command::MarkAt(i) => self.mark_at(i).map(|(name, len)| Reply::Mark { name, len }),
+            Command::Same(one, other) => self.same(one, other).map(Reply::Same),
+            Command::Origin(k) => origin(&self.session, k).map(Reply::Origin),
+            Command::Writer(place) => last_writer(&self.session, place).map(Reply::Writer),
+            Command::Show(place) => match self.session.world().content(place) {
+                None => Err(Refusal::NoSuchPlace),
+                Some(content) => Ok(Reply::Content(content)),
+            },
+            Command::Actor(actor) => match self.session.world().actor(actor) {
+                None => Err(Refusal::NoActor),
+                Some(words) => Ok(Reply::Actor(words)),
+            },
+            Command::Step(number) => self
+                .session
+                .entry(number)
+                .map(|entry| Reply::Step { number, entry }),
             Command::Len => Ok(self.step_counts()),
             _ => unreachable!(),
         }

@@ -57,7 +57,7 @@ impl<const R: usize> Book<R> {
         self.session.go_along(0);
     }
 
-    /// Goes back to the first `n` live steps, where none is undone: 0 is the start. The bookmarks
+    /// Goes back to the first `n` live steps, and none is undone then: 0 is the start. The bookmarks
     /// stay. It takes no memory.
     pub fn keep_first(&mut self, n: u64)
         requires within { n ≤ length (book_state self.old).session.live }

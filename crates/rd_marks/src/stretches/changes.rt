@@ -113,6 +113,7 @@ impl Stretches {
     }
 
     /// Whether a node is the end of the list of its stretch.
+    #[tactic(auto, using(crate::proofs::Reading::stretch_at, crate::proofs::StretchLists::total))]
     fn is_end(&self, at: Node) -> bool
         ensures { IsTrue result ↔ IsEnd self.now.list.items at }
     {
@@ -208,6 +209,7 @@ impl Stretches {
     /// Takes away the entries of a stretch's list after the first `n`, none of which is shared by
     /// the next one, and gives their room back; the whole stretch goes if none of its entries are
     /// left. Returns what became of the numbers of the stretches.
+    #[tactic(auto, using(crate::proofs::Reading::stretch_at, crate::proofs::StretchUses::left))]
     pub(crate) fn shrink(&mut self, i: usize, n: usize) -> Shift
         requires there { i < length self.old.list.items }
         requires next { shared_at self.old.list.items (suc i) ≤ n }

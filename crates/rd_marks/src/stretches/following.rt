@@ -35,6 +35,7 @@ impl Stretches {
 
     /// Returns how many of the live steps the list of a stretch begins with; the first `n` are
     /// known, and the entries after them are the stretch's own.
+    #[tactic(auto, using(crate::proofs::Reading::along_steps))]
     fn along(&self, i: usize, n: usize, live: &LiveEntries) -> usize
         requires there { i < length self.now.list.items }
         requires own { shared_at self.now.list.items i ≤ n }
@@ -65,6 +66,7 @@ fn farther(at: Node, i: usize, number: usize) -> Node
 }
 
 /// How many of the live steps these entries begin with.
+#[tactic(auto, using(crate::proofs::Reading::alike_on, crate::proofs::Reading::alike_past))]
 fn alike(entries: &[Entry], live: &LiveEntries) -> usize
     ensures enough { result ≤ length entries.now }
     ensures within { result ≤ length live.now }

@@ -25,6 +25,7 @@ impl Stretches {
     }
 
     /// Returns the last entry of a node, which must be its stretch's own.
+    #[tactic(auto, using(crate::proofs::Reading::last_steps))]
     fn last(&self, of: Node) -> &Entry
         requires within { IsWithin self.now.list.items of }
         requires own { IsOwn self.now.list.items of }
@@ -62,6 +63,7 @@ impl Stretches {
     }
 
     /// Returns the entries of a node after the first `n`, if they are all of the node's stretch.
+    #[tactic(auto, using(crate::proofs::Reading::stretch_at, crate::proofs::Reading::lent, crate::proofs::StretchLists::total, crate::proofs::Starting::stretch_within))]
     fn slice(&self, of: Node, n: usize) -> Option<&[Entry]>
         requires present { IsWithin self.now.list.items of }
         requires own { IsOwn self.now.list.items of }
@@ -81,6 +83,7 @@ impl Stretches {
     /// # Errors
     ///
     /// `AllocError` if memory was refused for them, which never happens if there are none.
+    #[tactic(auto, using(crate::proofs::Reading::without_last, crate::proofs::Reading::read_on))]
     fn copy(&self, alloc: Global, of: Node, n: usize) -> Result<Vec<Entry>, AllocError>
         requires present { IsWithin self.now.list.items of }
         requires within { n ≤ of.number }

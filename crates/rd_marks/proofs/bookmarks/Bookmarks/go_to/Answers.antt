@@ -1,5 +1,4 @@
 use Rattle.std.proofs.Common.{sym, ◌≡◌, ◌≤◌, [], ℕ, List, length, take, lit<, refl, subst, ap, ◌∙◌, arith}
-use Rattle.rd_step.proofs.PassedUp.{error_passed_up}
 use Rattle.rd_marks.proofs.Prelude.{fact_passed_up, Event, IsPrefix, state, track, Bookmarks, Node, here_in, entries_in, IsNodeIn, events}
 use Rattle.rd_marks.proofs.Prelude.{entries_at, length-take, take-length}
 use Rattle.rd_marks.proofs.Here.{along_to}
@@ -30,9 +29,6 @@ returns-then-common-node-clause-stands g c = rw c.go_along.ensures.along.track c
 
 pub returns-in_err-switch_to-clause-unchanged : goal.returns-in_err-switch_to-clause-unchanged
 returns-in_err-switch_to-clause-unchanged g c = fact_passed_up c.from_residual.result c.in_err-switch_to.ensures.unchanged
-
-pub returns-in_err-switch_to-clause-err : goal.returns-in_err-switch_to-clause-err
-returns-in_err-switch_to-clause-err g c = error_passed_up _ c.in_err-switch_to.field-0.0 c.from_residual.result c.from_residual.ensures.1 c.in_err-switch_to.ensures.err
 
 pub returns-in_err-switch_to-clause-along : goal.returns-in_err-switch_to-clause-along
 returns-in_err-switch_to-clause-along g c = λ h.

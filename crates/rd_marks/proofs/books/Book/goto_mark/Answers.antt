@@ -1,20 +1,14 @@
 use Rattle.std.proofs.Common.{List, sym, ap, ◌∙◌, option_map, arith}
 use Rattle.rd_marks.proofs.Prelude.{Entry, state, book_state, lists_in, entries_in, AreEntriesOfRun, mark_name_eq, events}
-use Rattle.rd_marks.proofs.MarkLemmas.{all_found, found_events, goto_not_done, goto_lacks}
+use Rattle.rd_marks.proofs.MarkLemmas.{all_found, found_events, goto_not_done}
 use Rattle.rd_marks.proofs.Starts.{runs_stay, start_kept}
 use Rattle.rd_marks.proofs.books.Book.goto_mark.Goals as goal
-
-pub returns-in_default-clause-err : goal.returns-in_default-clause-err
-returns-in_default-clause-err g c = grind (arith, found_events, option_map)
 
 pub go_to-requires : goal.go_to-requires
 go_to-requires g c =
     let fact = all_found (mark_name_eq c.args.name) (λ (xs : List Entry). AreEntriesOfRun (state c.args.self.now.session).start xs) (lists_in c.args.self.now.bookmarks)
     (entries_in c.args.self.now.bookmarks c.in-Some.node) c.args.self.now.runs in
     grind (arith, c.args.self.now.stands, c.in-Some.ensures.within, fact)
-
-pub returns-clause-ok : goal.returns-clause-ok
-returns-clause-ok g c = grind (arith, found_events, option_map)
 
 pub returns-clause-err : goal.returns-clause-err
 returns-clause-err g c =
@@ -26,11 +20,3 @@ invariant_of-self g c = record {
   runs = runs_stay _ _ _ _ (start_kept c.go_to.result _ _ _ c.go_to.ensures.ok c.go_to.ensures.unchanged) c.go_to.ensures.lists c.args.self.now.runs;
   stands = c.go_to.ensures.stands;
 }
-
-pub returns-in_default-clause-memory : goal.returns-in_default-clause-memory
-returns-in_default-clause-memory g c = grind (arith, found_events, option_map)
-
-pub returns-clause-memory : goal.returns-clause-memory
-returns-clause-memory g c =
-    goto_lacks c.go_to.result c.args.self.now c.args.name c.in-Some.node
-    (found_events c.args.name (lists_in c.args.self.now.bookmarks) ∙ ap (option_map events) (sym c.in-Some.ensures.found)) c.go_to.ensures.err

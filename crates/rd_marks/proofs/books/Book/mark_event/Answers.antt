@@ -1,10 +1,10 @@
 use Rattle.std.proofs.Common.{◌-◌, None, refl, sym, arith}
 use Rattle.rd_marks.proofs.Prelude.{book_state, lists_in}
-use Rattle.rd_marks.proofs.MarkLemmas.{events_said, no_mark}
+use Rattle.rd_marks.proofs.MarkLemmas.{events_said}
 use Rattle.rd_marks.proofs.books.Book.mark_event.Goals as goal
 
 pub returns-then-i-eq0 : goal.returns-then-i-eq0
-returns-then-i-eq0 g c = grind (arith, no_mark)
+returns-then-i-eq0 g c = rw c.if-i-eq0.true refl
 
 pub returns-in-None : goal.returns-in-None
 returns-in-None g c = grind (arith, events_said (book_state c.args.self.now) (lists_in c.args.self.now.bookmarks) c.args.i (c.args.i - 1) None refl (omega arith) (sym c.in-None.ensures.found))

@@ -26,6 +26,3 @@ invariant_of-self-2 c =
     left ss (omega (arith, c.args.self.now.list.ok, c.args.self.now.list.small)) c.args.self.now.nested c.args.self.now.fresh c.args.i c.requires.there c.args.n c.requires.next
     (omega (arith, c.if-n-shared.false, c.shared-shared.ensures)) t (sym at.1) (c.cut.ensures ∙ (λ k. take (c.args.n - c.shared-shared.ensures k) (sym at.2 k))) in
     record { nested = all.nested; fresh = all.fresh }
-
-pub returns : goal.returns
-returns c = grind (arith, stretch_at, left)
