@@ -1,6 +1,8 @@
 -- What loading a text gives.
-use Rattle.std.proofs.Common.{◌≡◌, ◌≤◌, inl, inr, ℕ, List, [], length, codes, Some, Err, sym, subst, arith}
-use Rattle.rd_trace.proofs.Prelude.{IsDistinct, Data, MOST_MARKS, HaveDifferentNames, LoadTraceFault, BadTrace, Flawed, TraceMark, TraceStep, Start, number_at, IsStart, HasActorCount, Trace, IsEither, HasValue, IsTraceText, IsTraceRing, LoadsValue, LoadsTrace}
+use Rattle.std.proofs.Common.{◌≡◌, ◌≤◌, ◌+◌, inl, inr, ℕ, List, [], ◌∷◌, length, codes, Option, Some, option_map, Result, Err, sym, subst, arith}
+use Rattle.std.specs.Option.{option_or}
+use Rattle.rd_trace.proofs.Prelude.{IsDistinct, Data, World, Refusal, Mark, book_state, loaded_state, first_refused, first_refused_mark, Replays, MOST_MARKS, HaveDifferentNames, LoadTraceFault, BadTrace, Flawed, TraceMark, TraceStep, Start, number_at, IsStart, HasActorCount, Trace, IsEither, HasValue, IsTraceText, IsTraceRing, LoadsValue, LoadsTrace}
+use Rattle.rd_marks.specs.declared.books.Book.{Book}
 use Rattle.rd_trace.specs.declared.faults.LoadTraceFault.TheVariants.{NoMemory}
 
 -- What a session that is spelled keeps
@@ -45,3 +47,15 @@ module _ (text : List ℕ) (d : Data) (value : HasValue text d) (Q : ℕ) (ring 
   loads_none (Flawed flaw) h = (Q, h.0, is_text h.0 h.1, h.2)
   loads_none (TraceMark m n cause) h = (Q, h.0, is_text h.0 h.1, h.2)
   loads_none (TraceStep n cause) h = (Q, h.0, is_text h.0 h.1, h.2)
+
+-- What loading a value gives
+
+not_bad : (n : ℕ) (o : Option (ℕ × Refusal)) (later : Option LoadTraceFault) → (later ≡ Some BadTrace → ⊥) → option_or (option_map (λ r. TraceMark n r.0 r.1) o) later ≡ Some BadTrace → ⊥
+not_bad n o later good h = grind arith
+
+marks_not_bad : (w : World) (n : ℕ) (ms : List Mark) → first_refused_mark w n ms ≡ Some BadTrace → ⊥
+marks_not_bad w n [] h = cc
+marks_not_bad w n (m ∷ ms) h = not_bad (n + 1) (first_refused w [] m.events) (first_refused_mark w (n + 1) ms) (marks_not_bad w (n + 1) ms) h
+
+pub loads_value : {R : ℕ} (d : Data) (t : Trace R) → IsEither d t → (r : Result (Book R) LoadTraceFault) → Replays (λ (book : Book R). book_state book ≡ loaded_state t) t r → LoadsValue d r
+loads_value d t is r h = grind (arith, marks_not_bad)

@@ -1,11 +1,12 @@
 -- Bookmarks as values.
-use Rattle.std.proofs.Common.{◌≡◌, ℕ, nat_eq, nat_lt, zero, suc, ◌+◌, ◌<◌, ◌≤◌, true, false, ◌||◌, List, [], ◌∷◌, ◌++◌, map, length, get_or, take, drop, slice_get, codes, Decides, Option, Some, None, ok_or, option_map, IfSome, Ok, inl, inr, refl, sym, ap, ap₂, ◌∙◌, subst, arith}
+use Rattle.std.proofs.Common.{◌≡◌, ℕ, nat_eq, nat_lt, zero, suc, ◌+◌, ◌<◌, ◌≤◌, true, false, ◌||◌, List, [], ◌∷◌, ◌++◌, map, Bool, length, get_or, take, drop, slice_get, codes, Decides, Option, Some, None, ok_or, option_map, IfSome, Ok, inl, inr, refl, sym, ap, ap₂, ◌∙◌, subst, arith}
 use Rattle.rd_trace.proofs.Prelude.{AllByRecursion, list_any, list_all, IsDistinct, and_parts, or_cases, eqb-true, true≢false, false≢true, same_Some, map_push, take_all, length-take-le, IsDistinct-head, IsDistinct-tail, IsDistinct-push, escape, escape_byte, escape_byte_plain, Data, view, items_view, compact_text, comma_if, MarkName, Event, MOST_MARKS, is_name_byte, is_mark_name, bytes_of, mark_name_eq, HaveDifferentNames, Mark, BookState, mark_at, mark_events, result_map, Gives, SpellEach, items_by, event_of, event_data, IsMark, AreMarks, saved_mark, mark_data, AreAppended, IsMarkAppended, SavedMark}
 use Rattle.rd_marks.proofs.MarkLemmas.{name_and_length}
 use Rattle.std.specs.Cmp.{IsEquivalence}
+use Rattle.std.proofs.lemmas.Option.{slice_get_within}
 use Rattle.std.proofs.lemmas.Slice.Eq.{bytes_eq-Decides}
 use Rattle.serde_json.specs.declared.value.Value.{Value}
-use Rattle.rd_trace.proofs.SpellLemmas.{split_at, spelled_at, spelled_length, spell_each-more}
+use Rattle.rd_trace.proofs.SpellLemmas.{split_at, take_got, some_got, spelled_at, spelled_length, spell_each-more}
 use Rattle.rd_trace.proofs.TextLemmas.{each_spelled, list_back, one_more_appended, two_parts, mark_text}
 use Rattle.rd_cell.specs.declared.refusal.Refusal.TheVariants as refusal
 
@@ -49,14 +50,9 @@ taken_twice (x ∷ xs) ws v (p ∷ os) o ours is taken (m ∷ ms) h distinct =
       | inr e ↦ taken_twice xs ws v os o ours.1 is e ms h.1 (IsDistinct-tail mark_name_eq m.name (map (λ n. n.name) ms) distinct)
     ]
 
-any_saved : (name : MarkName) (marks : List SavedMark)
-    → list_any (λ m. mark_name_eq name m.name) (map saved_mark marks) ≡ list_any (λ m. mark_name_eq name m.name) marks
-any_saved name [] = refl
-any_saved name (m ∷ marks) = ap (λ b. mark_name_eq name m.name || b) (any_saved name marks)
-
-any_named : (name : MarkName) (ms : List Mark) → list_any (mark_name_eq name) (map (λ m. m.name) ms) ≡ list_any (λ m. mark_name_eq name m.name) ms
-any_named name [] = refl
-any_named name (m ∷ ms) = ap (λ b. mark_name_eq name m.name || b) (any_named name ms)
+any_of_map : {X Y : Type 0} (f : X → Y) (test : Y → Bool) (xs : List X) → list_any test (map f xs) ≡ list_any (λ x. test (f x)) xs
+any_of_map f test [] = refl
+any_of_map f test (x ∷ xs) = ap (λ b. test (f x) || b) (any_of_map f test xs)
 
 -- the bookmarks that the first values of a list spell
 pub record AreRead (vs : List Value) (i : ℕ) (marks : List SavedMark) : Type 0 where
@@ -76,7 +72,7 @@ module _ (vs : List Value) (i : ℕ) (v : Value) (within : i < length vs) (is : 
     -- one whose name is taken
     pub name_taken : list_any (λ o. mark_name_eq m.name o.name) marks ≡ true → (ms : List Mark) → AreMarks (items_view vs) ms → ⊥
     name_taken taken ms k =
-        taken_twice (take i vs) (drop (i + 1) vs) v (map saved_mark marks) (saved_mark m) so_far.each spells (any_saved m.name marks ∙ taken) ms
+        taken_twice (take i vs) (drop (i + 1) vs) v (map saved_mark marks) (saved_mark m) so_far.each spells (any_of_map saved_mark (λ o. mark_name_eq m.name o.name) marks ∙ taken) ms
         (subst (λ (xs : List Value). SpellEach IsMark (items_view xs) ms) (split_at vs i v within is) k.each) k.names
 
     -- one whose name isn't
@@ -91,7 +87,7 @@ module _ (vs : List Value) (i : ℕ) (v : Value) (within : i < length vs) (is : 
               subst (λ (ms : List Mark). HaveDifferentNames ms) (sym saved)
               (subst (λ (ns : List MarkName). IsDistinct mark_name_eq ns) (sym names)
               (IsDistinct-push name_laws (map (λ n. n.name) (map saved_mark marks)) m.name so_far.names
-              (any_named m.name (map saved_mark marks) ∙ any_saved m.name marks ∙ free)));
+              (any_of_map (λ n. n.name) (mark_name_eq m.name) (map saved_mark marks) ∙ any_of_map saved_mark (λ o. mark_name_eq m.name o.name) marks ∙ free)));
         }
 
 -- all values were read
@@ -104,49 +100,31 @@ too_many vs many ms h = omega (arith, many, h.few, spelled_length IsMark vs ms h
 
 -- ---- lists that are written
 
--- the list up to a bookmark and with it
-with_next : (ms : List Mark) (i : ℕ) (m : Mark) → slice_get ms i ≡ Some m → take (suc i) ms ≡ take i ms ++ m ∷ []
-with_next [] i m h = absurd (cc)
-with_next (n ∷ ms) zero m h = let same : n ≡ m = cc in ap (λ x. x ∷ []) same
-with_next (n ∷ ms) (suc i) m h = ap (λ xs. n ∷ xs) (with_next ms i m h)
-
-next_there : (ms : List Mark) (i : ℕ) → i < length ms → ((m : Mark) → slice_get ms i ≡ Some m → ⊥) → ⊥
-next_there [] i within none = omega (arith, within)
-next_there (m ∷ ms) zero within none = none m refl
-next_there (m ∷ ms) (suc i) within none = next_there ms i (omega (arith, within)) none
-
-within_bound : (ms : List Mark) (i : ℕ) (m : Mark) → slice_get ms i ≡ Some m → i ≤ length ms
-within_bound [] i m h = absurd (cc)
-within_bound (n ∷ ms) zero m h = omega arith
-within_bound (n ∷ ms) (suc i) m h = omega (arith, within_bound ms i m h)
-
 module _ (ms : List Mark) (i : ℕ) (name : MarkName) (len : ℕ) (old mid comma new : List ℕ) (so_far : AreAppended IsMark mark_data (take i ms) old mid)
     (more : comma ≡ mid ++ comma_if (nat_lt 0 i)) where
   next_appended_of : (o : Option Mark) → slice_get ms i ≡ o → result_map name_and_length (ok_or o refusal.NoMark) ≡ Ok (name, len)
-      → IfSome (option_map (λ m. m.events) o) (λ es. IsMarkAppended (record { name = name; events = es }) comma new) → AreAppended IsMark mark_data (take (suc i) ms) old new
+      → IfSome (option_map (λ m. m.events) o) (λ es. IsMarkAppended (record { name = name; events = es }) comma new) → AreAppended IsMark mark_data (take (i + 1) ms) old new
   next_appended_of None there found h = absurd (cc)
   next_appended_of (Some m) there found h =
       let both : (m.name, length m.events) ≡ (name, len) = cc in
       let same : m.name ≡ name = ap (λ (p : MarkName × ℕ). p.0) both in
       let is : IsMarkAppended m comma new = subst (λ (n : MarkName). IsMarkAppended (record { name = n; events = m.events }) comma new) (sym same) h in
-      subst (λ (ns : List Mark). AreAppended IsMark mark_data ns old new) (sym (with_next ms i m there))
-      (one_more_appended IsMark mark_data (take i ms) m i old mid new (length-take-le i ms (within_bound ms i m there)) so_far (two_parts mid comma new (comma_if (nat_lt 0 i)) (compact_text (mark_data m)) more is.text) is.kept)
+      one_more_appended IsMark mark_data ms i m old mid new (omega (arith, slice_get_within ms i m there)) (take_got ms i m there) so_far
+      (two_parts mid comma new (comma_if (nat_lt 0 i)) (compact_text (mark_data m)) more is.text) is.kept
 
 module _ (b : BookState) (i n : ℕ) (next : n ≡ suc i) where
   -- one more bookmark is in the text
   pub next_appended : (name : MarkName) (len : ℕ) (old mid comma new : List ℕ) → AreAppended IsMark mark_data (take i b.marks) old mid → mark_at b n ≡ Ok (name, len)
       → comma ≡ mid ++ comma_if (nat_lt 0 i) → IfSome (mark_events b n) (λ es. IsMarkAppended (record { name = name; events = es }) comma new)
-      → AreAppended IsMark mark_data (take n b.marks) old new
+      → AreAppended IsMark mark_data (take (i + 1) b.marks) old new
   next_appended name len old mid comma new so_far found more h =
-      subst (λ (k : ℕ). AreAppended IsMark mark_data (take k b.marks) old new) (sym next)
-      (next_appended_of b.marks i name len old mid comma new so_far more (slice_get b.marks i) refl
-      (subst (λ (k : ℕ). mark_at b k ≡ Ok (name, len)) next found)
-      (subst (λ (k : ℕ). IfSome (mark_events b k) (λ es. IsMarkAppended (record { name = name; events = es }) comma new)) next h))
+      next_appended_of b.marks i name len old mid comma new so_far more (slice_get b.marks i) refl (subst (λ (k : ℕ). mark_at b k ≡ Ok (name, len)) next found)
+      (subst (λ (k : ℕ). IfSome (mark_events b k) (λ es. IsMarkAppended (record { name = name; events = es }) comma new)) next h)
 
   -- there is one at each number
   pub some_mark : i < length b.marks → ((name : MarkName) (len : ℕ) → mark_at b n ≡ Ok (name, len) → ⊥) → ⊥
   some_mark within none =
-      next_there b.marks i within (λ m h. none m.name (length m.events) (ap (mark_at b) next ∙ ap (λ (o : Option Mark). result_map name_and_length (ok_or o refusal.NoMark)) h))
+      some_got b.marks i within (λ m h. none m.name (length m.events) (ap (mark_at b) next ∙ ap (λ (o : Option Mark). result_map name_and_length (ok_or o refusal.NoMark)) h))
 
 plain_byte : (x : ℕ) → is_name_byte x ≡ true → escape_byte x ≡ x ∷ []
 plain_byte x h = grind (arith, or_cases, eqb-true, escape_byte_plain)

@@ -27,45 +27,25 @@ same_actor d a b h k = grind arith
 
 -- ---- the array
 
--- what is in front, and what is after it
 abbrev front_number : List (ℕ × ArrSlot) → ℕ
 front_number [] = 0
 front_number (s ∷ ss) = s.0
-
-abbrev front_slot : List (ℕ × ArrSlot) → ArrSlot
-front_slot [] = slot.Empty
-front_slot (s ∷ ss) = s.1
-
-abbrev behind_front : List (ℕ × ArrSlot) → List (ℕ × ArrSlot)
-behind_front [] = []
-behind_front (s ∷ ss) = ss
 
 -- none has a position before the first one's
 later_slot : (j : ℕ) (slots : List ArrSlot) (i : ℕ) (s : ArrSlot) (rest : List (ℕ × ArrSlot)) → filled_slots j slots ≡ (i, s) ∷ rest → j ≤ i
 later_slot j [] i s rest h = absurd (cc)
 later_slot j (slot.Empty ∷ slots) i s rest h = let k = later_slot (suc j) slots i s rest h in omega (arith, k)
-later_slot j (slot.Top ∷ slots) i s rest h = let e = ap front_number h in omega (arith, e)
-later_slot j (slot.Value x ∷ slots) i s rest h = let e = ap front_number h in omega (arith, e)
+later_slot j (slot.Top ∷ slots) i s rest h = omega (arith, ap front_number h)
+later_slot j (slot.Value x ∷ slots) i s rest h = omega (arith, ap front_number h)
 
 none_before : (i : ℕ) (slots : List ArrSlot) (s : ArrSlot) (rest : List (ℕ × ArrSlot)) → filled_slots (suc i) slots ≡ (i, s) ∷ rest → ⊥
 none_before i slots s rest h = let k = later_slot (suc i) slots i s rest h in omega (arith, k)
 
-fewer : {X : Type 0} (x y : X) (xs ys : List X) → length (x ∷ xs) ≡ length (y ∷ ys) → length xs ≡ length ys
-fewer x y xs ys h = omega (arith, h)
-
 same_slots : (i : ℕ) (xs ys : List ArrSlot) → length xs ≡ length ys → filled_slots i xs ≡ filled_slots i ys → xs ≡ ys
 same_slots i [] [] n h = refl
-same_slots i [] (b ∷ ys) n h = absurd (omega (arith, n))
-same_slots i (a ∷ xs) [] n h = absurd (omega (arith, n))
-same_slots i (slot.Empty ∷ xs) (slot.Empty ∷ ys) n h = ap (λ l. slot.Empty ∷ l) (same_slots (suc i) xs ys (fewer slot.Empty slot.Empty xs ys n) h)
-same_slots i (slot.Empty ∷ xs) (slot.Top ∷ ys) n h = absurd (none_before i xs slot.Top (filled_slots (suc i) ys) h)
-same_slots i (slot.Empty ∷ xs) (slot.Value y ∷ ys) n h = absurd (none_before i xs (slot.Value y) (filled_slots (suc i) ys) h)
-same_slots i (slot.Top ∷ xs) (slot.Empty ∷ ys) n h = absurd (none_before i ys slot.Top (filled_slots (suc i) xs) (sym h))
-same_slots i (slot.Top ∷ xs) (slot.Top ∷ ys) n h = ap (λ l. slot.Top ∷ l) (same_slots (suc i) xs ys (fewer slot.Top slot.Top xs ys n) (ap behind_front h))
-same_slots i (slot.Top ∷ xs) (slot.Value y ∷ ys) n h = let e : slot.Top ≡ slot.Value y = ap front_slot h in absurd (cc)
-same_slots i (slot.Value x ∷ xs) (slot.Empty ∷ ys) n h = absurd (none_before i ys (slot.Value x) (filled_slots (suc i) xs) (sym h))
-same_slots i (slot.Value x ∷ xs) (slot.Top ∷ ys) n h = let e : slot.Value x ≡ slot.Top = ap front_slot h in absurd (cc)
-same_slots i (slot.Value x ∷ xs) (slot.Value y ∷ ys) n h = ap₂ (λ s l. s ∷ l) (ap front_slot h) (same_slots (suc i) xs ys (fewer (slot.Value x) (slot.Value y) xs ys n) (ap behind_front h))
+same_slots i [] (b ∷ ys) n h = absurd (omega arith)
+same_slots i (a ∷ xs) [] n h = absurd (omega arith)
+same_slots i (a ∷ xs) (b ∷ ys) n h = let fewer : length xs ≡ length ys = omega arith in grind (arith, none_before, same_slots (suc i) xs ys fewer)
 
 same_array : (d : Data) (a b : ArrayParts) → IsArray d a → IsArray d b → a ≡ b
 same_array d a b h k =
@@ -269,12 +249,3 @@ same_book R Q t u same = record { session = λ i. record { start = (same i).worl
 pub one_trace : (text : List ℕ) (R Q : ℕ) (t : Trace R) (u : Trace Q) → IsTraceText text t → IsTraceText text u
     → (R ≡ Q) × (start_flaw t.start ≡ start_flaw u.start) × IsSameBook (loaded_state t) (loaded_state u)
 one_trace text R Q t u h k = let p = same_trace text R Q t u h k in (p.0, (λ i. (p.1 i).flaw), same_book R Q t u p.1)
-
--- the events that are seen of each bookmark can run from the start
-abbrev pub SeenGoThrough : World → List (List ℕ × List Event) → Type 0
-SeenGoThrough start [] = Unit {0}
-SeenGoThrough start (m ∷ ms) = GoThrough start m.1 × SeenGoThrough start ms
-
-pub seen_go : (start : World) (ms : List Mark) → MarksGoThrough start ms → SeenGoThrough start (map seen_mark ms)
-seen_go start [] h = tt
-seen_go start (m ∷ ms) h = (h.0, seen_go start ms h.1)

@@ -48,16 +48,16 @@ pub use Rattle.rd_trace.specs.Actors.{IsActor, actor_data, op_data, op_of_items,
 pub use Rattle.rd_trace.specs.Arrays.{IsArray, array_data, content_data, filled_slots, slot_data, slot_of, slot_of_items}
 pub use Rattle.rd_trace.specs.Bookmarks.{AreMarks, IsMark, mark_data, mark_object, saved_mark, saved_marks}
 pub use Rattle.rd_trace.specs.Events.{act_data, event_data, event_of, event_of_items, long_data, short_data}
-pub use Rattle.rd_trace.specs.Loading.{HasMarks, IsBookIn, IsPlayable, IsSameAnswer, LoadsAgain, LoadsTrace, Replays, fresh_state}
+pub use Rattle.rd_trace.specs.Loading.{IsBookIn, IsSameAnswer, LoadsAgain, LoadsTrace, Replays, first_refused_mark, fresh_state, trace_fault}
 pub use Rattle.rd_trace.specs.Names.{name_data, name_of, name_of_items, next_data, next_of}
 pub use Rattle.rd_trace.specs.Numbers.{byte_number, items_at, member_count, number_at}
 pub use Rattle.rd_trace.specs.Saved.{HasValue, IsEither, IsFirstTrace, IsSameBook, IsSecondTrace, IsTraceText, Trace, book_data, book_object, loaded_state, saved_trace, seen_mark}
 pub use Rattle.rd_trace.specs.Segments.{IsSegment, IsSegmentList, cell_data, cell_of, cell_of_items, list_data, segment_data}
 pub use Rattle.rd_trace.specs.Spelled.{AreSpelled, Gives, Reads, SpellEach, SpellEachAt, elements, items_by, itself}
-pub use Rattle.rd_trace.specs.Starts.{HasActorCount, IsFreshStart, IsParts, IsStart, IsStartData, SpellsWorld, fresh_data, parts_data, start_flaw, start_world}
-pub use Rattle.rd_trace.specs.Steps.{GoesTo, IsAt, IsFaultOfMark, IsFaultOfStep, LoadsValue, MakesLive, RefusesOne, SetsMarks}
+pub use Rattle.rd_trace.specs.Starts.{HasActorCount, IsFreshStart, IsParts, IsStart, IsStartData, IsStartValue, SpellsWorld, fresh_data, parts_data, start_flaw, start_world}
+pub use Rattle.rd_trace.specs.Steps.{GoesTo, LoadsValue, MakesLive, MakesWorld, RefusesOne, SetsMarks, unless_memory}
 pub use Rattle.rd_trace.specs.Texts.{AreAppended, IsKept, IsMarkAppended, IsReadBack, IsStartAppended, joined_text}
-pub use Rattle.rd_trace.specs.Traces.{IsMarkRefusedAt, IsRefusedAt, IsTraceRing, ring_length, session_at}
+pub use Rattle.rd_trace.specs.Traces.{IsTraceRing, first_refused, ring_length, session_at}
 pub use Rattle.rd_trace.specs.Writing.{IsTextOf}
 pub use Rattle.rd_trace.specs.declared.any_book.AnyBook.{AnyBook}
 pub use Rattle.rd_trace.specs.declared.bookmarks.SavedMark.{SavedMark}

@@ -1,65 +1,93 @@
 -- Steps that are made again: what goes through, and what is refused.
-use Rattle.rd_trace.proofs.Prelude.{common_steps, AllByRecursion, cond-false, IsDistinct-head, IsDistinct-tail, take-append_seam, drop-append_seam, append-nil, length-map, map-append, map_more, get_or-map, take_more, take_all, drop_all, take-take, take-append-drop, drop-append-le, length-take-le, length-drop, World, Refusal, Stepped, step, Ran, run, MOST_STEPS, preceded_by, and_then, result_map, Entry, Event, State, step_after, with_event, apply, back, MarkName, MOST_MARKS, bytes_of, mark_name_eq, Mark, BookState, with_session, marked_events, mark, GoThrough, MarksGoThrough, HaveDifferentNames, SavedMark, LoadTraceFault, saved_mark, start_world, start_flaw, Trace, loaded_state, session_at, IsRefusedAt, IsMarkRefusedAt, HasMarks, IsPlayable, Replays, IsAt, RefusesOne, GoesTo, MakesLive, SetsMarks, IsFaultOfStep, IsFaultOfMark}
-use Rattle.std.proofs.Common.{le-ltb, ◌≡◌, ◌≢◌, ◌⊎◌, inl, inr, ℕ, zero, suc, ◌+◌, ◌-◌, ◌<◌, ◌≤◌, ◌==◌, if◌then◌else◌, Bool, false, List, [], ◌∷◌, ◌++◌, length, take, drop, get_or, map, Some, None, is_some, Result, Ok, Err, IsOk, refl, sym, ap, ap₂, ◌∙◌, subst, arith, append_assoc, length-append, ne_eqb, eq-eqb}
+use Rattle.rd_trace.proofs.Prelude.{common_steps, AllByRecursion, cond-false, IsDistinct-head, IsDistinct-tail, take-append_seam, drop-append_seam, append-nil, length-map, map-append, map_more, get_or-map, take_more, take_all, drop_all, take-take, take-append-drop, drop-append-le, length-take-le, length-drop, World, Refusal, Stepped, step, Ran, run, MOST_STEPS, preceded_by, and_then, result_map, Entry, Event, State, step_after, with_event, apply, back, MarkName, MOST_MARKS, bytes_of, mark_name_eq, Mark, BookState, with_session, marked_events, mark, GoThrough, MarksGoThrough, HaveDifferentNames, SavedMark, LoadTraceFault, Flawed, TraceMark, TraceStep, saved_mark, start_world, start_flaw, Trace, loaded_state, session_at, first_refused, first_refused_mark, trace_fault, Replays, RefusesOne, GoesTo, MakesLive, SetsMarks, unless_memory}
+use Rattle.std.proofs.Common.{le-ltb, ◌≡◌, ◌≢◌, ◌⊎◌, inl, inr, ℕ, zero, suc, ◌+◌, ◌-◌, ◌<◌, ◌≤◌, ◌==◌, if◌then◌else◌, Bool, false, List, [], ◌∷◌, ◌++◌, length, take, drop, get_or, map, Some, None, is_some, Option, option_map, Result, Ok, Err, IsOk, refl, sym, ap, ap₂, ◌∙◌, subst, arith, append_assoc, length-append, ne_eqb, eq-eqb}
 use Rattle.std.proofs.lemmas.Cmp.{nat_list_eq_equiv}
+use Rattle.std.specs.Option.{option_or}
+use Rattle.std.specs.Result.{result_err}
 use Rattle.rd_step.specs.Run.{events}
+use Rattle.rd_step.proofs.Equivalence.{ran_through}
 use Rattle.rd_marks.specs.declared.replies.Reply.{Reply}
 use Rattle.rd_marks.specs.Books.{at_events}
 use Rattle.rd_marks.proofs.MarkLemmas.{with_marks}
 use Rattle.rd_marks.specs.Commands.{Answered, answer_with, Happened}
 use Rattle.rd_trace.specs.declared.replay.RefusedEvent.{RefusedEvent}
+use Rattle.rd_trace.specs.declared.faults.LoadTraceFault.TheVariants.{NoMemory}
 use Rattle.rd_trace.proofs.SpellLemmas.{split_at, take_item}
 use Rattle.rd_cell.specs.declared.refusal.Refusal.TheVariants as refusal
 
 -- Books and lists
-
-same_state : (s t : State) → s.start ≡ t.start → s.live ≡ t.live → s.undone ≡ t.undone → s ≡ t
-same_state s t start live undone = λ i. record { start = start i; live = live i; undone = undone i }
 
 -- a book that was opened over a session that was opened in a world
 pub opened : (b : BookState) (s : State) (v w : World) → b.session ≡ s → b.marks ≡ [] → s ≡ record { start = v; live = []; undone = [] } → v ≡ w
     → b ≡ record { session = record { start = w; live = []; undone = [] }; marks = [] }
 opened b s v w session marks state world = grind arith
 
--- Runs that go through
+-- The first event that is refused
 
--- the run of these events after a step, if it was not refused
-abbrev run_after : List Event → Result Stepped Refusal → Result Ran Refusal
-run_after es o = and_then o (λ s. result_map (preceded_by s.entry) (run s.world es))
+option_or_assoc : {X : Type 0} (o p q : Option X) → option_or o (option_or p q) ≡ option_or (option_or o p) q
+option_or_assoc None p q = refl
+option_or_assoc (Some x) p q = refl
 
-one_step : (o : Result Stepped Refusal) → IsOk o → IsOk (run_after [] o)
-one_step o k = grind arith
+not_refused : (s : State) (e : Event) (full : Bool) (o : Result Stepped Refusal) → full ≡ false → IsOk o → result_err (if full then Err refusal.TooLong else result_map (λ stepped. with_event s e) o) ≡ None
+not_refused s e full o room ok = grind arith
 
--- a run goes on with a step from its last world, if that is so from each world that its first step
--- leads to
-run_on : (es : List Event) (e : Event) → ((w : World) → IsOk (step_after (run w es) e) → IsOk (run w (es ++ e ∷ []))) → (o : Result Stepped Refusal)
-    → IsOk (step_after (run_after es o) e) → IsOk (run_after (es ++ e ∷ []) o)
-run_on es e from o k = grind arith
+-- the first refused event of one after these, which has this cause, if it is refused, and later ones
+abbrev then_refused : List Event → Option Refusal → Option (ℕ × Refusal) → Option (ℕ × Refusal)
+then_refused b cause later = option_or (option_map (λ c. (length b + 1, c)) cause) later
 
--- a run goes on with a step from its last world
-run_last : (w : World) (es : List Event) (e : Event) → IsOk (step_after (run w es) e) → IsOk (run w (es ++ e ∷ []))
-run_last w [] e h = one_step (step w e) h
-run_last w (x ∷ es) e h = run_on es e (λ v k. run_last v es e k) (step w x) h
+module _ (w : World) where
+  first_refused-append : (b xs ys : List Event) → first_refused w b (xs ++ ys) ≡ option_or (first_refused w b xs) (first_refused w (b ++ xs) ys)
+  first_refused-append b [] ys = ap (λ (l : List Event). first_refused w l ys) (sym (append-nil b))
+  first_refused-append b (x ∷ xs) ys =
+      let here = option_map (λ c. (length b + 1, c)) (result_err (apply (session_at w b) x)) in
+      let rest = first_refused w (b ++ x ∷ []) xs in
+      ap (option_or here) (first_refused-append (b ++ x ∷ []) xs ys ∙ ap (λ (l : List Event). option_or rest (first_refused w l ys)) (append_assoc b (x ∷ []) xs))
+      ∙ option_or_assoc here rest (first_refused w (b ++ x ∷ xs) ys)
+
+  happens_by : (r : Result Ran Refusal) (e : Event) (ran : Ran) (one : Stepped) → r ≡ Ok ran → step ran.world e ≡ Ok one → IsOk (step_after r e)
+  happens_by r e ran one runs goes = grind arith
+
+  -- an event of a run that is not refused happens in the last world of those before it
+  happens_in : (b : List Event) (e : Event) (es : List Event) (o : Result Ran Refusal) → run w (b ++ e ∷ es) ≡ o → IsOk o → IsOk (step_after (run w b) e)
+  happens_in b e es (Ok ran) is ok =
+      let t = ran_through w b e es ran is in happens_by (run w b) e t.before t.one t.runs t.goes
+  happens_in b e es (Err cause) is ok = absurd cc
+
+  -- events that can run are not refused
+  pub none_refused : (b es : List Event) → GoThrough w (b ++ es) → first_refused w b es ≡ None
+  none_refused b [] h = refl
+  none_refused b (e ∷ es) h =
+      let room = ne_eqb (length b) MOST_STEPS (omega (arith, h.few, length-append b (e ∷ es))) in
+      let here = not_refused (session_at w b) e _ _ room (happens_in b e es (run w (b ++ e ∷ es)) refl h.runs) in
+      let rest = none_refused (b ++ e ∷ []) es (subst (GoThrough w) (sym (append_assoc b (e ∷ []) es)) h) in
+      ap₂ (then_refused b) here rest
+
+  marks-append : (n : ℕ) (xs ys : List Mark) → first_refused_mark w n (xs ++ ys) ≡ option_or (first_refused_mark w n xs) (first_refused_mark w (n + length xs) ys)
+  marks-append n [] ys = let at : n ≡ n + 0 = omega arith in ap (λ (k : ℕ). first_refused_mark w k ys) at
+  marks-append n (x ∷ xs) ys =
+      let here = option_map (λ (r : ℕ × Refusal). TraceMark (n + 1) r.0 r.1) (first_refused w [] x.events) in
+      let rest = first_refused_mark w (n + 1) xs in
+      let at : n + 1 + length xs ≡ n + suc (length xs) = omega arith in
+      ap (option_or here) (marks-append (n + 1) xs ys ∙ ap (λ (k : ℕ). option_or rest (first_refused_mark w k ys)) at)
+      ∙ option_or_assoc here rest (first_refused_mark w (n + suc (length xs)) ys)
+
+  pub no_mark_refused : (n : ℕ) (ms : List Mark) → MarksGoThrough w ms → first_refused_mark w n ms ≡ None
+  no_mark_refused n [] h = refl
+  no_mark_refused n (m ∷ ms) h =
+      ap₂ (λ (o : Option (ℕ × Refusal)) (later : Option LoadTraceFault). option_or (option_map (λ (r : ℕ × Refusal). TraceMark (n + 1) r.0 r.1) o) later) (none_refused [] m.events h.0)
+      (no_mark_refused (n + 1) ms h.1)
 
 -- One event
 
--- what an event that happened leaves, and what it shows of its step
-applied_parts : (s after : State) (e : Event) (full : Bool) (o : Result Stepped Refusal) → (if full then Err refusal.TooLong else result_map (λ stepped. with_event s e) o) ≡ Ok after
-    → (full ≡ false) × IsOk o × (after ≡ record { start = s.start; live = s.live ++ e ∷ []; undone = [] })
-applied_parts s after e full o h = grind arith
-
-not_full : (n : ℕ) → n ≤ MOST_STEPS → (n == MOST_STEPS) ≡ false → n + 1 ≤ MOST_STEPS
-not_full n few other = let apart : n ≢ MOST_STEPS = λ e. cc (eq-eqb n MOST_STEPS e, other) in omega (arith, few, apart)
-
--- whether it was memory that was refused
-is_memory : (cause : Refusal) → (cause ≡ refusal.NoMemory) ⊎ (cause ≢ refusal.NoMemory)
-is_memory cause = grind arith
+-- what an event that happened leaves
+applied : (s after : State) (e : Event) (full : Bool) (o : Result Stepped Refusal) → (if full then Err refusal.TooLong else result_map (λ stepped. with_event s e) o) ≡ Ok after → after ≡ with_event s e
+applied s after e full o h = grind arith
 
 pub none_stepped : (b : BookState) → GoThrough b.session.start b.session.live → b.session.undone ≡ [] → GoesTo b (b.session.live ++ []) b (Ok tt)
 none_stepped b through none =
     let all = sym (append-nil b.session.live) in (
       (λ i. record { session = record { start = b.session.start; live = all i; undone = none i }; marks = b.marks }),
-      subst (λ (es : List Event). GoThrough b.session.start es) all through,
+      none_refused b.session.start [] _ (subst (λ (es : List Event). GoThrough b.session.start es) all through),
     )
 
 -- the events before this one happened so far
@@ -67,37 +95,34 @@ module _ (old now : BookState) (es : List Event) (i : ℕ) (e : Event) (within :
   at_now : apply now.session e ≡ apply (session_at old.session.start (old.session.live ++ take i es)) e
   at_now = ap (λ (b : BookState). apply b.session e) so_far.0
 
+  -- the first refused event of those so far, this one and later ones, by the answer to this one
+  from_here : (later : List Event) (answer : Result State Refusal) → apply now.session e ≡ answer → first_refused old.session.start [] ((old.session.live ++ take i es) ++ e ∷ later)
+      ≡ then_refused (old.session.live ++ take i es) (result_err answer) (first_refused old.session.start ((old.session.live ++ take i es) ++ e ∷ []) later)
+  from_here later answer said =
+      let w = old.session.start in
+      let live = old.session.live ++ take i es in
+      first_refused-append w [] live (e ∷ later) ∙ ap (λ (o : Option (ℕ × Refusal)). option_or o (first_refused w live (e ∷ later))) so_far.1
+      ∙ ap (λ (r : Result State Refusal). then_refused live (result_err r) (first_refused w (live ++ e ∷ []) later)) (sym at_now ∙ said)
+
   pub one_stepped : (after : BookState) → apply now.session e ≡ Ok after.session → after.marks ≡ now.marks → GoesTo old (old.session.live ++ take (i + 1) es) after (Ok tt)
   one_stepped after h marks =
       let w = old.session.start in
       let live = old.session.live ++ take i es in
-      let p = applied_parts (session_at w live) after.session e _ _ (sym at_now ∙ h) in
-      let through : GoThrough w (live ++ e ∷ []) = grind (arith, length-append, not_full, run_last) in
+      let left = applied (session_at w live) after.session e _ _ (sym at_now ∙ h) in
       let all : live ++ e ∷ [] ≡ old.session.live ++ take (i + 1) es =
       append_assoc old.session.live (take i es) (e ∷ []) ∙ ap (λ (fs : List Event). old.session.live ++ fs) (sym (take_item es i e within is)) in
       subst (λ (done : List Event). GoesTo old done after (Ok tt)) all
-      ((λ j. record { session = p.2 j; marks = (marks ∙ ap (λ (b : BookState). b.marks) so_far.0) j }), through)
-
-  refused_at : (n : ℕ) (cause : Refusal) → n ≡ length now.session.live + 1 → apply now.session e ≡ Err cause
-      → IsRefusedAt old.session.start (old.session.live ++ es) n cause
-  refused_at n cause number h = record {
-    before = old.session.live ++ take i es;
-    event = e;
-    later = drop (i + 1) es;
-    all =
-        grind (arith, split_at, append_assoc);
-    number = number ∙ ap (λ (b : BookState). length b.session.live + 1) so_far.0;
-    through = so_far.1;
-    refused = sym at_now ∙ h;
-  }
+      ((λ j. record { session = left j; marks = (marks ∙ ap (λ (b : BookState). b.marks) so_far.0) j }), from_here [] (Ok after.session) h)
 
   pub one_refused : (n : ℕ) (cause : Refusal) → n ≡ length now.session.live + 1 → (apply now.session e ≡ Err cause) ⊎ (cause ≡ refusal.NoMemory)
       → RefusesOne old.session.start (old.session.live ++ es) (record { step = n; cause = cause })
   one_refused n cause number (inr memory) = inl memory
-  one_refused n cause number (inl h) = elim (is_memory cause) [
-    | inl memory ↦ inl memory
-    | inr other ↦ inr (other, refused_at n cause number h)
-  ]
+  one_refused n cause number (inl h) =
+      let live = old.session.live ++ take i es in
+      let all : old.session.live ++ es ≡ live ++ e ∷ drop (i + 1) es =
+      ap (λ (fs : List Event). old.session.live ++ fs) (split_at es i e within is) ∙ sym (append_assoc old.session.live (take i es) (e ∷ drop (i + 1) es)) in
+      let here : length live + 1 ≡ n = sym (number ∙ ap (λ (b : BookState). length b.session.live + 1) so_far.0) in
+      inr (ap (first_refused old.session.start []) all ∙ from_here (drop (i + 1) es) (Err cause) h ∙ ap (λ (m : ℕ). Some (m, cause)) here)
 
 pub all_of : (old new : BookState) (es : List Event) (i : ℕ) → length es ≤ i → GoesTo old (old.session.live ++ take i es) new (Ok tt) → GoesTo old (old.session.live ++ es) new (Ok tt)
 all_of old new es i all h = subst (λ (done : List Event). GoesTo old (old.session.live ++ done) new (Ok tt)) (take_all i es all) h
@@ -154,35 +179,41 @@ rest_of k es = take_all (length es - k) (drop k es) (omega (arith, length-drop k
 
 -- And undone ones after them
 
-refused_before : (w : World) (es fs : List Event) (n : ℕ) (cause : Refusal) → IsRefusedAt w es n cause → IsRefusedAt w (es ++ fs) n cause
-refused_before w es fs n cause k = grind (arith, append_assoc)
-
 pub live_refused : (w : World) (es fs : List Event) (refused : RefusedEvent) → RefusesOne w es refused → RefusesOne w (es ++ fs) refused
-live_refused w es fs refused k = grind (arith, refused_before)
+live_refused w es fs refused (inl memory) = inl memory
+live_refused w es fs refused (inr h) = inr (first_refused-append w [] es fs ∙ ap (λ (o : Option (ℕ × Refusal)). option_or o (first_refused w es fs)) h)
 
-pub undone_refused : (old mid new : BookState) (es fs : List Event) (refused : RefusedEvent) → IsAt old es mid → GoesTo mid (mid.session.live ++ fs) new (Err refused)
+pub undone_refused : (old mid new : BookState) (es fs : List Event) (refused : RefusedEvent) → mid ≡ at_events old es → GoesTo mid (mid.session.live ++ fs) new (Err refused)
     → RefusesOne old.session.start (es ++ fs) refused
 undone_refused old mid new es fs refused at h = subst (λ (b : BookState). RefusesOne b.session.start (b.session.live ++ fs) refused) at h
 
-all_behind : (old mid now : BookState) (es fs : List Event) → IsAt old es mid → GoesTo mid (mid.session.live ++ fs) now (Ok tt) → GoesTo old (es ++ fs) now (Ok tt)
+all_behind : (old mid now : BookState) (es fs : List Event) → mid ≡ at_events old es → GoesTo mid (mid.session.live ++ fs) now (Ok tt) → GoesTo old (es ++ fs) now (Ok tt)
 all_behind old mid now es fs at h = subst (λ (b : BookState). GoesTo b (b.session.live ++ fs) now (Ok tt)) at h
 
 back_to : (w : World) (es fs : List Event) (t : State) → back (session_at w (es ++ fs)) (length fs) ≡ Ok t → t ≡ record { start = w; live = es; undone = fs }
 back_to w es fs t goes =
     back_left (length fs) (length es) (session_at w (es ++ fs)) t (omega (arith, length-append es fs)) goes
-    ∙ same_state (record { start = w; live = take (length es) (es ++ fs); undone = drop (length es) (es ++ fs) ++ [] }) (record { start = w; live = es; undone = fs }) refl
-    (take-append_seam es fs) (append-nil (drop (length es) (es ++ fs)) ∙ drop-append_seam es fs)
+    ∙ (λ i. record {
+      start = w;
+      live = take-append_seam es fs i;
+      undone = (append-nil (drop (length es) (es ++ fs)) ∙ drop-append_seam es fs) i;
+    })
 
 -- this many events are live that those after can be undone
-pub enough_live : (old mid now : BookState) (es fs : List Event) → IsAt old es mid → GoesTo mid (mid.session.live ++ fs) now (Ok tt) → length fs ≤ length now.session.live
+pub enough_live : (old mid now : BookState) (es fs : List Event) → mid ≡ at_events old es → GoesTo mid (mid.session.live ++ fs) now (Ok tt) → length fs ≤ length now.session.live
 enough_live old mid now es fs at h = omega (arith, ap (λ (b : BookState). length b.session.live) (all_behind old mid now es fs at h).0, length-append es fs)
 
-pub made_live : (old mid now new : BookState) (es fs : List Event) → IsAt old es mid → GoesTo mid (mid.session.live ++ fs) now (Ok tt)
+pub made_live : (old mid now new : BookState) (es fs : List Event) → mid ≡ at_events old es → GoesTo mid (mid.session.live ++ fs) now (Ok tt)
     → back now.session (length fs) ≡ Ok new.session → new.marks ≡ now.marks → MakesLive old es fs new (Ok tt)
 made_live old mid now new es fs at h goes marks =
     let there = all_behind old mid now es fs at h in
     let its = back_to old.session.start es fs new.session (ap (λ (b : BookState). back b.session (length fs)) (sym there.0) ∙ goes) in
     ((λ i. record { session = its i; marks = (marks ∙ ap (λ (b : BookState). b.marks) there.0) i }), there.1)
+
+-- the fault of a refused event: of memory, or by what else refused it
+fault_told : (cause : Refusal) (told fault : LoadTraceFault) (P Q : Type 0) → (cause ≡ refusal.NoMemory) ⊎ P → fault ≡ unless_memory cause told → (P → fault ≡ told → Q)
+    → (fault ≡ NoMemory) ⊎ Q
+fault_told cause told fault P Q why is follows = grind arith
 
 -- Bookmarks
 
@@ -190,14 +221,10 @@ made_live old mid now new es fs at h goes marks =
 pub record HasSet (old now : BookState) (done : List Mark) : Type 0 where
   pub marks : now.marks ≡ done
   pub start : now.session.start ≡ old.session.start
-  pub through : MarksGoThrough old.session.start done
+  pub none : first_refused_mark old.session.start 0 done ≡ None
 
 pub none_set : (b : BookState) → b.marks ≡ [] → HasSet b b []
-none_set b h = record { marks = h; start = refl; through = tt }
-
-one_more_goes : (w : World) (ms : List Mark) (m : Mark) → MarksGoThrough w ms → GoThrough w m.events → MarksGoThrough w (ms ++ m ∷ [])
-one_more_goes w [] m h k = (k, tt)
-one_more_goes w (x ∷ ms) m h k = (h.0, one_more_goes w ms m h.1 k)
+none_set b h = record { marks = h; start = refl; none = refl }
 
 mark_set : (after x : BookState) (taken full : Bool) → (if taken then Err refusal.MarkTaken else if full then Err refusal.TooManyMarks else Ok x) ≡ Ok after → after ≡ x
 mark_set after x taken full h = grind arith
@@ -222,6 +249,17 @@ none_taken (x ∷ before) m later h =
     ∙ none_taken before m later (IsDistinct-tail mark_name_eq x.name names h)
 
 module _ (old now : BookState) (ms : List SavedMark) (i : ℕ) (m : SavedMark) (within : i < length ms) (is : m ≡ get_or ms i m) (so_far : HasSet old now (map saved_mark (take i ms))) where
+  -- the first refused event of the bookmarks so far, this one and later ones, by that of this one
+  from_mark : (later : List Mark) (o : Option (ℕ × Refusal)) → first_refused old.session.start [] m.events.items ≡ o
+      → first_refused_mark old.session.start 0 (map saved_mark (take i ms) ++ saved_mark m ∷ later)
+      ≡ option_or (option_map (λ (r : ℕ × Refusal). TraceMark (i + 1) r.0 r.1) o) (first_refused_mark old.session.start (i + 1) later)
+  from_mark later o said =
+      let w = old.session.start in
+      let done = map saved_mark (take i ms) in
+      let count : 0 + length done ≡ i = omega (arith, length-map (take i ms) saved_mark, length-take-le i ms (omega arith)) in
+      marks-append w 0 done (saved_mark m ∷ later) ∙ ap (λ (p : Option LoadTraceFault). option_or p (first_refused_mark w (0 + length done) (saved_mark m ∷ later))) so_far.none
+      ∙ ap₂ (λ (k : ℕ) (p : Option (ℕ × Refusal)). option_or (option_map (λ (r : ℕ × Refusal). TraceMark (k + 1) r.0 r.1) p) (first_refused_mark w (k + 1) later)) count said
+
   pub one_set : (mid after : BookState) → GoesTo now m.events.items mid (Ok tt) → mark mid m.name ≡ Ok after → HasSet old after (map saved_mark (take (i + 1) ms))
   one_set mid after goes made =
       let set : after ≡ with_marks mid (mid.marks ++ record { name = m.name; events = mid.session.live } ∷ []) = mark_set after _ _ _ made in
@@ -233,8 +271,7 @@ module _ (old now : BookState) (ms : List SavedMark) (i : ℕ) (m : SavedMark) (
       (record {
         marks = ap (λ (b : BookState). b.marks) there ∙ ap (λ (done : List Mark). done ++ saved_mark m ∷ []) so_far.marks;
         start = ap (λ (b : BookState). b.session.start) there ∙ so_far.start;
-        through =
-            grind (arith, one_more_goes);
+        none = from_mark [] None (subst (λ (w : World). first_refused w [] m.events.items ≡ None) so_far.start goes.1);
       })
 
   placed : map saved_mark ms ≡ map saved_mark (take i ms) ++ saved_mark m ∷ map saved_mark (drop (i + 1) ms)
@@ -253,80 +290,48 @@ module _ (old now : BookState) (ms : List SavedMark) (i : ℕ) (m : SavedMark) (
   can_mark mid cause goes names few other (inr h) = other h.0
 
   -- an event of this one was refused
-  mark_refused_at : (n : ℕ) (cause : Refusal) → IsRefusedAt now.session.start m.events.items n cause → IsMarkRefusedAt old.session.start (map saved_mark ms) (i + 1) n cause
-  mark_refused_at n cause h = record {
-    before = map saved_mark (take i ms);
-    mark = saved_mark m;
-    later = map saved_mark (drop (i + 1) ms);
-    all = placed;
-    number = omega (arith, length-map (take i ms) saved_mark, length-take-le i ms (omega arith));
-    through = so_far.through;
-    refused = subst (λ (w : World). IsRefusedAt w m.events.items n cause) so_far.start h;
-  }
-
-  pub mark_refused : (new : BookState) (refused : RefusedEvent) (fault : LoadTraceFault) → RefusesOne now.session.start m.events.items refused → IsFaultOfMark refused (i + 1) fault
-      → SetsMarks old (map saved_mark ms) new (Err fault)
-  mark_refused new refused fault why (inl said) = subst (λ (f : LoadTraceFault). SetsMarks old (map saved_mark ms) new (Err f)) (sym said.1) tt
-  mark_refused new refused fault (inl memory) (inr said) = absurd (said.0 memory)
-  mark_refused new refused fault (inr why) (inr said) =
-      subst (λ (f : LoadTraceFault). SetsMarks old (map saved_mark ms) new (Err f)) (sym said.1) (mark_refused_at refused.step refused.cause why.1)
+  pub mark_refused : (new : BookState) (refused : RefusedEvent) (fault : LoadTraceFault) → RefusesOne now.session.start m.events.items refused
+      → fault ≡ unless_memory refused.cause (TraceMark (i + 1) refused.step refused.cause) → SetsMarks old (map saved_mark ms) new (Err fault)
+  mark_refused new refused fault why is =
+      fault_told refused.cause (TraceMark (i + 1) refused.step refused.cause) fault _ _ why is
+      (λ first same.
+      ap (first_refused_mark old.session.start 0) placed
+      ∙ from_mark (map saved_mark (drop (i + 1) ms)) (Some (refused.step, refused.cause)) (subst (λ (w : World). first_refused w [] m.events.items ≡ Some (refused.step, refused.cause)) so_far.start first)
+      ∙ ap Some (sym same))
 
 pub all_set : (old new : BookState) (ms : List SavedMark) (i : ℕ) → length ms ≤ i → HasSet old new (map saved_mark (take i ms)) → SetsMarks old (map saved_mark ms) new (Ok tt)
 all_set old new ms i all k = grind (arith, take_all)
 
 -- Whole traces
 
-module _ {R : ℕ} {B : Type 0} (IsBook : B → Type 0) (t : Trace R) where
-  module _ (flawless : start_flaw t.start ≡ None) (old : BookState) (start : old.session.start ≡ start_world t.start) where
+module _ {R : ℕ} (t : Trace R) (flawless : start_flaw t.start ≡ None) where
+  -- the fault of a trace whose start has no flaw
+  fault_of : (o : Option LoadTraceFault) (p : Option (ℕ × Refusal)) → first_refused_mark (start_world t.start) 0 t.marks ≡ o → first_refused (start_world t.start) [] (t.live ++ t.undone) ≡ p
+      → trace_fault t ≡ option_or o (option_map (λ (r : ℕ × Refusal). TraceStep r.0 r.1) p)
+  fault_of o p marks steps = λ i. option_or (option_map Flawed (flawless i)) (option_or (marks i) (option_map (λ (r : ℕ × Refusal). TraceStep r.0 r.1) (steps i)))
+
+  -- one whose events can run has none
+  pub no_fault : MarksGoThrough (start_world t.start) t.marks → GoThrough (start_world t.start) (t.live ++ t.undone) → trace_fault t ≡ None
+  no_fault marks through = fault_of None None (no_mark_refused (start_world t.start) 0 t.marks marks) (none_refused (start_world t.start) [] (t.live ++ t.undone) through)
+
+  module _ (old : BookState) (start : old.session.start ≡ start_world t.start) where
     -- an event of a bookmark is refused
-    pub no_marks : (new : BookState) (fault : LoadTraceFault) → SetsMarks old t.marks new (Err fault) → Replays IsBook t (Err fault)
-    no_marks new fault h = grind arith
+    pub no_marks : {B : Type 0} (IsBook : B → Type 0) (new : BookState) (fault : LoadTraceFault) → SetsMarks old t.marks new (Err fault) → Replays IsBook t (Err fault)
+    no_marks IsBook new fault (inl memory) = inl memory
+    no_marks IsBook new fault (inr h) =
+        inr (fault_of (Some fault) _ (subst (λ (w : World). first_refused_mark w 0 t.marks ≡ Some fault) start h) refl)
 
     module _ (now : BookState) (set : SetsMarks old t.marks now (Ok tt)) where
-      begins : now.session.start ≡ start_world t.start
-      begins = set.1 ∙ start
-
-      has_marks : HasMarks t
-      has_marks = record { flawless = flawless; marks = subst (λ (w : World). MarksGoThrough w t.marks) start set.2 }
+      by_steps : (p : Option (ℕ × Refusal)) → first_refused now.session.start [] (t.live ++ t.undone) ≡ p → trace_fault t ≡ option_map (λ (r : ℕ × Refusal). TraceStep r.0 r.1) p
+      by_steps p h =
+          fault_of None p (subst (λ (w : World). first_refused_mark w 0 t.marks ≡ None) start set.2) (subst (λ (w : World). first_refused w [] (t.live ++ t.undone) ≡ p) (set.1 ∙ start) h)
 
       -- a live or an undone event is refused
-      pub no_steps : (refused : RefusedEvent) (fault : LoadTraceFault) → RefusesOne now.session.start (t.live ++ t.undone) refused → IsFaultOfStep refused fault
-          → Replays IsBook t (Err fault)
-      no_steps refused fault why h = grind arith
+      pub no_steps : {B : Type 0} (IsBook : B → Type 0) (refused : RefusedEvent) (fault : LoadTraceFault) → RefusesOne now.session.start (t.live ++ t.undone) refused
+          → fault ≡ unless_memory refused.cause (TraceStep refused.step refused.cause) → Replays IsBook t (Err fault)
+      no_steps IsBook refused fault why is =
+          fault_told refused.cause (TraceStep refused.step refused.cause) fault _ _ why is (λ first same. by_steps (Some (refused.step, refused.cause)) first ∙ ap Some (sym same))
 
       -- all went through
-      pub plays : (new : BookState) → MakesLive now t.live t.undone new (Ok tt) → IsPlayable t × (new ≡ loaded_state t)
-      plays new h = grind arith
-
--- What goes through is not refused
-
-of_first : (later : List Event) (o : Result Stepped Refusal) → IsOk (run_after later o) → IsOk o
-of_first later o k = grind arith
-
--- a step before a run changes neither whether it goes through nor what happens in its last world
-preceded_ok : (x : Entry) (r : Result Ran Refusal) → IsOk (result_map (preceded_by x) r) → IsOk r
-preceded_ok x r k = grind arith
-
-preceded_last : (x : Entry) (r : Result Ran Refusal) (e : Event) → IsOk (step_after r e) → IsOk (step_after (result_map (preceded_by x) r) e)
-preceded_last x (Ok ran) e k = k
-preceded_last x (Err refusal) e k = k
-
-in_rest : (before : List Event) (e : Event) (later : List Event) → ((w : World) → IsOk (run w (before ++ e ∷ later)) → IsOk (step_after (run w before) e)) → (o : Result Stepped Refusal)
-    → IsOk (run_after (before ++ e ∷ later) o) → IsOk (step_after (run_after before o) e)
-in_rest before e later from (Ok s) k =
-    preceded_last s.entry (run s.world before) e (from s.world (preceded_ok s.entry (run s.world (before ++ e ∷ later)) k))
-in_rest before e later from (Err refusal) k = absurd cc
-
--- each event of a run that goes through happens in the last world of those before it
-happens_in : (w : World) (before : List Event) (e : Event) (later : List Event) → IsOk (run w (before ++ e ∷ later)) → IsOk (step_after (run w before) e)
-happens_in w [] e later h = of_first later (step w e) h
-happens_in w (x ∷ before) e later h = in_rest before e later (λ v k. happens_in v before e later k) (step w x) h
-
-not_refused : (s : State) (e : Event) (cause : Refusal) (full : Bool) (o : Result Stepped Refusal) → full ≡ false → IsOk o → (if full then Err refusal.TooLong else result_map (λ stepped. with_event s e) o) ≡ Err cause → ⊥
-not_refused s e cause full o room ok h = grind arith
-
-room_left : (n m : ℕ) → n + suc m ≤ MOST_STEPS → (n == MOST_STEPS) ≡ false
-room_left n m h = ne_eqb n MOST_STEPS (omega arith)
-
-pub none_refused : (w : World) (es : List Event) (n : ℕ) (cause : Refusal) → GoThrough w es → IsRefusedAt w es n cause → ⊥
-none_refused w es n cause goes at = grind (arith, not_refused, room_left, length-append, happens_in)
+      pub plays : (new : BookState) → MakesLive now t.live t.undone new (Ok tt) → (trace_fault t ≡ None) × (new ≡ loaded_state t)
+      plays new h = (by_steps None h.1, h.0 ∙ (λ i. record { session = record { start = (set.1 ∙ start) i; live = t.live; undone = t.undone }; marks = set.0 i }))

@@ -3,6 +3,7 @@ use Rattle.std.proofs.Common.{◌≡◌, ℕ, zero, suc, ◌+◌, ◌<◌, ◌�
 use Rattle.rd_trace.proofs.Prelude.{length-map, map-append, take_more, get_or-map, same_Some, Data, Refusal, run, MOST_STEPS, Ran, run_entries, Entry, Event, state_of, numbered, BookState, GoThrough, Reads, Gives, SpellEach, items_by, event_of, event_data, SpellsWorld, AreMarks, mark_data, member_count, Trace, IsFirstTrace, IsSecondTrace, IsEither, loaded_state, saved_trace, book_data, FormFault, start_flaw}
 use Rattle.rd_journal.specs.Journal.{Journal, IsRun, start_of, events}
 use Rattle.rd_journal.proofs.Walks.{whole_run}
+use Rattle.rd_trace.proofs.SpellLemmas.{take_got, some_got}
 use Rattle.rd_trace.specs.declared.saved.SavedSession.{SavedSession}
 use Rattle.rd_trace.specs.declared.faults.FormFault.TheVariants as form
 
@@ -74,19 +75,9 @@ live_next xs k x within is =
     ∙ ap (λ e. take k (events xs) ++ e ∷ []) (get_or-map (λ (y : Entry). y.event) xs k x x.event within ∙ ap (λ (y : Entry). y.event) (sym is))
 
 -- one more event by its number
-event_next : (es : List Event) (k : ℕ) (e : Event) → slice_get es k ≡ Some e → take (suc k) es ≡ take k es ++ e ∷ []
-event_next [] k e h = absurd (cc)
-event_next (x ∷ es) zero e h = let same : x ≡ e = cc in ap (λ y. y ∷ []) same
-event_next (x ∷ es) (suc k) e h = ap (λ ys. x ∷ ys) (event_next es k e h)
-
-event_there : (es : List Event) (k : ℕ) → k < length es → ((e : Event) → slice_get es k ≡ Some e → ⊥) → ⊥
-event_there [] k within none = omega (arith, within)
-event_there (x ∷ es) zero within none = none x refl
-event_there (x ∷ es) (suc k) within none = event_there es k (omega (arith, within)) none
-
 module _ (es : List Event) (k n : ℕ) (next : n ≡ suc k) where
-  pub undone_next : (e : Event) → numbered es n ≡ Some e → take n es ≡ take k es ++ e ∷ []
-  undone_next e found = ap (λ m. take m es) next ∙ event_next es k e (sym (ap (numbered es) next) ∙ found)
+  pub undone_next : (e : Event) → numbered es n ≡ Some e → take (k + 1) es ≡ take k es ++ e ∷ []
+  undone_next e found = take_got es k e (sym (ap (numbered es) next) ∙ found)
 
   pub some_undone : k < length es → ((e : Event) → numbered es n ≡ Some e → ⊥) → ⊥
-  some_undone within none = event_there es k within (λ e h. none e (ap (numbered es) next ∙ h))
+  some_undone within none = some_got es k within (λ e h. none e (ap (numbered es) next ∙ h))

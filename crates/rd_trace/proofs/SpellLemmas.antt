@@ -1,7 +1,8 @@
 -- What is read of a value by what is read of a part of it; and lists of values: what they spell,
 -- and how many they are.
-use Rattle.std.proofs.Common.{◌≡◌, ℕ, suc, ◌+◌, ◌<◌, List, [], ◌∷◌, ◌++◌, length, take, drop, get_or, Option, Some, IfSome, IfNone, ok_or, Result, Err, Vec, Global, refl, sym, ap, ap₂, ◌∙◌, subst, map, map-id, arith}
+use Rattle.std.proofs.Common.{◌≡◌, ℕ, suc, ◌+◌, ◌<◌, List, [], ◌∷◌, ◌++◌, length, take, drop, get_or, slice_get, Option, Some, IfSome, IfNone, ok_or, Result, Err, Vec, Global, refl, sym, ap, ap₂, ◌∙◌, subst, map, map-id, arith}
 use Rattle.rd_trace.proofs.Prelude.{IsErrAnd, same_Some, take_more, drop_more, take-append-drop, Data, Items, no_items, item, view, items_view, items_at, Reads, itself, elements, Gives, SpellEach, SpellEachAt, items_by, AreSpelled, FormFault}
+use Rattle.std.proofs.lemmas.Option.{get_or_from_slice_get, slice_get-get_or, slice_get_within}
 use Rattle.serde_json.specs.declared.value.Value.{Value}
 use Rattle.rd_trace.specs.declared.faults.FormFault.TheVariants as form
 
@@ -49,6 +50,14 @@ split_at xs i x within is = sym (take-append-drop i xs) ∙ ap (λ ys. take i xs
 
 pub take_item : {X : Type 0} (xs : List X) (i : ℕ) (x : X) → i < length xs → x ≡ get_or xs i x → take (i + 1) xs ≡ take i xs ++ x ∷ []
 take_item xs i x within is = take_more xs i x within ∙ ap (λ y. take i xs ++ y ∷ []) (sym is)
+
+-- the same of an element that is there, if one is
+pub take_got : {X : Type 0} (xs : List X) (i : ℕ) (x : X) → slice_get xs i ≡ Some x → take (i + 1) xs ≡ take i xs ++ x ∷ []
+take_got xs i x h = take_item xs i x (slice_get_within xs i x h) (sym (get_or_from_slice_get xs i x x h))
+
+pub some_got : {X : Type 0} (xs : List X) (i : ℕ) → i < length xs → ((x : X) → slice_get xs i ≡ Some x → ⊥) → ⊥
+some_got [] i within none = omega arith
+some_got (x ∷ xs) i within none = none _ (slice_get-get_or (x ∷ xs) i x within)
 
 pub items_written : {X : Type 0} (datum : X → Data) (vs : List Value) (xs : List X) (v : Value) (x : X) → items_view vs ≡ items_by datum xs → view v ≡ datum x
     → items_view (vs ++ v ∷ []) ≡ items_by datum (xs ++ x ∷ [])

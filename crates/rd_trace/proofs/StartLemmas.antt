@@ -1,6 +1,6 @@
 -- The start of a session as a value, and when it is the fresh world.
 use Rattle.std.proofs.Common.{◌≡◌, ℕ, ◌≤◌, Some, None, Result, inl, inr, refl, sym, ap, ◌∙◌, subst, arith}
-use Rattle.rd_trace.proofs.Prelude.{IfOk, OnOk, Data, MOST_ACTORS, World, fresh_world, world_of_parts, first_flaw, Parts, SpellEach, items_by, name_of, name_data, IsActor, actor_data, array_data, IsSegmentList, list_data, IsFreshStart, IsParts, IsStartData, SpellsWorld, fresh_data, parts_data}
+use Rattle.rd_trace.proofs.Prelude.{IfOk, OnOk, Data, MOST_ACTORS, World, fresh_world, world_of_parts, first_flaw, Parts, SpellEach, items_by, name_of, name_data, IsActor, actor_data, array_data, IsSegmentList, list_data, IsFreshStart, IsParts, IsStartValue, fresh_data, parts_data}
 use Rattle.rd_trace.proofs.ArrayLemmas.{array_spelled}
 use Rattle.rd_trace.specs.declared.starts.Start.TheVariants as start
 
@@ -38,16 +38,16 @@ module _ (w : World) where
     fresh_by : w ≡ fresh_world w.ring n
     fresh_by = e ∙ ap (fresh_world w.ring) same
 
-    pub starts_fresh : 1 ≤ n → n ≤ MOST_ACTORS → IsStartData w d
-    starts_fresh some few = inl (n, fresh_by, some, few, is)
-
-    pub spells_fresh : 1 ≤ n → n ≤ MOST_ACTORS → SpellsWorld w d
-    spells_fresh some few = (start.Fresh n, subst (λ x. IsFreshStart x n) (sym is) (fresh_spelled n some few), refl, sym fresh_by)
+    pub fresh_start : 1 ≤ n → n ≤ MOST_ACTORS → IsStartValue w d
+    fresh_start some few = record {
+      written = inl (n, fresh_by, some, few, is);
+      spelled = (start.Fresh n, subst (λ x. IsFreshStart x n) (sym is) (fresh_spelled n some few), refl, sym fresh_by);
+    }
 
   -- and another one as its parts
   module _ (p : Parts w.ring) (parts : world_of_parts p ≡ w) (flawless : first_flaw p ≡ None) (d : Data) (is : d ≡ parts_data p) where
-    pub starts_parts : ((count : ℕ) × (w ≡ fresh_world w.ring count) → ⊥) → IsStartData w d
-    starts_parts other = inr ((λ count e. other (count, e)), p, flawless, parts, is)
-
-    pub spells_parts : IsParts (parts_data p) p → SpellsWorld w d
-    spells_parts h = (start.Parts p, subst (λ x. IsParts x p) (sym is) h, flawless, parts)
+    pub other_start : ((count : ℕ) × (w ≡ fresh_world w.ring count) → ⊥) → IsParts (parts_data p) p → IsStartValue w d
+    other_start other spelled = record {
+      written = inr ((λ count e. other (count, e)), p, flawless, parts, is);
+      spelled = (start.Parts p, subst (λ x. IsParts x p) (sym is) spelled, flawless, parts);
+    }

@@ -1,7 +1,7 @@
 -- Texts that are put together: of lists, of events, of bookmarks and of a book; and that the text of
 -- a value is read as that value.
-use Rattle.std.proofs.Common.{◌≡◌, ℕ, ◌^◌, ◌<◌, ◌≤◌, nat_lt, Bool, true, false, List, [], ◌∷◌, ◌++◌, length, codes, decimal, Option, Some, option_map, option_and_then, refl, sym, ap, ◌∙◌, subst, arith, append_assoc, append-nil, suc, max, ap₂, lt-ltb, if◌then◌else◌, is_ok, Result, OnOk}
-use Rattle.rd_trace.proofs.Prelude.{Token, tokens, escape, escape_byte, ArePrintableOrBad, Data, array, object, unsigned, Items, no_items, item, Members, no_members, member, depth, items_depth, members_depth, of_json, of_items, read, max_depth, outline, items_outline, members_outline, compact_text, items_text, members_text, comma_if, has_float, IsInOrder, SpellEach, items_by, Act, Event, short_data, long_data, act_data, event_data, mark_object, book_object, joined_text, IsReadBack, IsKept, AreAppended}
+use Rattle.std.proofs.Common.{◌≡◌, ℕ, ◌+◌, ◌^◌, ◌<◌, ◌≤◌, nat_lt, Bool, true, false, List, [], ◌∷◌, ◌++◌, length, take, codes, decimal, Option, Some, option_map, option_and_then, refl, sym, ap, ◌∙◌, subst, arith, append_assoc, append-nil, suc, max, ap₂, lt-ltb, if◌then◌else◌, is_ok, Result, OnOk}
+use Rattle.rd_trace.proofs.Prelude.{length-take-le, Token, tokens, escape, escape_byte, ArePrintableOrBad, Data, array, object, unsigned, Items, no_items, item, Members, no_members, member, depth, items_depth, members_depth, of_json, of_items, read, max_depth, outline, items_outline, members_outline, compact_text, items_text, members_text, comma_if, has_float, IsInOrder, SpellEach, items_by, Act, Event, short_data, long_data, act_data, event_data, mark_object, book_object, joined_text, IsReadBack, IsKept, AreAppended}
 use Rattle.std.specs.Fmt.{digits}
 use Rattle.json.specs.Json as json
 use Rattle.json.specs.Tree as tree
@@ -69,15 +69,16 @@ module _ {X : Type 0} (Spells : Data → X → Type 0) where
     kept_more [] x h k = (k, tt)
     kept_more (y ∷ ys) x h k = (h.0, kept_more ys x h.1 k)
 
-    pub one_more_appended : (xs : List X) (x : X) (count : ℕ) (old mid new : List ℕ) → length xs ≡ count → AreAppended Spells datum xs old mid
-        → new ≡ mid ++ (comma_if (nat_lt 0 count) ++ compact_text (datum x)) → IsKept Spells (datum x) x → AreAppended Spells datum (xs ++ x ∷ []) old new
-    one_more_appended xs x count old mid new counted h is kept =
-        let more = comma_if (nat_lt 0 (length xs)) ++ compact_text (datum x) in
-        record {
+    pub one_more_appended : (xs : List X) (i : ℕ) (x : X) (old mid new : List ℕ) → i ≤ length xs → take (i + 1) xs ≡ take i xs ++ x ∷ [] → AreAppended Spells datum (take i xs) old mid
+        → new ≡ mid ++ (comma_if (nat_lt 0 i) ++ compact_text (datum x)) → IsKept Spells (datum x) x → AreAppended Spells datum (take (i + 1) xs) old new
+    one_more_appended xs i x old mid new within next h is kept =
+        let count = length-take-le i xs within in
+        subst (λ (ys : List X). AreAppended Spells datum ys old new) (sym next)
+        (record {
           text =
               grind (arith, append_assoc, joined_more);
-          kept = kept_more xs x h.kept kept;
-        }
+          kept = kept_more (take i xs) x h.kept kept;
+        })
 
 -- ---- events
 
@@ -142,6 +143,15 @@ last_appended r old new part P is k = grind arith
 -- a part after another one
 pub two_parts : (a b c p q : List ℕ) → b ≡ a ++ p → c ≡ b ++ q → c ≡ a ++ (p ++ q)
 two_parts a b c p q first second = second ∙ ap (λ s. s ++ q) first ∙ append_assoc a p q
+
+-- the text of a book, put together part by part
+pub put_together : (events marks undone : Items) (cells : ℕ) (start : Data) (a b c d e f g h i j k : List ℕ) (text : List ℕ)
+    → b ≡ a ++ codes "{\"events\":[" → c ≡ b ++ joined_text false events → d ≡ c ++ codes "],\"marks\":[" → e ≡ d ++ joined_text false marks → f ≡ e ++ codes "],\"ring\":"
+    → g ≡ f ++ decimal cells → h ≡ g ++ codes ",\"start\":" → i ≡ h ++ compact_text start → j ≡ i ++ codes ",\"undone\":[" → k ≡ j ++ joined_text false undone
+    → text ≡ k ++ codes "],\"version\":2}\n" → text ≡ a ++ whole_text events marks cells start undone
+put_together events marks undone cells start a b c d e f g h i j k text p q r s t u v w x y z =
+    two_parts a b text _ _ p (two_parts b c text _ _ q (two_parts c d text _ _ r (two_parts d e text _ _ s (two_parts e f text _ _ t (two_parts f g text _ _ u
+    (two_parts g h text _ _ v (two_parts h i text _ _ w (two_parts i j text _ _ x (two_parts j k text _ _ y z)))))))))
 
 -- two parts, the second by a call that may fail
 pub both_appended : {T E : Type 0} (r : Result T E) (a b c p q : List ℕ) → b ≡ a ++ p → OnOk r (c ≡ b ++ q) → OnOk r (c ≡ a ++ (p ++ q))

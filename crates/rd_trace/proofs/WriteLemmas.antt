@@ -1,28 +1,27 @@
 -- The text of a book is a trace of it.
 use Rattle.std.proofs.Common.{◌≡◌, ℕ, ◌^◌, ◌<◌, ◌≤◌, false, List, ◌++◌, Some, IsUtf8, inr, sym, ap, ◌∙◌, subst}
-use Rattle.rd_trace.proofs.Prelude.{Data, depth, read, max_depth, has_float, compact_text, IsInOrder, World, BookState, KeepsRules, Gives, SpellEach, items_by, event_of, event_data, IsStartData, SpellsWorld, IsMark, mark_data, book_data, IsReadBack, IsKept, IsStartAppended, GoThrough, MarksGoThrough, IsPlayable, IsTextOf}
+use Rattle.rd_trace.proofs.Prelude.{Data, depth, read, max_depth, has_float, compact_text, IsInOrder, World, BookState, KeepsRules, Gives, SpellEach, items_by, event_of, event_data, IsStartValue, IsMark, mark_data, book_data, IsReadBack, IsKept, IsStartAppended, GoThrough, MarksGoThrough, IsTextOf}
+use Rattle.rd_trace.proofs.ReplayLemmas.{no_fault}
 use Rattle.rd_trace.proofs.SavedLemmas.{book_spelled}
 use Rattle.rd_trace.proofs.WholeLemmas.{whole_start, shallow_start, shallow_book}
 use Rattle.rd_trace.proofs.TextLemmas.{each_spelled, list_back, whole_text, book_text, book_back, read_line, back_of_text}
 
 -- the text of the value of a start was appended
-pub start_appended : (w : World) (start : Data) (bytes old new : List ℕ) → IsStartData w start → SpellsWorld w start → (has_float start ≡ false → bytes ≡ compact_text start)
+pub start_appended : (w : World) (start : Data) (bytes old new : List ℕ) → IsStartValue w start → (has_float start ≡ false → bytes ≡ compact_text start)
     → IsInOrder bytes start → (depth start ≤ max_depth → read bytes ≡ Some start) → new ≡ old ++ bytes → IsStartAppended w old new
-start_appended w start bytes old new is_start spelled text order reads appended =
-    let none = whole_start w start is_start in
-    let shallow = shallow_start w start is_start in
+start_appended w start bytes old new is_start text order reads appended =
+    let none = whole_start w start is_start.written in
+    let shallow = shallow_start w start is_start.written in
     record {
       start = start;
       is_start = is_start;
-      spelled = spelled;
       back = back_of_text start shallow bytes order none (reads shallow);
       text = appended ∙ ap (λ s. old ++ s) (text none);
     }
 
 -- what is known of the values of a book's parts
 pub record AreItsParts (b : BookState) (start : Data) : Type 0 where
-  pub is_start : IsStartData b.session.start start
-  pub spells_start : SpellsWorld b.session.start start
+  pub is_start : IsStartValue b.session.start start
   pub start_back : IsReadBack start
   pub live : SpellEach (IsKept (Gives event_of)) (items_by event_data b.session.live) b.session.live
   pub marks : SpellEach (IsKept IsMark) (items_by mark_data b.marks) b.marks
@@ -42,15 +41,14 @@ text_of_book b start text fits parts is utf8 =
     book_back live marks undone b.session.start.ring start fits (list_back (Gives event_of) live b.session.live parts.live) (list_back IsMark marks b.marks parts.marks) parts.start_back
     (list_back (Gives event_of) undone b.session.undone parts.undone) in
     let spelled =
-    book_spelled b start parts.spells_start (each_spelled (Gives event_of) live b.session.live parts.live) (each_spelled (Gives event_of) undone b.session.undone parts.undone)
+    book_spelled b start parts.is_start.spelled (each_spelled (Gives event_of) live b.session.live parts.live) (each_spelled (Gives event_of) undone b.session.undone parts.undone)
     (record { each = each_spelled IsMark marks b.marks parts.marks; names = parts.rules.names; few = parts.rules.few }) in
     let back_to = sym spelled.3 in
-    let playable : IsPlayable spelled.0 = record {
-      marks = record { flawless = spelled.2; marks = subst (λ s. MarksGoThrough s.session.start s.marks) back_to parts.rules.through };
-      through = subst (λ s. GoThrough s.session.start (s.session.live ++ s.session.undone)) back_to parts.through;
-    } in
-    let reads = ap read written ∙ read_line (book_data start b) (shallow_book start b parts.is_start) back in
+    let none =
+    no_fault spelled.0 spelled.2 (subst (λ s. MarksGoThrough s.session.start s.marks) back_to parts.rules.through)
+    (subst (λ s. GoThrough s.session.start (s.session.live ++ s.session.undone)) back_to parts.through) in
+    let reads = ap read written ∙ read_line (book_data start b) (shallow_book start b parts.is_start.written) back in
     record {
-      written = (start, parts.is_start, written);
-      loads = λ ring. (spelled.0, (utf8, book_data start b, reads, (ring, inr spelled.1)), playable, spelled.3);
+      written = (start, parts.is_start.written, written);
+      loads = λ ring. (spelled.0, (utf8, book_data start b, reads, (ring, inr spelled.1)), none, spelled.3);
     }

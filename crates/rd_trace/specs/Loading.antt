@@ -1,6 +1,8 @@
 -- What loading a text gives: a book, or why there is none.
-use Rattle.std.specs.Prelude.{◌≡◌, ℕ, List, [], ◌++◌, Some, None, Result, Ok, Err}
-use Rattle.rd_marks.specs.Books.{BookState}
+use Rattle.std.specs.Prelude.{◌≡◌, ◌⊎◌, ◌+◌, ℕ, List, [], ◌∷◌, ◌++◌, Option, Some, None, option_map, Result, Ok, Err}
+use Rattle.std.specs.Option.{option_or}
+use Rattle.rd_step.specs.Prelude.{World}
+use Rattle.rd_marks.specs.Books.{Mark, BookState}
 use Rattle.rd_marks.specs.BookViews.{book_state}
 use Rattle.rd_trace.specs.declared.any_book.AnyBook.{AnyBook}
 use Rattle.rd_trace.specs.declared.any_book.AnyBook.TheVariants.{Two, Four, Eight}
@@ -11,8 +13,7 @@ use Rattle.rd_trace.specs.declared.faults.FormFault.TheVariants as form
 use Rattle.rd_step.specs.Starts.{fresh_world}
 use Rattle.rd_trace.specs.Starts.{start_world, start_flaw}
 use Rattle.rd_trace.specs.Saved.{Trace, IsTraceText, loaded_state, IsSameBook}
-use Rattle.rd_marks.specs.Rules.{GoThrough, MarksGoThrough}
-use Rattle.rd_trace.specs.Traces.{IsRefusedAt, IsMarkRefusedAt}
+use Rattle.rd_trace.specs.Traces.{first_refused}
 
 -- the state of a book
 abbrev pub any_state : AnyBook → BookState
@@ -33,28 +34,26 @@ fresh_state R actors = record { session = record { start = fresh_world R actors;
 abbrev pub IsBookIn : BookState → AnyBook → Type 0
 IsBookIn b book = any_state book ≡ b
 
--- the start of a trace is a well-formed world, and the events of each of its bookmarks can run from
--- it
-pub record HasMarks {R : ℕ} (t : Trace R) : Type 0 where
-  pub flawless : start_flaw t.start ≡ None
-  pub marks : MarksGoThrough (start_world t.start) t.marks
+-- the first event that is refused of the first bookmark that has one, as the fault of loading, where
+-- these bookmarks come after n others
+abbrev pub first_refused_mark : World → ℕ → List Mark → Option LoadTraceFault
+first_refused_mark start n [] = None
+first_refused_mark start n (m ∷ ms) =
+    option_or (option_map (λ refused. TraceMark (n + 1) refused.0 refused.1) (first_refused start [] m.events)) (first_refused_mark start (n + 1) ms)
 
--- the start of a trace is well-formed, and from it the events of each bookmark can run, and so can
--- the live events with the undone ones after them
-pub record IsPlayable {R : ℕ} (t : Trace R) : Type 0 where
-  pub marks : HasMarks t
-  pub through : GoThrough (start_world t.start) (t.live ++ t.undone)
+-- why a trace has no book, if it has none: in this order, the first flaw of its start, the first
+-- event that is refused of the first bookmark that has one, or the first of its live events, and the
+-- undone ones after them, that is refused
+abbrev pub trace_fault : {R : ℕ} → Trace R → Option LoadTraceFault
+trace_fault t =
+    option_or (option_map Flawed (start_flaw t.start))
+    (option_or (first_refused_mark (start_world t.start) 0 t.marks)
+    (option_map (λ refused. TraceStep refused.0 refused.1) (first_refused (start_world t.start) [] (t.live ++ t.undone))))
 
--- the result of replaying a trace: its book; or, in this order, the first flaw of its start, the
--- first event that is refused of the first bookmark that has one, or the first of its live and
--- undone events that is refused
+-- the result of replaying a trace: its book, if it has one; or its fault, unless memory was refused
 abbrev pub Replays : {R : ℕ} {B : Type 0} → (B → Type 0) → Trace R → Result B LoadTraceFault → Type 0
-Replays IsBook t (Ok book) = IsPlayable t × IsBook book
-Replays IsBook t (Err NoMemory) = Unit {0}
-Replays IsBook t (Err BadTrace) = ⊥
-Replays IsBook t (Err (Flawed flaw)) = start_flaw t.start ≡ Some flaw
-Replays IsBook t (Err (TraceMark m n cause)) = (start_flaw t.start ≡ None) × IsMarkRefusedAt (start_world t.start) t.marks m n cause
-Replays IsBook t (Err (TraceStep n cause)) = HasMarks t × IsRefusedAt (start_world t.start) (t.live ++ t.undone) n cause
+Replays IsBook t (Ok book) = (trace_fault t ≡ None) × IsBook book
+Replays IsBook t (Err fault) = (fault ≡ NoMemory) ⊎ (trace_fault t ≡ Some fault)
 
 -- the result of loading a text: that of replaying the trace that it is, or BadTrace if it is none
 abbrev pub LoadsTrace : List ℕ → Result AnyBook LoadTraceFault → Type 0
@@ -69,10 +68,9 @@ IsSameAnswer (Ok book) (Err fault) = ⊥
 IsSameAnswer (Err fault) (Ok book) = ⊥
 IsSameAnswer (Err one) (Err other) = one ≡ other
 
--- a text can be loaded as a book in this state: it is a trace of the state, whose start has no flaw
--- and all of whose events can run
+-- a text can be loaded as a book in this state: it is a trace of the state, and has no fault
 abbrev pub IsLoadable : BookState → List ℕ → Type 0
-IsLoadable b text = (t : Trace b.session.start.ring) × IsTraceText text t × IsPlayable t × (loaded_state t ≡ b)
+IsLoadable b text = (t : Trace b.session.start.ring) × IsTraceText text t × (trace_fault t ≡ None) × (loaded_state t ≡ b)
 
 -- the result of loading the text as which a book in this state was written: the same book, unless
 -- memory was refused

@@ -90,3 +90,8 @@ abbrev pub IsStartData : World → Data → Type 0
 IsStartData w d =
     ((count : ℕ) × (w ≡ fresh_world w.ring count) × (1 ≤ count) × (count ≤ MOST_ACTORS) × (d ≡ fresh_data count))
     ⊎ (((count : ℕ) → w ≡ fresh_world w.ring count → ⊥) × (p : Parts w.ring) × (first_flaw p ≡ None) × (world_of_parts p ≡ w) × (d ≡ parts_data p))
+
+-- a value is one as which the start in this world is written, and spells it
+pub record IsStartValue (w : World) (d : Data) : Type 0 where
+  pub written : IsStartData w d
+  pub spelled : SpellsWorld w d

@@ -7,7 +7,7 @@ use Rattle.serde_json.specs.Written.{outline, compact_text, comma_if}
 use Rattle.rd_step.specs.Prelude.{World}
 use Rattle.rd_marks.specs.Books.{Mark}
 use Rattle.rd_trace.specs.Spelled.{SpellEach, items_by}
-use Rattle.rd_trace.specs.Starts.{IsStartData, SpellsWorld}
+use Rattle.rd_trace.specs.Starts.{IsStartValue}
 use Rattle.rd_trace.specs.Bookmarks.{IsMark, mark_data}
 
 -- the texts of values with commas between them, and one before the first if others are before it
@@ -38,7 +38,6 @@ pub record IsMarkAppended (m : Mark) (old new : List ℕ) : Type 0 where
 -- the text of a value as which the start in this world is written was appended to a text
 pub record IsStartAppended (w : World) (old new : List ℕ) : Type 0 where
   pub start : Data
-  pub is_start : IsStartData w start
-  pub spelled : SpellsWorld w start
+  pub is_start : IsStartValue w start
   pub back : IsReadBack start
   pub text : new ≡ old ++ compact_text start

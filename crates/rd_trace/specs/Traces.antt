@@ -1,10 +1,10 @@
--- Rings and runs: which rings a trace may have, and which events can run from its start.
-use Rattle.std.specs.Prelude.{◌≡◌, ◌⊎◌, ◌+◌, ℕ, List, [], ◌++◌, ◌∷◌, length, Err}
+-- Rings and runs: which rings a trace may have, and which event is the first to be refused.
+use Rattle.std.specs.Prelude.{◌≡◌, ◌⊎◌, ◌+◌, ℕ, List, [], ◌++◌, ◌∷◌, length, Option, None, option_map}
+use Rattle.std.specs.Option.{option_or}
+use Rattle.std.specs.Result.{result_err}
 use Rattle.rd_step.specs.Prelude.{World, Refusal}
 use Rattle.rd_step.specs.declared.entries.Event.{Event}
 use Rattle.rd_journal.specs.State.{State, apply}
-use Rattle.rd_marks.specs.Books.{Mark}
-use Rattle.rd_marks.specs.Rules.{GoThrough, MarksGoThrough}
 use Rattle.rd_trace.specs.declared.rings.Ring.{Ring}
 use Rattle.rd_trace.specs.declared.rings.Ring.TheVariants.{Two, Four, Eight}
 
@@ -22,23 +22,9 @@ ring_length Eight = 8
 abbrev pub session_at : World → List Event → State
 session_at start live = record { start = start; live = live; undone = [] }
 
--- the n-th of these events is the first that is refused, with this cause: those before it can run
-pub record IsRefusedAt (start : World) (events : List Event) (n : ℕ) (cause : Refusal) : Type 0 where
-  pub before : List Event
-  pub event : Event
-  pub later : List Event
-  pub all : events ≡ before ++ event ∷ later
-  pub number : n ≡ length before + 1
-  pub through : GoThrough start before
-  pub refused : apply (session_at start before) event ≡ Err cause
-
--- the m-th bookmark is the first of which an event is refused, and its n-th event is the first such
--- one, with this cause
-pub record IsMarkRefusedAt (start : World) (marks : List Mark) (m n : ℕ) (cause : Refusal) : Type 0 where
-  pub before : List Mark
-  pub mark : Mark
-  pub later : List Mark
-  pub all : marks ≡ before ++ mark ∷ later
-  pub number : m ≡ length before + 1
-  pub through : MarksGoThrough start before
-  pub refused : IsRefusedAt start mark.events n cause
+-- the first of these events that is refused, where others from this start happened before them: its
+-- number, in which those are counted, and the cause
+abbrev pub first_refused : World → List Event → List Event → Option (ℕ × Refusal)
+first_refused start before [] = None
+first_refused start before (e ∷ es) =
+    option_or (option_map (λ cause. (length before + 1, cause)) (result_err (apply (session_at start before) e))) (first_refused start (before ++ e ∷ []) es)

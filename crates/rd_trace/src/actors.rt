@@ -49,6 +49,7 @@ impl Spelled for Actor {
     ghost spells = { IsActor };
 
     /// Returns the actor that a JSON value spells.
+    #[tactic(auto, using(crate::proofs::SpellLemmas::read_or_bad))]
     fn read(_alloc: Global, value: &Value) -> Result<Actor, FormFault> {
         actor_in(value).ok_or(FormFault::BadForm)
     }

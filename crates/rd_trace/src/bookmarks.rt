@@ -79,6 +79,7 @@ fn mark_in(alloc: Global, value: &Value) -> Result<SavedMark, FormFault>
 }
 
 /// The name of the bookmark that a value spells, if it has the members of one.
+#[tactic(auto, using(crate::proofs::SpellLemmas::passed_up))]
 fn name_in(value: &Value) -> Option<MarkName>
     ensures some { IfSome result (HasMarkName (view value.now)) }
     ensures none { IfNone result ((name : MarkName) → HasMarkName (view value.now) name → ⊥) }

@@ -25,6 +25,7 @@ impl Spelled for Event {
     ghost spells = { Gives event_of };
 
     /// Returns the event that a JSON value spells.
+    #[tactic(auto, using(crate::proofs::SpellLemmas::given_or_bad))]
     fn read(_alloc: Global, value: &Value) -> Result<Event, FormFault> {
         event_in(value).ok_or(FormFault::BadForm)
     }

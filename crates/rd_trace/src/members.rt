@@ -7,6 +7,7 @@ ghost use Rattle.rd_trace.specs.Numbers.{member_count, number_at, bit_at, text_a
 use serde_json::Value;
 
 /// Returns the number of members of an object; none for any other value.
+#[tactic(auto, using(crate::proofs::NumberLemmas::member_count))]
 pub fn member_count(value: &Value) -> Option<usize>
     ensures { result ≡ member_count (view value.now) }
 {

@@ -11,7 +11,8 @@ ghost use Rattle.rd_marks.specs.Rules.{GoThrough, HaveDifferentNames};
 ghost use Rattle.rd_trace.specs.Bookmarks.{saved_mark};
 ghost use Rattle.rd_trace.specs.Saved.{saved_trace, loaded_state};
 ghost use Rattle.rd_trace.specs.Loading.{Replays};
-ghost use Rattle.rd_trace.specs.Steps.{MakesWorld, GoesTo, MakesLive, SetsMarks, IsFaultOfStep, IsFaultOfMark};
+ghost use Rattle.rd_trace.specs.Steps.{MakesWorld, GoesTo, MakesLive, SetsMarks, unless_memory};
+ghost use Rattle.rd_trace.specs.declared.faults.LoadTraceFault.TheVariants.{TraceMark, TraceStep};
 
 use super::bookmarks::SavedMark;
 use super::faults::LoadTraceFault;
@@ -168,7 +169,7 @@ fn step_all<const R: usize>(book: &mut Book<R>, events: &[Event]) -> Result<(), 
 impl RefusedEvent {
     /// Returns the fault of loading for a live event, or an undone one, that was refused.
     fn of_step(self) -> LoadTraceFault
-        ensures { IsFaultOfStep self result }
+        ensures { result ≡ unless_memory self.cause (TraceStep self.step self.cause) }
     {
         match self.cause {
             Refusal::NoMemory => LoadTraceFault::NoMemory,
@@ -181,7 +182,7 @@ impl RefusedEvent {
 
     /// Returns the fault of loading for an event that was refused of the bookmark of this number.
     fn of_mark(self, mark: u64) -> LoadTraceFault
-        ensures { IsFaultOfMark self mark result }
+        ensures { result ≡ unless_memory self.cause (TraceMark mark self.step self.cause) }
     {
         match self.cause {
             Refusal::NoMemory => LoadTraceFault::NoMemory,

@@ -9,7 +9,7 @@ ghost use Rattle.rd_marks.specs.BookViews.{book_state};
 ghost use Rattle.rd_marks.specs.Rules.{GoThrough};
 ghost use Rattle.rd_trace.specs.Numbers.{member_count, number_at};
 ghost use Rattle.rd_trace.specs.Traces.{IsTraceRing, ring_length};
-ghost use Rattle.rd_trace.specs.Starts.{IsStartData, SpellsWorld};
+ghost use Rattle.rd_trace.specs.Starts.{IsStartValue};
 ghost use Rattle.rd_trace.specs.Spelled.{Reads, Gives};
 ghost use Rattle.rd_trace.specs.Events.{event_of, event_data};
 ghost use Rattle.rd_trace.specs.Saved.{saved_trace, IsFirstTrace, IsSecondTrace, IsEither};
@@ -79,6 +79,7 @@ pub fn ring_in(value: &Value) -> Option<Ring>
 /// # Errors
 ///
 /// `BadForm` if it spells none; `NoMemory` if memory was refused.
+#[tactic(auto, using(crate::proofs::SavedLemmas::first_read, crate::proofs::SavedLemmas::second_read))]
 pub fn session_in<const R: usize>(
     alloc: Global,
     value: &Value,
@@ -173,8 +174,7 @@ fn events_go_through<const R: usize>(session: &Session<R>)
 
 /// Returns the JSON value of the start of a session.
 fn start_of<const R: usize>(alloc: Global, session: &Session<R>) -> Result<Value, AllocError>
-    ensures value { IfOk result (λ value. IsStartData (state session.now).start (view value)) }
-    ensures spelled { IfOk result (λ value. SpellsWorld (state session.now).start (view value)) }
+    ensures { IfOk result (λ value. IsStartValue (state session.now).start (view value)) }
 {
     let Ok(world) = session.start_world(alloc) else {
         return Err(AllocError);

@@ -60,6 +60,7 @@ impl<const R: usize> Spelled for SegmentParts<R> {
     ghost fits = { R ≤ MOST_CELLS };
 
     /// Returns the segment that a JSON value spells.
+    #[tactic(auto, using(crate::proofs::SpellLemmas::read_or_bad))]
     fn read(_alloc: Global, value: &Value) -> Result<SegmentParts<R>, FormFault> {
         segment_in(value).ok_or(FormFault::BadForm)
     }
@@ -78,6 +79,7 @@ impl Spelled for Cell {
     ghost spells = { Gives cell_of };
 
     /// Returns the cell that a JSON value spells.
+    #[tactic(auto, using(crate::proofs::SpellLemmas::given_or_bad))]
     fn read(_alloc: Global, value: &Value) -> Result<Cell, FormFault> {
         cell_in(value).ok_or(FormFault::BadForm)
     }
@@ -111,6 +113,7 @@ fn segment_in<const R: usize>(value: &Value) -> Option<SegmentParts<R>>
 }
 
 /// Returns the JSON value of a segment.
+#[tactic(auto, using(crate::proofs::SegmentLemmas::segment_spelled))]
 fn segment_value<const R: usize>(
     alloc: Global,
     segment: &SegmentParts<R>,

@@ -7,7 +7,7 @@ ghost use Rattle.rd_step.specs.Prelude.{MOST_CELLS, model};
 ghost use Rattle.rd_trace.specs.Names.{name_at};
 ghost use Rattle.rd_trace.specs.Numbers.{member_count};
 ghost use Rattle.rd_trace.specs.Spelled.{Reads, itself};
-ghost use Rattle.rd_trace.specs.Starts.{IsActorCount, IsArrayAt, IsParts, IsStart, IsStartData, SpellsWorld, fresh_data, parts_object, parts_data};
+ghost use Rattle.rd_trace.specs.Starts.{IsActorCount, IsArrayAt, IsParts, IsStart, IsStartValue, fresh_data, parts_object, parts_data};
 
 use super::arrays::{array_in, array_value};
 use super::faults::FormFault;
@@ -120,8 +120,7 @@ fn name_at(value: &Value, key: &str) -> Option<SegName>
 /// Returns the value of a start in this world: as the fresh one if the world is that, else as its
 /// parts.
 pub fn start_value<const R: usize>(alloc: Global, world: &World<R>) -> Result<Value, AllocError>
-    ensures value { IfOk result (λ value. IsStartData (model world.now) (view value)) }
-    ensures spelled { IfOk result (λ value. SpellsWorld (model world.now) (view value)) }
+    ensures { IfOk result (λ value. IsStartValue (model world.now) (view value)) }
 {
     if world.is_fresh() {
         return fresh_value(alloc, u64::from(world.actors()));

@@ -18,6 +18,7 @@ use std::alloc::Global;
 ///
 /// `NoMemory` if memory was refused: nothing was written. `Write` if the sink failed: it took a
 /// beginning of the text.
+#[tactic(auto, using(crate::proofs::SpellLemmas::passed_up))]
 pub fn write_trace<K: Sink, const R: usize>(
     alloc: Global,
     writer: &mut K,

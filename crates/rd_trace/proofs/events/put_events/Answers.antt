@@ -1,5 +1,5 @@
-use Rattle.std.proofs.Common.{List, take, string_bytes, refl, sym, subst, arith}
-use Rattle.rd_trace.proofs.Prelude.{take_all, length-take-le, Event, Gives, event_of, event_data, AreAppended, get_or_default}
+use Rattle.std.proofs.Common.{string_bytes, refl, arith}
+use Rattle.rd_trace.proofs.Prelude.{take_all, Gives, event_of, event_data, get_or_default}
 use Rattle.rd_trace.proofs.SpellLemmas.{take_item}
 use Rattle.rd_trace.proofs.TextLemmas.{none_appended, one_more_appended}
 use Rattle.rd_trace.proofs.events.put_events.Goals as goal
@@ -11,10 +11,8 @@ pub loop-i-preserved : goal.loop-i-preserved
 loop-i-preserved c =
     let es = c.args.events.now in
     let i = c.loop-i.i in
-    let old = string_bytes c.args.text.now in
-    subst (λ (fs : List Event). AreAppended (Gives event_of) event_data fs old (string_bytes c.put_next.new.text)) (sym (take_item es i _ (omega arith) (get_or_default es i _ _ (omega arith))))
-    (one_more_appended (Gives event_of) event_data (take i es) _ i old (string_bytes c.loop-i.text) (string_bytes c.put_next.new.text)
-    (length-take-le i es (omega arith)) c.loop-i.invariant c.in_ok-put_next.ensures.ok c.in_ok-put_next.ensures.kept)
+    one_more_appended (Gives event_of) event_data es i _ (string_bytes c.args.text.now) (string_bytes c.loop-i.text) (string_bytes c.put_next.new.text) (omega arith)
+    (take_item es i _ (omega arith) (get_or_default es i _ _ (omega arith))) c.loop-i.invariant c.in_ok-put_next.ensures.ok c.in_ok-put_next.ensures.kept
 
 pub returns : goal.returns
 returns c = grind (arith, string_bytes, take_all)

@@ -15,7 +15,7 @@ returns-in_err-set_marks g c =
     let fault = c.in_err-set_marks.field-0.0 in
     let set = subst (λ ms. SetsMarks old (map saved_mark ms) now (Err fault)) c.deref.ensures.value c.in_err-set_marks.ensures in
     passed_up (λ r. Replays IsBook t r) c.from_residual-in_err-set_marks.result fault c.from_residual-in_err-set_marks.ensures.1
-    (no_marks IsBook t c.in_ok-world.ensures.0 old start now fault set)
+    (no_marks t c.in_ok-world.ensures.0 old start IsBook now fault set)
 
 pub returns-in-Err : goal.returns-in-Err
 returns-in-Err g c =
@@ -27,7 +27,7 @@ returns-in-Err g c =
     let set = subst (λ ms. SetsMarks old (map saved_mark ms) now (Ok tt)) c.deref.ensures.value c.in_ok-set_marks.ensures in
     let all = ap₂ (λ es fs. es ++ fs) c.deref-2.ensures.value c.deref-3.ensures.value in
     let why = subst (λ es. RefusesOne now.session.start es c.in-Err.refused) all c.in-Err.ensures in
-    no_steps IsBook t c.in_ok-world.ensures.0 old start now set c.in-Err.refused c.of_step.result why c.of_step.ensures
+    no_steps t c.in_ok-world.ensures.0 old start now set IsBook c.in-Err.refused c.of_step.result why c.of_step.ensures
 
 pub returns : goal.returns
 returns g c = grind (arith, plays, c.open-book.ensures.session, c.open.ensures.state, c.in_ok-world.ensures.1, c.deref.ensures.value, c.in_ok-set_marks.ensures, c.deref-3.ensures.value, c.deref-2.ensures.value, c.in_default.ensures, c.in_ok-world.ensures.0)

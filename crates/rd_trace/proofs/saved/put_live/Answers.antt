@@ -1,5 +1,5 @@
-use Rattle.std.proofs.Common.{◌≡◌, ◌≤◌, ◌+◌, ◌++◌, ◌∷◌, [], List, length, take, string_bytes, refl, sym, ap, subst, arith}
-use Rattle.rd_trace.proofs.Prelude.{take_all, length-map, length-take-le, Event, state, Gives, event_of, event_data, AreAppended}
+use Rattle.std.proofs.Common.{◌≡◌, ◌+◌, ◌++◌, ◌∷◌, [], List, length, take, string_bytes, refl, ap, subst, arith}
+use Rattle.rd_trace.proofs.Prelude.{take_all, length-map, Event, state, Gives, event_of, event_data}
 use Rattle.rd_trace.proofs.SavedLemmas.{live_next}
 use Rattle.rd_trace.proofs.TextLemmas.{none_appended, one_more_appended}
 use Rattle.rd_trace.proofs.saved.put_live.Goals as goal
@@ -12,13 +12,10 @@ loop-k-preserved g c =
     let k = c.loop-k.k in
     let es = (state c.args.session.now).live in
     let e = c.at.result.now.event in
-    let old = string_bytes c.args.text.now in
-    let within : k ≤ length es = omega (arith, ap length c.live-live.ensures.events, length-map c.live-live.result (λ x. x.event)) in
     let next : take (k + 1) es ≡ take k es ++ e ∷ [] =
     subst (λ (fs : List Event). take (k + 1) fs ≡ take k fs ++ e ∷ []) c.live-live.ensures.events (live_next c.live-live.result k c.at.result.now (omega arith) c.at.ensures) in
-    subst (λ (fs : List Event). AreAppended (Gives event_of) event_data fs old (string_bytes c.put_next.new.text)) (sym next)
-    (one_more_appended (Gives event_of) event_data (take k es) e k old (string_bytes c.loop-k.text) (string_bytes c.put_next.new.text) (length-take-le k es within) c.loop-k.invariant
-    c.in_ok-put_next.ensures.ok c.in_ok-put_next.ensures.kept)
+    one_more_appended (Gives event_of) event_data es k e (string_bytes c.args.text.now) (string_bytes c.loop-k.text) (string_bytes c.put_next.new.text)
+    (omega (arith, ap length c.live-live.ensures.events, length-map c.live-live.result (λ x. x.event))) next c.loop-k.invariant c.in_ok-put_next.ensures.ok c.in_ok-put_next.ensures.kept
 
 pub returns : goal.returns
 returns g c = grind (arith, string_bytes, take_all, length-map)

@@ -1,5 +1,5 @@
-use Rattle.std.proofs.Common.{◌+◌, List, take, string_bytes, refl, sym, ◌∙◌, subst, arith}
-use Rattle.rd_trace.proofs.Prelude.{take_all, length-take-le, Event, state, Gives, event_of, event_data, AreAppended}
+use Rattle.std.proofs.Common.{◌+◌, string_bytes, refl, sym, ◌∙◌, arith}
+use Rattle.rd_trace.proofs.Prelude.{take_all, state, Gives, event_of, event_data}
 use Rattle.rd_trace.proofs.SavedLemmas.{undone_next, some_undone}
 use Rattle.rd_trace.proofs.TextLemmas.{none_appended, one_more_appended}
 use Rattle.rd_trace.proofs.saved.put_undone.Goals as goal
@@ -16,11 +16,9 @@ pub loop-k-preserved : goal.loop-k-preserved
 loop-k-preserved g c =
     let k = c.loop-k.k in
     let es = (state c.args.session.now).undone in
-    let e = c.in-Some.event in
-    let old = string_bytes c.args.text.now in
-    subst (λ (fs : List Event). AreAppended (Gives event_of) event_data fs old (string_bytes c.put_next.new.text)) (sym (undone_next es k (k + 1) (omega arith) e (sym c.undone_event.ensures ∙ c.in-Some.is)))
-    (one_more_appended (Gives event_of) event_data (take k es) e k old (string_bytes c.loop-k.text) (string_bytes c.put_next.new.text) (length-take-le k es (omega (arith, c.undone_len-k-end.ensures.count)))
-    c.loop-k.invariant c.in_ok-put_next.ensures.ok c.in_ok-put_next.ensures.kept)
+    one_more_appended (Gives event_of) event_data es k c.in-Some.event (string_bytes c.args.text.now) (string_bytes c.loop-k.text) (string_bytes c.put_next.new.text)
+    (omega (arith, c.undone_len-k-end.ensures.count)) (undone_next es k (k + 1) (omega arith) c.in-Some.event (sym c.undone_event.ensures ∙ c.in-Some.is)) c.loop-k.invariant
+    c.in_ok-put_next.ensures.ok c.in_ok-put_next.ensures.kept
 
 pub returns : goal.returns
 returns g c = grind (arith, string_bytes, take_all)
