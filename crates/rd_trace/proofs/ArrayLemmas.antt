@@ -50,9 +50,7 @@ filled_set i k j [] s at within h filled = absurd (omega arith)
 filled_set i zero j (x ∷ ss) s at within h filled =
     let here : i ≡ j = omega arith in
     filled_first i s ss filled ∙ ap₂ (λ n ps. (n, s) ∷ ps) here (filled_none (suc i) ss h.1) ∙ sym (ap (λ ps. ps ++ (j, s) ∷ []) (filled_none i (x ∷ ss) h))
-filled_set i (suc k) j (slot.Empty ∷ ss) s at within h filled = filled_set (suc i) k j ss s (omega arith) (omega arith) h filled
-filled_set i (suc k) j (slot.Top ∷ ss) s at within h filled = ap (λ ps. (i, slot.Top) ∷ ps) (filled_set (suc i) k j ss s (omega arith) (omega arith) h filled)
-filled_set i (suc k) j (slot.Value x ∷ ss) s at within h filled = ap (λ ps. (i, slot.Value x) ∷ ps) (filled_set (suc i) k j ss s (omega arith) (omega arith) h filled)
+filled_set i (suc k) j (x ∷ ss) s at within h filled = let later = filled_set (suc i) k j ss s (omega arith) (omega arith) h filled in grind arith
 
 -- the positions rise from the first one, and are below an end
 abbrev pub Rises : ℕ → ℕ → List (ℕ × ArrSlot) → Type 0
@@ -65,9 +63,7 @@ rises_from i k end (p ∷ ps) le h = (omega (arith, h.0), h.1, h.2)
 
 pub filled_rises : (i end : ℕ) (ss : List ArrSlot) → i + length ss ≤ end → Rises i end (filled_slots i ss)
 filled_rises i end [] le = tt
-filled_rises i end (slot.Empty ∷ ss) le = rises_from i (suc i) end (filled_slots (suc i) ss) (omega arith) (filled_rises (suc i) end ss (omega arith))
-filled_rises i end (slot.Top ∷ ss) le = (omega arith, omega arith, filled_rises (suc i) end ss (omega arith))
-filled_rises i end (slot.Value x ∷ ss) le = (omega arith, omega arith, filled_rises (suc i) end ss (omega arith))
+filled_rises i end (s ∷ ss) le = let later = filled_rises (suc i) end ss (omega arith) in grind (arith, rises_from)
 
 -- the lowest position that may be after these
 abbrev pub next_position : ℕ → List (ℕ × ArrSlot) → ℕ
@@ -122,18 +118,14 @@ all_read vs i slots free h past = subst (λ ws. SpellEach (Gives slot_of) (items
 
 filled_behind : (i j : ℕ) (xs : List ArrSlot) (s : ArrSlot) → j ≡ i + length xs → filled_slots i (xs ++ s ∷ []) ≡ filled_slots i xs ++ filled_slots j (s ∷ [])
 filled_behind i j [] s at = let here : i ≡ j = omega arith in ap (λ n. filled_slots n (s ∷ [])) here
-filled_behind i j (slot.Empty ∷ xs) s at = filled_behind (suc i) j xs s (omega arith)
-filled_behind i j (slot.Top ∷ xs) s at = ap (λ ps. (i, slot.Top) ∷ ps) (filled_behind (suc i) j xs s (omega arith))
-filled_behind i j (slot.Value x ∷ xs) s at = ap (λ ps. (i, slot.Value x) ∷ ps) (filled_behind (suc i) j xs s (omega arith))
+filled_behind i j (x ∷ xs) s at = let later = filled_behind (suc i) j xs s (omega arith) in grind arith
 
 not_empty : (s : ArrSlot) → (s ≡ slot.Empty → ⊥) → IsFilled s
 not_empty s other = grind arith
 
 slots_spelled : (i : ℕ) (ss : List ArrSlot) → SpellEach (Gives slot_of) (items_by slot_data (filled_slots i ss)) (filled_slots i ss)
 slots_spelled i [] = tt
-slots_spelled i (slot.Empty ∷ ss) = slots_spelled (suc i) ss
-slots_spelled i (slot.Top ∷ ss) = (refl, slots_spelled (suc i) ss)
-slots_spelled i (slot.Value x ∷ ss) = (refl, slots_spelled (suc i) ss)
+slots_spelled i (s ∷ ss) = let later = slots_spelled (suc i) ss in grind arith
 
 module _ (ss : List ArrSlot) (i : ℕ) (d : ArrSlot) (vs : List Value) (within : i < length ss) (so_far : items_view vs ≡ items_by slot_data (filled_slots 0 (take i ss))) where
   filled_take : filled_slots 0 (take (i + 1) ss) ≡ filled_slots 0 (take i ss) ++ filled_slots i (get_or ss i d ∷ [])

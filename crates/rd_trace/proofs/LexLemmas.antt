@@ -1,6 +1,6 @@
 -- A line feed after printed tokens changes none of them, so that the text of a value is read the
 -- same with one after it.
-use Rattle.std.proofs.Common.{◌≡◌, ℕ, Bool, true, false, cond, ◌&&◌, List, [], ◌∷◌, ◌++◌, refl, sym, ap, ap₂, ◌∙◌, append_assoc, append-nil}
+use Rattle.std.proofs.Common.{◌≡◌, ℕ, Bool, true, false, cond, ◌&&◌, List, [], ◌∷◌, ◌++◌, refl, sym, ap, ap₂, ◌∙◌, append_assoc, append-nil, arith}
 use Rattle.rd_trace.proofs.Prelude.{Token, begin_object, end_object, begin_array, end_array, key, bad, Lexeme, token, comma, string_token, lex, between, fresh, punctuate, tokens, escape, quoted, token_text, begins, ends, print_from, print, IsPrintable, ArePrintable, content-escape, lex-escape, ArePrintableOrBad}
 use Rattle.json.specs.Token.{string, number, boolean, null}
 use Rattle.json.specs.Word.{ends_word, word}
@@ -13,16 +13,7 @@ use Rattle.json.proofs.Printed.Tokens.{tokens-print}
 ends_before : (ts : List Token) (z : List ℕ) → ends_word z ≡ true → ends_word (print_from true ts ++ z) ≡ true
 unfolding print_from
 ends_before [] z h = h
-ends_before (begin_object ∷ ts) z h = refl
-ends_before (end_object ∷ ts) z h = refl
-ends_before (begin_array ∷ ts) z h = refl
-ends_before (end_array ∷ ts) z h = refl
-ends_before (key s ∷ ts) z h = refl
-ends_before (string s ∷ ts) z h = refl
-ends_before (number s ∷ ts) z h = refl
-ends_before (boolean b ∷ ts) z h = refl
-ends_before (null ∷ ts) z h = refl
-ends_before (bad ∷ ts) z h = refl
+ends_before (t ∷ ts) z h = grind arith
 
 lex-string : (s r : List ℕ) → lex between (quoted s ++ r) ≡ token (string s) ∷ lex between r
 unfolding lex

@@ -24,7 +24,7 @@ names_differ d t h = grind (arith, none_differ)
 pub few_marks : {R : ℕ} (d : Data) (t : Trace R) → IsEither d t → length t.marks ≤ MOST_MARKS
 few_marks d t h = grind arith
 
-ring_of : {R : ℕ} (d : Data) (t : Trace R) → IsEither d t → number_at (codes "ring") d ≡ Some R
+pub ring_of : {R : ℕ} (d : Data) (t : Trace R) → IsEither d t → number_at (codes "ring") d ≡ Some R
 ring_of d t h = grind arith
 
 value_eq : {R : ℕ} (text : List ℕ) (d : Data) (t : Trace R) → HasValue text d → IsTraceText text t → IsEither d t

@@ -1,5 +1,5 @@
 -- Loading a text has one answer, memory aside.
-use Rattle.std.proofs.Common.{◌≡◌, ◌⊎◌, inl, inr, ℕ, ◌+◌, List, [], ◌∷◌, ◌++◌, map, Option, Some, None, option_map, Result, Ok, Err, refl, sym, ap, ap₂, ◌∙◌, subst, subst₂, arith}
+use Rattle.std.proofs.Common.{◌≡◌, ◌⊎◌, inl, inr, ℕ, ◌+◌, List, [], ◌∷◌, ◌++◌, map, Option, None, option_map, Result, Ok, Err, refl, sym, ap, ap₂, ◌∙◌, subst, subst₂, arith}
 use Rattle.rd_trace.proofs.Prelude.{World, Refusal, Event, Mark, Trace, IsTraceText, loaded_state, seen_mark, IsSameBook, first_refused, first_refused_mark, trace_fault, IsBookIn, Replays, LoadsTrace, IsSameAnswer, AnyBook, LoadTraceFault, BadTrace, Flawed, TraceMark, TraceStep, LoadsAgain, BookState, IsTextOf, IsTraceRing}
 use Rattle.std.specs.Option.{option_or}
 use Rattle.rd_trace.specs.declared.faults.LoadTraceFault.TheVariants.{NoMemory}
@@ -14,9 +14,6 @@ same_mark_fault w n (m ∷ ms) (k ∷ ns) h =
     let both : seen_mark m ≡ seen_mark k = cc in
     let later : map seen_mark ms ≡ map seen_mark ns = cc in
     ap₂ (λ (es : List Event) (o : Option LoadTraceFault). option_or (option_map (λ (r : ℕ × Refusal). TraceMark (n + 1) r.0 r.1) (first_refused w [] es)) o) (ap (λ (s : List ℕ × List Event). s.1) both) (same_mark_fault w (n + 1) ms ns later)
-
-sym_book : {a b : BookState} → IsSameBook a b → IsSameBook b a
-sym_book h = record { session = sym h.session; marks = sym h.marks }
 
 -- what two traces that are the same answer
 module _ (R Q : ℕ) (t : Trace R) (u : Trace Q) (same : seen t ≡ seen u) where
@@ -36,7 +33,7 @@ module _ (R Q : ℕ) (t : Trace R) (u : Trace Q) (same : seen t ≡ seen u) wher
 
   -- a trace that has no fault gives its book again
   again : trace_fault t ≡ None → (q : Result AnyBook LoadTraceFault) → Replays (IsBookIn (loaded_state u)) u q → LoadsAgain (loaded_state t) q
-  again plays (Ok b) k = subst (λ x. IsSameBook x (loaded_state t)) (sym k.1) (sym_book (same_book R Q t u same))
+  again plays (Ok b) k = subst (λ x. IsSameBook x (loaded_state t)) (sym k.1) (same_book Q R u t (sym same))
   again plays (Err f) k = let alike = same_fault in grind arith
 
 -- the text is no trace, and so the answer says; or it is one, and the answer is what its trace

@@ -1,6 +1,6 @@
 -- A text is one trace at most.
-use Rattle.std.proofs.Common.{◌≡◌, ◌≢◌, ℕ, suc, ◌+◌, ◌≤◌, Bool, not, ◌&&◌, ◌==◌, nat_le, if◌then◌else◌, List, [], ◌∷◌, map, length, slice_get, codes, Option, Some, None, is_some, option_map, Vec, Global, inl, inr, refl, sym, ap, ap₂, ◌∙◌, subst, arith}
-use Rattle.rd_trace.proofs.Prelude.{length-map, slice_get-map, list_all, Data, get, as_array, read, SegName, ArrSlot, Actor, SLOTS, SegmentParts, ArrayParts, World, MOST_ACTORS, Event, fresh_world, numbered, world_of_parts, first_flaw, indexes_fit, array_fits, Parts, Flaw, bytes_of, Mark, GoThrough, MarksGoThrough, member_count, number_at, items_at, Gives, SpellEachAt, event_of, IsActor, slot_of, filled_slots, IsArray, cell_of, IsSegment, IsSegmentList, IsMark, IsParts, IsStart, start_world, start_flaw, Start, Trace, IsFirstTrace, IsSecondTrace, IsEither, IsTraceText, loaded_state, seen_mark, IsSameBook}
+use Rattle.std.proofs.Common.{◌≡◌, ◌≢◌, ℕ, suc, ◌+◌, ◌≤◌, Bool, not, ◌&&◌, ◌==◌, nat_le, if◌then◌else◌, List, [], ◌∷◌, map, length, slice_get, codes, Option, Some, None, is_some, option_map, Vec, Global, inl, inr, refl, sym, ap, ◌∙◌, subst, arith}
+use Rattle.rd_trace.proofs.Prelude.{length-map, slice_get-map, list_all, Data, get, as_array, read, SegName, ArrSlot, Actor, SLOTS, SegmentParts, ArrayParts, World, MOST_ACTORS, Event, fresh_world, numbered, world_of_parts, first_flaw, indexes_fit, array_fits, Parts, Flaw, bytes_of, Mark, member_count, items_at, Gives, SpellEachAt, elements, event_of, IsActor, slot_of, filled_slots, IsArray, cell_of, IsSegment, IsSegmentList, IsMark, IsParts, IsStart, start_world, start_flaw, Start, Trace, IsFirstTrace, IsSecondTrace, IsEither, IsTraceText, loaded_state, seen_mark, IsSameBook}
 use Rattle.std.proofs.Props.{props}
 use Rattle.std.proofs.lemmas.List.Folds.{list_all-map}
 use mathlib.Core.HLevel.{is_prop→PathP}
@@ -14,6 +14,7 @@ use Rattle.rd_segments.specs.SpaceFields.{contents_by}
 use Rattle.rd_actor.specs.Words.{words_fit}
 use Rattle.rd_step.specs.WellFormed.{next_fits, names_fit, numbers_within}
 use Rattle.rd_step.specs.declared.flaws.Flaw.TheVariants.{Makers, PlaceNames, ActorNames, Counters, Indexes, ArrayCounters, ActorNumbers, ActorWords}
+use Rattle.rd_trace.proofs.LoadLemmas.{ring_of}
 use Rattle.rd_trace.proofs.SpellLemmas.{one_given, same_each_at, same_seen_at}
 use Rattle.rd_trace.specs.declared.starts.Start.TheVariants as start
 
@@ -79,15 +80,12 @@ same_segment R d s r h k =
       sized = is_prop→PathP (λ j. length (cells j) ≡ R) (λ j. hlevel props) s.sized r.sized i;
     }
 
-abbrev items : {X : Type 0} → Vec X Global → List X
-items v = v.items
-
 same_segments : (R : ℕ) (d : Data) (v w : Vec (SegmentParts R) Global) → IsSegmentList d v → IsSegmentList d w → v.items ≡ w.items
 same_segments R d v w h k = same_each_at IsSegment (same_segment R) (as_array d) v.items w.items h k
 
 same_makers : (R : ℕ) (d : Data) (vs ws : List (Vec (SegmentParts R) Global)) → SpellEachAt IsSegmentList (codes "segments") d vs → SpellEachAt IsSegmentList (codes "segments") d ws
-    → map items vs ≡ map items ws
-same_makers R d vs ws h k = same_seen_at IsSegmentList items (same_segments R) (items_at (codes "segments") d) vs ws h k
+    → map elements vs ≡ map elements ws
+same_makers R d vs ws h k = same_seen_at IsSegmentList elements (same_segments R) (items_at (codes "segments") d) vs ws h k
 
 -- ---- what is seen of the makers' lists: their elements
 
@@ -99,21 +97,21 @@ abbrev one_of : {X : Type 0} → Option (List X) → ℕ → Option X
 one_of None n = None
 one_of (Some xs) n = slice_get xs n
 
-counted : {X : Type 0} (o : Option (Vec X Global)) → count_in o ≡ count_of (option_map items o)
+counted : {X : Type 0} (o : Option (Vec X Global)) → count_in o ≡ count_of (option_map elements o)
 counted o = grind arith
 
-one_by_number : {X : Type 0} (o : Option (Vec X Global)) (n : ℕ) → by_number o n ≡ one_of (option_map items o) n
+one_by_number : {X : Type 0} (o : Option (Vec X Global)) (n : ℕ) → by_number o n ≡ one_of (option_map elements o) n
 one_by_number o n = grind arith
 
-module _ {X : Type 0} (vs ws : List (Vec X Global)) (same : map items vs ≡ map items ws) where
+module _ {X : Type 0} (vs ws : List (Vec X Global)) (same : map elements vs ≡ map elements ws) where
   same_length : length vs ≡ length ws
-  same_length = sym (length-map vs items) ∙ ap length same ∙ length-map ws items
+  same_length = sym (length-map vs elements) ∙ ap length same ∙ length-map ws elements
 
   same_all : (test : List X → Bool) → list_all (λ v. test v.items) vs ≡ list_all (λ v. test v.items) ws
-  same_all test = sym (list_all-map test items vs) ∙ ap (list_all test) same ∙ list_all-map test items ws
+  same_all test = sym (list_all-map test elements vs) ∙ ap (list_all test) same ∙ list_all-map test elements ws
 
-  same_at : (m : ℕ) → option_map items (slice_get vs m) ≡ option_map items (slice_get ws m)
-  same_at m = sym (slice_get-map items vs m) ∙ ap (λ l. slice_get l m) same ∙ slice_get-map items ws m
+  same_at : (m : ℕ) → option_map elements (slice_get vs m) ≡ option_map elements (slice_get ws m)
+  same_at m = sym (slice_get-map elements vs m) ∙ ap (λ l. slice_get l m) same ∙ slice_get-map elements ws m
 
   same_count : (m : ℕ) → count vs m ≡ count ws m
   same_count m = counted (slice_get vs m) ∙ ap count_of (same_at m) ∙ sym (counted (slice_get ws m))
@@ -140,7 +138,7 @@ module _ (R : ℕ) (d : Data) (p q : Parts R) (h : IsParts d p) (k : IsParts d q
   actors_same : p.actors.items ≡ q.actors.items
   actors_same = same_each_at IsActor same_actor _ p.actors.items q.actors.items h.actors k.actors
 
-  makers_same : map items p.segments.items ≡ map items q.segments.items
+  makers_same : map elements p.segments.items ≡ map elements q.segments.items
   makers_same = same_makers R d p.segments.items q.segments.items h.segments k.segments
 
   names_same : (s : SegName) → by_name p.segments.items s ≡ by_name q.segments.items s
@@ -232,15 +230,12 @@ module _ (R : ℕ) (d : Data) (t u : Trace R) where
   same_either (inr h) (inl k) = absurd (two_counts d 6 4 (λ e. omega (arith, e)) h.members k.members)
   same_either (inr h) (inr k) = same_second h k
 
-ring_of : (R : ℕ) (d : Data) (t : Trace R) → IsEither d t → number_at (codes "ring") d ≡ Some R
-ring_of R d t k = grind arith
-
 -- the traces that a text is are over one ring, and the same
 pub same_trace : (text : List ℕ) (R Q : ℕ) (t : Trace R) (u : Trace Q) → IsTraceText text t → IsTraceText text u → (R ≡ Q) × (seen t ≡ seen u)
 same_trace text R Q t u h k =
     let d = k.1 in
     let read_as : IsEither d t = subst (λ x. IsEither x t) (some_same (read text) h.1 d h.2 k.2) h.3.1 in
-    let ring = some_same _ R Q (ring_of R d t read_as) (ring_of Q d u k.3.1) in
+    let ring = some_same _ R Q (ring_of d t read_as) (ring_of d u k.3.1) in
     (ring, subst (λ P. (v : Trace P) → IsEither d v → seen t ≡ seen v) ring (λ v is. same_either R d t v read_as is) u k.3.1)
 
 pub same_book : (R Q : ℕ) (t : Trace R) (u : Trace Q) → seen t ≡ seen u → IsSameBook (loaded_state t) (loaded_state u)

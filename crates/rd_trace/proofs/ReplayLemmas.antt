@@ -31,6 +31,9 @@ option_or_assoc (Some x) p q = refl
 not_refused : (s : State) (e : Event) (full : Bool) (o : Result Stepped Refusal) → full ≡ false → IsOk o → result_err (if full then Err refusal.TooLong else result_map (λ stepped. with_event s e) o) ≡ None
 not_refused s e full o room ok = grind arith
 
+happens_by : (r : Result Ran Refusal) (e : Event) (ran : Ran) (one : Stepped) → r ≡ Ok ran → step ran.world e ≡ Ok one → IsOk (step_after r e)
+happens_by r e ran one runs goes = grind arith
+
 -- the first refused event of one after these, which has this cause, if it is refused, and later ones
 abbrev then_refused : List Event → Option Refusal → Option (ℕ × Refusal) → Option (ℕ × Refusal)
 then_refused b cause later = option_or (option_map (λ c. (length b + 1, c)) cause) later
@@ -43,9 +46,6 @@ module _ (w : World) where
       let rest = first_refused w (b ++ x ∷ []) xs in
       ap (option_or here) (first_refused-append (b ++ x ∷ []) xs ys ∙ ap (λ (l : List Event). option_or rest (first_refused w l ys)) (append_assoc b (x ∷ []) xs))
       ∙ option_or_assoc here rest (first_refused w (b ++ x ∷ xs) ys)
-
-  happens_by : (r : Result Ran Refusal) (e : Event) (ran : Ran) (one : Stepped) → r ≡ Ok ran → step ran.world e ≡ Ok one → IsOk (step_after r e)
-  happens_by r e ran one runs goes = grind arith
 
   -- an event of a run that is not refused happens in the last world of those before it
   happens_in : (b : List Event) (e : Event) (es : List Event) (o : Result Ran Refusal) → run w (b ++ e ∷ es) ≡ o → IsOk o → IsOk (step_after (run w b) e)

@@ -1,5 +1,5 @@
 -- Whole sessions as values.
-use Rattle.std.proofs.Common.{◌≡◌, ℕ, zero, suc, ◌+◌, ◌<◌, ◌≤◌, List, [], ◌∷◌, ◌++◌, length, take, get_or, slice_get, Some, None, Result, Ok, Err, IsOk, inl, inr, refl, sym, ap, ◌∙◌, subst, arith, length-append}
+use Rattle.std.proofs.Common.{◌≡◌, ℕ, suc, ◌+◌, ◌<◌, ◌≤◌, List, [], ◌∷◌, ◌++◌, length, take, get_or, Some, None, Result, Ok, Err, IsOk, inl, inr, refl, sym, ap, ◌∙◌, subst, arith, length-append}
 use Rattle.rd_trace.proofs.Prelude.{length-map, map-append, take_more, get_or-map, same_Some, Data, Refusal, run, MOST_STEPS, Ran, run_entries, Entry, Event, state_of, numbered, BookState, GoThrough, Reads, Gives, SpellEach, items_by, event_of, event_data, SpellsWorld, AreMarks, mark_data, member_count, Trace, IsFirstTrace, IsSecondTrace, IsEither, loaded_state, saved_trace, book_data, FormFault, start_flaw}
 use Rattle.rd_journal.specs.Journal.{Journal, IsRun, start_of, events}
 use Rattle.rd_journal.proofs.Walks.{whole_run}

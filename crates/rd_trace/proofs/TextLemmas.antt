@@ -1,7 +1,7 @@
 -- Texts that are put together: of lists, of events, of bookmarks and of a book; and that the text of
 -- a value is read as that value.
 use Rattle.std.proofs.Common.{◌≡◌, ℕ, ◌+◌, ◌^◌, ◌<◌, ◌≤◌, nat_lt, Bool, true, false, List, [], ◌∷◌, ◌++◌, length, take, codes, decimal, Option, Some, option_map, option_and_then, refl, sym, ap, ◌∙◌, subst, arith, append_assoc, append-nil, suc, max, ap₂, lt-ltb, if◌then◌else◌, is_ok, Result, OnOk}
-use Rattle.rd_trace.proofs.Prelude.{length-take-le, Token, tokens, escape, escape_byte, ArePrintableOrBad, Data, array, object, unsigned, Items, no_items, item, Members, no_members, member, depth, items_depth, members_depth, of_json, of_items, read, max_depth, outline, items_outline, members_outline, compact_text, items_text, members_text, comma_if, has_float, IsInOrder, SpellEach, items_by, Act, Event, short_data, long_data, act_data, event_data, mark_object, book_object, joined_text, IsReadBack, IsKept, AreAppended}
+use Rattle.rd_trace.proofs.Prelude.{length-take-le, Token, tokens, escape, escape_byte, ArePrintableOrBad, Data, array, object, unsigned, Items, no_items, item, Members, no_members, member, depth, items_depth, members_depth, of_json, read, max_depth, outline, items_outline, members_outline, compact_text, items_text, members_text, comma_if, has_float, IsInOrder, SpellEach, items_by, Act, Event, short_data, long_data, act_data, event_data, mark_object, book_object, joined_text, IsReadBack, IsKept, AreAppended}
 use Rattle.std.specs.Fmt.{digits}
 use Rattle.json.specs.Json as json
 use Rattle.json.specs.Tree as tree
@@ -39,26 +39,20 @@ closed_text : (ds : Items) (z : List ℕ) → items_text false ds ++ z ≡ joine
 closed_text ds z = ap (λ s. s ++ z) (items_text-joined false ds) ∙ append_assoc (joined_text false ds) (93 ∷ []) z
 
 module _ {X : Type 0} (Spells : Data → X → Type 0) where
+  -- values that are kept spell the things, and their list is read back
+  all_kept : (ds : Items) (xs : List X) → SpellEach (IsKept Spells) ds xs → SpellEach Spells ds xs × IsReadBack (array ds)
+  all_kept no_items [] h = (tt, record { numbers = tt; back = refl })
+  all_kept no_items (x ∷ xs) h = absurd h
+  all_kept (item d ds) [] h = absurd h
+  all_kept (item d ds) (x ∷ xs) h =
+      let rest = all_kept ds xs h.1 in
+      ((h.0.spelled, rest.0), record { numbers = (h.0.back.numbers, rest.1.numbers); back = grind (arith, option_and_then, option_map, h.0.back.back, rest.1.back) })
+
   pub each_spelled : (ds : Items) (xs : List X) → SpellEach (IsKept Spells) ds xs → SpellEach Spells ds xs
-  each_spelled no_items [] h = tt
-  each_spelled no_items (x ∷ xs) h = absurd h
-  each_spelled (item d ds) [] h = absurd h
-  each_spelled (item d ds) (x ∷ xs) h = (h.0.spelled, each_spelled ds xs h.1)
-
-  items_numbers : (ds : Items) (xs : List X) → SpellEach (IsKept Spells) ds xs → tree.ItemsHaveNumbers (items_outline ds)
-  items_numbers no_items [] h = tt
-  items_numbers no_items (x ∷ xs) h = absurd h
-  items_numbers (item d ds) [] h = absurd h
-  items_numbers (item d ds) (x ∷ xs) h = (h.0.back.numbers, items_numbers ds xs h.1)
-
-  items_back : (ds : Items) (xs : List X) → SpellEach (IsKept Spells) ds xs → of_items (items_outline ds) ≡ Some ds
-  items_back no_items [] h = refl
-  items_back no_items (x ∷ xs) h = absurd h
-  items_back (item d ds) [] h = absurd h
-  items_back (item d ds) (x ∷ xs) h = grind (arith, option_and_then, option_map, items_back ds xs h.1)
+  each_spelled ds xs h = (all_kept ds xs h).0
 
   pub list_back : (ds : Items) (xs : List X) → SpellEach (IsKept Spells) ds xs → IsReadBack (array ds)
-  list_back ds xs h = record { numbers = items_numbers ds xs h; back = ap (option_map array) (items_back ds xs h) }
+  list_back ds xs h = (all_kept ds xs h).1
 
   module _ (datum : X → Data) where
     pub none_appended : (old new : List ℕ) → new ≡ old → AreAppended Spells datum [] old new

@@ -1,7 +1,6 @@
 -- The value of a book has no float, and is not deep.
-use Rattle.std.proofs.Common.{◌≡◌, ℕ, suc, ◌≤◌, Bool, false, ◌||◌, List, [], ◌∷◌, Option, Vec, Global, inl, inr, refl, sym, ap₂, subst, arith}
-use Rattle.rd_trace.proofs.Prelude.{Data, array, object, unsigned, Items, no_items, item, Members, no_members, member, depth, items_depth, members_depth, max_depth, has_float, items_have_float, members_have_float, SegName, Cell, ArrSlot, SegmentParts, ArrayParts, Actor, World, Act, Event, Parts, bytes_of, Mark, BookState, items_by, name_data, next_data, act_data, event_data, value_data, actor_data, cell_data, segment_data, list_data, filled_slots, content_data, slot_data, array_data, IsStartData, fresh_data, parts_data, mark_data, book_data}
-use Rattle.serde_json.specs.Data.{boolean, number, string}
+use Rattle.std.proofs.Common.{◌≡◌, ℕ, suc, ◌≤◌, false, ◌||◌, List, [], ◌∷◌, Vec, Global, inl, inr, refl, sym, ap₂, subst, arith}
+use Rattle.rd_trace.proofs.Prelude.{Data, Items, depth, items_depth, max_depth, has_float, items_have_float, Cell, ArrSlot, SegmentParts, ArrayParts, Actor, World, Event, Parts, Mark, BookState, items_by, event_data, actor_data, cell_data, segment_data, list_data, filled_slots, slot_data, array_data, IsStartData, parts_data, mark_data, book_data}
 
 -- a value has no float, and is at most so deep; so are items
 record IsPlain (n : ℕ) (d : Data) : Type 0 where

@@ -27,7 +27,7 @@ MakesWorld start (Err BadTrace) = ⊥
 MakesWorld start (Err (TraceMark m n cause)) = ⊥
 MakesWorld start (Err (TraceStep n cause)) = ⊥
 
--- an event was refused: for memory, or it is the first of these events that is refused from the start
+-- an event was refused: for memory, or it is the first of these that is refused from the start
 abbrev pub RefusesOne : World → List Event → RefusedEvent → Type 0
 RefusesOne start events refused = (refused.cause ≡ refusal.NoMemory) ⊎ (first_refused start [] events ≡ Some (refused.step, refused.cause))
 

@@ -1,7 +1,7 @@
 //! A session that was read, made to happen: its bookmarks one after another, then its live events,
 //! then its undone ones.
 
-ghost use Rattle.std.specs.Prelude.{◌≡◌, ◌≤◌, ◌↔◌, ◌++◌, [], map, length, take, IsTrue};
+ghost use Rattle.std.specs.Prelude.{◌≡◌, ◌<◌, ◌≤◌, ◌↔◌, ◌++◌, [], map, length, take, IsTrue, IfErr};
 ghost use Rattle.rd_step.specs.Prelude.{MOST_CELLS};
 ghost use Rattle.rd_journal.specs.Sessions.{state};
 ghost use Rattle.rd_marks.specs.BookViews.{book_state};
@@ -153,7 +153,8 @@ fn is_same(event: &Event, other: &Event) -> bool
 fn step_all<const R: usize>(book: &mut Book<R>, events: &[Event]) -> Result<(), RefusedEvent>
     requires through { GoThrough (book_state book.old).session.start (book_state book.old).session.live }
     requires none { (book_state book.old).session.undone ≡ [] }
-    ensures { GoesTo (book_state book.old) ((book_state book.old).session.live ++ events.now) (book_state book.new) result }
+    ensures goes { GoesTo (book_state book.old) ((book_state book.old).session.live ++ events.now) (book_state book.new) result }
+    ensures err { IfErr result (λ refused. 0 < length events.now) }
 {
     for event in events {
         if let Err(cause) = book.apply(*event) {

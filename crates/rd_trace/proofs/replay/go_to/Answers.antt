@@ -12,4 +12,4 @@ returns g c =
     let kept = c.shared_beginning-kept.result in
     let es = c.args.events.now in
     let same : take kept old.session.live ≡ take kept es = subst (λ (s : State). take kept s.live ≡ take kept es) c.session.ensures.state c.shared_beginning-kept.ensures.same in
-    goes_to old (book_state c.keep_first.new.self) (book_state c.step_all.new.book) es _ kept c.step_all.result c.keep_first.ensures same (rest_of kept es) c.step_all.ensures
+    goes_to old (book_state c.keep_first.new.self) (book_state c.step_all.new.book) es _ kept c.step_all.result c.keep_first.ensures same (rest_of kept es) c.step_all.ensures.goes

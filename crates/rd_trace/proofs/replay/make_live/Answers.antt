@@ -15,15 +15,15 @@ returns-in_err-step_all g c =
     let old = book_state c.args.book.now in
     let mid = book_state c.go_to.new.book in
     passed_up (λ r. MakesLive old c.args.events.now c.args.undone.now (book_state c.step_all.new.book) r) c.from_residual-in_err-step_all.result c.in_err-step_all.field-0.0 c.from_residual-in_err-step_all.ensures.1
-    (undone_refused old mid (book_state c.step_all.new.book) c.args.events.now c.args.undone.now c.in_err-step_all.field-0.0 c.in_ok-go_to.ensures.0 c.in_err-step_all.ensures)
+    (undone_refused old mid (book_state c.step_all.new.book) c.args.events.now c.args.undone.now c.in_err-step_all.field-0.0 c.in_ok-go_to.ensures.0 c.in_err-step_all.ensures.goes)
 
 pub go_back-requires : goal.go_back-requires
 go_back-requires g c =
     let old = book_state c.args.book.now in
-    (omega arith, enough_live old (book_state c.go_to.new.book) (book_state c.step_all.new.book) c.args.events.now c.args.undone.now c.in_ok-go_to.ensures.0 c.in_ok-step_all.ensures)
+    (omega arith, enough_live old (book_state c.go_to.new.book) (book_state c.step_all.new.book) c.args.events.now c.args.undone.now c.in_ok-go_to.ensures.0 c.in_ok-step_all.ensures.goes)
 
 pub returns : goal.returns
 returns g c =
     let old = book_state c.args.book.now in
     made_live old (book_state c.go_to.new.book) (book_state c.step_all.new.book) (book_state c.go_back.new.self) c.args.events.now c.args.undone.now
-    c.in_ok-go_to.ensures.0 c.in_ok-step_all.ensures c.go_back.ensures.session c.go_back.ensures.marks
+    c.in_ok-go_to.ensures.0 c.in_ok-step_all.ensures.goes c.go_back.ensures.session c.go_back.ensures.marks

@@ -6,8 +6,8 @@ use Rattle.rd_trace.proofs.replay.step_all.Goals as goal
 pub loop-event-init : goal.loop-event-init
 loop-event-init g c = none_stepped (book_state c.args.book.now) c.requires.through c.requires.none
 
-pub returns-in-Err : goal.returns-in-Err
-returns-in-Err g c =
+pub returns-in-Err-clause-goes : goal.returns-in-Err-clause-goes
+returns-in-Err-clause-goes g c =
     let old = book_state c.args.book.now in
     let now = book_state c.loop-event.book in
     let number : c.len.result + 1 ≡ length now.session.live + 1 =
@@ -22,5 +22,5 @@ loop-event-preserved g c =
     let did = happened now after _ _ c.in_default.ensures.answer in
     one_stepped (book_state c.args.book.now) now c.args.events.now c.loop-event.event-index _ c.loop-event-test.true (get_or_default c.args.events.now c.loop-event.event-index _ _ c.loop-event-test.true) c.loop-event.invariant after did.0 did.1
 
-pub returns : goal.returns
-returns g c = all_of (book_state c.args.book.now) (book_state c.loop-event.book) c.args.events.now c.loop-event.event-index (omega arith) c.loop-event.invariant
+pub returns-clause-goes : goal.returns-clause-goes
+returns-clause-goes g c = all_of (book_state c.args.book.now) (book_state c.loop-event.book) c.args.events.now c.loop-event.event-index (omega arith) c.loop-event.invariant
