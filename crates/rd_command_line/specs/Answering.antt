@@ -3,6 +3,7 @@ use Rattle.std.specs.Prelude.{◌≡◌, ◌≢◌, ◌⊎◌, ℕ, Bool, false,
 use Rattle.std.specs.Global.{Global}
 use Rattle.std.specs.Io.KnownBytes.{Keeps}
 use Rattle.clap.specs.Walk.{Text}
+use Rattle.rd_marks.specs.Books.{BookState}
 use Rattle.rd_script.specs.Script.{Devices}
 use Rattle.rd_trace.specs.Traces.{ring_length}
 use Rattle.rd_trace.specs.Loading.{fresh_state}
@@ -18,12 +19,12 @@ use Rattle.rd_command_line.specs.declared.outcomes.Outcome.TheVariants.{Done}
 use Rattle.rd_command_line.specs.Outcomes.{Ends, IsOutcomeOf}
 use Rattle.rd_command_line.specs.CommandLine.{EndsFor, GivesOptions}
 
--- the script in a file was played, whatever text the file gave; or the file could not be opened,
--- and the output is as it was
-abbrev pub PlaysFile : ℕ → ℕ → Bool → Option (List ℕ) → Option (List ℕ) → Bool → Result ℕ ProgramFault → Type 0
-PlaysFile R actors traced output output' failed result =
+-- the script in a file was played over a book in this state, whatever text the file gave; or the
+-- file could not be opened, and the output is as it was
+abbrev pub PlaysFile : BookState → Bool → Option (List ℕ) → Option (List ℕ) → Bool → Result ℕ ProgramFault → Type 0
+PlaysFile before traced output output' failed result =
     ((result ≡ Err program.Read) × Keeps output output' × (failed ≡ false))
-    ⊎ ((d : Devices) × (d.out_before ≡ output) × (d.out_after ≡ output') × (d.out_failed ≡ failed) × PlaysScript R actors traced d result)
+    ⊎ ((d : Devices) × (d.out_before ≡ output) × (d.out_after ≡ output') × (d.out_failed ≡ failed) × PlaysScript before traced d result)
 
 -- some text of a file was loaded, whatever the file gave, and the script on the input was run over
 -- its trace; or the file could not be opened or read, and neither stream was used
@@ -32,28 +33,28 @@ LoadsFile d result =
     (((fault : ProgramFault) × (result ≡ Err fault) × IsUnread fault) × TouchesNothing d)
     ⊎ ((text : List ℕ) × ResumesTrace text d result)
 
--- the scripts in this many files were viewed, whatever the files gave; or a file could not be
--- opened or read, and the output is as it was
-abbrev pub ViewsFiles : ℕ → ℕ → ℕ → Option (List ℕ) → Option (List ℕ) → Bool → Result ℕ ProgramFault → Type 0
-ViewsFiles count R actors output output' failed result =
+-- the scripts in this many files were viewed over a book in this state, whatever the files gave; or
+-- a file could not be opened or read, and the output is as it was
+abbrev pub ViewsFiles : ℕ → BookState → Option (List ℕ) → Option (List ℕ) → Bool → Result ℕ ProgramFault → Type 0
+ViewsFiles count before output output' failed result =
     (((fault : ProgramFault) × (result ≡ Err fault) × IsUnread fault) × Keeps output output' × (failed ≡ false))
-    ⊎ ((scripts : List (Vec ℕ Global)) × (length scripts ≡ count) × ViewsOver (fresh_state R actors) scripts output output' failed result)
+    ⊎ ((scripts : List (Vec ℕ Global)) × (length scripts ≡ count) × ViewsOver before scripts output output' failed result)
 
 -- the input was not used: no byte was read, and it has not failed
 abbrev pub LeavesInput : Devices → Type 0
 LeavesInput d = Keeps d.in_before d.in_after × (d.in_failed ≡ false)
 
--- the script of this name was played: that on the input if the name is `-`, else that in the file
--- of this name, with the input not used
-abbrev pub PlaysNamed : Text → ℕ → ℕ → Bool → Devices → Result ℕ ProgramFault → Type 0
-PlaysNamed name R actors traced d result =
-    ((name ≡ codes "-") × PlaysScript R actors traced d result)
-    ⊎ ((name ≢ codes "-") × LeavesInput d × PlaysFile R actors traced d.out_before d.out_after d.out_failed result)
+-- the script of this name was played over a book in this state: that on the input if the name is
+-- `-`, else that in the file of this name, with the input not used
+abbrev pub PlaysNamed : Text → BookState → Bool → Devices → Result ℕ ProgramFault → Type 0
+PlaysNamed name before traced d result =
+    ((name ≡ codes "-") × PlaysScript before traced d result)
+    ⊎ ((name ≢ codes "-") × LeavesInput d × PlaysFile before traced d.out_before d.out_after d.out_failed result)
 
 -- what the program did for these options, by the result
 abbrev pub DoesOptions : Options → Devices → Result ℕ ProgramFault → Type 0
-DoesOptions (Run file actors ring trace) d result = PlaysNamed file.now (ring_length ring) actors trace d result
-DoesOptions (View files actors ring) d result = LeavesInput d × ViewsFiles (length files.items) (ring_length ring) actors d.out_before d.out_after d.out_failed result
+DoesOptions (Run file actors ring trace) d result = PlaysNamed file.now (fresh_state (ring_length ring) actors) trace d result
+DoesOptions (View files actors ring) d result = LeavesInput d × ViewsFiles (length files.items) (fresh_state (ring_length ring) actors) d.out_before d.out_after d.out_failed result
 DoesOptions (Load file) d result = LoadsFile d result
 
 -- the outcome of a command line of these words: they give options, and what the options ask for was

@@ -6,6 +6,7 @@ ghost use Rattle.std.specs.Process.{exit_status};
 ghost use Rattle.clap.specs.declared.error.kind.ErrorKind.TheVariants.{InvalidValue};
 ghost use Rattle.rd_desk.specs.declared.desks.TheConstants.{MOST_VIEWERS};
 ghost use Rattle.rd_trace.specs.Traces.{ring_length};
+ghost use Rattle.rd_trace.specs.Loading.{fresh_state};
 ghost use Rattle.rd_trace.specs.Devices.{devices};
 ghost use Rattle.rd_program.specs.declared.faults.ProgramFault.TheVariants.{Read};
 ghost use Rattle.rd_program.specs.Program.{IsUnread};
@@ -143,7 +144,7 @@ fn play_named<R: Files, I: Source, O: Sink>(
 ) -> Result<u64, ProgramFault>
     requires input_works { I.has_failed input.old ≡ false }
     requires output_works { O.has_failed output.old ≡ false }
-    ensures { PlaysNamed name.now (ring_length setup.ring) setup.actors trace
+    ensures { PlaysNamed name.now (fresh_state (ring_length setup.ring) setup.actors) trace
         (devices I.Source O.Sink input.old input.new output.old output.new) result }
 {
     match name {
@@ -162,7 +163,8 @@ fn play_file<R: Files, O: Sink>(
     trace: bool,
 ) -> Result<u64, ProgramFault>
     requires output_works { O.has_failed output.old ≡ false }
-    ensures { PlaysFile (ring_length setup.ring) setup.actors trace (O.contents output.old) (O.contents output.new) (O.has_failed output.new) result }
+    ensures { PlaysFile (fresh_state (ring_length setup.ring) setup.actors) trace
+        (O.contents output.old) (O.contents output.new) (O.has_failed output.new) result }
 {
     let file = open_file(rt, name)?;
     play(alloc, &mut ReadSource::new(file), output, setup, trace)
@@ -180,7 +182,7 @@ fn view_files<R: Files + Threads + Wait + Sync, O: Sink>(
     requires output_works { O.has_failed output.old ≡ false }
     requires some_files { 1 ≤ length names.now }
     requires few_files { length names.now ≤ MOST_VIEWERS }
-    ensures { ViewsFiles (length names.now) (ring_length setup.ring) setup.actors
+    ensures { ViewsFiles (length names.now) (fresh_state (ring_length setup.ring) setup.actors)
         (O.contents output.old) (O.contents output.new) (O.has_failed output.new) result }
 {
     let scripts = whole_files(rt, alloc, names)?;

@@ -1,10 +1,9 @@
--- A script's run from the program's first state, and the trace after its report.
+-- A script's run over a book, and the trace after its report.
 use Rattle.std.proofs.Common.{◌≡◌, ℕ, Bool, false, List, Option, Result, Ok, Err, sym, subst}
 use Rattle.std.specs.Prelude.{IsErrAnd}
 use Rattle.rd_marks.specs.Books.{BookState}
 use Rattle.rd_script.specs.Script.{Devices, RanToEnd}
 use Rattle.rd_trace.specs.declared.faults.WriteTraceFault.{WriteTraceFault}
-use Rattle.rd_trace.specs.Loading.{fresh_state}
 use Rattle.rd_program.specs.declared.faults.ProgramFault.{ProgramFault}
 use Rattle.rd_program.specs.Program.{WritesIf, RanToTrace}
 
@@ -17,14 +16,13 @@ fault_passed_up P fault (Err e) is p = subst (λ x. P (Err x)) (sym is) p
 ran_with_writer : (before after : BookState) (d : Devices) (n : ℕ) → RanToEnd before after d n → RanToEnd before after (record d { out_failed = false }) n
 ran_with_writer before after d n ran = subst (λ failed. RanToEnd before after (record d { out_failed = failed }) n) ran.out_works ran
 
--- a run that came to its end over the fresh world, and what became of its trace
-pub ran_to_trace : (R actors : ℕ) (traced : Bool) (d : Devices) (s after : BookState) (reported : Option (List ℕ)) (failed : Bool) (n : ℕ) (written : Result (Unit {0}) WriteTraceFault)
-    → s ≡ fresh_state R actors → RanToEnd s after (record d { out_after = reported; out_failed = failed }) n
-    → WritesIf traced after reported d.out_after d.out_failed written → RanToTrace R actors traced d n written
-ran_to_trace R actors traced d s after reported failed n written state ran trace = record {
+-- a run that came to its end, and what became of its trace
+pub ran_to_trace : (before after : BookState) (traced : Bool) (d : Devices) (reported : Option (List ℕ)) (failed : Bool) (n : ℕ) (written : Result (Unit {0}) WriteTraceFault)
+    → RanToEnd before after (record d { out_after = reported; out_failed = failed }) n
+    → WritesIf traced after reported d.out_after d.out_failed written → RanToTrace before traced d n written
+ran_to_trace before after traced d reported failed n written ran trace = record {
   after = after;
   reported = reported;
-  ran = ran_with_writer (fresh_state R actors) after (record d { out_after = reported; out_failed = failed }) n
-      (subst (λ b. RanToEnd b after (record d { out_after = reported; out_failed = failed }) n) state ran);
+  ran = ran_with_writer before after (record d { out_after = reported; out_failed = failed }) n ran;
   trace = trace;
 }

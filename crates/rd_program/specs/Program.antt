@@ -1,5 +1,5 @@
--- What the program does: a script's run over a fresh world, with the trace of it after the report
--- if one is asked for, and a script's run over the run of a trace.
+-- What the program does: a script's run over a book, with the trace of it after the report if one
+-- is asked for, and a script's run over the run of a trace.
 use Rattle.std.specs.Prelude.{◌≡◌, ◌⊎◌, ℕ, Bool, true, false, List, Option, Result, Ok, Err}
 use Rattle.std.specs.Io.KnownBytes.{Keeps}
 use Rattle.rd_marks.specs.Books.{BookState}
@@ -8,7 +8,7 @@ use Rattle.rd_script.specs.Script.{Devices, RanToEnd, RunsScript}
 use Rattle.rd_trace.specs.declared.faults.WriteTraceFault.{WriteTraceFault}
 use Rattle.rd_trace.specs.declared.any_book.AnyBook.{AnyBook}
 use Rattle.rd_trace.specs.Writing.{WritesTrace, is_write_fault}
-use Rattle.rd_trace.specs.Loading.{LoadsTrace, any_state, fresh_state}
+use Rattle.rd_trace.specs.Loading.{LoadsTrace, any_state}
 use Rattle.rd_program.specs.declared.faults.ProgramFault.{ProgramFault}
 use Rattle.rd_program.specs.declared.faults.ProgramFault.TheVariants.{NoMemory, Read, Script, Load, Trace}
 
@@ -33,23 +33,23 @@ abbrev pub WritesIf : Bool → BookState → Option (List ℕ) → Option (List 
 WritesIf true b old new failed result = WritesTrace b old new result × (failed ≡ is_write_fault result)
 WritesIf false b old new failed result = (result ≡ Ok tt) × (new ≡ old) × (failed ≡ false)
 
--- a script of n lines ran to its end over the fresh world, its report was written, and this became
--- of the trace of its run
-pub record RanToTrace (R actors : ℕ) (traced : Bool) (d : Devices) (n : ℕ) (written : Result (Unit {0}) WriteTraceFault) : Type 0 where
+-- a script of n lines ran to its end over a book in this state, its report was written, and this
+-- became of the trace of its run
+pub record RanToTrace (before : BookState) (traced : Bool) (d : Devices) (n : ℕ) (written : Result (Unit {0}) WriteTraceFault) : Type 0 where
   pub after : BookState
   -- what the writer had when the report was whole
   pub reported : Option (List ℕ)
-  pub ran : RanToEnd (fresh_state R actors) after (record d { out_after = reported; out_failed = false }) n
+  pub ran : RanToEnd before after (record d { out_after = reported; out_failed = false }) n
   pub trace : WritesIf traced after reported d.out_after d.out_failed written
 
--- what `run` did, by its result: it ran a script over the fresh world, and, if that came to its end
--- and a trace was asked for, wrote the trace after the report
-abbrev pub PlaysScript : ℕ → ℕ → Bool → Devices → Result ℕ ProgramFault → Type 0
-PlaysScript R actors traced d (Ok n) = RanToTrace R actors traced d n (Ok tt)
-PlaysScript R actors traced d (Err NoMemory) = TouchesNothing d
-PlaysScript R actors traced d (Err (Script fault)) = RunsOver (fresh_state R actors) d (Err fault)
-PlaysScript R actors traced d (Err (Trace fault)) = (n : ℕ) × RanToTrace R actors traced d n (Err fault)
-PlaysScript R actors traced d (Err _) = ⊥
+-- what `run` did over a book in this state, by its result: it ran a script, and, if that came to
+-- its end and a trace was asked for, wrote the trace after the report
+abbrev pub PlaysScript : BookState → Bool → Devices → Result ℕ ProgramFault → Type 0
+PlaysScript before traced d (Ok n) = RanToTrace before traced d n (Ok tt)
+PlaysScript before traced d (Err NoMemory) = TouchesNothing d
+PlaysScript before traced d (Err (Script fault)) = RunsOver before d (Err fault)
+PlaysScript before traced d (Err (Trace fault)) = (n : ℕ) × RanToTrace before traced d n (Err fault)
+PlaysScript before traced d (Err _) = ⊥
 
 -- the text was loaded as a book, and a script ran over that book with this result
 pub record RunsOverTrace (text : List ℕ) (d : Devices) (result : Result ℕ ScriptFault) : Type 0 where

@@ -32,7 +32,7 @@ pub fn play<S: Source, K: Sink>(
 ) -> Result<u64, ProgramFault>
     requires reader_works { S.has_failed reader.old ≡ false }
     requires writer_works { K.has_failed writer.old ≡ false }
-    ensures plays { PlaysScript (ring_length setup.ring) setup.actors trace
+    ensures plays { PlaysScript (fresh_state (ring_length setup.ring) setup.actors) trace
         (devices S.Source K.Sink reader.old reader.new writer.old writer.new) result }
 {
     let Ok(mut book) = AnyBook::fresh(alloc, setup.ring, setup.actors) else {
@@ -52,8 +52,8 @@ fn play_over<S: Source, K: Sink>(
 ) -> Result<u64, ProgramFault>
     requires reader_works { S.has_failed reader.old ≡ false }
     requires writer_works { K.has_failed writer.old ≡ false }
-    ensures { (R actors : ℕ) → any_state book.old ≡ fresh_state R actors
-        → PlaysScript R actors trace (devices S.Source K.Sink reader.old reader.new writer.old writer.new) result }
+    ensures { PlaysScript (any_state book.old) trace
+        (devices S.Source K.Sink reader.old reader.new writer.old writer.new) result }
 {
     let lines = book.run(reader, writer)?;
     write_if(alloc, writer, book, trace)?;

@@ -1,5 +1,9 @@
-use Rattle.rd_trace.specs.Traces.{ring_length}
+use Rattle.std.proofs.Common.{subst}
+use Rattle.rd_trace.specs.Devices.{devices}
+use Rattle.rd_program.specs.Program.{PlaysScript}
 use Rattle.rd_program.proofs.program.play.Goals as goal
 
 pub returns : goal.returns
-returns g c = record { plays = c.play_over.ensures (ring_length c.args.setup.ring) c.args.setup.actors c.in-Ok.ensures }
+returns g c =
+    let d = devices g.S.Source g.K.Sink c.args.reader.now c.play_over.new.reader c.args.writer.now c.play_over.new.writer in
+    record { plays = subst (λ before. PlaysScript before c.args.trace d c.play_over.result) c.in-Ok.ensures c.play_over.ensures }

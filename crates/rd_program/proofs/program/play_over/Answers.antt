@@ -1,5 +1,4 @@
-use Rattle.std.proofs.Common.{Ok, Err, subst}
-use Rattle.rd_script.specs.Script.{RunsScript}
+use Rattle.std.proofs.Common.{Ok, Err}
 use Rattle.rd_trace.specs.Loading.{any_state}
 use Rattle.rd_trace.specs.Devices.{devices}
 use Rattle.rd_program.specs.declared.faults.ProgramFault.TheVariants.{Script, Trace}
@@ -8,25 +7,24 @@ use Rattle.rd_program.proofs.ProgramLemmas.{fault_passed_up, ran_to_trace}
 use Rattle.rd_program.proofs.program.play_over.Goals as goal
 
 pub returns-in_err-lines : goal.returns-in_err-lines
-returns-in_err-lines g c R actors first =
+returns-in_err-lines g c =
     let d = devices g.S.Source g.K.Sink c.args.reader.now c.run.new.reader c.args.writer.now c.run.new.writer in
-    let fault = c.in_err-lines.field-0.0 in
-    let runs = subst (λ state. RunsScript state (any_state c.run.new.self) d (Err fault)) first c.in_err-lines.ensures.runs in
-    fault_passed_up (λ r. PlaysScript R actors c.args.trace d r) (Script fault) c.from_residual.result c.from_residual.ensures.1 (any_state c.run.new.self, runs)
+    fault_passed_up (λ r. PlaysScript (any_state c.args.book.now) c.args.trace d r) (Script c.in_err-lines.field-0.0) c.from_residual.result c.from_residual.ensures.1
+    (any_state c.run.new.self, c.in_err-lines.ensures.runs)
 
 pub returns-in_err-write_if : goal.returns-in_err-write_if
-returns-in_err-write_if g c R actors first =
+returns-in_err-write_if g c =
     let d = devices g.S.Source g.K.Sink c.args.reader.now c.run.new.reader c.args.writer.now c.write_if.new.writer in
     let fault = c.in_err-write_if.field-0.0 in
-    let ran = ran_to_trace R actors c.args.trace d (any_state c.args.book.now) (any_state c.run.new.self)
-    (g.K.Sink.contents c.run.new.writer) (g.K.Sink.has_failed c.run.new.writer) c.in_ok-lines.lines (Err fault) first
+    let ran = ran_to_trace (any_state c.args.book.now) (any_state c.run.new.self) c.args.trace d
+    (g.K.Sink.contents c.run.new.writer) (g.K.Sink.has_failed c.run.new.writer) c.in_ok-lines.lines (Err fault)
     c.in_ok-lines.ensures.runs c.in_err-write_if.ensures in
-    fault_passed_up (λ r. PlaysScript R actors c.args.trace d r) (Trace fault) c.from_residual-in_err-write_if.result c.from_residual-in_err-write_if.ensures.1
+    fault_passed_up (λ r. PlaysScript (any_state c.args.book.now) c.args.trace d r) (Trace fault) c.from_residual-in_err-write_if.result c.from_residual-in_err-write_if.ensures.1
     (c.in_ok-lines.lines, ran)
 
 pub returns : goal.returns
-returns g c R actors first =
+returns g c =
     let d = devices g.S.Source g.K.Sink c.args.reader.now c.run.new.reader c.args.writer.now c.write_if.new.writer in
-    ran_to_trace R actors c.args.trace d (any_state c.args.book.now) (any_state c.run.new.self)
-    (g.K.Sink.contents c.run.new.writer) (g.K.Sink.has_failed c.run.new.writer) c.in_ok-lines.lines (Ok tt) first
+    ran_to_trace (any_state c.args.book.now) (any_state c.run.new.self) c.args.trace d
+    (g.K.Sink.contents c.run.new.writer) (g.K.Sink.has_failed c.run.new.writer) c.in_ok-lines.lines (Ok tt)
     c.in_ok-lines.ensures.runs c.in_ok-write_if.ensures
