@@ -1,7 +1,6 @@
 pub mod Prelude
 pub mod HistoryLemmas
 pub mod ChainLemmas
-pub mod Starting
 pub mod PassLemmas
 pub mod OwnCalls
 pub mod Sends

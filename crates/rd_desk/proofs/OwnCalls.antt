@@ -5,12 +5,12 @@ use Rattle.rd_desk.proofs.Prelude.{BookState, Busy, Call, Command, DeskRefusal, 
 module _ (opened : BookState) (viewer : ℕ) (old new : List (ℕ × Call)) (command : Command) where
   pub own_answered : (answer : Result Reply Refusal) → IsSeen opened viewer old command (Ok answer) new → named viewer 1 new ≡ named viewer 1 old ++ (length new, (viewer_entry viewer command answer).1) ∷ []
   own_answered answer is = let call = (viewer_entry viewer command answer).1 in let found = is.0 in
-      let long : 1 + length found ≡ length new = let e = length-append found ((viewer, call) ∷ []) in let f = ap length is.3 in omega arith in
-      ap (named viewer 1) is.3 ∙ (own_grows viewer old found ((viewer, call) ∷ []) is.1
+      let long : 1 + length found ≡ length new = let e = length-append found ((viewer, call) ∷ []) in let f = ap length is.2.1 in omega arith in
+      ap (named viewer 1) is.2.1 ∙ (own_grows viewer old found ((viewer, call) ∷ []) is.1
       ∙ ap (λ l. named viewer 1 old ++ l) (ap (λ b. cond b ((1 + length found, call) ∷ []) []) (eq-eqb viewer viewer refl) ∙ ap (λ (n : ℕ). (n, call) ∷ []) long))
 
   pub own_refused : (refusal : DeskRefusal) → IsSeen opened viewer old command (Err refusal) new → named viewer 1 new ≡ named viewer 1 old
-  own_refused HistoryFull is = own_same viewer old new is.0
-  own_refused NotRecorded is = own_same viewer old new is.0
+  own_refused HistoryFull is = ap (named viewer 1) is.2.1 ∙ own_same viewer old is.0 is.1
+  own_refused NotRecorded is = ap (named viewer 1) is.2.1 ∙ own_same viewer old is.0 is.1
   own_refused TicketsEnded is = ap (named viewer 1) is
   own_refused (Busy words) is = ap (named viewer 1) is

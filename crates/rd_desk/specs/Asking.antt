@@ -1,5 +1,5 @@
 -- What a viewer knows after a call.
-use Rattle.std.specs.Prelude.{◌≡◌, ◌<◌, ◌^◌, ℕ, List, [], ◌∷◌, ◌++◌, length, IfErr, Ok, Err}
+use Rattle.std.specs.Prelude.{◌≡◌, ◌^◌, ℕ, List, IfErr, Err}
 use Rattle.rd_lock.specs.declared.views.Recorded.{Ghosts}
 use Rattle.rd_lock.specs.declared.passes.Pass.{Pass}
 use Rattle.rd_lock.specs.declared.tickets.TryTakeError.TheVariants as missed
@@ -8,9 +8,9 @@ use Rattle.rd_lock.specs.Locks.{number, seen, next_seen, KnowsMore, IsMissed}
 use Rattle.rd_marks.specs.Books.{BookState}
 use Rattle.rd_marks.specs.declared.commands.Command.{Command}
 use Rattle.rd_desk.specs.declared.gates.DeskRefusal.{DeskRefusal}
-use Rattle.rd_desk.specs.declared.gates.DeskRefusal.TheVariants.{HistoryFull, NotRecorded, TicketsEnded, Busy}
+use Rattle.rd_desk.specs.declared.gates.DeskRefusal.TheVariants.{TicketsEnded, Busy}
 use Rattle.rd_desk.specs.declared.histories.Call.{Call}
-use Rattle.rd_desk.specs.Histories.{MOST_CALLS, Answer, viewer_entry, IsLegal}
+use Rattle.rd_desk.specs.Histories.{Answer, IsLegal, IsRecorded}
 
 -- the refusal is not `Busy`, with which only a call that never waits is refused
 abbrev pub IsNotBusy : DeskRefusal → Type 0
@@ -19,16 +19,14 @@ IsNotBusy _ = Unit {0}
 
 module _ (opened : BookState) where
   -- the viewer of this number had seen the old history, is answered this, and has then seen the new
-  -- one, a legal history of the book that was opened. What a call finds goes on from the old history
-  -- by calls of others alone; an answered call is then added to it. A refused one is not: what was
-  -- found is full or was refused room, or, if the lock was not taken, the new history is the old one.
+  -- one. If the lock was not taken, that is the old one. If it was, the history that was found goes
+  -- on from the old one by calls of others alone, and what the call made of it is a legal history of
+  -- the book that was opened.
   abbrev pub IsSeen : ℕ → List (ℕ × Call) → Command → Answer → List (ℕ × Call) → Type 0
-  IsSeen viewer old command (Ok answer) new =
-      (found : List (ℕ × Call)) × Continues viewer old found × (length found < MOST_CALLS) × (new ≡ found ++ viewer_entry viewer command answer ∷ []) × IsLegal opened new
-  IsSeen viewer old command (Err HistoryFull) new = Continues viewer old new × (length new ≡ MOST_CALLS) × IsLegal opened new
-  IsSeen viewer old command (Err NotRecorded) new = Continues viewer old new × (length new < MOST_CALLS) × IsLegal opened new
   IsSeen viewer old command (Err TicketsEnded) new = new ≡ old
   IsSeen viewer old command (Err (Busy words)) new = new ≡ old
+  IsSeen viewer old command answer new =
+      (found : List (ℕ × Call)) × Continues viewer old found × IsRecorded viewer found command answer new × IsLegal opened new
 
 module _ {T O : Type 0} {K : Ghosts T Call O} where
   -- what a refusal without the lock tells of the two words: at `TicketsEnded` the next ticket is

@@ -1,5 +1,5 @@
 -- The history of a desk: what its entries are, which of them are legal, and what they leave.
-use Rattle.std.specs.Prelude.{◌≡◌, ◌<◌, ℕ, List, map, length, Result}
+use Rattle.std.specs.Prelude.{◌≡◌, ◌<◌, ℕ, List, [], ◌∷◌, ◌++◌, map, length, Result, Ok, Err}
 use Rattle.rd_cell.specs.declared.refusal.Refusal.{Refusal}
 use Rattle.rd_marks.specs.Books.{BookState}
 use Rattle.rd_marks.specs.Commands.{AreObeyed}
@@ -37,10 +37,12 @@ IsLegal b es = ∥ ((last : BookState) × Leaves b es last) ∥₁
 abbrev pub IsLeftBy : BookState → List (ℕ × Call) → BookState → Type 0
 IsLeftBy b es last = ∥ Leaves b es last ∥₁
 
--- why a call is not recorded in this history: the history is full, or it is not full, and the room
--- for one more call was refused
-abbrev pub IsUnrecorded : List (ℕ × Call) → DeskRefusal → Type 0
-IsUnrecorded es HistoryFull = length es ≡ MOST_CALLS
-IsUnrecorded es NotRecorded = length es < MOST_CALLS
-IsUnrecorded es TicketsEnded = ⊥
-IsUnrecorded es (Busy words) = ⊥
+-- what a call under the lock makes of the history that it finds: an answered call of this viewer is
+-- added to it, and a refused one is not, since the history is full, or is not full and was refused
+-- the room for one more
+abbrev pub IsRecorded : ℕ → List (ℕ × Call) → Command → Answer → List (ℕ × Call) → Type 0
+IsRecorded viewer found command (Ok answer) new = (length found < MOST_CALLS) × (new ≡ found ++ viewer_entry viewer command answer ∷ [])
+IsRecorded viewer found command (Err HistoryFull) new = (length found ≡ MOST_CALLS) × (new ≡ found)
+IsRecorded viewer found command (Err NotRecorded) new = (length found < MOST_CALLS) × (new ≡ found)
+IsRecorded viewer found command (Err TicketsEnded) new = ⊥
+IsRecorded viewer found command (Err (Busy words)) new = ⊥

@@ -6,13 +6,13 @@ use Rattle.rd_desk.specs.declared.viewers.Ran.{Ran}
 use Rattle.rd_desk.specs.declared.viewers.Ran.TheVariants as outcome
 
 module _ {P : Type 0} where
-  -- the commands were asked one after another, each with the pass as the one before left it, and
-  -- these are their answers
+  -- the commands were asked one after another, and these are their answers: each leads, by the
+  -- relation, from what the one before left to what it leaves itself
   abbrev pub IsChain : (P → Command → Answer → P → Type 0) → P → List Command → List Answer → P → Type 0
-  IsChain told pass [] [] last = last ≡ pass
-  IsChain told pass [] (answer ∷ answers) last = ⊥
-  IsChain told pass (c ∷ cs) [] last = ⊥
-  IsChain told pass (c ∷ cs) (answer ∷ answers) last = (next : P) × told pass c answer next × IsChain told next cs answers last
+  IsChain R first [] [] last = last ≡ first
+  IsChain R first [] (answer ∷ answers) last = ⊥
+  IsChain R first (c ∷ cs) [] last = ⊥
+  IsChain R first (c ∷ cs) (answer ∷ answers) last = (next : P) × R first c answer next × IsChain R next cs answers last
 
   -- what became of a viewer: its thread was refused, or its commands were asked one after another
   -- with these answers, and the gate takes the pass that it has then

@@ -71,7 +71,7 @@ impl<const R: usize> Desk<R> {
         ensures outcome { KnowsOutcome (opened_state self.now) pass.old pass.new command result }
         ensures waits { IfErr result IsNotBusy }
     {
-        let answer = kept.record(pass.number(), command);
+        let answer = kept.record(pass.number(), &command);
         self.lock.put_back(pass, kept);
         answer
     }

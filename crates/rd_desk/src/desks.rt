@@ -74,9 +74,9 @@ impl<const R: usize> Desk<R> {
     ///
     /// # Errors
     ///
-    /// `Busy` if a pass that wasn't handed in was dropped inside a call, with the two words of the
-    /// lock, which then differ. Neither is below what a pass that was handed in has seen.
-    /// This never happens if all passes are handed in. Book and history are then lost.
+    /// `Busy` if the two words of the lock differ, with these words. Neither is below what a pass that
+    /// was handed in has seen. It never happens if all passes are handed in: only of a pass that was
+    /// dropped does no contract say that it put the book back. Book and history are then lost.
     pub fn close(self, passes: Vec<DeskPass<R>>) -> Result<(Book<R>, History), Busy>
         requires own { AllByRecursion (IsViewerOf self) passes.items }
         ensures ok { IfOk result (λ closed. IsClosedOver self.entry passes.entry.items closed.0 closed.1) }

@@ -1,7 +1,7 @@
 //! What viewers ask: a desk, or another type in its place.
 
 ghost use Rattle.rd_marks.specs.declared.commands.Command.{Command};
-ghost use Rattle.rd_desk.specs.Histories.{Answer as Told};
+ghost use Rattle.rd_desk.specs.Histories.{Answer};
 
 use super::desks::{Desk, DeskPass};
 use rd_cell::Refusal;
@@ -32,7 +32,7 @@ pub trait Gate {
 
     ghost takes: { Self → Self.Pass → Type 0 };
 
-    ghost told: { Self → Self.Pass → Command → Told → Self.Pass → Type 0 };
+    ghost told: { Self → Self.Pass → Command → Answer → Self.Pass → Type 0 };
 
     /// Asks one command and returns the answer. It may wait.
     fn ask<R: Wait>(&self, rt: &R, pass: &mut Self::Pass, command: Command) -> Answer

@@ -5,13 +5,13 @@
 //! is room to record it. The book is kept in a box, so that a call moves a few words into the lock
 //! and out of it, and not the book.
 
-ghost use Rattle.std.specs.Prelude.{◌≡◌, ◌<◌, ◌≤◌, ◌++◌, ◌∷◌, [], length, vec_len, vec_capacity, IfOk, IfErr, OnOk, OnErr};
+ghost use Rattle.std.specs.Prelude.{◌≡◌, ◌≤◌, [], length, vec_len, vec_capacity, IfOk, IfErr};
 ghost use Rattle.rd_marks.specs.BookViews.{book_state};
 ghost use Rattle.rd_desk.specs.declared.gates.DeskRefusal.TheVariants.{NotRecorded};
-ghost use Rattle.rd_desk.specs.Histories.{MOST_CALLS, entries, IsLeftBy, IsUnrecorded, viewer_entry as recorded};
+ghost use Rattle.rd_desk.specs.Histories.{MOST_CALLS as most_calls, entries, IsLeftBy, IsRecorded};
 
 use super::gates::{Answer, DeskRefusal};
-use super::histories::{Call, History};
+use super::histories::{Call, History, MOST_CALLS};
 use rd_lock::Recorded;
 use rd_marks::{Book, Command};
 use std::alloc::Global;
@@ -24,7 +24,7 @@ pub struct BookWithHistory<const R: usize> {
     pub(crate) history: History,
     pub(crate) opened: Snapshot<Book<R>>,
     ghost legal: { IsLeftBy (book_state opened.value) (entries history) (book_state book.value) },
-    ghost few: { length (entries history) ≤ MOST_CALLS },
+    ghost few: { length (entries history) ≤ most_calls },
 }
 
 impl<const R: usize> Recorded for BookWithHistory<R> {
@@ -53,7 +53,9 @@ impl<const R: usize> BookWithHistory<R> {
         match Box::new(alloc, book) {
             Ok(book) => Ok(BookWithHistory {
                 book,
-                history: History::new(alloc),
+                history: History {
+                    entries: Vec::new(alloc),
+                },
                 opened,
             }),
             Err(refused) => Err(refused.value),
@@ -66,25 +68,23 @@ impl<const R: usize> BookWithHistory<R> {
     ///
     /// In this order: `HistoryFull` if there are `MOST_CALLS` calls; `NotRecorded` if the room for
     /// one more was refused. Book and history are then unchanged.
-    pub(crate) fn record(&mut self, viewer: u64, command: Command) -> Answer
-        ensures ok { IfOk result (λ answer. entries self.new.history ≡ entries self.old.history ++ recorded viewer command answer ∷ []) }
-        ensures few { OnOk result (length (entries self.old.history) < MOST_CALLS) }
-        ensures err { IfErr result (λ refusal. IsUnrecorded (entries self.old.history) refusal) }
+    pub(crate) fn record(&mut self, viewer: u64, command: &Command) -> Answer
+        ensures recorded { IsRecorded viewer (entries self.old.history) command.now result (entries self.new.history) }
         ensures full { IfErr result (λ refusal. refusal ≡ NotRecorded → vec_capacity self.old.history.entries ≤ vec_len self.old.history.entries) }
-        ensures unchanged { OnErr result (entries self.new.history ≡ entries self.old.history) }
         ensures opened { self.new.opened.value ≡ self.old.opened.value }
     {
-        if self.history.is_full() {
+        if self.history.entries.len() == MOST_CALLS {
             return Err(DeskRefusal::HistoryFull);
         }
-        if self.history.make_room().is_err() {
+        if self.history.entries.reserve(1).is_err() {
             return Err(DeskRefusal::NotRecorded);
         }
-        // A value that is handed over and used again is copied by name: the borrow checker asks so.
-        let asked = command;
-        let answer = self.book.obey(command);
-        let given = answer;
-        self.history.push(viewer, asked, answer);
-        Ok(given)
+        let call = Call {
+            command: *command,
+            answer: self.book.obey(*command),
+        };
+        let answer = call.answer;
+        self.history.entries.push_reserved((viewer, call));
+        Ok(answer)
     }
 }

@@ -3,11 +3,11 @@
 //! What a thread gives back is known by the promise that its handle carries: which pass it was
 //! given, and which commands.
 
-ghost use Rattle.std.specs.Prelude.{◌≡◌, ◌≤◌, List, [], length, reverse, vec_capacity};
+ghost use Rattle.std.specs.Prelude.{◌≡◌, ◌≤◌, [], length, vec_capacity};
 ghost use Rattle.std.specs.List.{AllByRecursion, AllZip};
 ghost use Rattle.rd_desk.specs.Viewers.{IsChain, IsRan};
 ghost use Rattle.rd_desk.specs.Rooms.{IsRoomFor};
-ghost use Rattle.rd_desk.specs.Threads.{IsStarted};
+ghost use Rattle.rd_desk.specs.Threads.{IsStarted, IsJoined};
 
 use super::gates::{Answer, Gate};
 use super::rooms::Room;
@@ -50,32 +50,28 @@ fn ask_all<R: Wait, G: Gate>(
     ensures own { G.takes gate.now result.0 }
     ensures chain { IsChain (G.told gate.now) pass commands.items result.1.items result.0 }
 {
-    for i in 0..commands.len() {
-        let answer = gate.ask(rt, &mut pass, commands[i]);
+    for command in commands {
+        let answer = gate.ask(rt, &mut pass, command);
         answers.push_reserved(answer);
     }
     (pass, answers)
 }
 
-/// Starts a thread for each viewer, from the last one to the first. A viewer whose thread is
-/// refused asks nothing.
+/// Starts a thread for each viewer, in order. A viewer whose thread is refused asks nothing.
 fn start_all<'s, E: 's, R: Threads + Wait + Sync, G: Gate + Sync>(
     scope: &'s Scope<'s, E>,
     rt: &'s R,
     gate: &'s G,
-    mut work: Vec<(G::Pass, Vec<Command>)>,
-    mut answers: Vec<Vec<Answer>>,
+    work: Vec<(G::Pass, Vec<Command>)>,
+    answers: Vec<Vec<Answer>>,
     mut started: Vec<Started<G>>,
 ) -> Vec<Started<G>>
     requires own { AllByRecursion (λ viewer. G.takes gate.now viewer.0) work.items }
     requires answers { AllZip IsRoomFor work.items answers.items }
     requires started { (started.items ≡ []) × (length work.items ≤ vec_capacity started) }
-    ensures { AllZip (IsStarted gate.now) work.items (reverse result.items) }
+    ensures { AllZip (IsStarted gate.now) work.items result.items }
 {
-    while let Some((pass, commands)) = work.pop() {
-        let Some(room) = answers.pop() else {
-            unreachable!()
-        };
+    for ((pass, commands), room) in work.into_iter().zip(answers) {
         let asked = Asked {
             gate: Snapshot::of(gate),
             pass: Snapshot::of(&pass),
@@ -94,17 +90,16 @@ fn start_all<'s, E: 's, R: Threads + Wait + Sync, G: Gate + Sync>(
     started
 }
 
-/// Waits for each thread, from the last one that was started to the first, and adds what became of
-/// its viewer to `rans`.
+/// Waits for each thread, in order, and adds what became of its viewer to `rans`.
 fn join_all<R: Threads, G: Gate>(
     rt: &R,
-    mut started: Vec<Started<G>>,
+    started: Vec<Started<G>>,
     mut rans: Vec<Ran<G::Pass>>,
 ) -> Vec<Ran<G::Pass>>
     requires rans { (rans.items ≡ []) × (length started.items ≤ vec_capacity rans) }
-    ensures { (gate : G) (work : List _) → AllZip (IsStarted gate) work (reverse started.items) → AllZip (IsRan (G.takes gate) (G.told gate)) work result.items }
+    ensures { AllZip (IsJoined G.takes G.told) started.items result.items }
 {
-    while let Some(handle) = started.pop() {
+    for handle in started {
         let ran = match handle {
             None => Ran::NoMemory,
             Some(handle) => {

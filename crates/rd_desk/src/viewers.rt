@@ -1,8 +1,7 @@
 //! Viewers that each ask a list of commands, in their own threads.
 //!
 //! All room for answers is made before the first command is asked. Then each viewer gets a thread
-//! in one scope, from the last viewer to the first, so that the threads' handles, a stack, come
-//! back in the viewers' order.
+//! in one scope, in the viewers' order, and the threads are waited for in that order.
 
 ghost use Rattle.std.specs.Prelude.{◌≡◌, IfOk, IfErr};
 ghost use Rattle.std.specs.List.{AllByRecursion, AllZip};

@@ -25,16 +25,16 @@ pub use Rattle.rd_script.specs.Device.{TakesBeginning}
 pub use Rattle.rd_script.specs.Headings.{heading_text}
 pub use Rattle.rd_script.specs.Lines.{AreSaid, lines_of}
 pub use Rattle.rd_script.specs.Replies.{text_of}
-pub use Rattle.rd_script.specs.declared.answers.AnyRefusal.TheVariants.{Unread}
 pub use Rattle.rd_script.specs.declared.faults.LineFault.{LineFault}
 pub use Rattle.rd_script.specs.declared.writing.headings.Heading.TheVariants.{Viewer}
 pub use Rattle.rd_view.specs.Viewing.{AreAnswered, AreRead, IsUnviewed, IsViewed, StaysEnded, Views, ViewsScripts, WasAnswered, answers_of, calls_of, commands_of, passes_of, text_of_views}
-pub use Rattle.rd_view.specs.Views.{desk_answer, replies_text, report_text, view_text, viewer_text}
+pub use Rattle.rd_view.specs.Views.{replies_text, report_text, view_text, viewer_text}
 pub use Rattle.rd_view.specs.declared.faults.ViewFault.{ViewFault}
 pub use Rattle.std.proofs.Crossing.{crosses}
 pub use Rattle.std.proofs.Math.ListN.{drop_of_length-le}
 pub use Rattle.std.proofs.Math.Seq.{drop-cons}
-pub use Rattle.std.proofs.lemmas.List.{append-nil, length-map, map-append}
+pub use Rattle.std.proofs.lemmas.List.{append-nil, length-map, map-append, nil_from_length}
+pub use Rattle.std.proofs.lemmas.Slice.Zip.{AllZip-long}
 pub use Rattle.std.specs.Global.{Global}
 pub use Rattle.std.specs.Io.KnownBytes.{Appends}
 pub use Rattle.std.specs.List.{AllByRecursion, AllZip}

@@ -1,37 +1,36 @@
 -- How a view ends.
 use Rattle.std.proofs.Common.{◌≡◌, ◌∙◌, ℕ, suc, Bool, true, false, List, [], ◌∷◌, Option, Result, Ok, Err, Vec, length, refl, sym, ap, subst}
-use Rattle.rd_view.proofs.Prelude.{Answer, AreAnswered, BookState, Call, Command, Global, History, IsErrAnd, IsUnviewed, LineFault, TakesBeginning, ViewFault, Views, ViewsScripts, text_of_views, view_text}
+use Rattle.rd_view.proofs.Prelude.{Answer, AreAnswered, AreRead, BookState, Call, Command, Global, History, IsErrAnd, IsUnviewed, IsViewed, LineFault, TakesBeginning, ViewFault, Views, ViewsScripts, text_of_views, view_text}
 use Rattle.rd_view.specs.declared.faults.ViewFault.TheVariants as view
 
 module _ (opened : BookState) where
   -- there are as many answers as scripts
-  pub told_length : (history : List (ℕ × Call)) (n : ℕ) (said : List (Vec (Result Command LineFault) Global)) (answered : List (Option (Vec Answer Global)))
+  pub as_many : (history : List (ℕ × Call)) (n : ℕ) (said : List (Vec (Result Command LineFault) Global)) (answered : List (Option (Vec Answer Global)))
       → AreAnswered opened history n said answered → length said ≡ length answered
-  told_length history n [] [] are = refl
-  told_length history n (s ∷ said) (t ∷ answered) are = ap suc (told_length history (suc n) said answered are.1)
-  told_length history n _ _ are = absurd are
+  as_many history n [] [] are = refl
+  as_many history n (s ∷ said) (t ∷ answered) are = ap suc (as_many history (suc n) said answered are.1)
+  as_many history n _ _ are = absurd are
 
-  -- nothing was written where the scripts were not viewed
-  unviewed : (scripts : List (Vec ℕ Global)) (old : Option (List ℕ)) (failed : Bool) (fault : ViewFault) → IsUnviewed fault → failed ≡ false
-      → ViewsScripts opened scripts old old failed (Err fault)
-  unviewed scripts old failed view.NoMemory is works = (refl, works)
-  unviewed scripts old failed view.Write is works = absurd is
-  unviewed scripts old failed (view.Busy words) is works = (refl, works, is)
+  -- what was put together from these lines and answers, and handed over, is the text of a view
+  pub text_is : (scripts : List (Vec ℕ Global)) (history : List (ℕ × Call)) (said lines shown : List (Vec (Result Command LineFault) Global)) (answered given : List (Option (Vec Answer Global))) (calls : ℕ) (text handed : List ℕ)
+      → AreRead scripts said → lines ≡ said → shown ≡ said → given ≡ answered → calls ≡ length history → IsViewed opened lines answered history → text ≡ view_text 1 shown given calls → handed ≡ text
+      → (views : Views opened scripts history) × (handed ≡ text_of_views opened views)
+  text_is scripts history said lines shown answered given calls text handed read same alike also many viewed is put =
+      (record { said = said; answered = answered; are_read = read; is_viewed = subst (λ xs. IsViewed opened xs answered history) same viewed }, put ∙ (is ∙ (λ i. view_text 1 (alike i) (also i) (many i))))
 
-  pub not_viewed : (scripts : List (Vec ℕ Global)) (old : Option (List ℕ)) (failed : Bool) (r : Result History ViewFault) (fault : ViewFault) → IsErrAnd r (λ e. e ≡ fault) → IsUnviewed fault
-      → failed ≡ false → ViewsScripts opened scripts old old failed r
-  not_viewed scripts old failed (Ok h) fault never is works = absurd never
-  not_viewed scripts old failed (Err e) fault same is works =
-      subst (λ x. ViewsScripts opened scripts old old failed (Err x)) (sym same) (unviewed scripts old failed fault is works)
+  module _ (scripts : List (Vec ℕ Global)) (old new : Option (List ℕ)) (failed : Bool) where
+    -- nothing was written where the scripts were not viewed
+    unviewed : (fault : ViewFault) → IsUnviewed fault → new ≡ old → failed ≡ false → ViewsScripts opened scripts old new failed (Err fault)
+    unviewed view.NoMemory is same works = (is, same, works)
+    unviewed view.Write is same works = absurd is
+    unviewed (view.Busy words) is same works = (is, same, works)
 
-  -- a beginning of the text was written where the writer failed
-  pub not_written : (scripts : List (Vec ℕ Global)) (old new : Option (List ℕ)) (failed : Bool) (r : Result History ViewFault) (history : List (ℕ × Call)) (views : Views opened scripts history)
-      → IsErrAnd r (λ e. e ≡ view.Write) → TakesBeginning old new (text_of_views opened views) → failed ≡ true → ViewsScripts opened scripts old new failed r
-  not_written scripts old new failed (Ok h) history views never took fails = absurd never
-  not_written scripts old new failed (Err e) history views same took fails =
-      subst (λ x. ViewsScripts opened scripts old new failed (Err x)) (sym same) (history, views, took, fails)
+    pub not_viewed : (r : Result History ViewFault) (fault : ViewFault) → IsErrAnd r (λ e. e ≡ fault) → IsUnviewed fault → new ≡ old → failed ≡ false → ViewsScripts opened scripts old new failed r
+    not_viewed (Ok h) fault never is same works = absurd never
+    not_viewed (Err e) fault at is same works = subst (λ x. ViewsScripts opened scripts old new failed (Err x)) (sym at) (unviewed fault is same works)
 
--- the text of the same lines, answers and number
-pub same_text : (a b : List (Vec (Result Command LineFault) Global)) (c d : List (Option (Vec Answer Global))) (m n : ℕ) → a ≡ b → c ≡ d → m ≡ n
-    → view_text 1 a c m ≡ view_text 1 b d n
-same_text a b c d m n e f h = ap (λ xs. view_text 1 xs c m) e ∙ ap (λ xs. view_text 1 b xs m) f ∙ ap (λ k. view_text 1 b d k) h
+    -- a beginning of the text was written where the writer failed
+    pub not_written : (r : Result History ViewFault) (history : List (ℕ × Call)) (views : Views opened scripts history)
+        → IsErrAnd r (λ e. e ≡ view.Write) → TakesBeginning old new (text_of_views opened views) → failed ≡ true → ViewsScripts opened scripts old new failed r
+    not_written (Ok h) history views never took fails = absurd never
+    not_written (Err e) history views at took fails = subst (λ x. ViewsScripts opened scripts old new failed (Err x)) (sym at) (history, views, took, fails)

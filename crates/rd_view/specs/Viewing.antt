@@ -110,5 +110,4 @@ module _ (opened : BookState) where
   abbrev pub ViewsScripts : List (Vec ℕ Global) → Option (List ℕ) → Option (List ℕ) → Bool → Result History ViewFault → Type 0
   ViewsScripts scripts old new failed (Ok history) = (views : Views scripts (entries history)) × Appends old new (text_of_views views) × (failed ≡ false)
   ViewsScripts scripts old new failed (Err view.Write) = (history : List (ℕ × Call)) × (views : Views scripts history) × TakesBeginning old new (text_of_views views) × (failed ≡ true)
-  ViewsScripts scripts old new failed (Err view.NoMemory) = (new ≡ old) × (failed ≡ false)
-  ViewsScripts scripts old new failed (Err (view.Busy words)) = (new ≡ old) × (failed ≡ false) × (words.served < words.next)
+  ViewsScripts scripts old new failed (Err fault) = IsUnviewed fault × (new ≡ old) × (failed ≡ false)

@@ -22,12 +22,12 @@ desk_answer (Err desk.TicketsEnded) = Err TicketsEnded
 desk_answer (Err (desk.Busy words)) = Err (Busy words.next words.served)
 
 -- the text of the answers to a script's lines, one by one: for a fault its own refusal, for a
--- command the next answer
+-- command the next answer, if there is one
 abbrev pub report_text : List (Result Command LineFault) → List Answer → List ℕ
 report_text [] answers = []
 report_text (Err fault ∷ said) answers = text_of (Err (Unread fault)) ++ report_text said answers
 report_text (Ok command ∷ said) (answer ∷ answers) = text_of (desk_answer answer) ++ report_text said answers
-report_text (Ok command ∷ said) [] = []
+report_text (Ok command ∷ said) [] = report_text said []
 
 -- the text of the answers to a viewer's lines, or, if its thread was not started, one line that
 -- memory was refused

@@ -64,7 +64,7 @@ fn put_viewer(
 }
 
 /// Appends to the text the answers to the lines of a script: for a line that spells no command its
-/// fault, for any other the next answer.
+/// fault, for any other the next answer, if there is one.
 fn put_report(
     text: &mut Vec<u8>,
     line: &mut Text,
@@ -73,15 +73,15 @@ fn put_report(
 ) -> Result<(), AllocError>
     ensures { OnOk result (text.new.items ≡ text.old.items ++ report_text said.now answers.now) }
 {
-    let mut asked = 0;
+    let mut rest = answers;
     for command in said {
         let answer = match command {
             Err(fault) => Err(AnyRefusal::Unread(*fault)),
             Ok(_) => {
-                let Some(answer) = answers.get(asked) else {
-                    return Ok(());
+                let Some((answer, others)) = rest.split_first() else {
+                    continue;
                 };
-                asked += 1;
+                rest = others;
                 desk_answer(answer)
             }
         };

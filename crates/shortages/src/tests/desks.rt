@@ -93,7 +93,7 @@ fn has_calls_in_order(history: &History, book: &mut Book<2>) -> bool {
     let mut lines = LINES.lines();
     let mut next = lines.next();
     for number in 1..history.len() + 1 {
-        let (Some((_, call)), Some(line)) = (history.entry(number), next) else {
+        let (Some((_, call)), Some(line)) = (history.call(number), next) else {
             return false;
         };
         if command_in(line.as_bytes()) != Ok(call.command) {

@@ -1,7 +1,6 @@
 //! Viewers whose threads, or the room for whose answers, are refused.
 
-use rd_cell::Refusal;
-use rd_desk::{DeskRefusal, Gate, Ran, run_viewers};
+use rd_desk::{Answer, Gate, Ran, run_viewers};
 use rd_marks::{Command, Reply};
 use std::alloc::{AllocError, Global};
 use std::process::Abort;
@@ -33,12 +32,7 @@ impl Gate for Counter {
 
     ghost told = { λ gate pass command answer after. Unit {0} };
 
-    fn ask<R: Wait>(
-        &self,
-        _rt: &R,
-        pass: &mut u64,
-        _command: Command,
-    ) -> Result<Result<Reply, Refusal>, DeskRefusal> {
+    fn ask<R: Wait>(&self, _rt: &R, pass: &mut u64, _command: Command) -> Answer {
         let calls = self.calls(*pass);
         calls.store(
             calls.load(Ordering::SeqCst).wrapping_add(1),

@@ -3,9 +3,8 @@ ghost use Rattle.rd_desk.specs.Desks.{IsViewerOf};
 
 use super::calls::fresh;
 use super::threads::work_of;
-use rd_cell::Refusal;
-use rd_desk::{Desk, DeskPass, DeskRefusal, Gate, Ran, run_viewers};
-use rd_marks::{Command, Reply};
+use rd_desk::{Answer, Desk, DeskPass, DeskRefusal, Gate, Ran, run_viewers};
+use rd_marks::Command;
 use std::sync::Wait;
 use std::sync::atomic::{AtomicBool, Ordering};
 
@@ -30,12 +29,7 @@ impl<'a> Gate for Tried<'a> {
 
     ghost told = { λ gate pass command answer after. Unit {0} };
 
-    fn ask<R: Wait>(
-        &self,
-        rt: &R,
-        pass: &mut DeskPass<4>,
-        command: Command,
-    ) -> Result<Result<Reply, Refusal>, DeskRefusal> {
+    fn ask<R: Wait>(&self, rt: &R, pass: &mut DeskPass<4>, command: Command) -> Answer {
         if pass.number() == 1 {
             return ask_until(rt, self.desk, self.was_busy, pass, &command);
         }
@@ -52,7 +46,7 @@ fn ask_until<R: Wait>(
     flag: &AtomicBool,
     pass: &mut DeskPass<4>,
     command: &Command,
-) -> Result<Result<Reply, Refusal>, DeskRefusal>
+) -> Answer
     requires own { IsViewerOf desk.now pass.old }
     ensures own { IsViewerOf desk.now pass.new }
 {
@@ -66,11 +60,7 @@ fn ask_until<R: Wait>(
 }
 
 /// Tries until the desk is busy, and answers that.
-fn try_until_busy(
-    desk: &Desk<4>,
-    pass: &mut DeskPass<4>,
-    command: &Command,
-) -> Result<Result<Reply, Refusal>, DeskRefusal>
+fn try_until_busy(desk: &Desk<4>, pass: &mut DeskPass<4>, command: &Command) -> Answer
     requires own { IsViewerOf desk.now pass.old }
     ensures own { IsViewerOf desk.now pass.new }
 {

@@ -1,7 +1,6 @@
 //! Viewers have threads of their own: a gate that holds one viewer's call until the other's is
 //! answered lets both go.
-use rd_cell::Refusal;
-use rd_desk::{DeskRefusal, Gate, Ran, run_viewers};
+use rd_desk::{Answer, DeskRefusal, Gate, Ran, run_viewers};
 use rd_marks::{Command, Reply};
 use std::alloc::Global;
 use std::process::Abort;
@@ -28,12 +27,7 @@ impl Gate for Held {
 
     ghost told = { λ gate pass command answer after. Unit {0} };
 
-    fn ask<R: Wait>(
-        &self,
-        _rt: &R,
-        pass: &mut u64,
-        _command: Command,
-    ) -> Result<Result<Reply, Refusal>, DeskRefusal> {
+    fn ask<R: Wait>(&self, _rt: &R, pass: &mut u64, _command: Command) -> Answer {
         if *pass != self.held {
             self.is_answered.store(true, Ordering::SeqCst);
             return Ok(Ok(Reply::Marks(*pass)));

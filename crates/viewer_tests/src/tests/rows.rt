@@ -30,8 +30,8 @@ fn has_entry(
     command: Command,
     answer: Result<Reply, Refusal>,
 ) {
-    let Some((who, call)) = history.entry(number) else {
-        panic!(rt; "no entry {number}")
+    let Some((who, call)) = history.call(number) else {
+        panic!(rt; "no call {number}")
     };
     assert_eq!(rt; who, viewer);
     assert_eq!(rt; call.command, command);
@@ -60,10 +60,10 @@ fn a_viewer_sees_what_another_did(rt: HostRuntime) {
     };
     assert_eq!(&rt; book.session().len(), 1);
     assert_eq!(&rt; history.len(), 2);
-    assert!(&rt; history.entry(0).is_none());
+    assert!(&rt; history.call(0).is_none());
     has_entry(&rt, &history, 1, 1, Command::Enq(1, 7), first_step());
     has_entry(&rt, &history, 2, 2, Command::Len, one_live());
-    assert!(&rt; history.entry(3).is_none());
+    assert!(&rt; history.call(3).is_none());
 }
 
 #[test]

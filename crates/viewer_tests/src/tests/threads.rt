@@ -61,8 +61,8 @@ fn commands_of(rt: &impl Abort, alloc: Global, viewer: u64, calls: u64) -> Vec<C
 fn replays(rt: &impl Abort, alloc: Global, history: &History) {
     let mut commands = Vec::new(alloc);
     for number in 1..history.len() + 1 {
-        let Some((_, call)) = history.entry(number) else {
-            panic!(rt; "no entry {number}")
+        let Some((_, call)) = history.call(number) else {
+            panic!(rt; "no call {number}")
         };
         if commands.push(call.command).is_err() {
             panic!(rt; "out of memory")
@@ -73,8 +73,8 @@ fn replays(rt: &impl Abort, alloc: Global, history: &History) {
         panic!(rt; "out of memory")
     };
     for i in 0..answers.len() {
-        let Some((_, call)) = history.entry(i as u64 + 1) else {
-            panic!(rt; "no entry {i}")
+        let Some((_, call)) = history.call(i as u64 + 1) else {
+            panic!(rt; "no call {i}")
         };
         assert_eq!(rt; call.answer, answers[i], "entry {i}");
     }
@@ -85,8 +85,8 @@ fn replays(rt: &impl Abort, alloc: Global, history: &History) {
 fn has_in_order(rt: &impl Abort, history: &History, viewer: u64, answers: &[Answer]) {
     let mut call = 0;
     for number in 1..history.len() + 1 {
-        let Some((who, made)) = history.entry(number) else {
-            panic!(rt; "no entry {number}")
+        let Some((who, made)) = history.call(number) else {
+            panic!(rt; "no call {number}")
         };
         if who == viewer {
             assert!(rt; call < answers.len());

@@ -1,11 +1,11 @@
-use Rattle.std.proofs.Common.{◌≡◌, ◌≤◌, take, length, vec_len, vec_capacity}
+use Rattle.std.proofs.Common.{◌≡◌, ◌≤◌, length, vec_len, vec_capacity}
 use Rattle.rd_desk.proofs.Prelude.{IsChain}
 use Rattle.rd_desk.proofs.threads.ask_all.Given as goal
 
-abbrev pub invariant-loop-i : goal.invariant-loop-i
-invariant-loop-i g l = record {
+abbrev pub invariant-loop-command : goal.invariant-loop-command
+invariant-loop-command g l = record {
   own : g.G.Gate.takes l.gate l.pass;
-  chain : IsChain (g.G.Gate.told l.gate) l.fn.pass (take l.i l.commands.items) l.answers.items l.pass;
-  len : vec_len l.answers ≡ l.i;
-  capacity : length l.commands.items ≤ vec_capacity l.answers;
+  chain : IsChain (g.G.Gate.told l.gate) l.fn.pass l.yielded l.answers.items l.pass;
+  len : vec_len l.answers ≡ length l.yielded;
+  capacity : length l.fn.commands.items ≤ vec_capacity l.answers;
 }

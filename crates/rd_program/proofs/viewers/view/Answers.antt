@@ -24,4 +24,4 @@ returns-in-Ok-Eight g c =
     record { views = same_view _ _ _ _ _ _ _ made c.view_over-in-Ok-Eight.ensures }
 
 pub returns-in-Err : goal.returns-in-Err
-returns-in-Err g c = record { views = (Err fault.NoMemory, refl, (refl, c.requires.writer_works)) }
+returns-in-Err g c = record { views = (Err fault.NoMemory, refl, (tt, refl, c.requires.writer_works)) }

@@ -1,35 +1,25 @@
-use Rattle.std.proofs.Common.{◌≡◌, ◌∙◌, ◌++◌, ◌+◌, arith, ap, sym, drop, ltb-true, ltb-false}
-use Rattle.rd_view.proofs.Prelude.{append-nil, report_text, text_of}
-use Rattle.rd_view.proofs.ReportLemmas.{one_part_more, no_lines, fault_next, answer_next, no_answer}
+use Rattle.std.proofs.Common.{◌≡◌, [], ◌++◌, ◌+◌, arith, refl, drop}
+use Rattle.rd_view.proofs.Prelude.{append-nil, drop_of_length-le, nil_from_length, report_text, text_of}
+use Rattle.rd_view.proofs.ReportLemmas.{line_at, one_part_more}
 use Rattle.rd_view.proofs.reports.put_report.Goals.{in-Err, in-Ok+in-Some}
 use Rattle.rd_view.proofs.reports.put_report.Goals as goal
 
 pub loop-command-preserved : goal.loop-command-preserved
 loop-command-preserved c =
     let said = c.args.said.now in
-    let answers = c.args.answers.now in
     let i = c.loop-command.command-index in
-    let rest = report_text (drop (i + 1) said) (drop c.match-command.asked answers) in
-    let next : report_text (drop i said) (drop c.loop-command.asked answers) ≡ text_of c.match-command.answer ++ rest =
+    let here = line_at said i c.command-item.result (omega arith) c.command-item.is in
+    let next : report_text (drop i said) c.loop-command.rest.now ≡ text_of c.match-command.answer ++ report_text (drop (i + 1) said) c.match-command.rest.now =
     elim c.match-command.branch [
-      | in-Err w ↦
-          rw w.asked-is (rw w.answer-is (fault_next said answers i c.loop-command.asked c.command-item.result (omega arith) c.command-item.is w.in-Err.fault w.in-Err.is))
-      | in-Ok+in-Some w ↦
-          rw w.asked-is (rw w.answer-is (rw w.desk_answer-answer.ensures (answer_next said answers i c.loop-command.asked c.command-item.result (omega arith) c.command-item.is w.in-Ok.field-0 w.in-Some.answer.now w.in-Ok.is (ltb-true c.loop-command.asked _ (sym w.in-Some.ensures.lookup.0)) w.in-Some.ensures.lookup.1)))
+      | in-Err w ↦ rw (here, w.in-Err.is, w.answer-is, w.rest-is) refl
+      | in-Ok+in-Some w ↦ rw (here, w.in-Ok.is, w.in-Some.ensures.cases.0, w.answer-is, w.rest-is, w.desk_answer-answer.ensures) refl
     ] in
-    record {
-      goes_on = one_part_more c.loop-command.text.items c.put_answer.new.text.items (text_of c.match-command.answer) _ rest _ c.in_ok-put_answer.ensures next c.loop-command.invariant.goes_on;
-      few = elim c.match-command.branch [ in-Err w ↦ omega arith | in-Ok+in-Some w ↦ omega arith ];
-    }
+    one_part_more c.loop-command.text.items c.put_answer.new.text.items (text_of c.match-command.answer) _ (report_text (drop (i + 1) said) c.match-command.rest.now) _ c.in_ok-put_answer.ensures next c.loop-command.invariant
 
-pub returns-in_default : goal.returns-in_default
-returns-in_default c =
-    sym (append-nil c.loop-command.text.items)
-    ∙ ap (λ t. c.loop-command.text.items ++ t) (sym (no_answer c.args.said.now c.args.answers.now c.loop-command.command-index c.loop-command.asked c.command-item.result (omega arith) c.command-item.is _ c.in-Ok.is (ltb-false c.loop-command.asked _ (sym c.in_default.ensures.lookup.0))))
-    ∙ c.loop-command.invariant.goes_on
+pub loop-command-preserved-in_default : goal.loop-command-preserved-in_default
+loop-command-preserved-in_default c =
+    let none = nil_from_length c.loop-command.rest.now c.in_default.ensures.cases in
+    let here = line_at c.args.said.now c.loop-command.command-index c.command-item.result (omega arith) c.command-item.is in rw (← c.loop-command.invariant, here, c.in-Ok.is, none) refl
 
 pub returns : goal.returns
-returns c =
-    sym (append-nil c.loop-command.text.items)
-    ∙ ap (λ t. c.loop-command.text.items ++ t) (sym (no_lines c.args.said.now c.args.answers.now c.loop-command.command-index c.loop-command.asked (omega arith)))
-    ∙ c.loop-command.invariant.goes_on
+returns c = let none : drop c.loop-command.command-index c.args.said.now ≡ [] = drop_of_length-le c.args.said.now (omega arith) in rw (← c.loop-command.invariant, none, append-nil) refl

@@ -1,5 +1,5 @@
-use Rattle.rd_view.proofs.Prelude.{AllByRecursion, AreAnswered, Continues, IsLegal, IsNewViewer, IsViewerOf, NamesUpTo, answers_of, book_state, book_with_history_send, crosses, desk_sync, entries, length-map, number, number_of, numbers, seat_send, seen, sendable, ∥∥₁_map}
-use Rattle.std.proofs.Common.{◌≡◌, ◌∙◌, length, map, ap, sym, subst, arith}
+use Rattle.rd_view.proofs.Prelude.{AllByRecursion, AreAnswered, Continues, IsLegal, IsNewViewer, IsViewerOf, NamesUpTo, answers_of, book_state, book_with_history_send, crosses, desk_sync, entries, length-map, number, number_of, seat_send, seen, sendable, ∥∥₁_map}
+use Rattle.std.proofs.Common.{◌∙◌, length, map, ap, sym, subst, arith}
 use Rattle.rd_desk.specs.contracts.recording.BookWithHistoryRecorded.TheImpl as Recorded
 use Rattle.rd_view.proofs.ViewingLemmas.{all_answered, new_may_ask, own_passes, length-numbers}
 use Rattle.rd_view.proofs.viewing.run_over_desk.Goals as goal
@@ -18,7 +18,7 @@ run_viewers-requires-sync-G g c κs within = search (desk_sync, sendable, crosse
 
 pub run_viewers-requires-clause-own : goal.run_viewers-requires-clause-own
 run_viewers-requires-clause-own g c κs within =
-    new_may_ask _ _ c.in-Ok.desk c.in_ok-work.work.items (subst (λ passes. AllByRecursion (IsNewViewer c.in-Ok.desk) passes) (sym c.in_ok-work.ensures.passes) c.in-Ok.ensures.ok.are_new)
+    new_may_ask _ _ c.in-Ok.desk c.in_ok-work.work.items (subst (AllByRecursion (IsNewViewer c.in-Ok.desk)) (sym c.in_ok-work.ensures.passes) c.in-Ok.ensures.ok.are_new)
 
 pub close-requires : goal.close-requires
 close-requires g c = (
@@ -27,8 +27,7 @@ close-requires g c = (
     omega arith,
     (
       omega arith,
-      subst (λ passes. AllByRecursion (IsViewerOf c.in-Ok.desk) passes) (sym c.in_ok-passes.ensures.passes)
-          (own_passes _ _ c.in-Ok.desk c.in_ok-work.work.items c.in-Ok-run_viewers.rans.items c.in-Ok-run_viewers.ensures.ok),
+      subst (AllByRecursion (IsViewerOf c.in-Ok.desk)) (sym c.in_ok-passes.ensures.passes) (own_passes _ _ c.in-Ok.desk c.in_ok-work.work.items c.in-Ok-run_viewers.rans.items c.in-Ok-run_viewers.ensures.ok),
     ),
   ),
 )
@@ -38,20 +37,13 @@ returns-in-Ok-close-clause-ok g c =
     let desk = c.in-Ok.desk in
     let history = c.in-Ok-close.history in
     let closed = c.in-Ok-close.ensures.ok in
-    let opened = book_state c.args.book in
-    let state = c.in-Ok.ensures.ok.state in
-    let work = c.in_ok-work.work.items in
-    let passes = c.in_ok-work.ensures.passes in
-    let counted : length (map (λ viewer. viewer.0) work) ≡ length work = length-map work (λ viewer. viewer.0) in
-    let many : length c.in-Ok.passes.items ≡ length c.args.said.now =
-    sym (length-map c.in-Ok.passes.items number) ∙ ap length c.in-Ok.ensures.ok.numbered ∙ length-numbers 1 (length c.args.said.now) in
-    let numbered : map number (map (λ viewer. viewer.0) work) ≡ numbers 1 (length work) =
-    ap (map number) passes ∙ c.in-Ok.ensures.ok.numbered ∙ ap (numbers 1) (sym many ∙ sym (ap length passes) ∙ counted) in (
-      subst (λ first. IsLegal first (entries history)) state (∥∥₁_map closed.leaves (λ l. (_, l))),
-      subst (λ n. NamesUpTo n (entries history)) c.in-Ok.ensures.ok.counted closed.names,
-      subst (λ answered. AreAnswered opened (entries history) 1 c.args.said.now answered) (sym c.in_ok-passes.ensures.answered)
-          (subst (λ first. AreAnswered first (entries history) 1 c.args.said.now (map answers_of c.in-Ok-run_viewers.rans.items)) state
-          (all_answered g.row.N (Recorded.ghosts (number_of g.row.N)) desk history 1 work c.in-Ok-run_viewers.rans.items c.args.said.now c.in-Ok-run_viewers.ensures.ok
-          (subst (λ ps. AllByRecursion (IsNewViewer desk) ps) (sym passes) c.in-Ok.ensures.ok.are_new) numbered c.in_ok-work.ensures.commands
-          (subst (λ ps. AllByRecursion (λ pass. Continues (number pass) (seen pass) (entries history)) ps) c.in_ok-passes.ensures.passes closed.continues))),
+    let opened = c.in-Ok.ensures.ok in
+    let passes = c.in_ok-work.ensures.passes in (
+      subst (λ first. IsLegal first (entries history)) opened.state (∥∥₁_map closed.leaves (λ l. (_, l))),
+      subst (λ n. NamesUpTo n (entries history)) opened.counted closed.names,
+      subst (λ answered. AreAnswered (book_state c.args.book) (entries history) 1 c.args.said.now answered) (sym c.in_ok-passes.ensures.answered)
+          (subst (λ first. AreAnswered first (entries history) 1 c.args.said.now (map answers_of c.in-Ok-run_viewers.rans.items)) opened.state
+          (all_answered g.row.N (Recorded.ghosts (number_of g.row.N)) desk history 1 c.in_ok-work.work.items c.in-Ok-run_viewers.rans.items c.args.said.now c.in-Ok-run_viewers.ensures.ok
+          (subst (AllByRecursion (IsNewViewer desk)) (sym passes) opened.are_new) (ap (map number) passes ∙ opened.numbered) c.in_ok-work.ensures.commands
+          (subst (AllByRecursion (λ pass. Continues (number pass) (seen pass) (entries history))) c.in_ok-passes.ensures.passes closed.continues))),
     )
