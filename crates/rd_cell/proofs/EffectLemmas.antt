@@ -117,10 +117,6 @@ place_operates p op was now old new plain works found left others (Ok done) h =
 pub beside_is_of : (p q : Place) (name : SegName) → segment_of p ≡ Some name → is_of_same_segment p q ≡ is_of name q
 beside_is_of p q name h = grind arith
 
--- a place that a segment has is one of its own
-pub own_place : (p : Place) (name : SegName) → segment_of p ≡ Some name → is_of name p ≡ true
-own_place p name h = grind arith
-
--- it covers nothing outside of the segment
+-- a place that a segment has covers nothing outside of it
 pub not_covered_outside : (p q : Place) (name : SegName) → segment_of p ≡ Some name → is_of name q ≡ false → covers p q ≡ false
 not_covered_outside p q name h other = grind arith

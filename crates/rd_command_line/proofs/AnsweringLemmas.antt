@@ -2,7 +2,7 @@
 use Rattle.std.proofs.Common.{◌≡◌, Bool, ℕ, List, map, Result, Ok, Vec, inr, refl, subst, sym}
 use Rattle.std.specs.Global.{Global}
 use Rattle.clap.specs.Walk.{Text}
-use Rattle.rd_marks.specs.Books.{BookState}
+use Rattle.rd_marks.specs.BookState.{BookState}
 use Rattle.rd_script.specs.Script.{Devices}
 use Rattle.rd_program.specs.declared.faults.ProgramFault.{ProgramFault}
 use Rattle.rd_program.specs.Program.{PlaysScript}

@@ -243,7 +243,7 @@ fn open_file<R: Files>(rt: &R, name: &str) -> Result<R::File, ProgramFault>
 /// # Errors
 ///
 /// An outcome that memory was refused, or `Refused` if a word is no text.
-pub fn words_of<R: Env + Alloc<A = Global>>(rt: &R) -> Result<Vec<String>, Outcome>
+pub fn process_words<R: Env + Alloc<A = Global>>(rt: &R) -> Result<Vec<String>, Outcome>
     ensures err { IfErr result (λ outcome. (reason : OptionsFault) × IsMistake InvalidValue reason × IsOutcomeOf reason outcome) }
 {
     let alloc = rt.alloc();

@@ -12,12 +12,12 @@ pub use Rattle.rd_desk.specs.declared.gates.DeskRefusal.TheVariants.{Busy, Histo
 pub use Rattle.rd_desk.specs.declared.histories.Call.{Call}
 pub use Rattle.rd_desk.specs.declared.threads.Asked.{Asked}
 pub use Rattle.rd_lock.proofs.Lists.{own_grows, own_same}
-pub use Rattle.rd_lock.specs.Histories.{Adds, Continues, named}
+pub use Rattle.rd_lock.specs.Histories.{Adds, Continues, put_by}
 pub use Rattle.rd_lock.specs.Locks.{number, seen}
 pub use Rattle.rd_lock.specs.declared.passes.Pass.{Pass}
 pub use Rattle.rd_lock.specs.declared.views.Recorded.{Ghosts}
-pub use Rattle.rd_marks.specs.BookViews.{book_state}
-pub use Rattle.rd_marks.specs.Books.{BookState}
+pub use Rattle.rd_marks.specs.Book.{book_state}
+pub use Rattle.rd_marks.specs.BookState.{BookState}
 pub use Rattle.rd_marks.specs.Commands.{IsObeyed}
 pub use Rattle.rd_marks.specs.declared.commands.Command.{Command}
 pub use Rattle.rd_marks.specs.declared.replies.Reply.{Reply}

@@ -5,7 +5,7 @@ use Rattle.rd_lock.specs.declared.passes.Pass.{Pass}
 use Rattle.rd_lock.specs.declared.tickets.TryTakeError.TheVariants as missed
 use Rattle.rd_lock.specs.Histories.{Continues}
 use Rattle.rd_lock.specs.Locks.{number, seen, next_seen, KnowsMore, IsMissed}
-use Rattle.rd_marks.specs.Books.{BookState}
+use Rattle.rd_marks.specs.BookState.{BookState}
 use Rattle.rd_marks.specs.declared.commands.Command.{Command}
 use Rattle.rd_desk.specs.declared.gates.DeskRefusal.{DeskRefusal}
 use Rattle.rd_desk.specs.declared.gates.DeskRefusal.TheVariants.{TicketsEnded, Busy}

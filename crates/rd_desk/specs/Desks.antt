@@ -7,8 +7,8 @@ use Rattle.rd_lock.specs.Histories.{Continues, NamesUpTo, numbers}
 use Rattle.std.specs.List.{AllByRecursion}
 use Rattle.rd_lock.specs.Locks.{number, seen, seats, opened_origin, IsOut, IsPassOf}
 use Rattle.rd_lock.specs.Opening.{IsNewPass}
-use Rattle.rd_marks.specs.Books.{BookState}
-use Rattle.rd_marks.specs.BookViews.{book_state}
+use Rattle.rd_marks.specs.BookState.{BookState}
+use Rattle.rd_marks.specs.Book.{book_state}
 use Rattle.rd_marks.specs.declared.books.Book.{Book}
 use Rattle.rd_desk.specs.declared.desks.Desk.{Desk}
 use Rattle.rd_desk.specs.declared.histories.Call.{Call}

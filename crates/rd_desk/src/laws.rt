@@ -2,8 +2,8 @@
 
 ghost use Rattle.std.specs.Prelude.{◌≡◌, ℕ, List, [], ◌∷◌, ◌++◌, length, Result, Ok, Err};
 ghost use Rattle.rd_cell.specs.declared.refusal.Refusal.{Refusal};
-ghost use Rattle.rd_lock.specs.Histories.{named};
-ghost use Rattle.rd_marks.specs.Books.{BookState};
+ghost use Rattle.rd_lock.specs.Histories.{put_by};
+ghost use Rattle.rd_marks.specs.BookState.{BookState};
 ghost use Rattle.rd_marks.specs.declared.commands.Command.{Command};
 ghost use Rattle.rd_marks.specs.declared.replies.Reply.{Reply};
 ghost use Rattle.rd_desk.specs.declared.gates.DeskRefusal.{DeskRefusal};
@@ -16,7 +16,7 @@ ghost use Rattle.rd_desk.specs.Histories.{viewer_entry};
 pub fn own_calls_grow_by_the_answered_one()
     ensures answered { (opened : BookState) (viewer : ℕ) (old new : List (ℕ × Call)) (command : Command) (answer : Result Reply Refusal)
         → IsSeen opened viewer old command (Ok answer) new
-        → named viewer 1 new ≡ named viewer 1 old ++ (length new, (viewer_entry viewer command answer).1) ∷ [] }
+        → put_by viewer 1 new ≡ put_by viewer 1 old ++ (length new, (viewer_entry viewer command answer).1) ∷ [] }
     ensures refused { (opened : BookState) (viewer : ℕ) (old new : List (ℕ × Call)) (command : Command) (refusal : DeskRefusal)
-        → IsSeen opened viewer old command (Err refusal) new → named viewer 1 new ≡ named viewer 1 old }
+        → IsSeen opened viewer old command (Err refusal) new → put_by viewer 1 new ≡ put_by viewer 1 old }
 {}

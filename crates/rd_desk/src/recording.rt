@@ -6,7 +6,7 @@
 //! and out of it, and not the book.
 
 ghost use Rattle.std.specs.Prelude.{◌≡◌, ◌≤◌, [], length, vec_len, vec_capacity, IfOk, IfErr};
-ghost use Rattle.rd_marks.specs.BookViews.{book_state};
+ghost use Rattle.rd_marks.specs.Book.{book_state};
 ghost use Rattle.rd_desk.specs.declared.gates.DeskRefusal.TheVariants.{NotRecorded};
 ghost use Rattle.rd_desk.specs.Histories.{MOST_CALLS as most_calls, entries, IsLeftBy, IsRecorded};
 

@@ -3,7 +3,7 @@ use Rattle.std.specs.Prelude.{◌≡◌, ℕ, ◌++◌, Some, take, Ok}
 use Rattle.rd_step.specs.Prelude.{Place, operand, World, step, without, closure_of, without_closure, run}
 use Rattle.rd_step.specs.declared.entries.Entry.{Entry}
 use Rattle.rd_journal.specs.Journal.{Journal, start_of, events, run_entries}
-use Rattle.rd_journal.specs.Numbers.{only}
+use Rattle.rd_journal.specs.Numbers.{just}
 
 -- the entry is that of the live step that k others are before: their run leads from the start to a
 -- world where the step leaves this entry, and its old words are the actor's words and the place's
@@ -20,7 +20,7 @@ pub record IsStepAfter (k : ℕ) (j : Journal) (x : Entry) : Type 0 where
 -- did the world
 pub record IsMovedLast (n : ℕ) (old new : Journal) : Type 0 where
   pub world : new.world ≡ old.world
-  pub live : new.live ≡ without old.live n ++ only old.live n
+  pub live : new.live ≡ without old.live n ++ just old.live n
   pub undone : new.undone ≡ old.undone
 
 -- the live entries of the causal closure of n are last, in their order, before them all others in

@@ -3,7 +3,7 @@ pub mod Journal
 pub mod State
 pub mod Room
 pub mod Entries
-pub mod Kept
+pub mod SessionFields
 pub mod Moves
 pub mod Sessions
 pub mod Laws

@@ -4,7 +4,7 @@ use Rattle.rd_step.specs.Prelude.{Refusal, step, first_dependant, without, unmar
 use Rattle.rd_step.specs.declared.entries.Event.{Event}
 use Rattle.rd_step.specs.declared.entries.Entry.{Entry}
 use Rattle.rd_journal.specs.Journal.{Journal, start_of, events, entry_of, answer_unless}
-use Rattle.rd_journal.specs.Numbers.{only}
+use Rattle.rd_journal.specs.Numbers.{just}
 
 -- the journal got one more live entry, the last, and none is undone
 pub record IsLengthened (x : Entry) (old new : Journal) : Type 0 where
@@ -38,7 +38,7 @@ IsBeforeLast n old new =
 -- entry changed
 pub record IsUndoneAlone (k : ℕ) (old new : Journal) : Type 0 where
   pub live : new.live ≡ without old.live k
-  pub undone : new.undone ≡ only old.live k ++ old.undone
+  pub undone : new.undone ≡ just old.live k ++ old.undone
 
 -- world and live entries are those of the run of the live events without the k-th
 abbrev pub IsRunWithout : ℕ → Journal → Journal → Type 0

@@ -7,8 +7,8 @@ abbrev pub at_numbers : {X : Type 0} → List X → List ℕ → List X
 at_numbers entries numbers = flat_map (λ n. take 1 (drop n entries)) numbers
 
 -- the list of just the element with this number, from 1
-abbrev pub only : {X : Type 0} → List X → ℕ → List X
-only xs k = take 1 (drop (k - 1) xs)
+abbrev pub just : {X : Type 0} → List X → ℕ → List X
+just xs k = take 1 (drop (k - 1) xs)
 
 -- the list orders this many slots: each slot's number is in it once, and no other number does
 pub record IsOrder (slots : ℕ) (order : List ℕ) : Type 0 where

@@ -14,7 +14,7 @@ ghost use Rattle.std.specs.Prelude.{◌≡◌, ◌++◌, ◌+◌, ◌-◌, ◌<�
 ghost use Rattle.rd_step.specs.Prelude.{without, closure_of, without_closure, MOST_STEPS};
 ghost use Rattle.rd_depend.specs.Index.{IsIndexOf, HasRoomFor};
 ghost use Rattle.rd_depend.specs.Moved.{moved_to};
-ghost use Rattle.rd_journal.specs.Numbers.{only, IsOrder};
+ghost use Rattle.rd_journal.specs.Numbers.{just, IsOrder};
 
 mod gathering;
 mod slots;
@@ -166,7 +166,7 @@ impl Entries {
         requires some { 1 ≤ k }
         requires position { k ≤ length (live_entries self.old) }
         ensures live { live_entries self.new ≡ without (live_entries self.old) k }
-        ensures ahead { ahead_entries self.new ≡ only (live_entries self.old) k ++ ahead_entries self.old }
+        ensures ahead { ahead_entries self.new ≡ just (live_entries self.old) k ++ ahead_entries self.old }
         ensures kept { kept_entries self.new ≡ moved_to (kept_entries self.old) k (length (live_entries self.old)) }
         ensures capacity { entries_capacity self.new ≡ entries_capacity self.old }
     {

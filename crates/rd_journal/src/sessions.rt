@@ -24,7 +24,7 @@ mod switching;
 ghost use Rattle.std.specs.Prelude.{◌≡◌, ◌⊎◌, ◌++◌, ◌+◌, ◌≤◌, ℕ, [], length, take, drop, Ok, Err, IsOk, OnOk, OnErr, IfOk, IfErr};
 ghost use Rattle.rd_step.specs.Prelude.{model, room as world_room};
 ghost use Rattle.rd_journal.specs.Journal.{events, start_of, IsRunFrom};
-ghost use Rattle.rd_journal.specs.Kept.{whole_journal, IsSession};
+ghost use Rattle.rd_journal.specs.SessionFields.{whole_journal, IsSession};
 ghost use Rattle.rd_journal.specs.Room.{ComesAfterRoom, LacksRoom};
 ghost use Rattle.rd_depend.specs.Index.{IsIndexOf};
 ghost use Rattle.rd_journal.specs.Entries.{ahead_entries, kept_entries};

@@ -1,5 +1,5 @@
 -- Histories, and facts of each element of a list.
-use Rattle.rd_lock.proofs.Prelude.{AllByRecursion, AreComparable, Continues, IsPrefix, NamesUpTo, Pairwise, append-nil, common_steps, get_elem?, named, only, placed, signed, some, some-injective, some-ne-none}
+use Rattle.rd_lock.proofs.Prelude.{AllByRecursion, AreComparable, Continues, IsPrefix, NamesUpTo, Pairwise, append-nil, common_steps, get_elem?, put_by, only, placed, signed, some, some-injective, some-ne-none}
 use Rattle.std.proofs.Common.{◌≡◌, ◌≢◌, ℕ, zero, suc, ◌+◌, ◌<◌, ◌≤◌, ◌⊎◌, List, [], ◌∷◌, ◌++◌, map, length, sym, refl, ap, ◌∙◌, inl, inr, ⊎_elim, arith, append_assoc, add-zero, ne_eqb, eq-eqb}
 
 module _ {A : Type 0} where
@@ -7,10 +7,6 @@ module _ {A : Type 0} where
   one_of [] one = absurd (omega arith)
   one_of (x ∷ []) one = refl
   one_of (x ∷ y ∷ ys) one = absurd (omega arith)
-
-  pub only_is : (xs : List A) (one : length xs ≡ 1) (x : A) → xs ≡ x ∷ [] → only xs one ≡ x
-  only_is [] one x is = absurd (omega arith)
-  only_is (y ∷ ys) one x is = cc
 
   pub inside : (l : List A) (i : ℕ) (a : A) → get_elem? l i ≡ some a → i < length l
   inside [] i a e = absurd (some-ne-none a (sym e))
@@ -88,29 +84,29 @@ module _ {E : Type 0} where
   pub in_order : (pass other : ℕ) (xs ys log : List (ℕ × E)) → Continues pass xs log → Continues other ys log → AreComparable xs ys
   in_order pass other xs ys log a b = comparable xs ys log (a.0, sym a.1) (b.0, sym b.1)
 
-  named_else : (pass k : ℕ) (xs : List (ℕ × E)) → AllByRecursion (λ (e : ℕ × E). e.0 ≢ pass) xs → named pass k xs ≡ []
+  named_else : (pass k : ℕ) (xs : List (ℕ × E)) → AllByRecursion (λ (e : ℕ × E). e.0 ≢ pass) xs → put_by pass k xs ≡ []
   named_else pass k [] h = refl
   named_else pass k (x ∷ xs) h = rw (ne_eqb x.0 pass h.0) (named_else pass (suc k) xs h.1)
 
-  named_append : (pass k : ℕ) (xs ys : List (ℕ × E)) → named pass k (xs ++ ys) ≡ named pass k xs ++ named pass (k + length xs) ys
-  named_append pass k [] ys = ap (λ n. named pass n ys) (sym (add-zero k))
+  named_append : (pass k : ℕ) (xs ys : List (ℕ × E)) → put_by pass k (xs ++ ys) ≡ put_by pass k xs ++ put_by pass (k + length xs) ys
+  named_append pass k [] ys = ap (λ n. put_by pass n ys) (sym (add-zero k))
   named_append pass k (x ∷ xs) ys = grind (arith, named_append pass (suc k) xs ys)
 
   -- a pass's own entries after a history that goes on by others alone, and then by these
-  pub own_grows : (pass : ℕ) (old found es : List (ℕ × E)) → Continues pass old found → named pass 1 (found ++ es) ≡ named pass 1 old ++ named pass (1 + length found) es
-  own_grows pass old found es c = named_append pass 1 found es ∙ ap (λ l. l ++ named pass (1 + length found) es)
-      (ap (named pass 1) c.1 ∙ (named_append pass 1 old c.0 ∙ (ap (λ l. named pass 1 old ++ l) (named_else pass (1 + length old) c.0 c.2) ∙ append-nil (named pass 1 old))))
+  pub own_grows : (pass : ℕ) (old found es : List (ℕ × E)) → Continues pass old found → put_by pass 1 (found ++ es) ≡ put_by pass 1 old ++ put_by pass (1 + length found) es
+  own_grows pass old found es c = named_append pass 1 found es ∙ ap (λ l. l ++ put_by pass (1 + length found) es)
+      (ap (put_by pass 1) c.1 ∙ (named_append pass 1 old c.0 ∙ (ap (λ l. put_by pass 1 old ++ l) (named_else pass (1 + length old) c.0 c.2) ∙ append-nil (put_by pass 1 old))))
 
-  named_signed : (pass k : ℕ) (es : List E) → named pass k (signed pass es) ≡ placed k es
+  named_signed : (pass k : ℕ) (es : List E) → put_by pass k (signed pass es) ≡ placed k es
   named_signed pass k [] = refl
   named_signed pass k (e ∷ es) = rw (eq-eqb pass pass refl) (ap (λ l. (k, e) ∷ l) (named_signed pass (suc k) es))
 
   -- the same, where the pass puts these itself
-  pub own_signed : (pass : ℕ) (old found : List (ℕ × E)) (es : List E) → Continues pass old found → named pass 1 (found ++ signed pass es) ≡ named pass 1 old ++ placed (1 + length found) es
-  own_signed pass old found es c = own_grows pass old found (signed pass es) c ∙ ap (λ l. named pass 1 old ++ l) (named_signed pass (1 + length found) es)
+  pub own_signed : (pass : ℕ) (old found : List (ℕ × E)) (es : List E) → Continues pass old found → put_by pass 1 (found ++ signed pass es) ≡ put_by pass 1 old ++ placed (1 + length found) es
+  own_signed pass old found es c = own_grows pass old found (signed pass es) c ∙ ap (λ l. put_by pass 1 old ++ l) (named_signed pass (1 + length found) es)
 
-  pub own_same : (pass : ℕ) (old new : List (ℕ × E)) → Continues pass old new → named pass 1 new ≡ named pass 1 old
-  own_same pass old new c = ap (named pass 1) (sym (append-nil new)) ∙ (own_grows pass old new [] c ∙ append-nil (named pass 1 old))
+  pub own_same : (pass : ℕ) (old new : List (ℕ × E)) → Continues pass old new → put_by pass 1 new ≡ put_by pass 1 old
+  own_same pass old new c = ap (put_by pass 1) (sym (append-nil new)) ∙ (own_grows pass old new [] c ∙ append-nil (put_by pass 1 old))
 
   pub names_signed : (n pass : ℕ) (es : List E) → 0 < pass → pass ≤ n → NamesUpTo n (signed pass es)
   names_signed n pass [] low high = tt

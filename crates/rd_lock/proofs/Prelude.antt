@@ -2,7 +2,7 @@
 -- generated types and their variants, and lemmas of these crates and of std.
 pub use Rattle.atomic_table.proofs.Lists.{at_last, at_longer, at_set, set_else, set_here}
 pub use Rattle.atomic_table.specs.Table.{Act, Allows, Final, Joins, Me, Seen, Splits, State, Valid, carried_after, gives, homes_after, keeps, opening, rest, takes}
-pub use Rattle.rd_lock.specs.Histories.{Adds, AreAll, AreComparable, Continues, IsIn, NamesUpTo, Pairwise, named, numbers, only, placed, signed}
+pub use Rattle.rd_lock.specs.Histories.{Adds, AreAll, AreComparable, Continues, IsIn, NamesUpTo, Pairwise, put_by, numbers, only, placed, signed}
 pub use Rattle.rd_lock.specs.Locks.{IsOut, IsPassOf, IsSamePass, IsWaiting, me, next_seen, number, opened_origin, seats}
 pub use Rattle.rd_lock.specs.Opening.{IsClosedOver, IsEnded, IsEndedWith, IsNewPass}
 pub use Rattle.rd_lock.specs.Rule.{Apart, Facts, HasPass, HasTicket, IsAloneAt, IsKept, IsPlaced, KnowsOpening, Lock, LockRule, MemberFits, Place, StageFits, ViewFits, away, first_of_members, home, in_hand, lock_of, newcomer, newcomers, numbers_of, opening_view, other_members, single_slot, ticket, view_of}

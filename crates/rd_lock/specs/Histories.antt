@@ -37,9 +37,9 @@ numbers k (suc n) = k ∷ numbers (suc k) n
 module _ {E : Type 0} where
   -- the entries of a history that name the pass, each with its position, where the first entry of
   -- the list is at position k
-  abbrev pub named : ℕ → ℕ → List (ℕ × E) → List (ℕ × E)
-  named pass k [] = []
-  named pass k (x ∷ xs) = cond (x.0 == pass) ((k, x.1) ∷ named pass (suc k) xs) (named pass (suc k) xs)
+  abbrev pub put_by : ℕ → ℕ → List (ℕ × E) → List (ℕ × E)
+  put_by pass k [] = []
+  put_by pass k (x ∷ xs) = cond (x.0 == pass) ((k, x.1) ∷ put_by pass (suc k) xs) (put_by pass (suc k) xs)
 
   -- the history `new` goes on from `old` by entries of other passes alone
   abbrev pub Continues : ℕ → List (ℕ × E) → List (ℕ × E) → Type 0

@@ -6,7 +6,7 @@ use Rattle.rd_lock.specs.declared.views.Stage.TheVariants.{Out, Waits, Holds}
 use Rattle.rd_lock.specs.declared.passes.Pass.{Pass}
 use Rattle.rd_lock.specs.declared.locks.TicketLock.{TicketLock}
 use Rattle.rd_lock.specs.declared.tickets.TryTakeError.{TryTakeError}
-use Rattle.rd_lock.specs.Histories.{only, named, signed, placed, Adds, Continues}
+use Rattle.rd_lock.specs.Histories.{only, put_by, signed, placed, Adds, Continues}
 use Rattle.rd_lock.specs.Rule.{KnowsOpening}
 
 module _ {T E O : Type 0} where
@@ -33,7 +33,7 @@ module _ {T E O : Type 0} {K : Ghosts T E O} where
 
   -- the entries that the pass has put, each with its position in the history, from 1
   abbrev pub own : Pass T E O K → List (ℕ × E)
-  own pass = named (number pass) 1 (seen pass)
+  own pass = put_by (number pass) 1 (seen pass)
 
   -- the greatest value of the word `next` that the pass knows of
   abbrev pub next_seen : Pass T E O K → ℕ

@@ -1,6 +1,6 @@
 -- A session's run as the headline has it.
 use Rattle.std.proofs.Common.{◌≡◌, ◌↔◌, ℕ, refl, Option, Some, None, Ok, Err, arith}
-use Rattle.rd_marks.proofs.Prelude.{Entry, State, state_of, undo_at, Journal, BookState}
+use Rattle.rd_marks.proofs.Prelude.{Entry, state_of, undo_at, Journal, BookState}
 use Rattle.rd_step.specs.Prelude.{numbered, first_dependant, and_then}
 use Rattle.rd_journal.specs.Journal.{IsRun, answer_unless}
 use Rattle.rd_journal.proofs.Calls.{event_of_entry}

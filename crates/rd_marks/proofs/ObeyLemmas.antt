@@ -2,12 +2,12 @@
 use Rattle.std.proofs.Common.{◌≡◌, ℕ, sym, subst, List, [], ◌∷◌, ◌++◌, length, Some, None, Result, Ok, Err, OnErr, IfErr, ◌∙◌, arith}
 use Rattle.std.proofs.lemmas.Option.{same_Some}
 use Rattle.rd_journal.specs.Sessions.{MayRefuse}
-use Rattle.rd_marks.proofs.Prelude.{Refusal, Event, Session, State, apply, reply_to, undo, undo_at, roll, back, redo, forward, Command, BookState, MarkName, with_session, goto_mark, Answered, answer_with, Happened, IsAnswered, NeedsNoMemory, IsObeyed, AreObeyed}
+use Rattle.rd_marks.proofs.Prelude.{Refusal, Event, Session, State, apply, reply_to, undo, undo_at, roll, back, redo, forward, Command, BookState, MarkName, with_session, goto_mark, Answered, answer_with, Happened, IsAsDefined, NeedsNoMemory, IsObeyed, AreObeyed}
 use Rattle.rd_marks.specs.declared.commands.Command.TheVariants as command
 use Rattle.rd_marks.specs.declared.replies.Reply.{Reply}
 use Rattle.rd_marks.specs.declared.replies.Reply.TheVariants.{Applied}
 use Rattle.rd_actor.specs.declared.actors.Act.TheVariants as act
-use Rattle.rd_marks.specs.BookViews.{MayRefuseAsGoing}
+use Rattle.rd_marks.specs.Book.{MayRefuseAsGoing}
 use Rattle.rd_marks.specs.Commands.{step_counts}
 use Rattle.rd_marks.specs.declared.books.Book.{Book}
 use Rattle.rd_marks.specs.Events.{as_event}
@@ -35,7 +35,7 @@ pub happened_leaves : (b : BookState) (e : Event) (a : Answered) → Happened b 
 happened_leaves b e a k = grind (arith, as_this, state_leaves b (λ s. Applied (length s.live) (reply_to b.session e)) (apply b.session e) (apply_start b.session e))
 
 made_leaves : (b : BookState) (reply : BookState → Reply) (r : Result BookState Refusal) (P : Type 0) (a : Answered)
-    → ((t : BookState) → r ≡ Ok t → t.session.start ≡ b.session.start) → IsAnswered b (answer_with b reply (λ c. c) r) P a → LeavesStart b a
+    → ((t : BookState) → r ≡ Ok t → t.session.start ≡ b.session.start) → IsAsDefined b (answer_with b reply (λ c. c) r) P a → LeavesStart b a
 made_leaves b reply r P a starts k = grind arith
 
 pub obeyed_leaves : (b : BookState) (c : Command) (a : Answered) → IsObeyed b c a → LeavesStart b a

@@ -25,12 +25,12 @@ pub use Rattle.rd_step.specs.Prelude.{and_then, result_map, MOST_STEPS, OpReply,
 pub use Rattle.rd_step.specs.Run.{events, IsRunFrom, Ran, preceded_by, run_entries}
 pub use Rattle.rd_step.specs.declared.entries.Entry.{Entry}
 pub use Rattle.rd_step.specs.declared.entries.Event.{Event}
-pub use Rattle.rd_marks.specs.BookViews.{book_state}
-pub use Rattle.rd_marks.specs.Books.{AnswersEvents, AnswersSame, BookState, MakesSteps, Mark, at_events, drop_mark, goto_mark, mark, mark_at, mark_events, marked_events, with_session}
+pub use Rattle.rd_marks.specs.Book.{book_state}
+pub use Rattle.rd_marks.specs.BookState.{AnswersEvents, AnswersSame, BookState, MakesSteps, Mark, at_events, drop_mark, goto_mark, mark, mark_at, mark_events, marked_events, with_session}
 pub use Rattle.rd_marks.specs.Changes.{IsGrown, IsLow, IsShrunk, IsUnchanged, Stays, shifted}
-pub use Rattle.rd_marks.specs.Commands.{Answered, AreObeyed, Happened, IsAnswered, IsObeyed, NeedsNoMemory, answer_with, move_answer}
-pub use Rattle.rd_marks.specs.Kept.{IsNodeIn, here_in, lists_in, entries_in, marks_of}
-pub use Rattle.rd_marks.specs.Layout.{AreRuns, IsKept, IsPruned, AreEntriesOfRun, named_lists, nodes_of}
+pub use Rattle.rd_marks.specs.Commands.{Answered, AreObeyed, Happened, IsAsDefined, IsObeyed, NeedsNoMemory, answer_with, move_answer}
+pub use Rattle.rd_marks.specs.Bookmarks.{IsNodeIn, here_in, lists_in, entries_in, marks_of}
+pub use Rattle.rd_marks.specs.BookmarksFields.{AreRuns, IsKept, IsPruned, AreEntriesOfRun, named_lists, nodes_of}
 pub use Rattle.rd_marks.specs.NameBytes.{MOST_MARKS, MOST_NAME_BYTES, is_mark_name, is_name_byte}
 pub use Rattle.rd_marks.specs.Names.{mark_name_eq}
 pub use Rattle.rd_marks.specs.Stretches.{AreFresh, AreNeeded, AreNeededFrom, AreNested, IsAlong, IsDeepest, IsEnd, IsOwn, IsWithin, continued, count_of, greatest_in, list_after, list_before, lowered, needed_at, number_if_in, raised, entries_at, shared_at, stretch_list}

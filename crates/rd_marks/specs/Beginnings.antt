@@ -4,7 +4,7 @@ use Rattle.std.specs.Prelude.{◌≡◌, ◌↔◌, ℕ, ◌<◌, List, [], ◌�
 use Rattle.std.specs.List.{Contains}
 use Rattle.rd_step.specs.declared.entries.Event.{Event}
 use Rattle.rd_depend.specs.Beginnings.{IsPrefix}
-use Rattle.rd_marks.specs.Books.{Mark}
+use Rattle.rd_marks.specs.BookState.{Mark}
 
 -- the list is not empty and begins the events of some mark
 pub record IsBeginning (marks : List Mark) (es : List Event) : Type 0 where

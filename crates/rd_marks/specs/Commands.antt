@@ -12,7 +12,7 @@ use Rattle.rd_marks.specs.declared.commands.Command.TheVariants as command
 use Rattle.rd_marks.specs.declared.replies.Reply.{Reply}
 use Rattle.rd_marks.specs.declared.replies.Reply.TheVariants as reply
 use Rattle.rd_marks.specs.Beginnings.{NeedsNoEntry}
-use Rattle.rd_marks.specs.Books.{BookState, with_session, marked_events, mark, drop_mark, goto_mark, mark_at, MakesSteps, AnswersSame}
+use Rattle.rd_marks.specs.BookState.{BookState, with_session, marked_events, mark, drop_mark, goto_mark, mark_at, MakesSteps, AnswersSame}
 use Rattle.rd_cell.specs.declared.refusal.Refusal.TheVariants as refusal
 
 -- what a command answers, and the state after it
@@ -46,15 +46,15 @@ query_reply b reply_of look = result_map reply_of (and_then (run_of b.session) l
 
 -- a command may be answered so and leave this state: as it is defined, or, only where memory may be
 -- refused to it, by NoMemory with nothing changed
-abbrev pub IsAnswered : BookState → Answered → Type 0 → Answered → Type 0
-IsAnswered b defined MayAskForMemory answered = (answered ≡ defined) ⊎ (MayAskForMemory × (answered ≡ refused b refusal.NoMemory))
+abbrev pub IsAsDefined : BookState → Answered → Type 0 → Answered → Type 0
+IsAsDefined b defined MayAskForMemory answered = (answered ≡ defined) ⊎ (MayAskForMemory × (answered ≡ refused b refusal.NoMemory))
 
 -- an event may be answered so and leave this state, as it happens in the last world of the live
 -- events: by the number of its step, the last live one, and the reply of the call that it ends, if
 -- it ends one
 abbrev pub Happened : BookState → Event → Answered → Type 0
 Happened b e answered =
-    IsAnswered b (answer_with b (λ s. reply.Applied (length s.live) (reply_to b.session e)) (with_session b) (apply b.session e)) (MayLackMemory b.session e) answered
+    IsAsDefined b (answer_with b (λ s. reply.Applied (length s.live) (reply_to b.session e)) (with_session b) (apply b.session e)) (MayLackMemory b.session e) answered
 
 -- a command to set a mark needs no memory: nothing else refuses it, there is room for this many
 -- more names, of which it takes one, and it needs no new entry
@@ -90,9 +90,9 @@ IsObeyed b (command.Roll k) answered = answered ≡ move_answer b (roll b.sessio
 IsObeyed b (command.Back n) answered = answered ≡ move_answer b (back b.session n)
 IsObeyed b command.Redo answered = answered ≡ move_answer b (redo b.session)
 IsObeyed b (command.Forward n) answered = answered ≡ move_answer b (forward b.session n)
-IsObeyed b (command.Mark name) answered = IsAnswered b (answer_with b (λ c. reply.Marked (length c.session.live)) (λ c. c) (mark b name)) (IsOk (mark b name)) answered
+IsObeyed b (command.Mark name) answered = IsAsDefined b (answer_with b (λ c. reply.Marked (length c.session.live)) (λ c. c) (mark b name)) (IsOk (mark b name)) answered
 IsObeyed b (command.DropMark name) answered = answered ≡ answer_with b (λ c. reply.Dropped) (λ c. c) (drop_mark b name)
-IsObeyed b (command.GotoMark name) answered = IsAnswered b (answer_with b (λ c. step_counts c.session) (λ c. c) (goto_mark b name)) (MakesSteps b name) answered
+IsObeyed b (command.GotoMark name) answered = IsAsDefined b (answer_with b (λ c. step_counts c.session) (λ c. c) (goto_mark b name)) (MakesSteps b name) answered
 IsObeyed b query answered = AnswersQuery b query answered.answer × (answered.state ≡ b)
 
 -- commands, one after another, may be answered so, and leave this last state

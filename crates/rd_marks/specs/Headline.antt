@@ -6,7 +6,7 @@ use Rattle.rd_journal.specs.Journal.{Journal}
 use Rattle.rd_journal.specs.State.{undo_at}
 use Rattle.rd_marks.specs.declared.commands.Command.{Command}
 use Rattle.rd_marks.specs.declared.replies.Reply.{Reply}
-use Rattle.rd_marks.specs.Books.{BookState}
+use Rattle.rd_marks.specs.BookState.{BookState}
 use Rattle.rd_marks.specs.Commands.{AreObeyed}
 use Rattle.rd_cell.specs.declared.refusal.Refusal.TheVariants as refusal
 

@@ -1,13 +1,13 @@
 pub mod NameBytes
 pub mod Names
-pub mod Books
+pub mod BookState
 pub mod Beginnings
 pub mod Stretches
 pub mod Changes
-pub mod Layout
-pub mod Kept
+pub mod BookmarksFields
+pub mod Bookmarks
 pub mod Rules
-pub mod BookViews
+pub mod Book
 pub mod Commands
 pub mod Headline
 pub mod Events

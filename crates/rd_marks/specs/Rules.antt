@@ -6,7 +6,7 @@ use Rattle.rd_step.specs.Prelude.{World, run, MOST_STEPS}
 use Rattle.rd_step.specs.declared.entries.Event.{Event}
 use Rattle.rd_marks.specs.NameBytes.{MOST_MARKS}
 use Rattle.rd_marks.specs.Names.{mark_name_eq}
-use Rattle.rd_marks.specs.Books.{Mark, BookState}
+use Rattle.rd_marks.specs.BookState.{Mark, BookState}
 
 -- these events can run from a start: they are no more than may be live, and none is refused
 pub record GoThrough (start : World) (events : List Event) : Type 0 where

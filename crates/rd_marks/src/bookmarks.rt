@@ -10,7 +10,7 @@ ghost use Rattle.rd_depend.specs.Equivalence.{DecidesEquivalence};
 ghost use Rattle.rd_journal.specs.Journal.{events};
 ghost use Rattle.rd_journal.specs.Sessions.{state, track, journal};
 ghost use Rattle.rd_step.specs.Lists.{numbered};
-ghost use Rattle.rd_marks.specs.Layout.{IsKept};
+ghost use Rattle.rd_marks.specs.BookmarksFields.{IsKept};
 
 mod going;
 mod keeping;
@@ -40,8 +40,8 @@ pub(crate) struct Bookmarks {
 
 impl Bookmarks {
     ghost use Rattle.rd_marks.specs.Beginnings.{CountsBeginnings, NeedsNoEntry};
-    ghost use Rattle.rd_marks.specs.Kept.{lists_in, marks_of, entries_in, entries_kept, here_in, IsNodeIn};
-    ghost use Rattle.rd_marks.specs.Layout.{AreRuns};
+    ghost use Rattle.rd_marks.specs.Bookmarks.{lists_in, marks_of, entries_in, entries_kept, here_in, IsNodeIn};
+    ghost use Rattle.rd_marks.specs.BookmarksFields.{AreRuns};
     ghost use Rattle.rd_marks.specs.Names.{mark_name_eq};
 
     /// Returns bookmarks with none in them. It takes no memory.

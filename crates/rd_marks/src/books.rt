@@ -17,8 +17,8 @@ ghost use Rattle.rd_step.specs.Prelude.{result_map};
 ghost use Rattle.rd_step.specs.Run.{events};
 ghost use Rattle.rd_depend.specs.Beginnings.{IsPrefix};
 ghost use Rattle.rd_journal.specs.Sessions.{state, track, MayRefuse};
-ghost use Rattle.rd_marks.specs.Layout.{AreRuns};
-ghost use Rattle.rd_marks.specs.Kept.{lists_in, here_in};
+ghost use Rattle.rd_marks.specs.BookmarksFields.{AreRuns};
+ghost use Rattle.rd_marks.specs.Bookmarks.{lists_in, here_in};
 
 use super::bookmarks::Bookmarks;
 use super::names::MarkName;
@@ -53,11 +53,11 @@ impl<const R: usize> Drop for Book<R> {
 
 impl<const R: usize> Book<R> {
     ghost use Rattle.rd_marks.specs.Beginnings.{CountsBeginnings, NeedsNoEntry};
-    ghost use Rattle.rd_marks.specs.BookViews.{book_state, session_of, name_room, mark_entries, MayRefuseToGo};
+    ghost use Rattle.rd_marks.specs.Book.{book_state, session_of, name_room, mark_entries, MayRefuseToGo};
     ghost use Rattle.rd_marks.specs.Rules.{KeepsRules};
     ghost use Rattle.rd_marks.specs.Commands.{Happened};
     ghost use Rattle.rd_marks.specs.Events.{as_reply};
-    ghost use Rattle.rd_marks.specs.Books.{marked_events, mark, drop_mark, goto_mark, mark_at, MakesSteps, AnswersSame};
+    ghost use Rattle.rd_marks.specs.BookState.{marked_events, mark, drop_mark, goto_mark, mark_at, MakesSteps, AnswersSame};
 
     /// Returns a book over a session, without bookmarks. It takes no memory.
     pub fn open(alloc: Global, session: Session<R>) -> Book<R>

@@ -1,7 +1,7 @@
 //! The law of books: it holds of each, whatever led to it.
 
 ghost use Rattle.rd_journal.specs.Sessions.{journal};
-ghost use Rattle.rd_marks.specs.BookViews.{book_state, session_of};
+ghost use Rattle.rd_marks.specs.Book.{book_state, session_of};
 ghost use Rattle.rd_marks.specs.Headline.{IsRunOfLive};
 
 use super::Book;

@@ -1,7 +1,7 @@
 -- A view over the book that was made for a setup is a view over the fresh world.
 use Rattle.std.proofs.Common.{◌≡◌, ℕ, Bool, List, Option, Result, Vec, subst}
 use Rattle.std.specs.Global.{Global}
-use Rattle.rd_marks.specs.Books.{BookState}
+use Rattle.rd_marks.specs.BookState.{BookState}
 use Rattle.rd_program.specs.declared.faults.ProgramFault.{ProgramFault}
 use Rattle.rd_program.specs.Viewers.{ViewsOver}
 

@@ -2,7 +2,7 @@
 -- is asked for, and a script's run over the run of a trace.
 use Rattle.std.specs.Prelude.{◌≡◌, ◌⊎◌, ℕ, Bool, true, false, List, Option, Result, Ok, Err}
 use Rattle.std.specs.Io.KnownBytes.{Keeps}
-use Rattle.rd_marks.specs.Books.{BookState}
+use Rattle.rd_marks.specs.BookState.{BookState}
 use Rattle.rd_script.specs.declared.faults.ScriptFault.{ScriptFault}
 use Rattle.rd_script.specs.Script.{Devices, RanToEnd, RunsScript}
 use Rattle.rd_trace.specs.declared.faults.WriteTraceFault.{WriteTraceFault}

@@ -2,7 +2,7 @@
 use Rattle.std.specs.Result.{result_map_both}
 use Rattle.std.specs.Prelude.{◌≡◌, ℕ, Bool, List, length, Option, Result, Vec}
 use Rattle.std.specs.Global.{Global}
-use Rattle.rd_marks.specs.Books.{BookState}
+use Rattle.rd_marks.specs.BookState.{BookState}
 use Rattle.rd_desk.specs.declared.histories.History.{History}
 use Rattle.rd_desk.specs.Histories.{entries}
 use Rattle.rd_view.specs.declared.faults.ViewFault.{ViewFault}

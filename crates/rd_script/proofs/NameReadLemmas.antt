@@ -1,5 +1,5 @@
 -- The names after a keyword, and what is said where they are missing or bad.
-use Rattle.rd_script.proofs.Prelude.{common_steps, list_all, and_parts, is_mark_name, Command, LineFault, Keyword, keyword_of, arguments_of, words_of, names_after, IsInRange, NamesBadly, is_word, AreNoNames, ReadsCommand}
+use Rattle.rd_script.proofs.Prelude.{common_steps, list_all, and_parts, is_mark_name, Command, LineFault, Keyword, keyword_of, arguments_of, argument_words, names_after, IsInRange, NamesBadly, is_word, AreNoNames, ReadsCommand}
 use Rattle.std.proofs.Common.{◌≡◌, ℕ, ◌<◌, true, true≢false, List, [], ◌∷◌, length, Err, refl, arith}
 use Rattle.rd_script.proofs.SpellingLemmas.{is_word_of_name}
 
@@ -9,15 +9,15 @@ are_words [] e = refl
 are_words (x ∷ xs) e = let here = and_parts (is_mark_name x) (list_all is_mark_name xs) e in rw (is_word_of_name x here.0, are_words xs here.1) refl
 
 -- a command of a keyword with names has as many arguments as names
-counted : (c : Command) → 0 < names_after (keyword_of c) → length (words_of (arguments_of c)) ≡ names_after (keyword_of c)
+counted : (c : Command) → 0 < names_after (keyword_of c) → length (argument_words (arguments_of c)) ≡ names_after (keyword_of c)
 counted c some = grind arith
 
 -- and where there are as many, they are names
-are_names : (c : Command) → IsInRange c → length (words_of (arguments_of c)) ≡ names_after (keyword_of c) → list_all is_mark_name (words_of (arguments_of c)) ≡ true
+are_names : (c : Command) → IsInRange c → length (argument_words (arguments_of c)) ≡ names_after (keyword_of c) → list_all is_mark_name (argument_words (arguments_of c)) ≡ true
 are_names c small count = grind arith
 
 -- no command has bad names
-pub not_badly_named : (k : Keyword) (words : List (List ℕ)) → NamesBadly k words → (c : Command) → IsInRange c → keyword_of c ≡ k → words ≡ words_of (arguments_of c) → ⊥
+pub not_badly_named : (k : Keyword) (words : List (List ℕ)) → NamesBadly k words → (c : Command) → IsInRange c → keyword_of c ≡ k → words ≡ argument_words (arguments_of c) → ⊥
 not_badly_named k words bad c small is same = grind arith
 
 -- after a keyword without names nothing is a bad name

@@ -1,7 +1,7 @@
 -- Two commands of the same words are one: after one keyword arguments are of the same shapes, and an
 -- argument is known by its shape and its word.
 use Rattle.std.proofs.Common.{◌≡◌, ℕ, Bool, ◌==◌, List, [], ◌∷◌, length, refl, sym, ◌∙◌, ap, arith, drop, slice_index_or}
-use Rattle.rd_script.proofs.Prelude.{slice_split, decimal_injective, SegName, Command, yes_or_no, name_words, Argument, Byte, Long, Segment, Choice, Name, Kind, keyword_of, word_of, words_of, arguments_of, IsSegmentInRange, IsArgumentInRange, AreArgumentsInRange, IsInRange, AreOne}
+use Rattle.rd_script.proofs.Prelude.{slice_split, decimal_injective, SegName, Command, yes_or_no, name_words, Argument, Byte, Long, Segment, Choice, Name, Kind, keyword_of, word_of, argument_words, arguments_of, IsSegmentInRange, IsArgumentInRange, AreArgumentsInRange, IsInRange, AreOne}
 use Rattle.rd_step.specs.Prelude.{Place}
 use Rattle.rd_script.specs.Grammar.{kind_of, place_arguments}
 use Rattle.rd_script.proofs.KeywordLemmas.{one_kind}
@@ -55,7 +55,7 @@ same_argument (Kind k) (Kind m) same small below e = ap Kind (one_kind k m e)
 same_argument _ _ same small below e = absurd (omega (arith, same))
 
 -- two alike lists of arguments of the same words are one
-same_arguments : (xs ys : List Argument) → AreAlike xs ys → AreArgumentsInRange xs → AreArgumentsInRange ys → words_of xs ≡ words_of ys → xs ≡ ys
+same_arguments : (xs ys : List Argument) → AreAlike xs ys → AreArgumentsInRange xs → AreArgumentsInRange ys → argument_words xs ≡ argument_words ys → xs ≡ ys
 same_arguments [] [] a small below e = refl
 same_arguments [] (y ∷ ys) a small below e = absurd (omega (arith, ap length e))
 same_arguments (x ∷ xs) [] a small below e = absurd (omega (arith, ap length e))
@@ -64,5 +64,5 @@ same_arguments (x ∷ xs) (y ∷ ys) a small below e =
     ap (λ z. z ∷ xs) same ∙ ap (λ zs. y ∷ zs) (same_arguments xs ys (a.1 same) small.1 below.1 (ap (drop 1) e))
 
 -- two commands of the same words are one
-pub one_command : (c d : Command) → IsInRange c → IsInRange d → keyword_of c ≡ keyword_of d → words_of (arguments_of c) ≡ words_of (arguments_of d) → AreOne c d
+pub one_command : (c d : Command) → IsInRange c → IsInRange d → keyword_of c ≡ keyword_of d → argument_words (arguments_of c) ≡ argument_words (arguments_of d) → AreOne c d
 one_command c d small below k e = (k, same_arguments (arguments_of c) (arguments_of d) (alike_after_keyword c d k) small below e)

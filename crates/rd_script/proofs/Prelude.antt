@@ -11,13 +11,13 @@ pub use Rattle.std.specs.Io.KnownBytes.{Appends, Consumes, IsAtEnd, Keeps}
 pub use Rattle.std.specs.List.{join_with_byte, list_all, onto_first, slice_split}
 pub use Rattle.std.specs.Result.{IsErrAnd, IsOkAnd}
 pub use Rattle.std.specs.Str.{IsUtf8}
-pub use Rattle.rd_marks.specs.BookViews.{book_state}
+pub use Rattle.rd_marks.specs.Book.{book_state}
 pub use Rattle.rd_marks.specs.NameBytes.{is_mark_name, is_name_byte}
 pub use Rattle.rd_marks.specs.declared.commands.Command.{Command}
 pub use Rattle.rd_step.specs.Prelude.{SegName}
 pub use Rattle.rd_script.specs.Contents.{name_words}
 pub use Rattle.rd_script.specs.Device.{GivesByte, TakesBeginning}
-pub use Rattle.rd_script.specs.Grammar.{AreArgumentsInRange, Argument, Byte, Choice, IsArgumentInRange, IsSegmentInRange, Kind, Long, Name, Segment, arguments_of, keyword_of, keyword_text, kind_text, names_after, word_of, words_of}
+pub use Rattle.rd_script.specs.Grammar.{AreArgumentsInRange, Argument, Byte, Choice, IsArgumentInRange, IsSegmentInRange, Kind, Long, Name, Segment, arguments_of, keyword_of, keyword_text, kind_text, names_after, word_of, argument_words}
 pub use Rattle.rd_script.specs.Lines.{AreSaid, Holds, IsOneLine, ReadsLast, ReadsLine, ReadsNext, ReadsPart, ended_lines_of, lines_of, with_first_byte}
 pub use Rattle.rd_script.specs.Reading.{AreNoNames, ReadsCommand, ReadsNameless}
 pub use Rattle.rd_script.specs.Spelling.{AreOne, IsInRange, IsMisnamed, NamesBadly, Says, is_word, most_line_bytes, spelling}

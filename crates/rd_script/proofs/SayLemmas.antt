@@ -1,6 +1,6 @@
 -- What the words of a line say, the line says; and what is said of a line that spells a command.
 use Rattle.std.proofs.Common.{◌≡◌, ◌≢◌, ℕ, ◌<◌, ◌≤◌, ◌==◌, List, [], ◌∷◌, length, drop, Result, Ok, Err, sym, ◌∙◌, ap, subst, arith, slice_index_or}
-use Rattle.rd_script.proofs.Prelude.{slice_split, IsOkAnd, Command, LineFault, Keyword, keyword_text, keyword_of, arguments_of, words_of, names_after, most_line_bytes, spelling, IsInRange, AreOne, NamesBadly, IsMisnamed, Says, ReadsCommand}
+use Rattle.rd_script.proofs.Prelude.{slice_split, IsOkAnd, Command, LineFault, Keyword, keyword_text, keyword_of, arguments_of, argument_words, names_after, most_line_bytes, spelling, IsInRange, AreOne, NamesBadly, IsMisnamed, Says, ReadsCommand}
 use Rattle.rd_script.specs.declared.faults.LineFault.TheVariants as fault
 use Rattle.rd_script.proofs.KeywordLemmas.{one_keyword}
 use Rattle.rd_script.proofs.NameReadLemmas.{not_badly_named}
@@ -38,7 +38,7 @@ misnamed_words line h = record {
 }
 
 -- a line is bad if its words are those of no command and of no misnamed line
-bad_line : (line : List ℕ) → length line ≤ most_line_bytes → ((c : Command) → IsInRange c → cut line ≢ keyword_text (keyword_of c) ∷ words_of (arguments_of c)) → (MisnamedWords (cut line) → ⊥) → Says line (Err fault.BadLine)
+bad_line : (line : List ℕ) → length line ≤ most_line_bytes → ((c : Command) → IsInRange c → cut line ≢ keyword_text (keyword_of c) ∷ argument_words (arguments_of c)) → (MisnamedWords (cut line) → ⊥) → Says line (Err fault.BadLine)
 bad_line line few none good = (few, (λ c small e. none c small (words_of_line line c small e)), (λ bad. good (misnamed_words line bad)))
 
 -- a line of more than four words is bad
@@ -48,7 +48,7 @@ too_many_words line few many = bad_line line few (λ c small e. absurd (omega (a
 -- what the words after the keyword say, the line says
 pub says_words : (line : List ℕ) (k : Keyword) (words : List (List ℕ)) (r : Result Command LineFault) → length line ≤ most_line_bytes → keyword_text k ∷ words ≡ slice_split (λ byte. byte == 32) line → ReadsCommand k words r → Says line r
 says_words line k words (Ok c) few is reads =
-    (few, reads.0, join_of_parts 32 line _ (ap (λ word. keyword_text word ∷ words_of (arguments_of c)) reads.1 ∙ ap (λ ws. keyword_text k ∷ ws) (sym reads.2) ∙ is))
+    (few, reads.0, join_of_parts 32 line _ (ap (λ word. keyword_text word ∷ argument_words (arguments_of c)) reads.1 ∙ ap (λ ws. keyword_text k ∷ ws) (sym reads.2) ∙ is))
 says_words line k words (Err fault.BadLine) few is reads =
     bad_line line few (λ c small e. let same = is ∙ e in reads.0 c small (sym (one_keyword k (keyword_of c) (ap first_word same))) (ap (drop 1) same))
     (λ bad. let same = is ∙ bad.whole in

@@ -1,10 +1,10 @@
 -- A script that runs: the bytes that were given so far, their lines, and their report.
 use Rattle.std.proofs.Common.{◌≡◌, ◌≢◌, ℕ, ◌+◌, ◌-◌, ◌^◌, ◌≤◌, Bool, true, false, List, [], ◌∷◌, ◌++◌, length, Option, refl, sym, ◌∙◌, ap, subst, arith, inl, inr, append_assoc, length-append, Result, Err}
 use Rattle.rd_script.proofs.Prelude.{ne_eqb, append-nil, Consumes, Appends, IsAtEnd, Line, IsErrAnd, TakesBeginning, with_first_byte, lines_of, ended_lines_of, IsOneLine, ReadsLine, ReadsLast, ReadsPart}
-use Rattle.rd_marks.specs.Books.{BookState}
+use Rattle.rd_marks.specs.BookState.{BookState}
 use Rattle.rd_script.specs.declared.faults.ScriptFault.{ScriptFault}
 use Rattle.rd_script.specs.Replies.{text_of}
-use Rattle.rd_script.specs.Answers.{Answered, AnswersLine}
+use Rattle.rd_script.specs.Answers.{LineAnswered, AnswersLine}
 use Rattle.rd_script.specs.Script.{HasReport, Devices, RanToEnd, StoppedAtRead, StoppedAtWrite, RunsScript}
 use Rattle.rd_script.proofs.ResultLemmas.{Err-from_error}
 use Rattle.rd_script.proofs.KnownLemmas.{Consumes-nil, Consumes-join, Appends-nil, Appends-join}
@@ -50,7 +50,7 @@ ended-whole : (given : List ℕ) (lines : List (List ℕ)) → Splits given line
 ended-whole given lines s = ap ended_lines_of (sym (append-nil given)) ∙ (s.ended [] ∙ append-nil lines)
 
 -- one line more, with its answer
-HasReport-more : (s : BookState) (lines : List (List ℕ)) (report : List ℕ) (mid : BookState) (line : List ℕ) (a : Answered) → HasReport s lines report mid → AnswersLine mid line a → HasReport s (lines ++ line ∷ []) (report ++ text_of a.answer) a.state
+HasReport-more : (s : BookState) (lines : List (List ℕ)) (report : List ℕ) (mid : BookState) (line : List ℕ) (a : LineAnswered) → HasReport s lines report mid → AnswersLine mid line a → HasReport s (lines ++ line ∷ []) (report ++ text_of a.answer) a.state
 HasReport-more s [] report mid line a h k = grind (arith, append-nil)
 HasReport-more s (x ∷ xs) report mid line a h k = grind (arith, append_assoc, HasReport-more h.0.state xs h.1 mid line a h.4 k)
 
@@ -121,7 +121,7 @@ module _ (before now : BookState) (in_before in_now : Option (List ℕ)) (in_fai
   stopped_endless most = grind (arith, ended-whole)
 
   -- one more line, ended by a line feed, was obeyed and reported
-  pub goes_on : (in_new out_new : Option (List ℕ)) (in_failed' out_failed' : Bool) (line : Line) (read : ReadsLine in_now in_new line (10 ∷ [])) (a : Answered) → AnswersLine now read.text a → (after : BookState) → a.state ≡ after → Appends out_now out_new (text_of a.answer) → in_failed' ≡ false → out_failed' ≡ false → after.session.start ≡ now.session.start → IsGoingOn before after in_before in_new in_failed' out_before out_new out_failed' (n + 1)
+  pub goes_on : (in_new out_new : Option (List ℕ)) (in_failed' out_failed' : Bool) (line : Line) (read : ReadsLine in_now in_new line (10 ∷ [])) (a : LineAnswered) → AnswersLine now read.text a → (after : BookState) → a.state ≡ after → Appends out_now out_new (text_of a.answer) → in_failed' ≡ false → out_failed' ≡ false → after.session.start ≡ now.session.start → IsGoingOn before after in_before in_new in_failed' out_before out_new out_failed' (n + 1)
   goes_on in_new out_new in_failed' out_failed' line read a answers after leaves wrote in_works out_works start = record {
     in_works = in_works;
     out_works = out_works;
@@ -138,7 +138,7 @@ module _ (before now : BookState) (in_before in_now : Option (List ℕ)) (in_fai
   }
 
   -- the last line was obeyed and reported
-  pub ran_to_last : (in_new out_new : Option (List ℕ)) (in_failed' out_failed' : Bool) (line : Line) (r : ReadsLast in_now in_new line) (a : Answered) → AnswersLine now r.read.text a → (after : BookState) → a.state ≡ after → Appends out_now out_new (text_of a.answer) → in_failed' ≡ false → out_failed' ≡ false → RanToEnd before after (now_at in_new in_failed' out_new out_failed') (n + 1)
+  pub ran_to_last : (in_new out_new : Option (List ℕ)) (in_failed' out_failed' : Bool) (line : Line) (r : ReadsLast in_now in_new line) (a : LineAnswered) → AnswersLine now r.read.text a → (after : BookState) → a.state ≡ after → Appends out_now out_new (text_of a.answer) → in_failed' ≡ false → out_failed' ≡ false → RanToEnd before after (now_at in_new in_failed' out_new out_failed') (n + 1)
   ran_to_last in_new out_new in_failed' out_failed' line r a answers after leaves wrote in_works out_works =
       let text = r.read.text in
       let all : lines_of (g.given ++ (text ++ [])) ≡ g.lines ++ text ∷ [] = ap (λ t. lines_of (g.given ++ t)) (append-nil text) ∙ (g.splits.all text ∙ ap (λ ls. g.lines ++ ls) (lines-last text r.read.is_one r.some)) in
@@ -157,7 +157,7 @@ module _ (before now : BookState) (in_before in_now : Option (List ℕ)) (in_fai
       }
 
   -- the writer failed at the answer to a line that a line feed ended
-  pub stopped_at_write : (in_new out_new : Option (List ℕ)) (in_failed' out_failed' : Bool) (line : Line) (read : ReadsLine in_now in_new line (10 ∷ [])) (a : Answered) → AnswersLine now read.text a → (after : BookState) → a.state ≡ after → TakesBeginning out_now out_new (text_of a.answer) → in_failed' ≡ false → out_failed' ≡ true → StoppedAtWrite before after (now_at in_new in_failed' out_new out_failed')
+  pub stopped_at_write : (in_new out_new : Option (List ℕ)) (in_failed' out_failed' : Bool) (line : Line) (read : ReadsLine in_now in_new line (10 ∷ [])) (a : LineAnswered) → AnswersLine now read.text a → (after : BookState) → a.state ≡ after → TakesBeginning out_now out_new (text_of a.answer) → in_failed' ≡ false → out_failed' ≡ true → StoppedAtWrite before after (now_at in_new in_failed' out_new out_failed')
   stopped_at_write in_new out_new in_failed' out_failed' line read a answers after leaves wrote in_works fails =
       let given = g.given ++ (read.text ++ 10 ∷ []) in
       let lines = g.lines ++ read.text ∷ [] in
@@ -183,7 +183,7 @@ module _ (before now : BookState) (in_before in_now : Option (List ℕ)) (in_fai
       }
 
   -- the writer failed at the answer to the last line
-  pub stopped_at_last_write : (in_new out_new : Option (List ℕ)) (in_failed' out_failed' : Bool) (line : Line) (r : ReadsLast in_now in_new line) (a : Answered) → AnswersLine now r.read.text a → (after : BookState) → a.state ≡ after → TakesBeginning out_now out_new (text_of a.answer) → in_failed' ≡ false → out_failed' ≡ true → StoppedAtWrite before after (now_at in_new in_failed' out_new out_failed')
+  pub stopped_at_last_write : (in_new out_new : Option (List ℕ)) (in_failed' out_failed' : Bool) (line : Line) (r : ReadsLast in_now in_new line) (a : LineAnswered) → AnswersLine now r.read.text a → (after : BookState) → a.state ≡ after → TakesBeginning out_now out_new (text_of a.answer) → in_failed' ≡ false → out_failed' ≡ true → StoppedAtWrite before after (now_at in_new in_failed' out_new out_failed')
   stopped_at_last_write in_new out_new in_failed' out_failed' line r a answers after leaves wrote in_works fails =
       let text = r.read.text in
       record {

@@ -1,7 +1,7 @@
 -- No word of a command has a space, and there are four at most: so the line that spells a command
 -- is cut into just its words.
 use Rattle.std.proofs.Common.{◌≡◌, ℕ, ◌≤◌, ◌==◌, Bool, true, not, List, [], ◌∷◌, ◌++◌, length, codes, refl, ◌∙◌, ap, arith, tests}
-use Rattle.rd_script.proofs.Prelude.{and_parts, decimal, list_all, slice_split, SegName, is_mark_name, is_name_byte, Command, Keyword, PlaceKind, name_words, yes_or_no, Argument, keyword_text, keyword_of, kind_text, word_of, words_of, arguments_of, IsSegmentInRange, IsArgumentInRange, AreArgumentsInRange, spelling, IsInRange, is_word}
+use Rattle.rd_script.proofs.Prelude.{and_parts, decimal, list_all, slice_split, SegName, is_mark_name, is_name_byte, Command, Keyword, PlaceKind, name_words, yes_or_no, Argument, keyword_text, keyword_of, kind_text, word_of, argument_words, arguments_of, IsSegmentInRange, IsArgumentInRange, AreArgumentsInRange, spelling, IsInRange, is_word}
 use Rattle.std.specs.Char.{is_ascii_graphic}
 use Rattle.rd_script.proofs.SplitLemmas.{is_free, AreFree, parts_of_join, is_free_decimal, is_free_both}
 
@@ -52,14 +52,14 @@ free_segment s small = is_free_both 32 (decimal s.maker ++ codes ".") (decimal s
 free_argument : (x : Argument) → IsArgumentInRange x → is_free 32 (word_of x) ≡ true
 free_argument x small = grind (arith, is_free_decimal, free_segment, free_choice, is_free_word, is_word_of_name, free_kind)
 
-free_arguments : (xs : List Argument) → AreArgumentsInRange xs → AreFree 32 (words_of xs)
+free_arguments : (xs : List Argument) → AreArgumentsInRange xs → AreFree 32 (argument_words xs)
 free_arguments [] small = tt
 free_arguments (x ∷ xs) small = (free_argument x small.0, free_arguments xs small.1)
 
 -- a line that spells a command has just its words
-pub words_of_line : (line : List ℕ) (c : Command) → IsInRange c → line ≡ spelling c → slice_split (λ byte. byte == 32) line ≡ keyword_text (keyword_of c) ∷ words_of (arguments_of c)
+pub words_of_line : (line : List ℕ) (c : Command) → IsInRange c → line ≡ spelling c → slice_split (λ byte. byte == 32) line ≡ keyword_text (keyword_of c) ∷ argument_words (arguments_of c)
 words_of_line line c small e =
-    ap (slice_split (λ byte. byte == 32)) e ∙ parts_of_join 32 (keyword_text (keyword_of c)) (words_of (arguments_of c)) (free_keyword (keyword_of c), free_arguments (arguments_of c) small)
+    ap (slice_split (λ byte. byte == 32)) e ∙ parts_of_join 32 (keyword_text (keyword_of c)) (argument_words (arguments_of c)) (free_keyword (keyword_of c), free_arguments (arguments_of c) small)
 
-pub few_arguments : (c : Command) → length (words_of (arguments_of c)) ≤ 3
+pub few_arguments : (c : Command) → length (argument_words (arguments_of c)) ≤ 3
 few_arguments c = grind arith

@@ -138,8 +138,8 @@ abbrev pub arguments_of : Command → List Argument
 arguments_of c = (keyword_and_arguments c).1
 
 -- the words of a list of arguments, one of each
-abbrev pub words_of : List Argument → List (List ℕ)
-words_of arguments = map word_of arguments
+abbrev pub argument_words : List Argument → List (List ℕ)
+argument_words arguments = map word_of arguments
 
 -- the numbers of a segment's name are in their ranges: its maker's is 0 to 255, and its own 0 to
 -- 2^32 - 1

@@ -11,7 +11,7 @@ use Rattle.rd_script.specs.declared.faults.LineFault.{LineFault}
 use Rattle.rd_script.specs.declared.faults.LineFault.TheVariants as fault
 use Rattle.rd_script.specs.declared.reading.keywords.Keyword.{Keyword}
 use Rattle.rd_script.specs.declared.reading.places.PlaceKind.{PlaceKind}
-use Rattle.rd_script.specs.Grammar.{keyword_of, arguments_of, kind_text, kind_of, place_arguments, words_of, AreArgumentsInRange, names_after}
+use Rattle.rd_script.specs.Grammar.{keyword_of, arguments_of, kind_text, kind_of, place_arguments, argument_words, AreArgumentsInRange, names_after}
 use Rattle.rd_script.specs.Spelling.{IsInRange, NamesBadly, is_word}
 
 -- the result of reading a word as a bookmark's name
@@ -30,24 +30,24 @@ AreNoNames count words fault.LineTooLong = ⊥
 
 -- the result of reading words as a place
 abbrev pub ReadsPlace : List (List ℕ) → Option Place → Type 0
-ReadsPlace words (Some place) = AreArgumentsInRange (place_arguments place) × (words ≡ kind_text (kind_of place) ∷ words_of (place_arguments place))
-ReadsPlace words None = (place : Place) → AreArgumentsInRange (place_arguments place) → words ≢ kind_text (kind_of place) ∷ words_of (place_arguments place)
+ReadsPlace words (Some place) = AreArgumentsInRange (place_arguments place) × (words ≡ kind_text (kind_of place) ∷ argument_words (place_arguments place))
+ReadsPlace words None = (place : Place) → AreArgumentsInRange (place_arguments place) → words ≢ kind_text (kind_of place) ∷ argument_words (place_arguments place)
 
 -- the result of reading the words after a kind of place as a place of that kind
 abbrev pub ReadsKind : PlaceKind → List (List ℕ) → Option Place → Type 0
-ReadsKind kind words (Some place) = AreArgumentsInRange (place_arguments place) × (kind_of place ≡ kind) × (words ≡ words_of (place_arguments place))
-ReadsKind kind words None = (place : Place) → AreArgumentsInRange (place_arguments place) → kind_of place ≡ kind → words ≢ words_of (place_arguments place)
+ReadsKind kind words (Some place) = AreArgumentsInRange (place_arguments place) × (kind_of place ≡ kind) × (words ≡ argument_words (place_arguments place))
+ReadsKind kind words None = (place : Place) → AreArgumentsInRange (place_arguments place) → kind_of place ≡ kind → words ≢ argument_words (place_arguments place)
 
 -- the result of reading the words after a keyword as a command of that keyword
 abbrev pub ReadsCommand : Keyword → List (List ℕ) → Result Command LineFault → Type 0
-ReadsCommand keyword words (Ok command) = IsInRange command × (keyword_of command ≡ keyword) × (words ≡ words_of (arguments_of command))
+ReadsCommand keyword words (Ok command) = IsInRange command × (keyword_of command ≡ keyword) × (words ≡ argument_words (arguments_of command))
 ReadsCommand keyword words (Err fault.BadLine) =
-    ((command : Command) → IsInRange command → keyword_of command ≡ keyword → words ≢ words_of (arguments_of command)) × (NamesBadly keyword words → ⊥)
+    ((command : Command) → IsInRange command → keyword_of command ≡ keyword → words ≢ argument_words (arguments_of command)) × (NamesBadly keyword words → ⊥)
 ReadsCommand keyword words (Err fault.BadName) = NamesBadly keyword words
 ReadsCommand keyword words (Err fault.LineTooLong) = ⊥
 
 -- the result of reading the words after a keyword without names as a command of that keyword; none
 -- after a keyword with names
 abbrev pub ReadsNameless : Keyword → List (List ℕ) → Option Command → Type 0
-ReadsNameless keyword words (Some command) = IsInRange command × (keyword_of command ≡ keyword) × (words ≡ words_of (arguments_of command))
-ReadsNameless keyword words None = names_after keyword ≡ 0 → (command : Command) → IsInRange command → keyword_of command ≡ keyword → words ≢ words_of (arguments_of command)
+ReadsNameless keyword words (Some command) = IsInRange command × (keyword_of command ≡ keyword) × (words ≡ argument_words (arguments_of command))
+ReadsNameless keyword words None = names_after keyword ≡ 0 → (command : Command) → IsInRange command → keyword_of command ≡ keyword → words ≢ argument_words (arguments_of command)

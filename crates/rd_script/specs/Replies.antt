@@ -52,10 +52,10 @@ abbrev pub LineAnswer : Type 0
 LineAnswer = Result Reply AnyRefusal
 
 -- the words of an answer to a line
-abbrev pub words_of : LineAnswer → List ℕ
-words_of (Ok r) = reply_words r
-words_of (Err refusal) = codes "refused " ++ any_words refusal
+abbrev pub answer_words : LineAnswer → List ℕ
+answer_words (Ok r) = reply_words r
+answer_words (Err refusal) = codes "refused " ++ any_words refusal
 
 -- the line of an answer, with its line feed
 abbrev pub text_of : LineAnswer → List ℕ
-text_of answer = words_of answer ++ 10 ∷ []
+text_of answer = answer_words answer ++ 10 ∷ []

@@ -2,13 +2,13 @@
 use mathlib.Core.List.{IsPrefix}
 use Rattle.std.specs.Prelude.{◌≡◌, ℕ, ◌+◌, ◌^◌, ◌≤◌, ◌⊎◌, Bool, true, false, List, [], ◌∷◌, ◌++◌, length, Option, Result, Ok, Err}
 use Rattle.std.specs.Io.KnownBytes.{Consumes, Appends, IsAtEnd}
-use Rattle.rd_marks.specs.Books.{BookState}
+use Rattle.rd_marks.specs.BookState.{BookState}
 use Rattle.rd_script.specs.declared.devices.sinks.WriteFault.{WriteFault}
 use Rattle.rd_script.specs.declared.faults.ScriptFault.{ScriptFault}
 use Rattle.rd_script.specs.declared.faults.ScriptFault.TheVariants.{Read, Write}
 use Rattle.rd_script.specs.Device.{TakesBeginning}
 use Rattle.rd_script.specs.Lines.{lines_of, ended_lines_of}
-use Rattle.rd_script.specs.Answers.{Answered, AnswersLine}
+use Rattle.rd_script.specs.Answers.{LineAnswered, AnswersLine}
 use Rattle.rd_script.specs.Replies.{LineAnswer, text_of}
 
 -- an answer's line was written, or a beginning of it if the writer failed
@@ -21,7 +21,7 @@ WritesAnswer old new answer (Err _) = TakesBeginning old new (text_of answer)
 abbrev pub HasReport : BookState → List (List ℕ) → List ℕ → BookState → Type 0
 HasReport s [] report after = (report ≡ []) × (after ≡ s)
 HasReport s (line ∷ lines) report after =
-    (answered : Answered) × (rest : List ℕ) × AnswersLine s line answered
+    (answered : LineAnswered) × (rest : List ℕ) × AnswersLine s line answered
     × (report ≡ text_of answered.answer ++ rest) × HasReport answered.state lines rest after
 
 -- the bytes that a reader has left and those that a writer has, before a run and after it, and
@@ -76,7 +76,7 @@ pub record StoppedAtWrite (before after : BookState) (d : Devices) : Type 0 wher
   pub reached : BookState
   pub reports : HasReport before lines report reached
   -- the last line's answer
-  pub answered : Answered
+  pub answered : LineAnswered
   pub answers : AnswersLine reached last answered
   pub leaves : answered.state ≡ after
   -- the beginning of its text

@@ -8,7 +8,7 @@ use Rattle.rd_marks.specs.declared.commands.Command.{Command}
 use Rattle.rd_script.specs.declared.faults.LineFault.{LineFault}
 use Rattle.rd_script.specs.declared.faults.LineFault.TheVariants as fault
 use Rattle.rd_script.specs.declared.reading.keywords.Keyword.{Keyword}
-use Rattle.rd_script.specs.Grammar.{keyword_text, keyword_of, arguments_of, kind_text, kind_of, place_arguments, words_of, AreArgumentsInRange, names_after}
+use Rattle.rd_script.specs.Grammar.{keyword_text, keyword_of, arguments_of, kind_text, kind_of, place_arguments, argument_words, AreArgumentsInRange, names_after}
 
 -- the line of these words, joined by spaces
 abbrev pub line_of : List (List ℕ) → List ℕ
@@ -16,11 +16,11 @@ line_of words = join_with_byte 32 words
 
 -- the one line that spells a command: its keyword and its arguments
 abbrev pub spelling : Command → List ℕ
-spelling command = line_of (keyword_text (keyword_of command) ∷ words_of (arguments_of command))
+spelling command = line_of (keyword_text (keyword_of command) ∷ argument_words (arguments_of command))
 
 -- the words that spell a place in a line
 abbrev pub place_words : Place → List ℕ
-place_words place = line_of (kind_text (kind_of place) ∷ words_of (place_arguments place))
+place_words place = line_of (kind_text (kind_of place) ∷ argument_words (place_arguments place))
 
 -- the numbers of a command are in their ranges, and its names are ones that bookmarks can have
 abbrev pub IsInRange : Command → Type 0

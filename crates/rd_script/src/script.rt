@@ -4,12 +4,12 @@ ghost use Rattle.std.specs.Prelude.{◌≡◌, ℕ, List, Result, true, false, O
 ghost use Rattle.std.specs.Io.KnownBytes.{Appends};
 ghost use Rattle.rd_cell.specs.declared.refusal.Refusal.{Refusal};
 ghost use Rattle.rd_marks.specs.declared.replies.Reply.{Reply};
-ghost use Rattle.rd_marks.specs.BookViews.{book_state};
+ghost use Rattle.rd_marks.specs.Book.{book_state};
 ghost use Rattle.rd_marks.specs.Commands.{Happened, IsObeyed};
 ghost use Rattle.rd_script.specs.Device.{TakesBeginning};
 ghost use Rattle.rd_script.specs.Lines.{Holds};
 ghost use Rattle.rd_script.specs.Replies.{text_of};
-ghost use Rattle.rd_script.specs.Answers.{Answered, AnswersLine, line_answer};
+ghost use Rattle.rd_script.specs.Answers.{LineAnswered, AnswersLine, line_answer};
 ghost use Rattle.rd_script.specs.Script.{WritesAnswer, RunsScript};
 
 use super::answers::{AnyRefusal, LineAnswer};
@@ -70,7 +70,7 @@ fn do_line<K: Sink, const R: usize>(
     writer: &mut K,
 ) -> Result<(), WriteFault>
     requires { K.has_failed writer.old ≡ false }
-    ensures does { (text : List ℕ) → Holds line.now text → (answered : Answered)
+    ensures does { (text : List ℕ) → Holds line.now text → (answered : LineAnswered)
         × AnswersLine (book_state book.old) text answered × (answered.state ≡ book_state book.new)
         × WritesAnswer (K.contents writer.old) (K.contents writer.new) answered.answer result }
     ensures start { (book_state book.new).session.start ≡ (book_state book.old).session.start }
@@ -83,7 +83,7 @@ fn do_line<K: Sink, const R: usize>(
 
 /// Obeys a line, and makes the text the line of its answer.
 fn answer_line<const R: usize>(book: &mut Book<R>, line: &Line, text: &mut Text)
-    ensures answers { (said : List ℕ) → Holds line.now said → (answered : Answered)
+    ensures answers { (said : List ℕ) → Holds line.now said → (answered : LineAnswered)
         × AnswersLine (book_state book.old) said answered × (answered.state ≡ book_state book.new)
         × (text.new.items ≡ text_of answered.answer) }
     ensures start { (book_state book.new).session.start ≡ (book_state book.old).session.start }

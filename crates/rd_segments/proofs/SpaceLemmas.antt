@@ -45,11 +45,6 @@ space_restored old new qhead qtail array name p c own h =
     fun_ext (lift_restore of_segments p (Some c) (segments_of old) (segments_of new) (contents_of old qhead qtail array) (contents_of new qhead qtail array)
     (segments_agree (segments_of old) (segments_of new) qhead qtail (array_part array) p (own_of p name own)) (λ q _. h q refl))
 
--- what an operation at a place of a segment works on is what the segment has there
-pub at_segment : {R : ℕ} (makers : List (ListOf (Segment R))) (qhead qtail : SegName) (array : ArrayParts) (p : Place) (name : SegName) → segment_of p ≡ Some name
-    → operand (contents_of makers qhead qtail array) p ≡ operand (part_of (by_name makers name)) p
-at_segment makers qhead qtail array p name h = grind arith
-
 -- the map is that of the segments' places
 pub unchanged_fields : {R : ℕ} (old new : List (ListOf (Segment R))) (qhead qtail : SegName) (array : ArrayParts) {T : Type 0} → (r : Result T Refusal)
     → OnErr r (segments_of new ≡ segments_of old) → OnErr r (contents_of new qhead qtail array ≡ contents_of old qhead qtail array)

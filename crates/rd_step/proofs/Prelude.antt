@@ -32,7 +32,7 @@ pub use Rattle.rd_segments.specs.Room.{room_used}
 pub use Rattle.rd_segments.specs.Space.{contents, lists, room}
 pub use Rattle.rd_segments.specs.declared.space.Space.{Space}
 pub use Rattle.rd_step.specs.Dependence.{IsFree, depends}
-pub use Rattle.rd_step.specs.Fields.{world_of_fields}
+pub use Rattle.rd_step.specs.CodeWorldFields.{world_of_fields}
 pub use Rattle.rd_step.specs.Laws.{CommutingSquare}
 pub use Rattle.rd_step.specs.Lists.{numbered}
 pub use Rattle.rd_step.specs.Parts.{actor_names_fit, array_fits, first_flaw, has, indexes_fit, makers_fit, place_names_fit, world_of_parts}

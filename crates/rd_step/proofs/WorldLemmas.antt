@@ -7,7 +7,7 @@ use Rattle.rd_segments.proofs.CountLemmas.{counts, there_below, absent_from}
 use Rattle.rd_actor.specs.Table.{IsRepresentable}
 use Rattle.rd_actor.proofs.Representable.{representable}
 use Rattle.rd_step.specs.Step.{IsLast}
-use Rattle.rd_step.specs.Fields.{access_suits}
+use Rattle.rd_step.specs.CodeWorldFields.{access_suits}
 use Rattle.rd_step.specs.Touched.{made_at}
 use Rattle.rd_step.proofs.Actors.{numbered-set, numbered-within}
 use Rattle.rd_step.proofs.Fits.{parts_of, words_of, access_fits, need_fits}

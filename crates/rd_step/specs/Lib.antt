@@ -5,10 +5,10 @@ pub mod Run
 pub mod Dependence
 pub mod WellFormed
 pub mod Starts
-pub mod Fields
+pub mod CodeWorldFields
 pub mod Room
 pub mod Touched
-pub mod Worlds
+pub mod CodeWorld
 pub mod Parts
 pub mod Laws
 pub mod Equivalence

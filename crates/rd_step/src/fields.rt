@@ -8,7 +8,7 @@ ghost use Rattle.rd_segments.specs.Room.{room_used, room_returned};
 ghost use Rattle.rd_actor.specs.Actors.{idle};
 ghost use Rattle.rd_segments.specs.Space.{contents, lists, making_count, room, capacity};
 ghost use Rattle.rd_step.specs.Step.{revert, with_actor, CanPutBack};
-ghost use Rattle.rd_step.specs.Fields.{world_of_fields, access_suits};
+ghost use Rattle.rd_step.specs.CodeWorldFields.{world_of_fields, access_suits};
 ghost use Rattle.rd_step.specs.Lists.{numbered};
 ghost use Rattle.rd_step.specs.Room.{makes, IsRefused};
 

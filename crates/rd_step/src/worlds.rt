@@ -5,7 +5,7 @@ ghost use Rattle.rd_ring.specs.Prelude.{MOST_CELLS, MOST_ACTORS, content_at};
 ghost use Rattle.rd_segments.specs.Room.{room_used, room_returned};
 ghost use Rattle.rd_segments.specs.Space.{lists};
 ghost use Rattle.rd_step.specs.Step.{step, revert, CanPutBack};
-ghost use Rattle.rd_step.specs.Fields.{world_of_fields};
+ghost use Rattle.rd_step.specs.CodeWorldFields.{world_of_fields};
 ghost use Rattle.rd_step.specs.Starts.{fresh_world, poised_world};
 ghost use Rattle.rd_step.specs.Room.{makes_segment, IsRefused};
 ghost use Rattle.rd_step.specs.WellFormed.{IsWellFormed};
@@ -43,7 +43,7 @@ impl<const R: usize> Drop for World<R> {
 }
 
 impl<const R: usize> World<R> {
-    ghost use Rattle.rd_step.specs.Worlds.{model, room, list_capacity, actor_capacity};
+    ghost use Rattle.rd_step.specs.CodeWorld.{model, room, list_capacity, actor_capacity};
 
     /// Returns the fresh world: the root alone is there, fresh, and this many actors are idle.
     ///

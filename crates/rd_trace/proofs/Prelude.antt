@@ -27,8 +27,8 @@ pub use Rattle.rd_cell.specs.declared.contents.ArrSlot.{ArrSlot}
 pub use Rattle.rd_cell.specs.declared.places.SegName.{SegName}
 pub use Rattle.rd_journal.specs.Sessions.{journal, state}
 pub use Rattle.rd_journal.specs.State.{State, apply, back, reply_to, state_of, step_after, with_event}
-pub use Rattle.rd_marks.specs.BookViews.{book_state}
-pub use Rattle.rd_marks.specs.Books.{AnswersEvents, BookState, Mark, mark, mark_at, mark_events, marked_events, with_session}
+pub use Rattle.rd_marks.specs.Book.{book_state}
+pub use Rattle.rd_marks.specs.BookState.{AnswersEvents, BookState, Mark, mark, mark_at, mark_events, marked_events, with_session}
 pub use Rattle.rd_marks.specs.NameBytes.{MOST_MARKS, is_mark_name, is_name_byte}
 pub use Rattle.rd_marks.specs.Names.{bytes_of, mark_name_eq}
 pub use Rattle.rd_marks.specs.Rules.{GoThrough, HaveDifferentNames, KeepsRules, MarksGoThrough}
@@ -56,7 +56,7 @@ pub use Rattle.rd_trace.specs.Segments.{IsSegment, IsSegmentList, cell_data, cel
 pub use Rattle.rd_trace.specs.Spelled.{AreSpelled, Gives, Reads, SpellEach, SpellEachAt, elements, items_by, itself}
 pub use Rattle.rd_trace.specs.Starts.{HasActorCount, IsFreshStart, IsParts, IsStart, IsStartData, IsStartValue, SpellsWorld, fresh_data, parts_data, start_flaw, start_world}
 pub use Rattle.rd_trace.specs.Steps.{GoesTo, LoadsValue, MakesLive, MakesWorld, RefusesOne, SetsMarks, unless_memory}
-pub use Rattle.rd_trace.specs.Texts.{AreAppended, IsKept, IsMarkAppended, IsReadBack, IsStartAppended, joined_text}
+pub use Rattle.rd_trace.specs.Texts.{AreAppended, IsSpelledBack, IsMarkAppended, IsReadBack, IsStartAppended, joined_text}
 pub use Rattle.rd_trace.specs.Traces.{IsTraceRing, first_refused, ring_length, session_at}
 pub use Rattle.rd_trace.specs.Writing.{IsTextOf}
 pub use Rattle.rd_trace.specs.declared.any_book.AnyBook.{AnyBook}

@@ -1,7 +1,7 @@
 -- Texts that are put together: of lists, of events, of bookmarks and of a book; and that the text of
 -- a value is read as that value.
 use Rattle.std.proofs.Common.{◌≡◌, ℕ, ◌+◌, ◌^◌, ◌<◌, ◌≤◌, nat_lt, Bool, true, false, List, [], ◌∷◌, ◌++◌, length, take, codes, decimal, Option, Some, option_map, option_and_then, refl, sym, ap, ◌∙◌, subst, arith, append_assoc, append-nil, suc, max, ap₂, lt-ltb, if◌then◌else◌, is_ok, Result, OnOk}
-use Rattle.rd_trace.proofs.Prelude.{length-take-le, Token, tokens, escape, escape_byte, ArePrintableOrBad, Data, array, object, unsigned, Items, no_items, item, Members, no_members, member, depth, items_depth, members_depth, of_json, read, max_depth, outline, items_outline, members_outline, compact_text, items_text, members_text, comma_if, has_float, IsInOrder, SpellEach, items_by, Act, Event, short_data, long_data, act_data, event_data, mark_object, book_object, joined_text, IsReadBack, IsKept, AreAppended}
+use Rattle.rd_trace.proofs.Prelude.{length-take-le, Token, tokens, escape, escape_byte, ArePrintableOrBad, Data, array, object, unsigned, Items, no_items, item, Members, no_members, member, depth, items_depth, members_depth, of_json, read, max_depth, outline, items_outline, members_outline, compact_text, items_text, members_text, comma_if, has_float, IsInOrder, SpellEach, items_by, Act, Event, short_data, long_data, act_data, event_data, mark_object, book_object, joined_text, IsReadBack, IsSpelledBack, AreAppended}
 use Rattle.std.specs.Fmt.{digits}
 use Rattle.json.specs.Json as json
 use Rattle.json.specs.Tree as tree
@@ -40,7 +40,7 @@ closed_text ds z = ap (λ s. s ++ z) (items_text-joined false ds) ∙ append_ass
 
 module _ {X : Type 0} (Spells : Data → X → Type 0) where
   -- values that are kept spell the things, and their list is read back
-  all_kept : (ds : Items) (xs : List X) → SpellEach (IsKept Spells) ds xs → SpellEach Spells ds xs × IsReadBack (array ds)
+  all_kept : (ds : Items) (xs : List X) → SpellEach (IsSpelledBack Spells) ds xs → SpellEach Spells ds xs × IsReadBack (array ds)
   all_kept no_items [] h = (tt, record { numbers = tt; back = refl })
   all_kept no_items (x ∷ xs) h = absurd h
   all_kept (item d ds) [] h = absurd h
@@ -48,23 +48,23 @@ module _ {X : Type 0} (Spells : Data → X → Type 0) where
       let rest = all_kept ds xs h.1 in
       ((h.0.spelled, rest.0), record { numbers = (h.0.back.numbers, rest.1.numbers); back = grind (arith, option_and_then, option_map, h.0.back.back, rest.1.back) })
 
-  pub each_spelled : (ds : Items) (xs : List X) → SpellEach (IsKept Spells) ds xs → SpellEach Spells ds xs
+  pub each_spelled : (ds : Items) (xs : List X) → SpellEach (IsSpelledBack Spells) ds xs → SpellEach Spells ds xs
   each_spelled ds xs h = (all_kept ds xs h).0
 
-  pub list_back : (ds : Items) (xs : List X) → SpellEach (IsKept Spells) ds xs → IsReadBack (array ds)
+  pub list_back : (ds : Items) (xs : List X) → SpellEach (IsSpelledBack Spells) ds xs → IsReadBack (array ds)
   list_back ds xs h = (all_kept ds xs h).1
 
   module _ (datum : X → Data) where
     pub none_appended : (old new : List ℕ) → new ≡ old → AreAppended Spells datum [] old new
     none_appended old new e = record { text = e ∙ sym (append-nil old); kept = tt }
 
-    kept_more : (ys : List X) (x : X) → SpellEach (IsKept Spells) (items_by datum ys) ys → IsKept Spells (datum x) x
-        → SpellEach (IsKept Spells) (items_by datum (ys ++ x ∷ [])) (ys ++ x ∷ [])
+    kept_more : (ys : List X) (x : X) → SpellEach (IsSpelledBack Spells) (items_by datum ys) ys → IsSpelledBack Spells (datum x) x
+        → SpellEach (IsSpelledBack Spells) (items_by datum (ys ++ x ∷ [])) (ys ++ x ∷ [])
     kept_more [] x h k = (k, tt)
     kept_more (y ∷ ys) x h k = (h.0, kept_more ys x h.1 k)
 
     pub one_more_appended : (xs : List X) (i : ℕ) (x : X) (old mid new : List ℕ) → i ≤ length xs → take (i + 1) xs ≡ take i xs ++ x ∷ [] → AreAppended Spells datum (take i xs) old mid
-        → new ≡ mid ++ (comma_if (nat_lt 0 i) ++ compact_text (datum x)) → IsKept Spells (datum x) x → AreAppended Spells datum (take (i + 1) xs) old new
+        → new ≡ mid ++ (comma_if (nat_lt 0 i) ++ compact_text (datum x)) → IsSpelledBack Spells (datum x) x → AreAppended Spells datum (take (i + 1) xs) old new
     one_more_appended xs i x old mid new within next h is kept =
         let count = length-take-le i xs within in
         subst (λ (ys : List X). AreAppended Spells datum ys old new) (sym next)

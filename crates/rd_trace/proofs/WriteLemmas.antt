@@ -1,6 +1,6 @@
 -- The text of a book is a trace of it.
 use Rattle.std.proofs.Common.{◌≡◌, ℕ, ◌^◌, ◌<◌, ◌≤◌, false, List, ◌++◌, Some, IsUtf8, inr, sym, ap, ◌∙◌, subst}
-use Rattle.rd_trace.proofs.Prelude.{Data, depth, read, max_depth, has_float, compact_text, IsInOrder, World, BookState, KeepsRules, Gives, SpellEach, items_by, event_of, event_data, IsStartValue, IsMark, mark_data, book_data, IsReadBack, IsKept, IsStartAppended, GoThrough, MarksGoThrough, IsTextOf}
+use Rattle.rd_trace.proofs.Prelude.{Data, depth, read, max_depth, has_float, compact_text, IsInOrder, World, BookState, KeepsRules, Gives, SpellEach, items_by, event_of, event_data, IsStartValue, IsMark, mark_data, book_data, IsReadBack, IsSpelledBack, IsStartAppended, GoThrough, MarksGoThrough, IsTextOf}
 use Rattle.rd_trace.proofs.ReplayLemmas.{no_fault}
 use Rattle.rd_trace.proofs.SavedLemmas.{book_spelled}
 use Rattle.rd_trace.proofs.WholeLemmas.{whole_start, shallow_start, shallow_book}
@@ -23,9 +23,9 @@ start_appended w start bytes old new is_start text order reads appended =
 pub record AreItsParts (b : BookState) (start : Data) : Type 0 where
   pub is_start : IsStartValue b.session.start start
   pub start_back : IsReadBack start
-  pub live : SpellEach (IsKept (Gives event_of)) (items_by event_data b.session.live) b.session.live
-  pub marks : SpellEach (IsKept IsMark) (items_by mark_data b.marks) b.marks
-  pub undone : SpellEach (IsKept (Gives event_of)) (items_by event_data b.session.undone) b.session.undone
+  pub live : SpellEach (IsSpelledBack (Gives event_of)) (items_by event_data b.session.live) b.session.live
+  pub marks : SpellEach (IsSpelledBack IsMark) (items_by mark_data b.marks) b.marks
+  pub undone : SpellEach (IsSpelledBack (Gives event_of)) (items_by event_data b.session.undone) b.session.undone
   pub rules : KeepsRules b
   pub through : GoThrough b.session.start (b.session.live ++ b.session.undone)
 

@@ -6,7 +6,7 @@ use Rattle.rd_marks.specs.declared.names.MarkName.{MarkName}
 use Rattle.rd_marks.specs.Names.{bytes_of}
 use Rattle.rd_marks.specs.Rules.{HaveDifferentNames}
 use Rattle.rd_marks.specs.NameBytes.{MOST_MARKS}
-use Rattle.rd_marks.specs.Books.{Mark}
+use Rattle.rd_marks.specs.BookState.{Mark}
 use Rattle.rd_trace.specs.Numbers.{member_count, text_at}
 use Rattle.rd_trace.specs.Spelled.{Gives, SpellEach, SpellEachAt, items_by}
 use Rattle.rd_trace.specs.Events.{event_of, event_data}

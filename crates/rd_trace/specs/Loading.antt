@@ -2,8 +2,8 @@
 use Rattle.std.specs.Prelude.{◌≡◌, ◌⊎◌, ◌+◌, ℕ, List, [], ◌∷◌, ◌++◌, Option, Some, None, option_map, Result, Ok, Err}
 use Rattle.std.specs.Option.{option_or}
 use Rattle.rd_step.specs.Prelude.{World}
-use Rattle.rd_marks.specs.Books.{Mark, BookState}
-use Rattle.rd_marks.specs.BookViews.{book_state}
+use Rattle.rd_marks.specs.BookState.{Mark, BookState}
+use Rattle.rd_marks.specs.Book.{book_state}
 use Rattle.rd_trace.specs.declared.any_book.AnyBook.{AnyBook}
 use Rattle.rd_trace.specs.declared.any_book.AnyBook.TheVariants.{Two, Four, Eight}
 use Rattle.rd_trace.specs.declared.faults.LoadTraceFault.{LoadTraceFault}

@@ -7,7 +7,7 @@ use Rattle.serde_json.specs.Read.{read}
 use Rattle.serde_json.specs.Written.{compact_text}
 use Rattle.rd_step.specs.declared.entries.Event.{Event}
 use Rattle.rd_marks.specs.Names.{bytes_of}
-use Rattle.rd_marks.specs.Books.{Mark, BookState}
+use Rattle.rd_marks.specs.BookState.{Mark, BookState}
 use Rattle.rd_trace.specs.Numbers.{member_count, number_at, items_at}
 use Rattle.rd_trace.specs.Spelled.{Gives, SpellEachAt, items_by}
 use Rattle.rd_trace.specs.Events.{event_of, event_data}

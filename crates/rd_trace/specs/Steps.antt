@@ -6,8 +6,8 @@ use Rattle.rd_cell.specs.declared.refusal.Refusal.TheVariants as refusal
 use Rattle.rd_step.specs.declared.worlds.World.{World as CodeWorld}
 use Rattle.rd_step.specs.declared.entries.Event.{Event}
 use Rattle.serde_json.specs.Data.{Data}
-use Rattle.rd_marks.specs.Books.{Mark, BookState, with_session, at_events}
-use Rattle.rd_marks.specs.BookViews.{book_state}
+use Rattle.rd_marks.specs.BookState.{Mark, BookState, with_session, at_events}
+use Rattle.rd_marks.specs.Book.{book_state}
 use Rattle.rd_marks.specs.declared.books.Book.{Book}
 use Rattle.rd_trace.specs.declared.faults.LoadTraceFault.{LoadTraceFault}
 use Rattle.rd_trace.specs.declared.faults.LoadTraceFault.TheVariants.{NoMemory, BadTrace, Flawed, TraceMark, TraceStep}

@@ -5,7 +5,7 @@ use Rattle.serde_json.specs.Data.{Data, Items, no_items, item}
 use Rattle.serde_json.specs.Read.{of_json}
 use Rattle.serde_json.specs.Written.{outline, compact_text, comma_if}
 use Rattle.rd_step.specs.Prelude.{World}
-use Rattle.rd_marks.specs.Books.{Mark}
+use Rattle.rd_marks.specs.BookState.{Mark}
 use Rattle.rd_trace.specs.Spelled.{SpellEach, items_by}
 use Rattle.rd_trace.specs.Starts.{IsStartValue}
 use Rattle.rd_trace.specs.Bookmarks.{IsMark, mark_data}
@@ -21,19 +21,19 @@ pub record IsReadBack (d : Data) : Type 0 where
   pub back : of_json (outline d) ≡ Some d
 
 -- a value spells a thing, and is read back
-pub record IsKept {X : Type 0} (Spells : Data → X → Type 0) (d : Data) (x : X) : Type 0 where
+pub record IsSpelledBack {X : Type 0} (Spells : Data → X → Type 0) (d : Data) (x : X) : Type 0 where
   pub spelled : Spells d x
   pub back : IsReadBack d
 
 -- the texts of things were appended to a text, and each is kept
 pub record AreAppended {X : Type 0} (Spells : Data → X → Type 0) (datum : X → Data) (xs : List X) (old new : List ℕ) : Type 0 where
   pub text : new ≡ old ++ joined_text false (items_by datum xs)
-  pub kept : SpellEach (IsKept Spells) (items_by datum xs) xs
+  pub kept : SpellEach (IsSpelledBack Spells) (items_by datum xs) xs
 
 -- the text of a bookmark was appended to a text
 pub record IsMarkAppended (m : Mark) (old new : List ℕ) : Type 0 where
   pub text : new ≡ old ++ compact_text (mark_data m)
-  pub kept : IsKept IsMark (mark_data m) m
+  pub kept : IsSpelledBack IsMark (mark_data m) m
 
 -- the text of a value as which the start in this world is written was appended to a text
 pub record IsStartAppended (w : World) (old new : List ℕ) : Type 0 where

@@ -2,7 +2,7 @@
 use Rattle.std.specs.Prelude.{ℕ, Bool, true, false, List, Option, Result, Ok, Err}
 use Rattle.std.specs.Io.KnownBytes.{Keeps, Appends}
 use Rattle.rd_script.specs.Device.{TakesBeginning}
-use Rattle.rd_marks.specs.Books.{BookState}
+use Rattle.rd_marks.specs.BookState.{BookState}
 use Rattle.rd_trace.specs.Traces.{IsTraceRing}
 use Rattle.rd_trace.specs.Saved.{IsWrittenAs}
 use Rattle.rd_trace.specs.Loading.{IsLoadable}

@@ -3,7 +3,7 @@
 ghost use Rattle.std.specs.Prelude.{◌≡◌, ◌≤◌, false, IfOk};
 ghost use Rattle.rd_step.specs.Prelude.{MOST_ACTORS, MOST_CELLS};
 ghost use Rattle.rd_script.specs.Script.{RunsScript};
-ghost use Rattle.rd_marks.specs.BookViews.{book_state};
+ghost use Rattle.rd_marks.specs.Book.{book_state};
 ghost use Rattle.rd_trace.specs.Traces.{ring_length};
 ghost use Rattle.rd_trace.specs.Loading.{any_state, fresh_state, IsBookIn};
 ghost use Rattle.rd_trace.specs.Writing.{WritesTrace, is_write_fault};

@@ -3,8 +3,8 @@
 ghost use Rattle.std.specs.Prelude.{◌≡◌, OnOk, IfSome, IfNone, string_bytes};
 ghost use Rattle.std.specs.List.{list_any};
 ghost use Rattle.serde_json.specs.View.{view, items_view};
-ghost use Rattle.rd_marks.specs.BookViews.{book_state};
-ghost use Rattle.rd_marks.specs.Books.{mark_events};
+ghost use Rattle.rd_marks.specs.Book.{book_state};
+ghost use Rattle.rd_marks.specs.BookState.{mark_events};
 ghost use Rattle.rd_marks.specs.Names.{mark_name_eq};
 ghost use Rattle.rd_marks.specs.Rules.{KeepsRules};
 ghost use Rattle.rd_marks.specs.declared.names.MarkName.{MarkName};

@@ -10,7 +10,7 @@ ghost use Rattle.serde_json.specs.Written.{compact_text, comma_if};
 ghost use Rattle.rd_trace.specs.Numbers.{byte_number};
 ghost use Rattle.rd_trace.specs.Spelled.{Gives};
 ghost use Rattle.rd_trace.specs.Events.{act_of_word, act_with, event_by, event_of, event_data};
-ghost use Rattle.rd_trace.specs.Texts.{IsReadBack, IsKept, AreAppended};
+ghost use Rattle.rd_trace.specs.Texts.{IsReadBack, IsSpelledBack, AreAppended};
 
 use super::faults::FormFault;
 use super::members::byte_in;
@@ -103,7 +103,7 @@ pub fn put_events(text: &mut String, events: &[Event]) -> Result<(), AllocError>
 /// Appends the text of an event to a text that has this many of its list.
 pub fn put_next(text: &mut String, count: usize, event: Event) -> Result<(), AllocError>
     ensures ok { OnOk result (string_bytes text.new ≡ string_bytes text.old ++ (comma_if (nat_lt 0 count) ++ compact_text (event_data event))) }
-    ensures kept { OnOk result (IsKept (Gives event_of) (event_data event) event) }
+    ensures kept { OnOk result (IsSpelledBack (Gives event_of) (event_data event) event) }
 {
     text.push_str(comma_after(count))?;
     put_event(text, event)

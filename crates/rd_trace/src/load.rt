@@ -4,7 +4,7 @@
 ghost use Rattle.std.specs.Prelude.{◌≡◌, ◌≤◌, Some, codes};
 ghost use Rattle.serde_json.specs.View.{view};
 ghost use Rattle.rd_step.specs.Prelude.{MOST_CELLS};
-ghost use Rattle.rd_marks.specs.Books.{BookState};
+ghost use Rattle.rd_marks.specs.BookState.{BookState};
 ghost use Rattle.rd_trace.specs.Numbers.{number_at};
 ghost use Rattle.rd_trace.specs.Traces.{IsTraceRing};
 ghost use Rattle.rd_trace.specs.Spelled.{Reads};

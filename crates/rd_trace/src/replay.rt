@@ -4,7 +4,7 @@
 ghost use Rattle.std.specs.Prelude.{◌≡◌, ◌<◌, ◌≤◌, ◌↔◌, ◌++◌, [], map, length, take, IsTrue, IfErr};
 ghost use Rattle.rd_step.specs.Prelude.{MOST_CELLS};
 ghost use Rattle.rd_journal.specs.Sessions.{state};
-ghost use Rattle.rd_marks.specs.BookViews.{book_state};
+ghost use Rattle.rd_marks.specs.Book.{book_state};
 ghost use Rattle.rd_marks.specs.NameBytes.{MOST_MARKS};
 ghost use Rattle.rd_trace.specs.Starts.{HasActorCount};
 ghost use Rattle.rd_marks.specs.Rules.{GoThrough, HaveDifferentNames};

@@ -1,7 +1,7 @@
 //! Writing a trace: the whole text is made in memory, and then written to the sink.
 
 ghost use Rattle.std.specs.Prelude.{◌≡◌, false};
-ghost use Rattle.rd_marks.specs.BookViews.{book_state};
+ghost use Rattle.rd_marks.specs.Book.{book_state};
 ghost use Rattle.rd_trace.specs.Writing.{WritesTrace, is_write_fault};
 
 use super::faults::WriteTraceFault;

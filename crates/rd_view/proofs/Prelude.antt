@@ -13,12 +13,12 @@ pub use Rattle.rd_desk.specs.declared.histories.History.{History}
 pub use Rattle.rd_desk.specs.declared.recording.BookWithHistory.{BookWithHistory}
 pub use Rattle.rd_desk.specs.declared.viewers.Ran.{Ran}
 pub use Rattle.rd_lock.proofs.Lists.{own_same}
-pub use Rattle.rd_lock.specs.Histories.{Continues, NamesUpTo, named, numbers}
+pub use Rattle.rd_lock.specs.Histories.{Continues, NamesUpTo, put_by, numbers}
 pub use Rattle.rd_lock.specs.Locks.{next_seen, number, seen}
 pub use Rattle.rd_lock.specs.declared.passes.Pass.{Pass}
 pub use Rattle.rd_lock.specs.declared.views.Recorded.{Ghosts}
-pub use Rattle.rd_marks.specs.BookViews.{book_state}
-pub use Rattle.rd_marks.specs.Books.{BookState}
+pub use Rattle.rd_marks.specs.Book.{book_state}
+pub use Rattle.rd_marks.specs.BookState.{BookState}
 pub use Rattle.rd_marks.specs.declared.books.Book.{Book}
 pub use Rattle.rd_marks.specs.declared.commands.Command.{Command}
 pub use Rattle.rd_script.specs.Device.{TakesBeginning}

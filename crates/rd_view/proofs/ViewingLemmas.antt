@@ -1,18 +1,18 @@
 -- What passes know after a chain of calls, and how that stands to the history that leaves the desk.
 use Rattle.std.proofs.Common.{◌≡◌, ◌∙◌, ◌^◌, ℕ, zero, suc, List, [], ◌∷◌, ◌++◌, Result, Ok, Err, IfErr, Vec, map, length, refl, sym, ap, subst, append_assoc}
-use Rattle.rd_view.proofs.Prelude.{AllByRecursion, AllZip, Answer, AreAnswered, Book, BookState, BookWithHistory, Call, Command, Continues, Desk, Ghosts, Global, History, IsChain, IsNewViewer, IsNotBusy, IsRan, IsSeen, IsViewerOf, KnowsAfterCall, KnowsWords, LineFault, Pass, Ran, StaysEnded, TicketsEnded, WasAnswered, answers_of, append-nil, calls_of, commands_of, entries, map-append, named, next_seen, number, numbers, opened_state, own_answered, own_refused, own_same, passes_of, seen}
+use Rattle.rd_view.proofs.Prelude.{AllByRecursion, AllZip, Answer, AreAnswered, Book, BookState, BookWithHistory, Call, Command, Continues, Desk, Ghosts, Global, History, IsChain, IsNewViewer, IsNotBusy, IsRan, IsSeen, IsViewerOf, KnowsAfterCall, KnowsWords, LineFault, Pass, Ran, StaysEnded, TicketsEnded, WasAnswered, answers_of, append-nil, calls_of, commands_of, entries, map-append, put_by, next_seen, number, numbers, opened_state, own_answered, own_refused, own_same, passes_of, seen}
 use Rattle.rd_desk.specs.declared.viewers.Ran.TheVariants as outcome
 
 module _ (opened : BookState) where
   -- after a chain of calls the viewer's own calls grew by those that were recorded
   chain_grew : (viewer : ℕ) (commands : List Command) (answers : List Answer) (old new : List (ℕ × Call)) → IsChain (IsSeen opened viewer) old commands answers new
-      → map (λ e. e.1) (named viewer 1 new) ≡ map (λ e. e.1) (named viewer 1 old) ++ calls_of commands answers
-  chain_grew viewer [] [] old new is = ap (λ es. map (λ e. e.1) (named viewer 1 es)) is ∙ sym (append-nil (map (λ e. e.1) (named viewer 1 old)))
+      → map (λ e. e.1) (put_by viewer 1 new) ≡ map (λ e. e.1) (put_by viewer 1 old) ++ calls_of commands answers
+  chain_grew viewer [] [] old new is = ap (λ es. map (λ e. e.1) (put_by viewer 1 es)) is ∙ sym (append-nil (map (λ e. e.1) (put_by viewer 1 old)))
   chain_grew viewer (c ∷ commands) (Ok answer ∷ answers) old new is =
       chain_grew viewer commands answers is.0 new is.2
       ∙ ap (λ es. map (λ e. e.1) es ++ calls_of commands answers) (own_answered opened viewer old is.0 c answer is.1)
-      ∙ ap (λ es. es ++ calls_of commands answers) (map-append (λ e. e.1) (named viewer 1 old) _)
-      ∙ append_assoc (map (λ e. e.1) (named viewer 1 old)) (record { command = c; answer = answer } ∷ []) (calls_of commands answers)
+      ∙ ap (λ es. es ++ calls_of commands answers) (map-append (λ e. e.1) (put_by viewer 1 old) _)
+      ∙ append_assoc (map (λ e. e.1) (put_by viewer 1 old)) (record { command = c; answer = answer } ∷ []) (calls_of commands answers)
   chain_grew viewer (c ∷ commands) (Err refusal ∷ answers) old new is =
       chain_grew viewer commands answers is.0 new is.2 ∙ ap (λ es. map (λ e. e.1) es ++ calls_of commands answers) (own_refused opened viewer old is.0 c refusal is.1)
   chain_grew viewer _ _ old new is = absurd is

@@ -3,9 +3,9 @@
 use Rattle.std.specs.Prelude.{◌≡◌, ℕ, suc, ◌<◌, Bool, true, false, List, [], ◌∷◌, Option, Some, None, Result, Ok, Err, IfErr, Vec, length, map}
 use Rattle.std.specs.Global.{Global}
 use Rattle.std.specs.Io.KnownBytes.{Appends}
-use Rattle.rd_marks.specs.Books.{BookState}
+use Rattle.rd_marks.specs.BookState.{BookState}
 use Rattle.rd_marks.specs.declared.commands.Command.{Command}
-use Rattle.rd_lock.specs.Histories.{named, Continues, NamesUpTo}
+use Rattle.rd_lock.specs.Histories.{put_by, Continues, NamesUpTo}
 use Rattle.rd_desk.specs.declared.gates.DeskRefusal.TheVariants.{TicketsEnded}
 use Rattle.rd_desk.specs.declared.histories.Call.{Call}
 use Rattle.rd_desk.specs.declared.histories.History.{History}
@@ -71,7 +71,7 @@ module _ (opened : BookState) (history : List (ℕ × Call)) where
     pub seen : List (ℕ × Call)
     pub chain : IsChain (IsSeen opened viewer) [] commands answers seen
     pub continues : Continues viewer seen history
-    pub calls : map (λ e. e.1) (named viewer 1 history) ≡ calls_of commands answers
+    pub calls : map (λ e. e.1) (put_by viewer 1 history) ≡ calls_of commands answers
     pub waits : AllByRecursion (λ answer. IfErr answer IsNotBusy) answers
     pub ended : StaysEnded answers
 

@@ -4,7 +4,7 @@ ghost use Rattle.std.specs.Prelude.{◌≡◌, ◌⊎◌, [], IsOk, OnOk, IfErr,
 ghost use Rattle.rd_depend.specs.Beginnings.{IsPrefix};
 ghost use Rattle.rd_journal.specs.Journal.{events};
 ghost use Rattle.rd_journal.specs.Sessions.{state, track, journal, LacksRoomFor};
-ghost use Rattle.rd_marks.specs.Layout.{AreEntriesOfRun};
+ghost use Rattle.rd_marks.specs.BookmarksFields.{AreEntriesOfRun};
 ghost use Rattle.rd_marks.specs.Stretches.{entries_at, IsWithin, AreInPieces};
 
 use super::super::stretches::{Node, Stretches};
@@ -14,7 +14,7 @@ use rd_journal::Session;
 use std::alloc::Global;
 
 impl Bookmarks {
-    ghost use Rattle.rd_marks.specs.Kept.{lists_in, entries_in, here_in, IsNodeIn, IsInPieces};
+    ghost use Rattle.rd_marks.specs.Bookmarks.{lists_in, entries_in, here_in, IsNodeIn, IsInPieces};
 
     /// Makes the steps of a node the live ones, with none undone. If they are on the session's
     /// track, the session goes along it. Else the live steps with which they begin stay, and the

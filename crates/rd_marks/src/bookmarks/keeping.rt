@@ -6,7 +6,7 @@ ghost use Rattle.std.specs.List.{All};
 ghost use Rattle.std.specs.Map.{lookup};
 ghost use Rattle.indexmap.specs.IndexMap.{spare};
 ghost use Rattle.rd_marks.specs.Changes.{shifted, IsLow};
-ghost use Rattle.rd_marks.specs.Layout.{nodes_of, IsPruned};
+ghost use Rattle.rd_marks.specs.BookmarksFields.{nodes_of, IsPruned};
 ghost use Rattle.rd_marks.specs.Names.{mark_name_eq};
 ghost use Rattle.rd_marks.specs.Stretches.{greatest_in, number_if_in, IsWithin, AreNeededFrom};
 

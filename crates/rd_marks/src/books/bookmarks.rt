@@ -8,7 +8,7 @@ use super::Book;
 use rd_cell::Refusal;
 
 impl<const R: usize> Book<R> {
-    ghost use Rattle.rd_marks.specs.BookViews.{book_state, name_room, MayRefuseToGo};
+    ghost use Rattle.rd_marks.specs.Book.{book_state, name_room, MayRefuseToGo};
     ghost use Rattle.rd_marks.specs.Commands.{IsObeyed, NeedsNoMemory};
     ghost use Rattle.rd_marks.specs.declared.commands.Command.TheVariants as command;
 

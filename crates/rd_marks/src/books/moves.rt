@@ -7,7 +7,7 @@ use super::Book;
 use rd_cell::Refusal;
 
 impl<const R: usize> Book<R> {
-    ghost use Rattle.rd_marks.specs.BookViews.{book_state};
+    ghost use Rattle.rd_marks.specs.Book.{book_state};
     ghost use Rattle.rd_marks.specs.Commands.{IsObeyed, step_counts};
     ghost use Rattle.rd_marks.specs.declared.commands.Command.TheVariants as command;
 

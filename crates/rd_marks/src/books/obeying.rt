@@ -15,7 +15,7 @@ use rd_step::Event;
 use std::alloc::Global;
 
 impl<const R: usize> Book<R> {
-    ghost use Rattle.rd_marks.specs.BookViews.{book_state, session_of, name_room, MayRefuseAsGoing};
+    ghost use Rattle.rd_marks.specs.Book.{book_state, session_of, name_room, MayRefuseAsGoing};
     ghost use Rattle.rd_marks.specs.Commands.{IsObeyed, Happened, NeedsNoMemory};
     ghost use Rattle.rd_marks.specs.Headline.{Headline};
     ghost use Rattle.rd_marks.specs.Events.{as_event};

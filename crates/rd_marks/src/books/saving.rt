@@ -9,8 +9,8 @@ use rd_step::Event;
 use std::alloc::Global;
 
 impl<const R: usize> Book<R> {
-    ghost use Rattle.rd_marks.specs.BookViews.{book_state};
-    ghost use Rattle.rd_marks.specs.Books.{mark_events, mark_event, at_events, to_start, AnswersEvents};
+    ghost use Rattle.rd_marks.specs.Book.{book_state};
+    ghost use Rattle.rd_marks.specs.BookState.{mark_events, mark_event, at_events, to_start, AnswersEvents};
 
     /// The event of this number, from 1, of the bookmark of this number, from 1, if there is one.
     /// It takes no memory, and looks at each stretch once at most; `mark_events` gives all of them

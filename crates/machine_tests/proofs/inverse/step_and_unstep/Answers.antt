@@ -1,5 +1,5 @@
 use Rattle.std.proofs.Common.{refl, [], arith}
-use Rattle.rd_step.specs.Worlds.{model}
+use Rattle.rd_step.specs.CodeWorld.{model}
 use Rattle.machine_tests.proofs.inverse.step_and_unstep.Goals as goal
 
 pub unstep-requires : goal.unstep-requires

@@ -1,6 +1,6 @@
 use Rattle.std.proofs.Common.{decimal, string_bytes, sym, ap, ◌∙◌, ◌++◌, ◌<◌, ◌^◌, subst, arith}
 use Rattle.rd_trace.proofs.Prelude.{state, State, book_state, BookState, KeepsRules, items_by, event_data, mark_data, IsTextOf}
-use Rattle.rd_step.specs.Worlds.{model}
+use Rattle.rd_step.specs.CodeWorld.{model}
 use Rattle.rd_journal.specs.Sessions.{journal}
 use Rattle.rd_journal.proofs.Runs.{world_before-ring}
 use Rattle.rd_trace.proofs.TextLemmas.{whole_text, put_together}

@@ -1,6 +1,6 @@
 use Rattle.std.proofs.Common.{◌≡◌, Err, sym, subst, arith}
 use Rattle.rd_marks.proofs.Prelude.{Command, Refusal}
-use Rattle.rd_marks.specs.BookViews.{MayRefuseAsGoing, MayRefuseToGo}
+use Rattle.rd_marks.specs.Book.{MayRefuseAsGoing, MayRefuseToGo}
 use Rattle.rd_marks.proofs.MarkLemmas.{if_then_for}
 use Rattle.rd_marks.proofs.books.Book.answer_to.Goals as goal
 

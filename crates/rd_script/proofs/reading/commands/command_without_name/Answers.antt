@@ -1,5 +1,5 @@
 use Rattle.std.proofs.Common.{◌≡◌, ◌≢◌, ℕ, ◌<◌, Bool, true, false, List, [], ◌∷◌, map, None, sym, subst, arith}
-use Rattle.rd_script.proofs.Prelude.{decimal, Command, Keyword, yes_or_no, keyword_of, arguments_of, words_of, IsInRange, ReadsNameless}
+use Rattle.rd_script.proofs.Prelude.{decimal, Command, Keyword, yes_or_no, keyword_of, arguments_of, argument_words, IsInRange, ReadsNameless}
 use Rattle.rd_script.specs.declared.reading.keywords.Keyword.TheVariants as keyword
 use Rattle.rd_script.proofs.reading.commands.command_without_name.Goals as goal
 
@@ -9,7 +9,7 @@ is_starve _ = false
 
 -- words that are no actor and its choice are those of no command of this keyword
 no_starve : (words : List (List ℕ)) → ((actor : ℕ) (choice : Bool) → actor < 256 → words ≢ decimal actor ∷ yes_or_no choice ∷ [])
-    → (c : Command) → IsInRange c → keyword_of c ≡ keyword.Starve → words ≢ words_of (arguments_of c)
+    → (c : Command) → IsInRange c → keyword_of c ≡ keyword.Starve → words ≢ argument_words (arguments_of c)
 no_starve words none c small is = grind arith
 
 pub returns-in_err-actor-in-Starve : goal.returns-in_err-actor-in-Starve

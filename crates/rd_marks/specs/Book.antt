@@ -10,8 +10,8 @@ use Rattle.rd_marks.specs.declared.commands.Command.{Command}
 use Rattle.rd_marks.specs.declared.commands.Command.TheVariants.{GotoMark}
 use Rattle.rd_marks.specs.declared.names.MarkName.{MarkName}
 use Rattle.rd_marks.specs.declared.stretches.Node.{Node}
-use Rattle.rd_marks.specs.Books.{BookState, marked_events, goto_mark}
-use Rattle.rd_marks.specs.Kept.{lists_in, marks_of, entries_in, entries_kept, IsInPieces}
+use Rattle.rd_marks.specs.BookState.{BookState, marked_events, goto_mark}
+use Rattle.rd_marks.specs.Bookmarks.{lists_in, marks_of, entries_in, entries_kept, IsInPieces}
 use Rattle.rd_cell.specs.declared.refusal.Refusal.TheVariants as refusal
 
 -- the state of a book: its session's state, and its marks with their events

@@ -3,7 +3,7 @@ use Rattle.std.specs.Prelude.{ℕ, vec_capacity}
 use Rattle.rd_segments.specs.Space.{room as space_room, capacity}
 use Rattle.rd_step.specs.declared.worlds.World.{World as CodeWorld}
 use Rattle.rd_step.specs.World.{World}
-use Rattle.rd_step.specs.Fields.{world_of_fields}
+use Rattle.rd_step.specs.CodeWorldFields.{world_of_fields}
 
 -- the world of the model that the code's world is: the content of each place, and the record of
 -- each actor

@@ -3,11 +3,11 @@
 use Rattle.std.specs.Prelude.{ℕ, List, map}
 use Rattle.rd_step.specs.declared.entries.Entry.{Entry}
 use Rattle.rd_journal.specs.Journal.{events}
-use Rattle.rd_marks.specs.Books.{Mark}
+use Rattle.rd_marks.specs.BookState.{Mark}
 use Rattle.rd_marks.specs.declared.names.MarkName.{MarkName}
 use Rattle.rd_marks.specs.declared.stretches.Node.{Node}
 use Rattle.rd_marks.specs.declared.bookmarks.Bookmarks.{Bookmarks}
-use Rattle.rd_marks.specs.Layout.{named_lists}
+use Rattle.rd_marks.specs.BookmarksFields.{named_lists}
 use Rattle.rd_marks.specs.Stretches.{entries_at, count_of, IsWithin, AreInPieces}
 
 -- each name of a bookmark with its entries
