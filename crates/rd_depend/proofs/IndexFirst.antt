@@ -1,7 +1,7 @@
 -- The first dependant, from the first later positions in an actor's list, a place's and a
 -- segment's.
 use Rattle.std.proofs.Common.{◌≡◌, ℕ, zero, suc, ◌+◌, ◌<◌, ◌≤◌, Bool, true, false, not, ◌||◌, ◌==◌, if◌then◌else◌, nat_lt, List, [], ◌∷◌, length, drop, Option, Some, None, option_and_then, refl, sym, ap, subst, ◌∙◌, arith}
-use Rattle.rd_depend.proofs.Prelude.{nat_tests, is_some, SegName, Place, is_of_cell, some_overlap, is_nothing, written, interfere, Entry, Wrote, position_from, first_dependant, depends, depends_on_one, numbered, symmetric, DependIndex, At, In, is_kept_at, is_under, is_under_some, own_key, value_of_place, whole_key, AscendsFrom, IsAscending, first_above, earlier, Touch, By, reached, is_value_written, touches, positions_from, positions, kept, IsIndexOf}
+use Rattle.rd_depend.proofs.Prelude.{nat_tests, is_some, SegName, Place, some_overlap, is_nothing, written, interfere, Entry, Wrote, position_from, first_dependant, depends, depends_on_one, numbered, symmetric, DependIndex, At, In, is_under, is_under_some, own_key, value_of_place, whole_key, AscendsFrom, IsAscending, find, earlier, Touch, By, reached, is_value_written, touches, positions_from, positions, kept, IsIndexOf}
 use Rattle.rd_depend.proofs.IndexPositions.{positions-ascend, positions-number, number-within, ascending}
 use Rattle.rd_cell.specs.declared.places.Place.TheVariants as place
 
@@ -10,11 +10,11 @@ pub positions-same : (t u : Entry → Bool) → ((y : Entry) → t y ≡ u y) �
 positions-same t u h n es = grind arith
 
 -- what is found is not before the start
-found-from : (k n : ℕ) (ps : List ℕ) (m : ℕ) → AscendsFrom n ps → first_above k ps ≡ Some m → n ≤ m
+found-from : (k n : ℕ) (ps : List ℕ) (m : ℕ) → AscendsFrom n ps → find (nat_lt k) ps ≡ Some m → n ≤ m
 found-from k n [] m h e = absurd cc
 found-from k n (p ∷ ps) m h e = grind (arith, found-from k (suc p) ps m h.1)
 
-pulled : (k n : ℕ) (b : Bool) (ps : List ℕ) → first_above k (if b then n ∷ ps else ps) ≡ (if b then (if nat_lt k n then Some n else first_above k ps) else first_above k ps)
+pulled : (k n : ℕ) (b : Bool) (ps : List ℕ) → find (nat_lt k) (if b then n ∷ ps else ps) ≡ (if b then (if nat_lt k n then Some n else find (nat_lt k) ps) else find (nat_lt k) ps)
 pulled k n b ps = grind arith
 
 earlier_here : (n : ℕ) (b c d less : Bool) (o p q : Option ℕ) → d ≡ (b || c) → earlier o p ≡ q
@@ -24,43 +24,43 @@ earlier_here n b c d less o p q e rest in_o in_p = grind arith
 
 -- the earlier of two is the first that passes one test or the other
 pub earlier-first : (t u v : Entry → Bool) → ((y : Entry) → v y ≡ (t y || u y)) → (k n : ℕ) (es : List Entry)
-    → earlier (first_above k (positions_from t n es)) (first_above k (positions_from u n es)) ≡ first_above k (positions_from v n es)
+    → earlier (find (nat_lt k) (positions_from t n es)) (find (nat_lt k) (positions_from u n es)) ≡ find (nat_lt k) (positions_from v n es)
 earlier-first t u v h k n [] = refl
 earlier-first t u v h k n (x ∷ xs) =
     (λ i. earlier (pulled k n (t x) (positions_from t (n + 1) xs) i) (pulled k n (u x) (positions_from u (n + 1) xs) i))
-    ∙ earlier_here n (t x) (u x) (v x) (nat_lt k n) (first_above k (positions_from t (n + 1) xs)) (first_above k (positions_from u (n + 1) xs))
-    (first_above k (positions_from v (n + 1) xs)) (h x) (earlier-first t u v h k (n + 1) xs)
+    ∙ earlier_here n (t x) (u x) (v x) (nat_lt k n) (find (nat_lt k) (positions_from t (n + 1) xs)) (find (nat_lt k) (positions_from u (n + 1) xs))
+    (find (nat_lt k) (positions_from v (n + 1) xs)) (h x) (earlier-first t u v h k (n + 1) xs)
     (λ m e. let f : n + 1 ≤ m = found-from k (n + 1) (positions_from t (n + 1) xs) m (positions-ascend t (n + 1) xs) e in omega arith)
     (λ m e. let f : n + 1 ≤ m = found-from k (n + 1) (positions_from u (n + 1) xs) m (positions-ascend u (n + 1) xs) e in omega arith)
     ∙ sym (pulled k n (v x) (positions_from v (n + 1) xs))
 
 -- positions up to k are passed over
-skipped : (test : Entry → Bool) (k n j : ℕ) (es : List Entry) → n + j ≤ k + 1 → first_above k (positions_from test n es) ≡ first_above k (positions_from test (n + j) (drop j es))
-skipped test k n zero es h = let e : n ≡ n + 0 = omega arith in ap (λ (m : ℕ). first_above k (positions_from test m es)) e
+skipped : (test : Entry → Bool) (k n j : ℕ) (es : List Entry) → n + j ≤ k + 1 → find (nat_lt k) (positions_from test n es) ≡ find (nat_lt k) (positions_from test (n + j) (drop j es))
+skipped test k n zero es h = let e : n ≡ n + 0 = omega arith in ap (λ (m : ℕ). find (nat_lt k) (positions_from test m es)) e
 skipped test k n (suc j) [] h = refl
 skipped test k n (suc j) (x ∷ xs) h = grind (arith, nat_tests, skipped test k (n + 1) j xs (omega arith))
 
-scanned : (x : Entry) (k n : ℕ) (es : List Entry) → k < n → first_above k (positions_from (depends x) n es) ≡ position_from (depends x) n es
+scanned : (x : Entry) (k n : ℕ) (es : List Entry) → k < n → find (nat_lt k) (positions_from (depends x) n es) ≡ position_from (depends x) n es
 scanned x k n [] h = refl
 scanned x k n (y ∷ ys) h = by (depends x y) (scanned x k (n + 1) ys (omega arith))
   where
-    here : (ps : List ℕ) → first_above k (n ∷ ps) ≡ Some n
+    here : (ps : List ℕ) → find (nat_lt k) (n ∷ ps) ≡ Some n
     here ps = grind (arith, nat_tests)
 
-    by : (b : Bool) → first_above k (positions_from (depends x) (n + 1) ys) ≡ position_from (depends x) (n + 1) ys
-        → first_above k (if b then n ∷ positions_from (depends x) (n + 1) ys else positions_from (depends x) (n + 1) ys) ≡ (if b then Some n else position_from (depends x) (n + 1) ys)
+    by : (b : Bool) → find (nat_lt k) (positions_from (depends x) (n + 1) ys) ≡ position_from (depends x) (n + 1) ys
+        → find (nat_lt k) (if b then n ∷ positions_from (depends x) (n + 1) ys else positions_from (depends x) (n + 1) ys) ≡ (if b then Some n else position_from (depends x) (n + 1) ys)
     by b g = grind arith
 
 -- what is found is the first dependant
-pub first-is : (es : List Entry) (k : ℕ) (x : Entry) → numbered es k ≡ Some x → first_above k (positions (depends x) es) ≡ first_dependant es k
+pub first-is : (es : List Entry) (k : ℕ) (x : Entry) → numbered es k ≡ Some x → find (nat_lt k) (positions (depends x) es) ≡ first_dependant es k
 first-is es k x h =
     skipped (depends x) k 1 k es (omega arith)
-    ∙ (let e : 1 + k ≡ k + 1 = omega arith in ap (λ (m : ℕ). first_above k (positions_from (depends x) m (drop k es))) e)
+    ∙ (let e : 1 + k ≡ k + 1 = omega arith in ap (λ (m : ℕ). find (nat_lt k) (positions_from (depends x) m (drop k es))) e)
     ∙ scanned x k (k + 1) (drop k es) (omega arith)
     ∙ sym (ap (option_and_then (λ (y : Entry). position_from (depends y) (k + 1) (drop k es))) h)
 
 -- what is found after the first k tells whether the step depends on one of those
-pub found-after : (x : Entry) (k : ℕ) (es : List Entry) → is_some (first_above k (positions (depends x) es)) ≡ depends_on_one (drop k es) x
+pub found-after : (x : Entry) (k : ℕ) (es : List Entry) → is_some (find (nat_lt k) (positions (depends x) es)) ≡ depends_on_one (drop k es) x
 found-after x k es =
     ap is_some (skipped (depends x) k 1 k es (omega arith) ∙ scanned x k (1 + k) (drop k es) (omega arith)) ∙ some (1 + k) (drop k es)
   where
@@ -77,19 +77,6 @@ found-after x k es =
 -- the places that overlap the whole of a segment are the segment's
 pub overlaps-whole : (s : SegName) (o : Option Place) → some_overlap (Some (place.Whole s)) o ≡ is_under (In s) o
 overlaps-whole s o = grind arith
-
--- whether a place is a cell, which names its two halves
-abbrev pub is_cell_at : Place → Bool
-is_cell_at (place.Cell s i) = true
-is_cell_at _ = false
-
--- a place is kept under its own key
-pub kept_itself : (p : Place) → is_cell_at p ≡ false → is_kept_at p p ≡ true
-kept_itself p h = grind arith
-
--- a cell is kept under its halves
-pub kept_half : (t : SegName) (j : ℕ) (p : Place) → is_of_cell t j p ≡ true → is_cell_at p ≡ false → is_kept_at p (place.Cell t j) ≡ true
-kept_half t j p h n = grind arith
 
 -- those that overlap a cell are its halves, the cell, and the whole of the segment
 pub overlaps-cell : (s : SegName) (i : ℕ) (o : Option Place)
@@ -130,8 +117,8 @@ under_either p o v = grind arith
 -- what the searches find
 
 pub found_in : (index : DependIndex) (es : List Entry) → IsIndexOf index es → (t : Touch) (k : ℕ) (r : Option ℕ)
-    → (IsAscending (kept index t) → length (kept index t) < 131072 → r ≡ first_above k (kept index t)) → r ≡ first_above k (positions (touches t) es)
-found_in index es is t k r found = found (kept-ascends index es is t) (kept-short index es is t) ∙ ap (first_above k) (is.lists t)
+    → (IsAscending (kept index t) → length (kept index t) < 131072 → r ≡ find (nat_lt k) (kept index t)) → r ≡ find (nat_lt k) (positions (touches t) es)
+found_in index es is t k r found = found (kept-ascends index es is t) (kept-short index es is t) ∙ ap (find (nat_lt k)) (is.lists t)
 
 -- an access interferes with this step, if it wrote this of its place
 abbrev pub meets : Place → Wrote → Entry → Bool
@@ -148,36 +135,36 @@ looked : (p : Place) (v : Wrote) (y : Entry) → looks p v y ≡ meets p v y
 looked p v y = grind (arith, overlaps-keys, under_either)
 
 -- nothing is found under no key
-pub none_found : (k n : ℕ) (es : List Entry) → first_above k (positions_from (λ y. false) n es) ≡ None
+pub none_found : (k n : ℕ) (es : List Entry) → find (nat_lt k) (positions_from (λ y. false) n es) ≡ None
 none_found k n [] = refl
 none_found k n (x ∷ xs) = none_found k (n + 1) xs
 
 -- what is found under the three keys
 pub found_at : (p : Place) (v : Wrote) (k : ℕ) (es : List Entry) (value own whole both all : Option ℕ)
-    → value ≡ first_above k (positions (λ y. is_under_some (value_of_place p) (reached (not (is_value_written v)) y)) es)
-    → own ≡ first_above k (positions (λ y. is_under (own_key p) (reached (is_nothing v) y)) es)
-    → whole ≡ first_above k (positions (λ y. is_under_some (whole_key p) (reached (is_nothing v) y)) es)
-    → both ≡ earlier own whole → all ≡ earlier value both → all ≡ first_above k (positions (meets p v) es)
+    → value ≡ find (nat_lt k) (positions (λ y. is_under_some (value_of_place p) (reached (not (is_value_written v)) y)) es)
+    → own ≡ find (nat_lt k) (positions (λ y. is_under (own_key p) (reached (is_nothing v) y)) es)
+    → whole ≡ find (nat_lt k) (positions (λ y. is_under_some (whole_key p) (reached (is_nothing v) y)) es)
+    → both ≡ earlier own whole → all ≡ earlier value both → all ≡ find (nat_lt k) (positions (meets p v) es)
 found_at p v k es value own whole both all a b c two three =
     let rest = λ (y : Entry). is_under (own_key p) (reached (is_nothing v) y) || is_under_some (whole_key p) (reached (is_nothing v) y) in
-    let in_two : both ≡ first_above k (positions rest es) = two ∙ (λ i. earlier (b i) (c i)) ∙ earlier-first _ _ rest (λ y. refl) k 1 es in
+    let in_two : both ≡ find (nat_lt k) (positions rest es) = two ∙ (λ i. earlier (b i) (c i)) ∙ earlier-first _ _ rest (λ y. refl) k 1 es in
     three ∙ (λ i. earlier (a i) (in_two i)) ∙ earlier-first _ rest (meets p v) (λ y. sym (looked p v y)) k 1 es
 
 pub found_either : (x : Entry) (p : Place) → x.place ≡ Some p → (k : ℕ) (es : List Entry)
-    → earlier (first_above k (positions (touches (By x.event.actor)) es)) (first_above k (positions (meets p x.wrote) es))
-    ≡ first_above k (positions (depends x) es)
+    → earlier (find (nat_lt k) (positions (touches (By x.event.actor)) es)) (find (nat_lt k) (positions (meets p x.wrote) es))
+    ≡ find (nat_lt k) (positions (depends x) es)
 found_either x p h k es = earlier-first (touches (By x.event.actor)) (meets p x.wrote) (depends x) (λ y. depends-some x y p h) k 1 es
 
 pub found_by : (x : Entry) → x.place ≡ None → (k : ℕ) (es : List Entry)
-    → first_above k (positions (touches (By x.event.actor)) es) ≡ first_above k (positions (depends x) es)
-found_by x h k es = ap (first_above k) (positions-same (touches (By x.event.actor)) (depends x) (λ y. depends-none x y h) 1 es)
+    → find (nat_lt k) (positions (touches (By x.event.actor)) es) ≡ find (nat_lt k) (positions (depends x) es)
+found_by x h k es = ap (find (nat_lt k)) (positions-same (touches (By x.event.actor)) (depends x) (λ y. depends-none x y h) 1 es)
 
 -- a later step of the actor is one that depends on it
-pub found_of_actor : (x : Entry) (k : ℕ) (es : List Entry) → is_some (first_above k (positions (touches (By x.event.actor)) es)) ≡ true
-    → is_some (first_above k (positions (depends x) es)) ≡ true
+pub found_of_actor : (x : Entry) (k : ℕ) (es : List Entry) → is_some (find (nat_lt k) (positions (touches (By x.event.actor)) es)) ≡ true
+    → is_some (find (nat_lt k) (positions (depends x) es)) ≡ true
 found_of_actor x k es h =
     sym (ap is_some (earlier-first (touches (By x.event.actor)) (depends x) (depends x) (λ y. again (x.event.actor == y.event.actor) _) k 1 es))
-    ∙ there (first_above k (positions (touches (By x.event.actor)) es)) (first_above k (positions (depends x) es)) h
+    ∙ there (find (nat_lt k) (positions (touches (By x.event.actor)) es)) (find (nat_lt k) (positions (depends x) es)) h
   where
     again : (a b : Bool) → (a || b) ≡ (a || (a || b))
     again a b = grind arith

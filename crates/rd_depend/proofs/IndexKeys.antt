@@ -1,11 +1,7 @@
 -- What is kept under a key, and the three keys of a place: its own, that of a cell's value half,
 -- and its segment's.
 use Rattle.std.proofs.Common.{◌≡◌, Bool, true, false, ◌&&◌, ◌||◌, Option, Some, ap, ◌∙◌, arith}
-use Rattle.rd_depend.proofs.Prelude.{and_from, or_right, Place, place_eq, index_half, Entry, Home, Homes, Key, is_that, is_kept_at, is_under, place_key, value_key, segment_key, counts, reached, homes_of, key_eq-refl}
-
--- the index half of a cell, like any other place, is kept under its own key alone
-pub kept_half : (p r : Place) → is_kept_at p (index_half r) ≡ place_eq p (index_half r)
-kept_half p r = grind arith
+use Rattle.rd_depend.proofs.Prelude.{and_from, or_right, Place, Entry, Home, Homes, Key, is_that, is_under, place_key, value_key, segment_key, counts, reached, homes_of, key_eq-refl}
 
 -- whether a list is one of a key's, for a step that wrote there or didn't
 abbrev pub is_home : Home → Bool → Key → Bool

@@ -1,7 +1,12 @@
--- Ascending positions: the search for the first that is greater than a number.
-use Rattle.std.proofs.Common.{◌≡◌, ℕ, zero, suc, ◌+◌, ◌-◌, ◌*◌, ◌/◌, ◌^◌, ◌<◌, ◌≤◌, List, [], ◌∷◌, ◌++◌, length, get_or, slice_get, Some, None, refl, sym, ap, ◌∙◌, arith}
-use Rattle.rd_depend.proofs.Prelude.{nat_tests, slice_get-get_or, slice_get_past, AscendsFrom, AreUpTo, number_up_to, first_above}
+-- Ascending positions: the search for the first that is greater than a number, and what becomes of
+-- them where one is moved.
+use Rattle.std.proofs.Common.{◌≡◌, ℕ, zero, suc, ◌+◌, ◌-◌, ◌*◌, ◌/◌, ◌^◌, ◌<◌, ◌≤◌, ◌==◌, Bool, true, false, not, nat_lt, List, [], ◌∷◌, ◌++◌, length, get_or, map, drop, take, cond, if◌then◌else◌, ◌||◌, ◌≢◌, refl, sym, ap, ◌∙◌, arith, append_assoc, eqb-true, length-drop, subst}
+use Rattle.rd_depend.proofs.Prelude.{nat_tests, eqb-false, take_all, take-append-drop, AscendsFrom, IsAscending, IsMoved, before_first, contains, moved_position, position_or_len, turned}
+use Rattle.std.proofs.lemmas.List.Sums.{prefix_len_is}
+use Rattle.std.specs.List.Sorted.{IsNonDecreasingBy, IsPartitionPoint}
 use Rattle.std.proofs.Math.Nat.{pow-succ'}
+use Rattle.std.proofs.lemmas.List.Folds.{list_any-append}
+use Rattle.std.specs.Prelude.{leb}
 
 -- a lower start serves too
 pub ascends_lower : (m n : ℕ) (ps : List ℕ) → m ≤ n → AscendsFrom n ps → AscendsFrom m ps
@@ -14,36 +19,27 @@ ascends-at n [] i d h within = omega arith
 ascends-at n (p ∷ ps) zero d h within = h.0
 ascends-at n (p ∷ ps) (suc i) d h within = let rest = ascends-at (suc p) ps i d h.1 (omega arith) in omega arith
 
+-- none is less than the one before it
+pub non_decreasing : (n : ℕ) (ps : List ℕ) → AscendsFrom n ps → IsNonDecreasingBy (λ p. p) ps
+non_decreasing n [] h i j d le within = absurd (omega arith)
+non_decreasing n (p ∷ ps) h zero zero d le within = omega arith
+non_decreasing n (p ∷ ps) h zero (suc j) d le within = omega (arith, ascends-at (suc p) ps j d h.1 (omega arith))
+non_decreasing n (p ∷ ps) h (suc i) zero d le within = absurd (omega arith)
+non_decreasing n (p ∷ ps) h (suc i) (suc j) d le within = non_decreasing (suc p) ps h.1 i j d (omega arith) (omega arith)
+
 -- the number of those before the first that is greater
 
-number_up_to_more : (k p : ℕ) (ps : List ℕ) → p ≤ k → number_up_to k (p ∷ ps) ≡ suc (number_up_to k ps)
-number_up_to_more k p ps h = grind (arith, nat_tests)
-
-number_up_to_none : (k p : ℕ) (ps : List ℕ) → k < p → number_up_to k (p ∷ ps) ≡ 0
-number_up_to_none k p ps h = grind (arith, nat_tests)
-
-pub number-within : (k : ℕ) (ps : List ℕ) → number_up_to k ps ≤ length ps
-number-within k [] = omega arith
-number-within k (p ∷ ps) = let rest = number-within k ps in grind (arith, nat_tests)
-
 -- one that is at most k is among them
-pub number-above : (n k : ℕ) (ps : List ℕ) (i d : ℕ) → AscendsFrom n ps → i < length ps → get_or ps i d ≤ k → i < number_up_to k ps
+pub number-above : (n k : ℕ) (ps : List ℕ) (i d : ℕ) → AscendsFrom n ps → i < length ps → get_or ps i d ≤ k → i < position_or_len (nat_lt k) ps
 number-above n k [] i d h within le = omega arith
-number-above n k (p ∷ ps) zero d h within le = omega (arith, number_up_to_more k p ps le)
-number-above n k (p ∷ ps) (suc i) d h within le = grind (arith, ascends-at, number-above (suc p) k ps i d h.1 (omega arith) le)
+number-above n k (p ∷ ps) zero d h within le = grind (arith, nat_tests)
+number-above n k (p ∷ ps) (suc i) d h within le = grind (arith, nat_tests, ascends-at, number-above (suc p) k ps i d h.1 (omega arith) le)
 
 -- one that is greater is not
-pub number-below : (k : ℕ) (ps : List ℕ) (i d : ℕ) → i < length ps → k < get_or ps i d → number_up_to k ps ≤ i
+pub number-below : (k : ℕ) (ps : List ℕ) (i d : ℕ) → i < length ps → k < get_or ps i d → position_or_len (nat_lt k) ps ≤ i
 number-below k [] i d within gt = omega arith
-number-below k (p ∷ ps) zero d within gt = omega (arith, number_up_to_none k p ps gt)
+number-below k (p ∷ ps) zero d within gt = grind (arith, nat_tests)
 number-below k (p ∷ ps) (suc i) d within gt = grind (arith, nat_tests, number-below k ps i d (omega arith) gt)
-
--- the first that is greater is after them
-pub first_above-at : (k : ℕ) (ps : List ℕ) → first_above k ps ≡ slice_get ps (number_up_to k ps)
-first_above-at k [] = refl
-first_above-at k (p ∷ ps) = grind (arith, first_above-at k ps)
-
--- halving
 
 -- half of what is below a power of two
 pub halved : (round n : ℕ) → round < 17 → n < 2 ^ (17 - round) → n / 2 < 2 ^ (17 - (round + 1))
@@ -52,29 +48,131 @@ halved round n within h = let e : 2 ^ (17 - round) ≡ 2 * 2 ^ (17 - (round + 1)
     powers : (m k : ℕ) → m ≡ suc k → 2 ^ m ≡ 2 * 2 ^ k
     powers m k h = rw h (pow-succ' 2 k)
 
--- what is found where the number of those before it is known
+-- the point that splits those that are at most k from the others
+pub point-is : (k : ℕ) (ps : List ℕ) (i : ℕ) → IsPartitionPoint (λ p. leb p k ≡ true) (λ p. leb p k ≡ false) ps i → i ≤ length ps → i ≡ position_or_len (nat_lt k) ps
+point-is k ps i point within =
+    sym (prefix_len_is (λ p. not (nat_lt k p)) ps i 0 within (λ j l. let e = point.0 j 0 (omega arith) l in grind (arith, nat_tests))
+    (λ l. let e = point.1 i 0 (omega arith) l in grind (arith, nat_tests)))
 
-pub first-there : (k : ℕ) (ps : List ℕ) (index look found : ℕ) → index ≡ number_up_to k ps → index < length ps → look ≡ get_or ps index look → found ≡ look → Some found ≡ first_above k ps
-first-there k ps index look found count within at is = grind (arith, slice_get-get_or, first_above-at)
+-- Positions in parts
 
-pub first-missing : (k : ℕ) (ps : List ℕ) (index : ℕ) → index ≡ number_up_to k ps → length ps ≤ index → None ≡ first_above k ps
-first-missing k ps index count past = sym (slice_get_past ps index past) ∙ ap (λ (i : ℕ). slice_get ps i) count ∙ sym (first_above-at k ps)
+-- each is greater than the one before it, the first is at least m, and all are at most n
+abbrev Within : ℕ → ℕ → List ℕ → Type 0
+Within m n [] = Unit {0}
+Within m n (p ∷ ps) = (m ≤ p) × (p ≤ n) × Within (suc p) n ps
 
--- lists in parts
+-- those before the first that is greater than n, and the others
+parted : (b : Bool) (m p : ℕ) (ps : List ℕ)
+    → (take (cond (not b) (1 + m) 0) (p ∷ ps) ≡ (if b then [] else p ∷ take m ps)) × (drop (cond (not b) (1 + m) 0) (p ∷ ps) ≡ (if b then p ∷ ps else drop m ps))
+parted true m p ps = (refl, refl)
+parted false m p ps = let e : 1 + m ≡ suc m = omega arith in (ap (λ (i : ℕ). take i (p ∷ ps)) e, ap (λ (i : ℕ). drop i (p ∷ ps)) e)
 
--- where the last of ascending positions is at most n, all of them are
-pub all_up_to : (m n : ℕ) (ps : List ℕ) (e d : ℕ) → AscendsFrom m ps → length ps ≡ suc e → get_or ps e d ≤ n → AreUpTo n ps
-all_up_to m n [] e d h len le = tt
-all_up_to m n (p ∷ []) zero d h len le = (le, tt)
-all_up_to m n (p ∷ q ∷ qs) zero d h len le = absurd (omega arith)
-all_up_to m n (p ∷ ps) (suc e) d h len le = grind (arith, ascends-at, all_up_to (suc p) n ps e d h.1 (omega arith) le)
+pub front-cons : (n p : ℕ) (ps : List ℕ) → before_first (nat_lt n) (p ∷ ps) ≡ (if nat_lt n p then [] else p ∷ before_first (nat_lt n) ps)
+front-cons n p ps = (parted (nat_lt n p) (position_or_len (nat_lt n) ps) p ps).0
 
-pub ascends-append : (m n : ℕ) (ps qs : List ℕ) → m ≤ suc n → AscendsFrom m ps → AreUpTo n ps → AscendsFrom (suc n) qs → AscendsFrom m (ps ++ qs)
-ascends-append m n [] qs le h up above = ascends_lower m (suc n) qs le above
-ascends-append m n (p ∷ ps) qs le h up above = (h.0, ascends-append (suc p) n ps qs (omega arith) h.1 up.1 above)
+front-within : (m n : ℕ) (ps : List ℕ) → AscendsFrom m ps → Within m n (before_first (nat_lt n) ps)
+front-within m n [] h = tt
+front-within m n (p ∷ ps) h = grind (arith, nat_tests, front-cons, front-within (suc p) n ps h.1)
 
--- those up to n are the first part, where all of the second are greater
-pub number-append : (n : ℕ) (ps qs : List ℕ) → AreUpTo n ps → AscendsFrom (suc n) qs → number_up_to n (ps ++ qs) ≡ length ps
-number-append n [] [] up above = refl
-number-append n [] (q ∷ qs) up above = number_up_to_none n q qs above.0
-number-append n (p ∷ ps) qs up above = number_up_to_more n p (ps ++ qs) up.0 ∙ ap suc (number-append n ps qs up.1 above)
+rest-ascends : (m n : ℕ) (ps : List ℕ) → AscendsFrom m ps → m ≤ suc n → AscendsFrom (suc n) (drop (position_or_len (nat_lt n) ps) ps)
+rest-ascends m n [] h le = tt
+rest-ascends m n (p ∷ ps) h le = grind (arith, nat_tests, (parted (nat_lt n p) (position_or_len (nat_lt n) ps) p ps).1, rest-ascends (suc p) n ps h.1)
+
+within-append : (m n : ℕ) (ps qs : List ℕ) → m ≤ suc n → Within m n ps → AscendsFrom (suc n) qs → AscendsFrom m (ps ++ qs)
+within-append m n [] qs le h above = ascends_lower m (suc n) qs le above
+within-append m n (p ∷ ps) qs le h above = (h.0, within-append (suc p) n ps qs (omega arith) h.2 above)
+
+lowered-within : (m n : ℕ) (ps : List ℕ) → Within (suc m) n ps → Within m (n - 1) (map (λ p. p - 1) ps)
+lowered-within m n [] h = tt
+lowered-within m n (p ∷ ps) h = grind (arith, lowered-within p n ps h.2)
+
+turned-ascends : (k n : ℕ) (ps qs : List ℕ) → 1 ≤ k → k ≤ n → Within k n ps → AscendsFrom (suc n) qs → AscendsFrom k (turned k n ps ++ qs)
+turned-ascends k n [] qs some order h above = ascends_lower k (suc n) qs (omega arith) above
+turned-ascends k n (p ∷ ps) qs some order h above = by (p == k) (eqb-true p k) (eqb-false p k)
+  where
+    by : (b : Bool) → (b ≡ true → p ≡ k) → (b ≡ false → p ≢ k) → AscendsFrom k ((if b then map (λ q. q - 1) ps ++ n ∷ [] else map (λ q. q - 1) (p ∷ ps)) ++ qs)
+    by true same other = grind (arith, append_assoc, within-append k (n - 1) (map (λ q. q - 1) ps) (n ∷ qs), lowered-within k n ps)
+    by false same other =
+        within-append k (n - 1) (map (λ q. q - 1) (p ∷ ps)) qs (omega arith) (grind (arith, lowered-within k n (p ∷ ps))) (ascends_lower (suc (n - 1)) (suc n) qs (omega arith) above)
+
+-- what becomes of each position
+
+low-has : (m k n p : ℕ) (ps : List ℕ) → Within m (k - 1) ps → 1 ≤ k → k ≤ n → contains ps (moved_position k n p) ≡ contains ps p
+low-has m k n p [] h some order = refl
+low-has m k n p (q ∷ qs) h some order = grind (arith, nat_tests, low-has (suc q) k n p qs h.2 some order)
+
+high-has : (m k n p : ℕ) (ps : List ℕ) → AscendsFrom m ps → n < m → k ≤ n → contains ps (moved_position k n p) ≡ contains ps p
+high-has m k n p [] h above order = refl
+high-has m k n p (q ∷ qs) h above order = grind (arith, nat_tests, high-has (suc q) k n p qs h.1 (omega arith) order)
+
+lowered-has : (m k n p : ℕ) (ps : List ℕ) → Within m n ps → k < m → contains (map (λ q. q - 1) ps) (moved_position k n p) ≡ contains ps p
+lowered-has m k n p [] h above = refl
+lowered-has m k n p (q ∷ qs) h above = grind (arith, nat_tests, lowered-has (suc q) k n p qs h.2 (omega arith))
+
+turned-has : (k n p : ℕ) (ps : List ℕ) → Within k n ps → contains (turned k n ps) (moved_position k n p) ≡ contains ps p
+turned-has k n p [] h = refl
+turned-has k n p (q ∷ qs) h = grind (arith, nat_tests, list_any-append, lowered-has (suc q) k n p qs h.2, lowered-has (suc k) k n p (q ∷ qs))
+
+parts_moved : (k n : ℕ) (ps : List ℕ) → 1 ≤ k → k ≤ n
+    → let low = before_first (nat_lt (k - 1)) ps in
+    let rest = drop (position_or_len (nat_lt (k - 1)) ps) ps in
+    IsMoved k n ps (low ++ (turned k n (before_first (nat_lt n) rest) ++ drop (position_or_len (nat_lt n) rest) rest))
+parts_moved k n ps some order up = record {
+  ascends = within-append 0 (k - 1) low _ (omega arith) is_low (ascends_lower (suc (k - 1)) k _ (omega arith) (turned-ascends k n mid high some order is_mid is_high));
+  places = λ p.
+      list_any-append _ low (turned k n mid ++ high)
+      ∙ (λ i. low-has 0 k n p low is_low some order i || (list_any-append (λ q. q == moved_position k n p) (turned k n mid) high ∙ (λ j. turned-has k n p mid is_mid j || high-has (suc n) k n p high is_high (omega arith) order j)) i)
+      ∙ sym (list_any-append _ low (mid ++ high) ∙ ap (λ (b : Bool). contains low p || b) (list_any-append _ mid high))
+      ∙ ap (λ (l : List ℕ). contains l p) (ap (λ (l : List ℕ). low ++ l) (take-append-drop (position_or_len (nat_lt n) rest) rest) ∙ take-append-drop (position_or_len (nat_lt (k - 1)) ps) ps);
+}
+  where
+    low : List ℕ
+    low = before_first (nat_lt (k - 1)) ps
+
+    rest : List ℕ
+    rest = drop (position_or_len (nat_lt (k - 1)) ps) ps
+
+    mid : List ℕ
+    mid = before_first (nat_lt n) rest
+
+    high : List ℕ
+    high = drop (position_or_len (nat_lt n) rest) rest
+
+    is_low : Within 0 (k - 1) low
+    is_low = front-within 0 (k - 1) ps up
+
+    from_k : AscendsFrom k rest
+    from_k = ascends_lower k (suc (k - 1)) rest (omega arith) (rest-ascends 0 (k - 1) ps up (omega arith))
+
+    is_mid : Within k n mid
+    is_mid = front-within k n rest from_k
+
+    is_high : AscendsFrom (suc n) high
+    is_high = rest-ascends k n rest from_k (omega arith)
+
+-- the parts that the searches find, the one between turned
+pub moved : (k n start size : ℕ) (ps turns new : List ℕ) → 1 ≤ k → k ≤ n → (IsAscending ps → start ≡ position_or_len (nat_lt (k - 1)) ps)
+    → (IsAscending (take (length ps - start) (drop start ps)) → size ≡ position_or_len (nat_lt n) (take (length ps - start) (drop start ps)))
+    → turns ≡ turned k n (take (start + size - start) (drop start ps)) → new ≡ take start ps ++ (turns ++ drop (start + size - start) (drop start ps)) → IsMoved k n ps new
+moved k n start size ps turns new some order at until turn is up = subst (IsMoved k n ps) (sym (is ∙ parts)) (parts_moved k n ps some order) up
+  where
+    all : take (length ps - start) (drop start ps) ≡ drop start ps
+    all = take_all (length ps - start) (drop start ps) (omega (arith, length-drop start ps))
+
+    begins : start ≡ position_or_len (nat_lt (k - 1)) ps
+    begins = at up
+
+    rest : IsAscending (drop start ps)
+    rest = subst (λ (i : ℕ). IsAscending (drop i ps)) (sym begins) (ascends_lower 0 (suc (k - 1)) _ (omega arith) (rest-ascends 0 (k - 1) ps up (omega arith)))
+
+    ends : size ≡ position_or_len (nat_lt n) (drop start ps)
+    ends = until (subst IsAscending (sym all) rest) ∙ ap (position_or_len (nat_lt n)) all
+
+    long : start + size - start ≡ size
+    long = omega arith
+
+    parts : take start ps ++ (turns ++ drop (start + size - start) (drop start ps))
+        ≡ before_first (nat_lt (k - 1)) ps ++ (turned k n (before_first (nat_lt n) (drop (position_or_len (nat_lt (k - 1)) ps) ps)) ++ drop (position_or_len (nat_lt n) (drop (position_or_len (nat_lt (k - 1)) ps) ps)) (drop (position_or_len (nat_lt (k - 1)) ps) ps))
+    parts =
+        (λ i. take start ps ++ ((turn ∙ ap (λ (j : ℕ). turned k n (take j (drop start ps))) (long ∙ ends)) i ++ ap (λ (j : ℕ). drop j (drop start ps)) (long ∙ ends) i))
+        ∙ (λ i. take (begins i) ps ++ (turned k n (before_first (nat_lt n) (drop (begins i) ps)) ++ drop (position_or_len (nat_lt n) (drop (begins i) ps)) (drop (begins i) ps)))

@@ -1,14 +1,11 @@
 -- A position moved after others in all lists: the index is then that of the entries with that one
 -- moved, and has the same room.
-use Rattle.std.proofs.Common.{◌≡◌, ℕ, suc, ◌+◌, ◌-◌, ◌<◌, ◌≤◌, Bool, List, [], ◌∷◌, ◌++◌, length, take, drop, Some, refl, sym, ap, subst, ◌∙◌, append_assoc, arith, length-append, length-drop}
-use Rattle.rd_depend.proofs.Prelude.{drop_of_length-le, length-take-le, take_all, take-append-drop, drop-drop, Entry, numbered, without, DependIndex, list_at, capacity_at, IsMoved, positions_from, positions, number_of, touches, Touch, kept, capacity, IsIndexOf, GivesRoom}
-use Rattle.rd_depend.specs.Lists.{with_first}
+use Rattle.std.proofs.Common.{◌≡◌, ℕ, zero, suc, ◌+◌, ◌-◌, ◌<◌, ◌≤◌, ◌==◌, Bool, false, nat_lt, if◌then◌else◌, List, [], ◌∷◌, ◌++◌, length, slice_get, take, drop, Option, Some, None, refl, sym, ap, subst, ◌∙◌, append_assoc, arith, length-append, length-drop}
+use Rattle.std.specs.Option.{option_map_or}
+use Rattle.rd_depend.proofs.Prelude.{nat_tests, drop_of_length-le, length-take-le, take_all, take-append-drop, drop-drop, Entry, numbered, without, DependIndex, AscendsFrom, AreMoved, IsMoved, contains, moved_position, positions_from, positions, number_of, touches, Touch, kept, capacity, IsIndexOf, GivesRoom}
 use Rattle.rd_depend.specs.Moved.{moved_to}
-use Rattle.rd_depend.specs.Tables.{Moves}
-use Rattle.rd_depend.proofs.IndexPositions.{positions-ascend, ascending, positions-within, positions-append, positions-lower, number-append}
+use Rattle.rd_depend.proofs.IndexPositions.{positions-ascend, ascending, number-append}
 use Rattle.rd_depend.proofs.IndexChanges.{drop_one}
-use Rattle.rd_depend.proofs.IndexLists.{ascends_lower}
-use Rattle.rd_depend.proofs.IndexFirst.{kept-short}
 use Rattle.rd_depend.proofs.IndexRoom.{room_stays}
 
 -- a list cut before its k-th element, after it, and after the n-th
@@ -47,23 +44,76 @@ cut {X} es k n some order within = by (drop (k - 1) first) refl
           until = omega (arith, ap length e, length-drop (k - 1) first, length-take-le n es within);
         }
 
--- the positions of the entries with one moved, from those before
-positions-moved : (test : Entry → Bool) (k n : ℕ) (low : List Entry) (x : Entry) (mid high : List Entry) (new : List ℕ) → k ≡ suc (length low) → n ≡ k + length mid
-    → length (positions test (low ++ ((x ∷ mid) ++ high))) < 131072 → IsMoved k n (positions test (low ++ ((x ∷ mid) ++ high))) new
-    → new ≡ positions test ((low ++ mid) ++ x ∷ high)
-positions-moved test k n low x mid high new before until short moves =
-    let ps = positions test low in
-    let qs = positions_from test (k + 1) mid in
-    let rs = positions_from test (n + 1) high in
-    let old : positions test (low ++ ((x ∷ mid) ++ high)) ≡ ps ++ (with_first (test x) k qs ++ rs) =
-    positions-append test 1 k low ((x ∷ mid) ++ high) (omega arith) ∙ ap (λ (l : List ℕ). ps ++ l) (positions-append test k (n + 1) (x ∷ mid) high (omega arith)) in
-    moves ps qs rs (test x) short (ascending test (low ++ ((x ∷ mid) ++ high))) (positions-within test 1 (k - 1) low (omega arith))
-    (ascends_lower (suc k) (k + 1) qs (omega arith) (positions-ascend test (k + 1) mid)) (positions-within test (k + 1) n mid (omega arith))
-    (ascends_lower (suc n) (n + 1) rs (omega arith) (positions-ascend test (n + 1) high)) old
-    ∙ ap (λ (l : List ℕ). ps ++ (l ++ positions_from test n (x ∷ high))) (positions-lower test (k + 1) k mid (omega arith))
-    ∙ sym (append_assoc ps (positions_from test k mid) (positions_from test n (x ∷ high)))
-    ∙ ap (λ (l : List ℕ). l ++ positions_from test n (x ∷ high)) (sym (positions-append test 1 k low mid (omega arith)))
-    ∙ sym (positions-append test 1 n (low ++ mid) (x ∷ high) (omega (arith, length-append low mid)))
+-- Where each entry is then
+
+get-append : {X : Type 0} (xs ys : List X) (i : ℕ) → slice_get (xs ++ ys) i ≡ (if nat_lt i (length xs) then slice_get xs i else slice_get ys (i - length xs))
+get-append [] ys i = grind (arith, nat_tests)
+get-append (x ∷ xs) ys zero = grind (arith, nat_tests)
+get-append (x ∷ xs) ys (suc i) = grind (arith, nat_tests, get-append xs ys i)
+
+number-is : {X : Type 0} (xs : List X) (q : ℕ) → numbered xs q ≡ (if q == 0 then None else slice_get xs (q - 1))
+number-is xs zero = refl
+number-is xs (suc i) = grind (arith, nat_tests)
+
+at_moved : (low mid high : List Entry) (x : Entry) (k n p : ℕ) → k ≡ suc (length low) → n ≡ k + length mid
+    → numbered ((low ++ mid) ++ x ∷ high) (moved_position k n p) ≡ numbered (low ++ ((x ∷ mid) ++ high)) p
+at_moved low mid high x k n p before until = grind (arith, nat_tests, get-append, number-is, length-append)
+
+-- where the entry at q was before
+abbrev moved_from : ℕ → ℕ → ℕ → ℕ
+moved_from k n q = if nat_lt q k then q else (if q == n then k else (if nat_lt q n then q + 1 else q))
+
+there_and_back : (k n q : ℕ) → 1 ≤ k → k ≤ n → moved_position k n (moved_from k n q) ≡ q
+there_and_back k n q some order = grind (arith, nat_tests)
+
+-- Ascending positions are known by which are among them
+
+has-below : (m p : ℕ) (ps : List ℕ) → AscendsFrom m ps → p < m → contains ps p ≡ false
+has-below m p [] h less = refl
+has-below m p (q ∷ qs) h less = grind (arith, nat_tests, has-below (suc q) p qs h.1 (omega arith))
+
+first-least : (x y : ℕ) (xs ys : List ℕ) → AscendsFrom (suc y) ys → contains (x ∷ xs) x ≡ contains (y ∷ ys) x → y ≤ x
+first-least x y xs ys h same = grind (arith, nat_tests, has-below)
+
+same_ascending : (m n : ℕ) (xs ys : List ℕ) → AscendsFrom m xs → AscendsFrom n ys → ((p : ℕ) → contains xs p ≡ contains ys p) → xs ≡ ys
+same_ascending m n [] [] h g same = refl
+same_ascending m n [] (y ∷ ys) h g same = let e = same y in grind (arith, nat_tests)
+same_ascending m n (x ∷ xs) [] h g same = let e = same x in grind (arith, nat_tests)
+same_ascending m n (x ∷ xs) (y ∷ ys) h g same =
+    let below = first-least x y xs ys g.1 (same x) in
+    let above = first-least y x ys xs h.1 (sym (same y)) in
+    let e : x ≡ y = omega arith in
+    (λ i. e i ∷ same_ascending (suc x) (suc y) xs ys h.1 g.1 rest i)
+  where
+    rest : (p : ℕ) → contains xs p ≡ contains ys p
+    rest p = let e = same p in let below = first-least x y xs ys g.1 (same x) in let above = first-least y x ys xs h.1 (sym (same y)) in grind (arith, nat_tests, has-below)
+
+-- the positions of entries are those of the ones that pass the test
+
+has-positions : (test : Entry → Bool) (n j : ℕ) (es : List Entry) → contains (positions_from test n es) (n + j) ≡ option_map_or test (slice_get es j) false
+has-positions test n j [] = refl
+has-positions test n zero (x ∷ xs) = grind (arith, nat_tests, has-below (n + 1) (n + 0) (positions_from test (n + 1) xs) (positions-ascend test (n + 1) xs))
+has-positions test n (suc j) (x ∷ xs) = grind (arith, nat_tests, has-positions test (n + 1) j xs)
+
+has-numbered : (test : Entry → Bool) (p : ℕ) (es : List Entry) → contains (positions test es) p ≡ option_map_or test (numbered es p) false
+has-numbered test zero es = has-below 1 0 (positions test es) (positions-ascend test 1 es) (omega arith)
+has-numbered test (suc j) es = let e : suc j ≡ 1 + j = omega arith in ap (contains (positions test es)) e ∙ has-positions test 1 j es
+
+positions-moved : (test : Entry → Bool) (k n : ℕ) (es : List Entry) (new : List ℕ) → 1 ≤ k → k ≤ n → Cut es k n → IsMoved k n (positions test es) new → new ≡ positions test (moved_to es k n)
+positions-moved test k n es new some order c moves = same_ascending 0 0 new (positions test (moved_to es k n)) all.ascends (ascending test (moved_to es k n)) same
+  where
+    all : AreMoved k n (positions test es) new
+    all = moves (ascending test es)
+
+    at : (p : ℕ) → numbered es p ≡ numbered (moved_to es k n) (moved_position k n p)
+    at p = ap (λ (l : List Entry). numbered l p) c.is ∙ sym (at_moved c.low c.mid c.high c.x k n p c.before c.until) ∙ ap (λ (l : List Entry). numbered l (moved_position k n p)) (sym c.moved)
+
+    same : (q : ℕ) → contains new q ≡ contains (positions test (moved_to es k n)) q
+    same q =
+        let p = moved_from k n q in
+        let e = there_and_back k n q some order in
+        ap (contains new) (sym e) ∙ all.places p ∙ has-numbered test p es ∙ ap (λ (o : Option Entry). option_map_or test o false) (at p)
+        ∙ sym (has-numbered test (moved_position k n p) (moved_to es k n)) ∙ ap (contains (positions test (moved_to es k n))) e
 
 number-moved : (test : Entry → Bool) (es : List Entry) (k n : ℕ) → Cut es k n → number_of test (moved_to es k n) ≡ number_of test es
 number-moved test es k n c = grind (arith, number-append)
@@ -71,37 +121,23 @@ number-moved test es k n c = grind (arith, number-append)
 length-moved : (es : List Entry) (k n : ℕ) → Cut es k n → length (moved_to es k n) ≡ length es
 length-moved es k n c = grind (arith, length-append)
 
--- in each list, position k, if it was there, was moved after those up to n, and these are one less
-pub record MovesAll (k n : ℕ) (old new : DependIndex) : Type 0 where
-  pub lists : (t : Touch) → IsMoved k n (kept old t) (kept new t)
-  pub capacity_stays : (t : Touch) → capacity new t ≡ capacity old t
-  pub len : new.len ≡ old.len
+-- in each list position k was moved after the others up to n
+abbrev MovesAll : ℕ → ℕ → DependIndex → DependIndex → Type 0
+MovesAll k n old new = (t : Touch) → IsMoved k n (kept old t) (kept new t)
 
-pub moves_all : (old new : DependIndex) (k n : ℕ) → ((i : ℕ) → IsMoved k n (list_at old.by_actor.items i) (list_at new.by_actor.items i))
-    → ((i : ℕ) → capacity_at new.by_actor.items i ≡ capacity_at old.by_actor.items i) → Moves k n old.by_key new.by_key → new.len ≡ old.len → MovesAll k n old new
-moves_all old new k n lists room keys len = grind arith
-
-pub moved_index : (old new : DependIndex) (k n : ℕ) → 1 ≤ k → k ≤ n → n ≤ old.len → MovesAll k n old new → (es : List Entry) → IsIndexOf old es
+pub moved_index : (old new : DependIndex) (k n : ℕ) → 1 ≤ k → k ≤ n → n ≤ old.len → MovesAll k n old new → new.len ≡ old.len → (es : List Entry) → IsIndexOf old es
     → IsIndexOf new (moved_to es k n)
-moved_index old new k n some order within moves es is =
+moved_index old new k n some order within moves len es is =
     let c = cut es k n some order (omega arith) in
     record {
-      lists = λ t.
-          let same : kept old t ≡ positions (touches t) (c.low ++ ((c.x ∷ c.mid) ++ c.high)) = is.lists t ∙ ap (positions (touches t)) c.is in
-          positions-moved (touches t) k n c.low c.x c.mid c.high (kept new t) c.before c.until
-          (subst (λ (l : List ℕ). length l < 131072) same (kept-short old es is t)) (subst (λ (l : List ℕ). IsMoved k n l (kept new t)) same (moves.lists t))
-          ∙ sym (ap (positions (touches t)) c.moved);
-      len = moves.len ∙ is.len ∙ sym (length-moved es k n c);
+      lists = λ t. positions-moved (touches t) k n es (kept new t) some order c (subst (λ (l : List ℕ). IsMoved k n l (kept new t)) (is.lists t) (moves t));
+      len = len ∙ is.len ∙ sym (length-moved es k n c);
     }
 
-pub moved_room : (old new : DependIndex) (k n : ℕ) → 1 ≤ k → k ≤ n → n ≤ old.len → MovesAll k n old new → (es : List Entry) → IsIndexOf old es
-    → GivesRoom old new []
-moved_room old new k n some order within moves es is = λ t.
-    omega (
-      arith,
-      room_stays old new es (moved_to es k n) is (moved_index old new k n some order within moves es is) moves.capacity_stays t,
-      number-moved (touches t) es k n (cut es k n some order (omega arith)),
-    )
+pub moved_room : (old new : DependIndex) (k n : ℕ) → 1 ≤ k → k ≤ n → n ≤ old.len → ((es : List Entry) → IsIndexOf old es → IsIndexOf new (moved_to es k n))
+    → ((t : Touch) → capacity new t ≡ capacity old t) → (es : List Entry) → IsIndexOf old es → GivesRoom old new []
+moved_room old new k n some order within moves stays es is = λ t.
+    omega (arith, room_stays old new es (moved_to es k n) is (moves es is) stays t, number-moved (touches t) es k n (cut es k n some order (omega arith)))
 
 -- moved after all others
 pub moved_last : (es : List Entry) (k n : ℕ) (x : Entry) → n ≡ length es → numbered es k ≡ Some x → moved_to es k n ≡ without es k ++ x ∷ []

@@ -1,7 +1,7 @@
 -- Positions of the entries that pass a test: of a list with one more entry, of two lists one after
 -- the other.
-use Rattle.rd_depend.proofs.Prelude.{common_steps, append-nil, Entry, AscendsFrom, IsAscending, AreUpTo, positions_from, positions, number_of}
-use Rattle.std.proofs.Common.{◌≡◌, ℕ, suc, ◌+◌, ◌-◌, ◌≤◌, Bool, if◌then◌else◌, List, [], ◌∷◌, ◌++◌, length, map, take, refl, ap, arith}
+use Rattle.rd_depend.proofs.Prelude.{common_steps, append-nil, Entry, AscendsFrom, IsAscending, positions_from, positions, number_of}
+use Rattle.std.proofs.Common.{◌≡◌, ℕ, ◌+◌, ◌-◌, ◌≤◌, Bool, if◌then◌else◌, List, [], ◌∷◌, ◌++◌, length, take, refl, ap, arith}
 use Rattle.rd_depend.proofs.IndexLists.{ascends_lower}
 
 -- they ascend
@@ -25,21 +25,11 @@ pub number-append : (test : Entry → Bool) (xs ys : List Entry) → number_of t
 number-append test [] ys = omega arith
 number-append test (x ∷ xs) ys = let rest = number-append test xs ys in omega arith
 
--- they are up to the position of the last entry
-pub positions-within : (test : Entry → Bool) (n m : ℕ) (es : List Entry) → n + length es ≤ m + 1 → AreUpTo m (positions_from test n es)
-positions-within test n m [] h = tt
-positions-within test n m (x ∷ xs) h = grind (arith, positions-within test (n + 1) m xs (omega arith))
-
 -- of one list after another
 pub positions-append : (test : Entry → Bool) (n m : ℕ) (xs ys : List Entry) → m ≡ n + length xs
     → positions_from test n (xs ++ ys) ≡ positions_from test n xs ++ positions_from test m ys
 positions-append test n m [] ys e = let same : n ≡ m = omega arith in ap (λ (i : ℕ). positions_from test i ys) same
 positions-append test n m (x ∷ xs) ys e = grind (arith, positions-append test (n + 1) m xs ys (omega arith))
-
--- counted from one less
-pub positions-lower : (test : Entry → Bool) (m n : ℕ) (es : List Entry) → m ≡ suc n → map (λ p. p - 1) (positions_from test m es) ≡ positions_from test n es
-positions-lower test m n [] e = refl
-positions-lower test m n (x ∷ xs) e = grind (arith, positions-lower test (m + 1) (n + 1) xs (omega arith))
 
 -- one more entry
 pub positions-push : (test : Entry → Bool) (n : ℕ) (es : List Entry) (x : Entry)

@@ -1,7 +1,19 @@
 -- How much room an index has, from what its lists can have.
-use Rattle.std.proofs.Common.{◌≡◌, ◌+◌, ◌-◌, ◌≤◌, List, [], ◌∷◌, length, ap, ◌∙◌, arith}
-use Rattle.rd_depend.proofs.Prelude.{Entry, DependIndex, Touch, touches, number_of, kept, capacity, spare, IsIndexOf, HasRoomFor, UsesRoom}
+use Rattle.std.proofs.Common.{◌≡◌, ℕ, ◌+◌, ◌-◌, ◌≤◌, Bool, List, [], ◌∷◌, length, ap, ◌∙◌, arith}
+use Rattle.rd_depend.proofs.Prelude.{Entry, DependIndex, Key, list_at, kept_in, capacity_at, Touch, By, Under, touches, number_of, kept, capacity, spare, IsIndexOf, HasRoomFor, UsesRoom}
+use Rattle.rd_depend.specs.Tables.{capacity_in}
 use Rattle.rd_depend.proofs.IndexPositions.{positions-number}
+
+-- what holds of each actor's list and of each key's holds of each list
+pub each : (old new : DependIndex) (R : List ℕ → List ℕ → Type 0) → ((i : ℕ) → R (list_at old.by_actor.items i) (list_at new.by_actor.items i))
+    → ((w : Bool) (q : Key) → R (kept_in old.by_key w q) (kept_in new.by_key w q)) → (t : Touch) → R (kept old t) (kept new t)
+each old new R of_actors of_keys (By a) = of_actors a
+each old new R of_actors of_keys (Under w q) = of_keys w q
+
+pub each_capacity : (old new : DependIndex) → ((i : ℕ) → capacity_at new.by_actor.items i ≡ capacity_at old.by_actor.items i)
+    → ((w : Bool) (q : Key) → capacity_in new.by_key w q ≡ capacity_in old.by_key w q) → (t : Touch) → capacity new t ≡ capacity old t
+each_capacity old new of_actors of_keys (By a) = of_actors a
+each_capacity old new of_actors of_keys (Under w q) = of_keys w q
 
 -- no list has more positions than it can have
 fits : (index : DependIndex) (t : Touch) → length (kept index t) ≤ capacity index t

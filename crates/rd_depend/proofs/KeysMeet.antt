@@ -1,9 +1,9 @@
 -- Two steps of a run depend on each other exactly where they are of one actor, or one of them wrote
 -- under a key where the other touched.
-use Rattle.rd_depend.proofs.Prelude.{common_steps, or_parts, SegName, Place, is_of, some_covers, some_overlap, is_nothing, written, name_eq-refl, Covering, itself, as_cell, as_whole, covers_cases, some_overlap-sym, Entry, Wrote, depends, Key, At, In, is_kept_at, is_under, is_of_map, touched, wrote, SharesPlace}
-use Rattle.std.proofs.Common.{◌≡◌, ◌⊎◌, true, false, Option, Some, None, sym, ap, subst, arith}
-use Rattle.rd_depend.proofs.Sharing.{shared}
-use Rattle.rd_depend.proofs.IndexFirst.{is_cell_at, kept_itself, kept_half}
+use Rattle.rd_depend.proofs.Prelude.{common_steps, false≢true, or_cases, or_parts, SegName, Place, segment_of, some_overlap, is_nothing, written, name_eq-refl, some_overlap-sym, Entry, depends, Key, At, In, is_under, is_under_some, own_key, value_of_place, whole_key}
+use Rattle.std.proofs.Common.{◌≡◌, Bool, true, false, ◌||◌, inl, inr, Option, Some, None, refl, sym, ◌∙◌, arith, ne_eqb}
+use Rattle.std.specs.Option.{option_map}
+use Rattle.rd_depend.proofs.IndexFirst.{overlaps_under, overlaps-keys}
 use Rattle.rd_depend.proofs.TakingOut.{AreApart}
 use Rattle.rd_depend.proofs.TouchedKeys.{wrote_under, is_whole_of}
 use Rattle.rd_cell.specs.declared.places.Place.TheVariants as place
@@ -24,49 +24,57 @@ apart_of_free x y made_x made_y h = grind (arith, or_parts, meet, some_overlap-s
 
 -- Where they depend on each other they meet under a key
 
--- a place of the map is covered under its own key, or by the whole of its segment
-data Covered (o : Option Place) (q : Place) : Type 0 where
-  by_key : is_under (At q) o ≡ true → Covered o q
-  by_whole : (t : SegName) → o ≡ Some (place.Whole t) → is_of t q ≡ true → Covered o q
+-- a step that wrote there wrote under the place's keys
+wrote_value : (x : Entry) (p : Place) (k : Key) → written x.place x.wrote ≡ Some p → value_of_place p ≡ Some k → wrote_under k x.place x.wrote ≡ true
+wrote_value x p k w e = grind arith
 
-of_map_cell : (q : Place) → is_of_map q ≡ true → is_cell_at q ≡ false
-of_map_cell q h = grind arith
+wrote_own : (x : Entry) (p : Place) → written x.place x.wrote ≡ Some p → wrote_under (own_key p) x.place x.wrote ≡ true
+wrote_own x p w = grind (arith, name_eq-refl)
 
-covered : (o : Option Place) (q : Place) → is_of_map q ≡ true → some_covers o q ≡ true → Covered o q
-covered None q m h = cc
-covered (Some p) q m h = by (covers_cases p q h)
+-- and touched in its segment
+touched_in : (x : Entry) (p : Place) (t : SegName) → written x.place x.wrote ≡ Some p → segment_of p ≡ Some t → is_under (In t) x.place ≡ true
+touched_in x p t w e = grind (arith, name_eq-refl)
+
+made_it : (t : SegName) (o : Option Place) → is_under (At (place.Whole t)) o ≡ true → is_whole_of t o ≡ true
+made_it t o h = grind arith
+
+-- so one that wrote nowhere where the other touched, and is not the other way round, wrote nothing
+-- that overlaps the other's place
+never_meet : (x y : Entry) (p : Place) → AreApart x y → written x.place x.wrote ≡ Some p → overlaps_under p y.place ≡ true → ⊥
+never_meet x y p apart w h =
+    elim (or_cases (is_under_some (value_of_place p) y.place) (is_under (own_key p) y.place || is_under_some (whole_key p) y.place) h) [
+      | inl a ↦ by_value (value_of_place p) refl a
+      | inr b ↦
+          elim (or_cases (is_under (own_key p) y.place) (is_under_some (whole_key p) y.place) b) [
+            | inl c ↦ apart.first (own_key p) (wrote_own x p w) c
+            | inr d ↦ by_whole (segment_of p) refl d
+          ]
+    ]
   where
-    by : Covering p q → Covered (Some p) q
-    by (itself e) = by_key (subst (λ (r : Place). is_kept_at q r ≡ true) (sym e) (kept_itself q (of_map_cell q m)))
-    by (as_cell t i e f) = by_key (subst (λ (r : Place). is_kept_at q r ≡ true) (sym e) (kept_half t i q f (of_map_cell q m)))
-    by (as_whole t e f) = by_whole t (ap (λ (r : Place). Some r) e) f
+    by_value : (o : Option Key) → value_of_place p ≡ o → is_under_some o y.place ≡ true → ⊥
+    by_value None e a = cc
+    by_value (Some k) e a = apart.first k (wrote_value x p k w e) a
 
--- what covers a place of a segment is of the segment
-under_segment : (o : Option Place) (q : Place) (t : SegName) → some_covers o q ≡ true → is_of t q ≡ true → is_under (In t) o ≡ true
-under_segment o q t h g = grind (arith, covers_cases)
+    by_whole : (o : Option SegName) → segment_of p ≡ o → is_under_some (option_map (λ s. At (place.Whole s)) o) y.place ≡ true → ⊥
+    by_whole None e d = cc
+    by_whole (Some t) e d = apart.second (In t) (touched_in x p t w e) (made_it t y.place d)
 
-written_whole : (o : Option Place) (w : Wrote) (t : SegName) → written o w ≡ Some (place.Whole t) → o ≡ Some (place.Whole t)
-written_whole o w t h = grind arith
+never : (b : Bool) → (b ≡ true → ⊥) → b ≡ false
+never true f = absurd (f refl)
+never false f = refl
 
-whole_own : (t : SegName) (o : Option Place) → o ≡ Some (place.Whole t) → is_whole_of t o ≡ true
-whole_own t o e = subst (λ (p : Option Place). is_whole_of t p ≡ true) (sym e) (name_eq-refl t)
-
--- a place of the map that one wrote and the other touched: under some key one of them wrote and the
--- other touched
-never_shared : (x y : Entry) (q : Place) → AreApart x y → is_of_map q ≡ true → wrote x q ≡ true → touched x q ≡ true → touched y q ≡ true → ⊥
-never_shared x y q apart m wrote_x touched_x touched_y =
-    by (covered (written x.place x.wrote) q m wrote_x) (covered y.place q m touched_y)
+never_overlap : (x y : Entry) → AreApart x y → some_overlap (written x.place x.wrote) y.place ≡ false
+never_overlap x y apart = by (written x.place x.wrote) refl
   where
-    by : Covered (written x.place x.wrote) q → Covered y.place q → ⊥
-    by (by_key a) (by_key b) = apart.first (At q) a b
-    by (by_whole t e f) d = apart.first (In t) (whole_own t x.place (written_whole x.place x.wrote t e)) (under_segment y.place q t touched_y f)
-    by (by_key a) (by_whole t e f) = apart.second (In t) (under_segment x.place q t touched_x f) (whole_own t y.place e)
+    by : (o : Option Place) → written x.place x.wrote ≡ o → some_overlap o y.place ≡ false
+    by None e = refl
+    by (Some p) e = overlaps-keys p y.place ∙ never (overlaps_under p y.place) (never_meet x y p apart e)
 
 turned : (x y : Entry) → AreApart x y → AreApart y x
 turned x y h = grind arith
 
-never_dependent : (x y : Entry) → AreApart x y → (x.event.actor ≡ y.event.actor) ⊎ SharesPlace x y → ⊥
-never_dependent x y apart h = grind (arith, never_shared)
+never_back : (x y : Entry) → AreApart x y → some_overlap x.place (written y.place y.wrote) ≡ false
+never_back x y apart = never _ (λ h. false≢true (sym (never_overlap y x (turned x y apart)) ∙ some_overlap-sym x.place (written y.place y.wrote) h))
 
 pub free_of_apart : (x y : Entry) → AreApart x y → depends x y ≡ false
-free_of_apart x y apart = grind (arith, never_dependent, shared)
+free_of_apart x y apart = λ i. ne_eqb x.event.actor y.event.actor apart.actors i || (never_overlap x y apart i || never_back x y apart i)

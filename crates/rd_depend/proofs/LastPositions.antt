@@ -1,13 +1,13 @@
 -- The last position in the beginning of a list, one element at a time.
 use Rattle.std.proofs.Common.{◌≡◌, ℕ, zero, suc, Bool, true, false, if◌then◌else◌, refl, ap, List, [], ◌∷◌, take, slice_get, Some, None, arith}
-use Rattle.rd_depend.proofs.Prelude.{behind, last_position}
+use Rattle.rd_depend.proofs.Prelude.{one_further, last_position}
 
 -- an element that passes is the last of those up to it
 pub last-found : {X : Type 0} (test : X → Bool) (xs : List X) (i : ℕ) (x : X) → slice_get xs i ≡ Some x → test x ≡ true
     → last_position test (take (suc i) xs) ≡ Some (suc i)
 last-found {X} test [] i x h k = cc
 last-found {X} test (y ∷ ys) zero x h k = grind arith
-last-found {X} test (y ∷ ys) (suc i) x h k = ap (behind (test y)) (last-found test ys i x h k)
+last-found {X} test (y ∷ ys) (suc i) x h k = ap (one_further (test y)) (last-found test ys i x h k)
 
 -- one that fails, or none, changes nothing
 pub last-passed : {X : Type 0} (test : X → Bool) (xs : List X) (i : ℕ) → ((x : X) → slice_get xs i ≡ Some x → test x ≡ false)
@@ -15,4 +15,4 @@ pub last-passed : {X : Type 0} (test : X → Bool) (xs : List X) (i : ℕ) → (
 last-passed {X} test [] zero h = refl
 last-passed {X} test [] (suc i) h = refl
 last-passed {X} test (y ∷ ys) zero h = ap (λ (b : Bool). if b then Some 1 else None) (h y refl)
-last-passed {X} test (y ∷ ys) (suc i) h = ap (behind (test y)) (last-passed test ys i h)
+last-passed {X} test (y ∷ ys) (suc i) h = ap (one_further (test y)) (last-passed test ys i h)

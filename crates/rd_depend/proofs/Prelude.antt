@@ -5,6 +5,7 @@ pub use Rattle.std.proofs.Math.Seq.{drop-append_seam, drop-cons, set-append_seam
 pub use Rattle.std.proofs.lemmas.Bool.{and_from, and_parts, cases_eq, eqb-false, false≢true, or_cases, or_left, or_parts, or_right}
 pub use Rattle.std.proofs.lemmas.Bool.Decides.{nat_tests}
 pub use Rattle.std.proofs.lemmas.Grind.{common_steps}
+pub use Rattle.std.proofs.lemmas.List.Folds.{find_at}
 pub use Rattle.std.proofs.lemmas.List.{append-nil, drop-drop, drop_all, length-take-le, map-append, nil_from_length, reverse-append, take-append-drop, take_all}
 pub use Rattle.std.proofs.lemmas.Option.{slice_get-get_or, slice_get_past}
 pub use Rattle.std.proofs.lemmas.Result.{IfOk-weaker, on_ok_weaker}
@@ -31,10 +32,13 @@ pub use Rattle.rd_depend.specs.Index.{By, GivesRoom, HasRoomFor, IsIndexOf, IsLa
 pub use Rattle.rd_depend.specs.KeyLaws.{key_eq-refl, key_eq-sym, key_eq-true}
 pub use Rattle.rd_depend.specs.Keys.{is_kept_at, key_eq, is_that, is_under, is_under_some, own_key, place_key, segment_key, segment_of_place, slot_in, value_key, value_of_place, whole_key}
 pub use Rattle.rd_depend.specs.KeepingOrder.{AreAlike, IsAfter, IsInOrder, KeepsOrder, Placed, bound, is_making, nothing_reached, passed, passed_over, passed_under, with_steps}
-pub use Rattle.rd_depend.specs.Lists.{AreUpTo, AscendsFrom, IsAscending, IsMoved, Lists, capacity_at, capacity_of, earlier, first_above, items_of, last_of, last_or, later, list_at, list_of, number_up_to, one_if, spare_at, up_to}
+pub use Rattle.std.specs.List.{before_first, find, last_or, position_or_len}
+pub use Rattle.std.specs.Prelude.{nat_lt}
+pub use Rattle.rd_depend.specs.Lists.{AreMoved, AscendsFrom, IsAscending, IsMoved, earlier, contains, later, moved_position, turned}
+pub use Rattle.rd_depend.specs.Tables.{Lists, capacity_at, capacity_of, items_of, list_at, list_of, one_if, spare_at}
 pub use Rattle.rd_depend.specs.Sharing.{SharesPlace, is_of_map, one_wrote, touched, wrote}
 pub use Rattle.rd_depend.specs.Tables.{AreReady, HasLast, IsReady, KeepsLists, Puts, TakesLast, counts, kept_in, lists_of, spare_in}
-pub use Rattle.rd_depend.specs.Writers.{behind, last_position, writes_to}
+pub use Rattle.rd_depend.specs.Writers.{one_further, last_position, writes_to}
 pub use Rattle.rd_depend.specs.declared.index.DependIndex.{DependIndex}
 pub use Rattle.rd_depend.specs.declared.index.changing.Home.{Home}
 pub use Rattle.rd_depend.specs.declared.index.changing.Homes.{Homes}

@@ -7,7 +7,7 @@ use Rattle.rd_depend.specs.declared.index.changing.Homes.{Homes}
 use Rattle.rd_depend.specs.declared.index.changing.Slots.{Slots}
 use Rattle.rd_depend.specs.Index.{Touch, touches, is_value_written, kept, spare, position_count, IsIndexOf}
 use Rattle.rd_depend.specs.Keys.{place_key, value_key, segment_key}
-use Rattle.rd_depend.specs.Lists.{spare_at, one_if}
+use Rattle.rd_depend.specs.Tables.{spare_at, one_if}
 use Rattle.rd_depend.specs.Tables.{AreReady}
 
 -- the index got this entry: each list that is to keep it has one more position at its end, and each

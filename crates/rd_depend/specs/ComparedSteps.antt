@@ -9,7 +9,7 @@ use Rattle.rd_depend.specs.declared.keeping_order.Reached.{Reached}
 use Rattle.rd_depend.specs.declared.keeping_order.ReachedByKey.{ReachedByKey}
 use Rattle.rd_depend.specs.declared.keeping_order.StepsByActor.{StepsByActor}
 use Rattle.rd_depend.specs.Keys.{key_eq}
-use Rattle.rd_depend.specs.Lists.{list_at}
+use Rattle.rd_depend.specs.Tables.{list_at}
 use Rattle.rd_depend.specs.KeepingOrder.{Placed, nothing_reached, IsNext, passed_over, with_steps}
 
 -- how far the steps reached under a key, or that none did if nothing is kept for the key

@@ -7,7 +7,7 @@ use Rattle.rd_step.specs.Lists.{numbered}
 use Rattle.rd_depend.specs.declared.index.DependIndex.{DependIndex}
 use Rattle.rd_depend.specs.declared.index.keys.Key.{Key}
 use Rattle.rd_depend.specs.Keys.{is_under}
-use Rattle.rd_depend.specs.Lists.{list_at, capacity_at, one_if, spare_at}
+use Rattle.rd_depend.specs.Tables.{list_at, capacity_at, one_if, spare_at}
 use Rattle.rd_depend.specs.Tables.{kept_in, capacity_in, spare_in}
 use Rattle.rd_cell.specs.declared.places.Wrote.TheVariants as wrote
 
@@ -41,7 +41,8 @@ positions_from test n (x ∷ xs) = if test x then n ∷ positions_from test (n +
 abbrev pub positions : (Entry → Bool) → List Entry → List ℕ
 positions test entries = positions_from test 1 entries
 
--- how many of the entries pass the test
+-- how many of the entries pass the test: `count_by` of std, but as a recursion, since proofs
+-- compute it entry by entry
 abbrev pub number_of : (Entry → Bool) → List Entry → ℕ
 number_of test [] = 0
 number_of test (x ∷ xs) = one_if (test x) + number_of test xs

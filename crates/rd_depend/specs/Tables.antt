@@ -1,9 +1,54 @@
--- What the table of keys keeps, and how it changes.
-use Rattle.std.specs.Prelude.{◌≡◌, ℕ, ◌+◌, ◌-◌, ◌<◌, ◌≤◌, Bool, true, false, ◌&&◌, if◌then◌else◌, List, [], ◌∷◌, ◌++◌, length, take, Option, Some, None}
+-- Lists of positions by number, what the table of keys keeps in them, and how it changes.
+use Rattle.std.specs.Prelude.{◌≡◌, ℕ, ◌+◌, ◌-◌, ◌<◌, ◌≤◌, Bool, true, false, ◌&&◌, if◌then◌else◌, List, [], ◌∷◌, ◌++◌, length, take, Option, Some, None, Vec, slice_get, vec_capacity, nat_lt}
+use Rattle.std.specs.Option.{option_map_or}
+use Rattle.std.specs.List.{before_first}
+use Rattle.std.specs.declared.alloc.Global.{Global}
 use Rattle.rd_depend.specs.declared.index.keys.Key.{Key}
 use Rattle.rd_depend.specs.declared.index.table.Table.{Table}
 use Rattle.rd_depend.specs.Keys.{is_that, slot_in}
-use Rattle.rd_depend.specs.Lists.{Lists, one_if, list_of, capacity_of, up_to, IsAscending, IsMoved}
+use Rattle.rd_depend.specs.Lists.{IsAscending, IsMoved}
+
+-- the type of lists of positions by their numbers
+abbrev pub Lists : Type 0
+Lists = List (Vec ℕ Global)
+
+-- the items of a list, if it is there
+abbrev pub items_of : {X : Type 0} → Option (Vec X Global) → List X
+items_of o = option_map_or (λ list. list.items) o []
+
+-- how many positions a list, if it is there, can have before it has to grow
+abbrev pub room_of : Option (Vec ℕ Global) → ℕ
+room_of o = option_map_or vec_capacity o 0
+
+-- the items of the list of this number
+abbrev pub list_at : {X : Type 0} → List (Vec X Global) → ℕ → List X
+list_at lists i = items_of (slice_get lists i)
+
+-- how many positions the list of this number, if there is one, can have before it has to grow
+abbrev pub capacity_at : Lists → ℕ → ℕ
+capacity_at lists i = room_of (slice_get lists i)
+
+-- how many more positions the list of this number has room for
+abbrev pub spare_at : Lists → ℕ → ℕ
+spare_at lists i = capacity_at lists i - length (list_at lists i)
+
+-- the bit as a number: one if it is true, else zero
+abbrev pub one_if : Bool → ℕ
+one_if b = if b then 1 else 0
+
+-- how many more positions a list has room for
+abbrev pub spare_of : Vec ℕ Global → ℕ
+spare_of list = vec_capacity list - length list.items
+
+-- the positions of the list of this number, if there is one
+abbrev pub list_of : Lists → Option ℕ → List ℕ
+list_of lists None = []
+list_of lists (Some i) = list_at lists i
+
+-- how many positions the list of this number, if there is one, can have before it has to grow
+abbrev pub capacity_of : Lists → Option ℕ → ℕ
+capacity_of lists None = 0
+capacity_of lists (Some i) = capacity_at lists i
 
 -- the lists of all positions, or of the positions of steps that wrote
 abbrev pub lists_of : Table → Bool → Lists
@@ -78,5 +123,5 @@ pub record Moves (k n : ℕ) (old new : Table) : Type 0 where
 
 -- each list lost its positions above n
 pub record Cuts (n : ℕ) (old new : Table) : Type 0 where
-  pub lists : (w : Bool) (q : Key) → IsAscending (kept_in old w q) → kept_in new w q ≡ up_to n (kept_in old w q)
+  pub lists : (w : Bool) (q : Key) → IsAscending (kept_in old w q) → kept_in new w q ≡ before_first (nat_lt n) (kept_in old w q)
   pub capacity : (w : Bool) (q : Key) → capacity_in new w q ≡ capacity_in old w q

@@ -5,14 +5,14 @@ use Rattle.rd_step.specs.declared.entries.Entry.{Entry}
 
 -- a position found in the rest of a list, as one in the whole list; if none was found, the first
 -- element's if `first` holds
-abbrev pub behind : Bool → Option ℕ → Option ℕ
-behind first (Some n) = Some (suc n)
-behind first None = if first then Some 1 else None
+abbrev pub one_further : Bool → Option ℕ → Option ℕ
+one_further first (Some n) = Some (suc n)
+one_further first None = if first then Some 1 else None
 
 -- the greatest position whose element passes the test, or none
 abbrev pub last_position : {X : Type 0} → (X → Bool) → List X → Option ℕ
 last_position test [] = None
-last_position test (x ∷ xs) = behind (test x) (last_position test xs)
+last_position test (x ∷ xs) = one_further (test x) (last_position test xs)
 
 -- whether the step wrote this place, or one of the places that it names
 abbrev pub writes_to : Place → Entry → Bool

@@ -12,7 +12,7 @@ ghost use Rattle.std.specs.Prelude.{◌≡◌, ◌↔◌, ◌<◌, [], ℕ, leng
 ghost use Rattle.rd_depend.specs.declared.index.keys.Key.{Key as KeyOf};
 ghost use Rattle.rd_depend.specs.KeepingOrder.{AreAlike, IsAfter, IsInOrder, bound, is_making, nothing_reached, passed, passed_over, passed_under};
 ghost use Rattle.rd_depend.specs.ComparedSteps.{all_left, left_of, reached_of, with_first};
-ghost use Rattle.rd_depend.specs.Lists.{list_at};
+ghost use Rattle.rd_depend.specs.Tables.{list_at};
 
 use super::index::changing::{is_value_written, is_written, place_key, segment_key, value_key};
 use super::index::keys::Key;

@@ -2,7 +2,7 @@
 use Rattle.rd_origin.proofs.Prelude.{numbered}
 use Rattle.std.proofs.lemmas.Grind.{common_steps}
 use Rattle.std.proofs.Common.{sym, subst, ◌<◌, ◌≡◌, ℕ, zero, suc, ◌-◌, Bool, true, false, refl, ap, ◌∙◌, List, [], ◌∷◌, ◌++◌, length, take, drop, slice_get, Option, Some, None, arith}
-use Rattle.rd_origin.specs.Positions.{behind, last_position, IsGreatest}
+use Rattle.rd_origin.specs.Positions.{last_position, one_further, IsGreatest}
 
 -- the element after the beginning
 pub at_seam : {X : Type 0} (xs ys : List X) (x : X) → numbered (xs ++ x ∷ ys) (suc (length xs)) ≡ Some x
@@ -44,7 +44,7 @@ pub record ApartAtLast {X : Type 0} (test : X → Bool) (xs : List X) (j : ℕ) 
   pub passes : test element ≡ true
   pub none : NonePasses test behind
 
-some_behind : (b : Bool) (n : Option ℕ) → behind b n ≡ None → (b ≡ false) × (n ≡ None)
+some_behind : (b : Bool) (n : Option ℕ) → one_further b n ≡ None → (b ≡ false) × (n ≡ None)
 some_behind b n h = grind arith
 
 pub none_passes : {X : Type 0} (test : X → Bool) (xs : List X) → last_position test xs ≡ None → NonePasses test xs
@@ -54,7 +54,7 @@ none_passes {X} test (x ∷ xs) h =
     (both.0, none_passes test xs both.1)
 
 apart_first : {X : Type 0} (test : X → Bool) (x : X) (xs : List X) (j : ℕ) (b : Bool) → test x ≡ b → last_position test xs ≡ None
-    → behind b None ≡ Some j → ApartAtLast test (x ∷ xs) j
+    → one_further b None ≡ Some j → ApartAtLast test (x ∷ xs) j
 apart_first {X} test x xs j false is none h = cc
 apart_first {X} test x xs j true is none h =
     record { before = []; element = x; behind = xs; whole = refl; number = cc; passes = is; none = none_passes test xs none }
@@ -71,7 +71,7 @@ apart_later {X} test x xs n j e a = record {
 }
 
 apart_on : {X : Type 0} (test : X → Bool) (x : X) (xs : List X) (j : ℕ) (o : Option ℕ) → last_position test xs ≡ o
-    → ((n : ℕ) → last_position test xs ≡ Some n → ApartAtLast test xs n) → behind (test x) o ≡ Some j → ApartAtLast test (x ∷ xs) j
+    → ((n : ℕ) → last_position test xs ≡ Some n → ApartAtLast test xs n) → one_further (test x) o ≡ Some j → ApartAtLast test (x ∷ xs) j
 apart_on {X} test x xs j None is rest h = apart_first test x xs j (test x) refl is h
 apart_on {X} test x xs j (Some n) is rest h = let e : suc n ≡ j = cc in apart_later test x xs n j e (rest n is)
 

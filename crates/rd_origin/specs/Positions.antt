@@ -1,7 +1,7 @@
 -- Positions in a list, counted from 1.
 use Rattle.std.specs.Prelude.{◌≡◌, ℕ, ◌<◌, Bool, true, false, List, Some}
 use Rattle.rd_step.specs.Lists.{numbered}
-pub use Rattle.rd_depend.specs.Writers.{behind, last_position}
+pub use Rattle.rd_depend.specs.Writers.{last_position, one_further}
 
 -- j is the greatest position whose element passes the test
 pub record IsGreatest {X : Type 0} (test : X → Bool) (xs : List X) (j : ℕ) : Type 0 where

@@ -1,12 +1,14 @@
 //! The first dependant by look-ups: the first later position of the actor, and for each place that
 //! the step touched the first one that touched it, or if the step only read it that wrote it.
 
-ghost use Rattle.std.specs.Prelude.{◌≡◌, ◌+◌, ◌<◌, ◌≤◌, ◌^◌, List, Some, IsSome, length, drop};
+ghost use Rattle.std.specs.Prelude.{◌≡◌, ◌+◌, ◌<◌, ◌≤◌, ◌^◌, List, Some, IsSome, length, drop, nat_lt};
 ghost use Rattle.rd_cell.specs.Places.{interfere};
 ghost use Rattle.rd_step.specs.declared.entries.Entry.{Entry as SomeEntry};
 ghost use Rattle.rd_step.specs.Lists.{numbered};
 ghost use Rattle.rd_step.specs.Prelude.{depends, depends_on_one, first_dependant};
-ghost use Rattle.rd_depend.specs.Lists.{list_at, first_above, earlier, IsAscending};
+ghost use Rattle.std.specs.List.{find};
+ghost use Rattle.rd_depend.specs.Lists.{earlier, IsAscending};
+ghost use Rattle.rd_depend.specs.Tables.{list_at};
 ghost use Rattle.rd_depend.specs.Index.{IsIndexOf, position_count, positions, reached};
 ghost use Rattle.rd_depend.specs.Probes.{probe_count};
 ghost use Rattle.rd_depend.specs.Keys.{is_under_some};
@@ -26,7 +28,7 @@ impl DependIndex {
         requires within { k ≤ position_count self.now }
         requires counted { probe_count probes.old < 2 ^ 32 }
         ensures answer { (es : List SomeEntry) → IsIndexOf self.now es → numbered es k ≡ Some entry.now → result ≡ first_dependant es k }
-        ensures above { (es : List SomeEntry) → IsIndexOf self.now es → result ≡ first_above k (positions (depends entry.now) es) }
+        ensures above { (es : List SomeEntry) → IsIndexOf self.now es → result ≡ find (nat_lt k) (positions (depends entry.now) es) }
         ensures cost { probe_count probes.new ≤ probe_count probes.old + 96 }
         ensures counts { probe_count probes.old < probe_count probes.new }
     {
@@ -59,7 +61,7 @@ impl DependIndex {
     fn first_at(&self, k: u32, place: Place, wrote: Wrote, probes: &mut Probes) -> Option<u64>
         requires { probe_count probes.old < 2 ^ 33 }
         ensures answer { (es : List SomeEntry) → IsIndexOf self.now es
-            → result ≡ first_above k (positions (λ y. interfere (Some place) wrote y.place y.wrote) es) }
+            → result ≡ find (nat_lt k) (positions (λ y. interfere (Some place) wrote y.place y.wrote) es) }
         ensures cost { probe_count probes.new ≤ probe_count probes.old + 57 }
         ensures counts { probe_count probes.old ≤ probe_count probes.new }
     {
@@ -82,7 +84,7 @@ impl DependIndex {
     ) -> Option<u64>
         requires { probe_count probes.old < 2 ^ 34 }
         ensures answer { (es : List SomeEntry) → IsIndexOf self.now es
-            → result ≡ first_above k (positions (λ y. is_under_some key (reached writes y)) es) }
+            → result ≡ find (nat_lt k) (positions (λ y. is_under_some key (reached writes y)) es) }
         ensures cost { probe_count probes.new ≤ probe_count probes.old + 19 }
         ensures counts { probe_count probes.old ≤ probe_count probes.new }
         ensures looks { IsSome key → probe_count probes.old < probe_count probes.new }
@@ -98,7 +100,7 @@ impl DependIndex {
     fn first_by(&self, k: u32, actor: u8, probes: &mut Probes) -> Option<u64>
         requires { probe_count probes.old < 2 ^ 34 }
         ensures answer { IsAscending (list_at self.now.by_actor.items actor) → length (list_at self.now.by_actor.items actor) < 2 ^ 17
-            → result ≡ first_above k (list_at self.now.by_actor.items actor) }
+            → result ≡ find (nat_lt k) (list_at self.now.by_actor.items actor) }
         ensures cost { probe_count probes.new ≤ probe_count probes.old + 19 }
         ensures counts { probe_count probes.old < probe_count probes.new }
     {

@@ -1,10 +1,10 @@
 //! Lists of positions by number, and what is done to one or to all of them.
 
-ghost use Rattle.std.specs.Prelude.{◌≡◌, ◌+◌, ◌-◌, ◌==◌, ◌&&◌, true, ◌<◌, ◌≤◌, ◌^◌, ◌++◌, ◌∷◌, [], ℕ, suc, Bool, List, IsOk, OnOk, length, map, take, vec_capacity, if◌then◌else◌};
-ghost use Rattle.rd_depend.specs.Lists.{one_if, list_at, capacity_at, spare_at, spare_of, with_first, up_to, number_up_to, AscendsFrom, AreUpTo, IsAscending, IsMoved};
+ghost use Rattle.std.specs.Prelude.{◌≡◌, ◌+◌, ◌-◌, ◌==◌, ◌&&◌, true, ◌<◌, ◌≤◌, ◌++◌, ◌∷◌, [], ℕ, IsOk, OnOk, length, map, nat_lt, take, vec_capacity, if◌then◌else◌};
+ghost use Rattle.std.specs.List.{before_first, position_or_len};
+ghost use Rattle.rd_depend.specs.Lists.{IsAscending, IsMoved, turned};
+ghost use Rattle.rd_depend.specs.Tables.{one_if, list_at, capacity_at, spare_at, spare_of};
 
-use super::positions::Positions;
-use super::probes::Probes;
 use std::alloc::{AllocError, Global};
 
 /// How many positions a full list makes room for at least.
@@ -159,38 +159,22 @@ fn move_among(positions: &mut [u32], k: u32, n: u32)
     requires order { k ≤ n }
     ensures { IsMoved k n positions.old positions.new }
 {
-    if ends_before(positions, k) {
-        return;
-    }
     let start = count_up_to(positions, k - 1);
     let end = start + count_up_to(&positions[start..], n);
-    move_first(&mut positions[start..end], k, n);
+    turn(&mut positions[start..end], k, n);
 }
 
-/// Whether the last position is less than `k`, or there is none.
-fn ends_before(list: &[u32], k: u32) -> bool
-    ensures { result ≡ true → IsAscending list.now → AreUpTo (k - 1) list.now }
+/// Subtracts 1 from each position; but if the first one is `k`, it is moved to the end and becomes
+/// `n`.
+fn turn(positions: &mut [u32], k: u32, n: u32)
+    ensures { positions.new ≡ turned k n positions.old }
 {
-    let len = list.len();
-    if len == 0 {
-        return true;
-    }
-    let last = list[len - 1];
-    last < k
-}
-
-/// Subtracts 1 from each position above `k`. If the first position is `k`, it is moved to the end
-/// and becomes `n`.
-fn move_first(positions: &mut [u32], k: u32, n: u32)
-    requires { 1 ≤ k }
-    ensures { (later : List ℕ) (held : Bool) → AscendsFrom (suc k) later → positions.old ≡ with_first held k later
-        → positions.new ≡ map (λ p. p - 1) later ++ with_first held n [] }
-{
+    let held = !positions.is_empty() && positions[0] == k;
     lower(positions);
-    let len = positions.len();
-    if len > 0 && positions[0] == k - 1 {
+    if held {
         positions.rotate_left(1);
-        positions[len - 1] = n;
+        let last = positions.len() - 1;
+        positions[last] = n;
     }
 }
 
@@ -203,18 +187,17 @@ fn lower(positions: &mut [u32])
     }
 }
 
-/// Returns how many positions are at most `k`, where they ascend and are few enough.
+/// Returns how many positions are at most `k`, where they ascend.
 fn count_up_to(positions: &[u32], k: u32) -> usize
     ensures within { result ≤ length positions.now }
-    ensures count { IsAscending positions.now → length positions.now < 2 ^ 17 → result ≡ number_up_to k positions.now }
+    ensures count { IsAscending positions.now → result ≡ position_or_len (nat_lt k) positions.now }
 {
-    let mut probes = Probes::new();
-    Positions::found(positions, &mut probes).count_up_to(k, &mut probes)
+    positions.partition_point(|p| *p <= k)
 }
 
 /// Takes the positions above `n` out of each list.
 pub(crate) fn truncate_all(lists: &mut Vec<Vec<u32>>, n: u32)
-    ensures lists { (i : ℕ) → IsAscending (list_at lists.old.items i) → list_at lists.new.items i ≡ up_to n (list_at lists.old.items i) }
+    ensures lists { (i : ℕ) → IsAscending (list_at lists.old.items i) → list_at lists.new.items i ≡ before_first (nat_lt n) (list_at lists.old.items i) }
     ensures capacity { (i : ℕ) → capacity_at lists.new.items i ≡ capacity_at lists.old.items i }
     ensures number { length lists.new.items ≡ length lists.old.items }
 {
@@ -225,12 +208,9 @@ pub(crate) fn truncate_all(lists: &mut Vec<Vec<u32>>, n: u32)
 
 /// Takes the positions above `n` out of a list.
 fn truncate_list(list: &mut Vec<u32>, n: u32)
-    ensures items { IsAscending list.old.items → list.new.items ≡ up_to n list.old.items }
+    ensures items { IsAscending list.old.items → list.new.items ≡ before_first (nat_lt n) list.old.items }
     ensures capacity { vec_capacity list.new ≡ vec_capacity list.old }
 {
-    let mut end = list.len();
-    'falling: while end > 0 && list[end - 1] > n {
-        end -= 1;
-    }
-    list.truncate(end);
+    let kept = count_up_to(list, n);
+    list.truncate(kept);
 }

@@ -1,7 +1,8 @@
 //! The search among ascending positions, by halving.
 
-ghost use Rattle.std.specs.Prelude.{◌≡◌, ◌+◌, ◌<◌, ◌≤◌, ◌^◌, length};
-ghost use Rattle.rd_depend.specs.Lists.{IsAscending, first_above, last_of, number_up_to, up_to};
+ghost use Rattle.std.specs.Prelude.{◌≡◌, ◌+◌, ◌<◌, ◌≤◌, ◌^◌, length, nat_lt, None};
+ghost use Rattle.std.specs.List.{before_first, find, last_or, position_or_len};
+ghost use Rattle.rd_depend.specs.Lists.{IsAscending};
 ghost use Rattle.rd_depend.specs.Probes.{probe_count};
 
 use super::positions::Positions;
@@ -14,7 +15,7 @@ impl<'a> Positions<'a> {
         ensures within { result ≤ length self.now.items.now }
         ensures cost { probe_count probes.new ≤ probe_count probes.old + 17 }
         ensures counts { probe_count probes.old ≤ probe_count probes.new }
-        ensures count { IsAscending self.now.items.now → length self.now.items.now < 2 ^ 17 → result ≡ number_up_to k self.now.items.now }
+        ensures count { IsAscending self.now.items.now → length self.now.items.now < 2 ^ 17 → result ≡ position_or_len (nat_lt k) self.now.items.now }
     {
         let mut low = 0;
         let mut high = self.len();
@@ -36,7 +37,7 @@ impl<'a> Positions<'a> {
     /// probes.
     pub(crate) fn first_above(&self, k: u32, probes: &mut Probes) -> Option<u64>
         requires { probe_count probes.old < 2 ^ 61 }
-        ensures first { IsAscending self.now.items.now → length self.now.items.now < 2 ^ 17 → result ≡ first_above k self.now.items.now }
+        ensures first { IsAscending self.now.items.now → length self.now.items.now < 2 ^ 17 → result ≡ find (nat_lt k) self.now.items.now }
         ensures cost { probe_count probes.new ≤ probe_count probes.old + 18 }
         ensures counts { probe_count probes.old ≤ probe_count probes.new }
     {
@@ -52,7 +53,7 @@ impl<'a> Positions<'a> {
     /// probes.
     pub(crate) fn last_up_to(&self, k: u32, probes: &mut Probes) -> Option<u64>
         requires { probe_count probes.old < 2 ^ 61 }
-        ensures last { IsAscending self.now.items.now → length self.now.items.now < 2 ^ 17 → result ≡ last_of (up_to k self.now.items.now) }
+        ensures last { IsAscending self.now.items.now → length self.now.items.now < 2 ^ 17 → result ≡ last_or None (before_first (nat_lt k) self.now.items.now) }
         ensures cost { probe_count probes.new ≤ probe_count probes.old + 18 }
         ensures counts { probe_count probes.old ≤ probe_count probes.new }
     {

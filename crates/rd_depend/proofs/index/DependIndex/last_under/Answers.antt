@@ -1,5 +1,5 @@
-use Rattle.std.proofs.Common.{◌≡◌, ◌<◌, ℕ, List, length, true, take, sym, ap, subst, ◌∙◌, Option}
-use Rattle.rd_depend.proofs.Prelude.{Key, is_under_some, IsAscending, last_of, up_to, Under, reached, last_position}
+use Rattle.std.proofs.Common.{◌≡◌, ◌<◌, ℕ, List, length, true, take, sym, ap, subst, ◌∙◌, Option, None}
+use Rattle.rd_depend.proofs.Prelude.{nat_lt, Key, is_under_some, IsAscending, last_or, before_first, Under, reached, last_position}
 use Rattle.rd_depend.proofs.IndexWriters.{last_in, none_last}
 use Rattle.rd_depend.proofs.index.DependIndex.last_under.Goals as goal
 
@@ -10,6 +10,6 @@ returns-in_default-clause-answer c = λ es is.
 pub returns-clause-answer : goal.returns-clause-answer
 returns-clause-answer c = λ es is.
     last_in c.args.self.now es is (Under true c.in-Some.key) c.args.n c.last_up_to.result
-    (subst (λ (l : List ℕ). IsAscending l → length l < 131072 → c.last_up_to.result ≡ last_of (up_to c.args.n l)) (c.found.ensures.items ∙ c.list.ensures)
+    (subst (λ (l : List ℕ). IsAscending l → length l < 131072 → c.last_up_to.result ≡ last_or None (before_first (nat_lt c.args.n) l)) (c.found.ensures.items ∙ c.list.ensures)
     c.last_up_to.ensures.last)
     ∙ sym (ap (λ (o : Option Key). last_position (λ y. is_under_some o (reached true y)) (take c.args.n es)) c.in-Some.is)

@@ -1,22 +1,22 @@
 use Rattle.std.proofs.Common.{refl}
-use Rattle.rd_depend.proofs.Prelude.{DependIndex}
-use Rattle.rd_depend.proofs.IndexMoves.{moves_all, moved_index, moved_room}
+use Rattle.rd_depend.proofs.Prelude.{DependIndex, IsMoved}
+use Rattle.rd_depend.proofs.IndexMoves.{moved_index, moved_room}
+use Rattle.rd_depend.proofs.IndexRoom.{each, each_capacity}
 use Rattle.rd_depend.proofs.index.DependIndex.move_to.Goals as goal
 
+abbrev after : goal.After-self-1 → DependIndex
+after c = let old = c.args.self.now in record { by_actor = c.move_all.new.lists; by_key = c.move_to.new.self; len = old.len; alloc = old.alloc; few = old.few }
+
 pub returns-clause-moved : goal.returns-clause-moved
-returns-clause-moved c =
-    moved_index _ _ c.args.k c.args.n c.requires.some c.requires.order c.requires.within
-    (moves_all _ _ c.args.k c.args.n c.move_all.ensures.lists c.move_all.ensures.capacity c.move_to.ensures refl)
+returns-clause-moved c = λ es is.
+    let all = moved_index c.args.self.now (after c) c.args.k c.args.n c.requires.some c.requires.order c.requires.within
+    (each c.args.self.now (after c) (IsMoved c.args.k c.args.n) c.move_all.ensures.lists c.move_to.ensures.lists) refl es is in
+    record { lists = all.lists; len = all.len }
+
+pub returns-clause-capacity : goal.returns-clause-capacity
+returns-clause-capacity c = each_capacity c.args.self.now (after c) c.move_all.ensures.capacity c.move_to.ensures.capacity
 
 pub returns-clause-room : goal.returns-clause-room
 returns-clause-room c =
-    let old = c.args.self.now in
-    let new : DependIndex = record { by_actor = c.move_all.new.lists; by_key = c.move_to.new.self; len = old.len; alloc = old.alloc; few = old.few } in
-    moved_room old new c.args.k c.args.n c.requires.some c.requires.order c.requires.within
-    (moves_all old new c.args.k c.args.n c.move_all.ensures.lists c.move_all.ensures.capacity c.move_to.ensures refl) c.requires.index.entries c.requires.index.is
-
-pub returns-clause-capacity : goal.returns-clause-capacity
-returns-clause-capacity c =
-    let old = c.args.self.now in
-    let new : DependIndex = record { by_actor = c.move_all.new.lists; by_key = c.move_to.new.self; len = old.len; alloc = old.alloc; few = old.few } in
-    (moves_all old new c.args.k c.args.n c.move_all.ensures.lists c.move_all.ensures.capacity c.move_to.ensures refl).capacity_stays
+    moved_room c.args.self.now (after c) c.args.k c.args.n c.requires.some c.requires.order c.requires.within (λ es is. let all = returns-clause-moved c es is in record { lists = all.lists; len = all.len }) (returns-clause-capacity c)
+    c.requires.index.entries c.requires.index.is

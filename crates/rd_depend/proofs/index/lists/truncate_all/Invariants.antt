@@ -1,11 +1,11 @@
 use Rattle.std.proofs.Common.{◌≡◌, ℕ, ◌<◌, ◌≤◌, length}
-use Rattle.rd_depend.proofs.Prelude.{list_at, capacity_at, up_to, IsAscending}
+use Rattle.rd_depend.proofs.Prelude.{nat_lt, list_at, capacity_at, before_first, IsAscending}
 use Rattle.rd_depend.proofs.index.lists.truncate_all.Given as goal
 
 abbrev pub invariant-loop-index : goal.invariant-loop-index
 invariant-loop-index l = record {
   number : length l.lists.items ≡ length l.fn.lists.items;
-  done : (i : ℕ) → i < l.index → IsAscending (list_at l.fn.lists.items i) → list_at l.lists.items i ≡ up_to l.n (list_at l.fn.lists.items i);
+  done : (i : ℕ) → i < l.index → IsAscending (list_at l.fn.lists.items i) → list_at l.lists.items i ≡ before_first (nat_lt l.n) (list_at l.fn.lists.items i);
   left : (i : ℕ) → l.index ≤ i → list_at l.lists.items i ≡ list_at l.fn.lists.items i;
   capacity : (i : ℕ) → capacity_at l.lists.items i ≡ capacity_at l.fn.lists.items i;
 }

@@ -1,9 +1,10 @@
 use Rattle.std.proofs.Common.{arith}
-use Rattle.rd_depend.proofs.IndexLists.{halved, number-above, number-below, number-within}
+use Rattle.std.proofs.lemmas.List.Sums.{prefix_len-le-length}
+use Rattle.rd_depend.proofs.IndexLists.{halved, number-above, number-below}
 use Rattle.rd_depend.proofs.index.positions.Positions.count_up_to.Goals as goal
 
 pub loop-round-init : goal.loop-round-init
-loop-round-init c = grind (arith, number-within)
+loop-round-init c = grind (arith, prefix_len-le-length)
 
 pub returns-then-low-high-clause-count : goal.returns-then-low-high-clause-count
 returns-then-low-high-clause-count c = λ h few. omega arith

@@ -1,5 +1,5 @@
 use Rattle.std.proofs.Common.{◌+◌, ◌-◌, ◌^◌, ◌<◌, ◌≤◌, length}
-use Rattle.rd_depend.proofs.Prelude.{IsAscending, number_up_to}
+use Rattle.rd_depend.proofs.Prelude.{nat_lt, IsAscending, position_or_len}
 use Rattle.rd_depend.proofs.index.positions.Positions.count_up_to.Given as goal
 
 abbrev pub invariant-loop-round : goal.invariant-loop-round
@@ -9,6 +9,6 @@ invariant-loop-round l = record {
   cost : l.probes.count ≤ l.fn.probes.count + l.round;
   counts : l.fn.probes.count ≤ l.probes.count;
   small : length l.self.items.now < 2 ^ 17 → l.high - l.low < 2 ^ (17 - l.round);
-  below : IsAscending l.self.items.now → l.low ≤ number_up_to l.k l.self.items.now;
-  above : IsAscending l.self.items.now → number_up_to l.k l.self.items.now ≤ l.high;
+  below : IsAscending l.self.items.now → l.low ≤ position_or_len (nat_lt l.k) l.self.items.now;
+  above : IsAscending l.self.items.now → position_or_len (nat_lt l.k) l.self.items.now ≤ l.high;
 }

@@ -1,9 +1,9 @@
 use Rattle.std.proofs.Common.{arith}
-use Rattle.rd_depend.proofs.IndexLists.{first-there, first-missing}
+use Rattle.rd_depend.proofs.Prelude.{find_at, slice_get-get_or, slice_get_past}
 use Rattle.rd_depend.proofs.index.positions.Positions.first_above.Goals as goal
 
 pub returns-then-index-len-clause-first : goal.returns-then-index-len-clause-first
-returns-then-index-len-clause-first c = grind (arith, first-there)
+returns-then-index-len-clause-first c = grind (arith, find_at, slice_get-get_or)
 
 pub returns-else-index-len-clause-first : goal.returns-else-index-len-clause-first
-returns-else-index-len-clause-first c = grind (arith, first-missing)
+returns-else-index-len-clause-first c = grind (arith, find_at, slice_get_past)
