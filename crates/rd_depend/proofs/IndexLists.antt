@@ -1,7 +1,8 @@
 -- Ascending positions: the search for the first that is greater than a number, and what becomes of
 -- them where one is moved.
 use Rattle.std.proofs.Common.{◌≡◌, ℕ, zero, suc, ◌+◌, ◌-◌, ◌*◌, ◌/◌, ◌^◌, ◌<◌, ◌≤◌, ◌==◌, Bool, true, false, not, nat_lt, List, [], ◌∷◌, ◌++◌, length, get_or, map, drop, take, cond, if◌then◌else◌, ◌||◌, ◌≢◌, refl, sym, ap, ◌∙◌, arith, append_assoc, eqb-true, length-drop, subst}
-use Rattle.rd_depend.proofs.Prelude.{nat_tests, eqb-false, take_all, take-append-drop, AscendsFrom, IsAscending, IsMoved, before_first, contains, moved_position, position_or_len, turned}
+use Rattle.rd_depend.proofs.Prelude.{nat_tests, eqb-false, take_all, take-append-drop, AscendsFrom, IsAscending, before_first, contains, moved_position, position_or_len, turned}
+use Rattle.rd_depend.specs.Lists.{AreMoved, IsMoved}
 use Rattle.std.proofs.lemmas.List.Sums.{prefix_len_is}
 use Rattle.std.specs.List.Sorted.{IsNonDecreasingBy, IsPartitionPoint}
 use Rattle.std.proofs.Math.Nat.{pow-succ'}
@@ -113,66 +114,53 @@ turned-has : (k n p : ℕ) (ps : List ℕ) → Within k n ps → contains (turne
 turned-has k n p [] h = refl
 turned-has k n p (q ∷ qs) h = grind (arith, nat_tests, list_any-append, lowered-has (suc q) k n p qs h.2, lowered-has (suc k) k n p (q ∷ qs))
 
-parts_moved : (k n : ℕ) (ps : List ℕ) → 1 ≤ k → k ≤ n
-    → let low = before_first (nat_lt (k - 1)) ps in
-    let rest = drop (position_or_len (nat_lt (k - 1)) ps) ps in
-    IsMoved k n ps (low ++ (turned k n (before_first (nat_lt n) rest) ++ drop (position_or_len (nat_lt n) rest) rest))
-parts_moved k n ps some order up = record {
+-- the parts that the searches find, the one between turned
+pub moved : (k n start size : ℕ) (ps turns new : List ℕ) → 1 ≤ k → k ≤ n → (IsAscending ps → start ≡ position_or_len (nat_lt (k - 1)) ps)
+    → (IsAscending (take (length ps - start) (drop start ps)) → size ≡ position_or_len (nat_lt n) (take (length ps - start) (drop start ps)))
+    → turns ≡ turned k n (take (start + size - start) (drop start ps)) → new ≡ take start ps ++ (turns ++ drop (start + size - start) (drop start ps)) → IsMoved k n ps new
+unfolding IsMoved
+moved k n start size ps turns new some order at until turn is up = subst (AreMoved k n ps) (sym (is ∙ (λ i. low ++ parts i))) (record {
   ascends = within-append 0 (k - 1) low _ (omega arith) is_low (ascends_lower (suc (k - 1)) k _ (omega arith) (turned-ascends k n mid high some order is_mid is_high));
   places = λ p.
       list_any-append _ low (turned k n mid ++ high)
       ∙ (λ i. low-has 0 k n p low is_low some order i || (list_any-append (λ q. q == moved_position k n p) (turned k n mid) high ∙ (λ j. turned-has k n p mid is_mid j || high-has (suc n) k n p high is_high (omega arith) order j)) i)
       ∙ sym (list_any-append _ low (mid ++ high) ∙ ap (λ (b : Bool). contains low p || b) (list_any-append _ mid high))
-      ∙ ap (λ (l : List ℕ). contains l p) (ap (λ (l : List ℕ). low ++ l) (take-append-drop (position_or_len (nat_lt n) rest) rest) ∙ take-append-drop (position_or_len (nat_lt (k - 1)) ps) ps);
-}
+      ∙ ap (λ (l : List ℕ). contains l p) (ap (λ (l : List ℕ). low ++ l) (take-append-drop size rest) ∙ take-append-drop start ps);
+})
   where
     low : List ℕ
-    low = before_first (nat_lt (k - 1)) ps
+    low = take start ps
 
     rest : List ℕ
-    rest = drop (position_or_len (nat_lt (k - 1)) ps) ps
+    rest = drop start ps
 
     mid : List ℕ
-    mid = before_first (nat_lt n) rest
+    mid = take size rest
 
     high : List ℕ
-    high = drop (position_or_len (nat_lt n) rest) rest
+    high = drop size rest
 
     is_low : Within 0 (k - 1) low
-    is_low = front-within 0 (k - 1) ps up
+    is_low = subst (λ (i : ℕ). Within 0 (k - 1) (take i ps)) (sym (at up)) (front-within 0 (k - 1) ps up)
 
     from_k : AscendsFrom k rest
-    from_k = ascends_lower k (suc (k - 1)) rest (omega arith) (rest-ascends 0 (k - 1) ps up (omega arith))
+    from_k = subst (λ (i : ℕ). AscendsFrom k (drop i ps)) (sym (at up)) (ascends_lower k (suc (k - 1)) _ (omega arith) (rest-ascends 0 (k - 1) ps up (omega arith)))
+
+    ends : size ≡ position_or_len (nat_lt n) rest
+    ends =
+        let all : take (length ps - start) rest ≡ rest = take_all (length ps - start) rest (omega (arith, length-drop start ps)) in
+        until (subst IsAscending (sym all) (ascends_lower 0 k rest (omega arith) from_k)) ∙ ap (position_or_len (nat_lt n)) all
 
     is_mid : Within k n mid
-    is_mid = front-within k n rest from_k
+    is_mid = subst (λ (i : ℕ). Within k n (take i rest)) (sym ends) (front-within k n rest from_k)
 
     is_high : AscendsFrom (suc n) high
-    is_high = rest-ascends k n rest from_k (omega arith)
+    is_high = subst (λ (i : ℕ). AscendsFrom (suc n) (drop i rest)) (sym ends) (rest-ascends k n rest from_k (omega arith))
 
--- the parts that the searches find, the one between turned
-pub moved : (k n start size : ℕ) (ps turns new : List ℕ) → 1 ≤ k → k ≤ n → (IsAscending ps → start ≡ position_or_len (nat_lt (k - 1)) ps)
-    → (IsAscending (take (length ps - start) (drop start ps)) → size ≡ position_or_len (nat_lt n) (take (length ps - start) (drop start ps)))
-    → turns ≡ turned k n (take (start + size - start) (drop start ps)) → new ≡ take start ps ++ (turns ++ drop (start + size - start) (drop start ps)) → IsMoved k n ps new
-moved k n start size ps turns new some order at until turn is up = subst (IsMoved k n ps) (sym (is ∙ parts)) (parts_moved k n ps some order) up
-  where
-    all : take (length ps - start) (drop start ps) ≡ drop start ps
-    all = take_all (length ps - start) (drop start ps) (omega (arith, length-drop start ps))
+    parts : turns ++ drop (start + size - start) rest ≡ turned k n mid ++ high
+    parts = let long : start + size - start ≡ size = omega arith in λ i. (turn ∙ ap (λ (j : ℕ). turned k n (take j rest)) long) i ++ drop (long i) rest
 
-    begins : start ≡ position_or_len (nat_lt (k - 1)) ps
-    begins = at up
-
-    rest : IsAscending (drop start ps)
-    rest = subst (λ (i : ℕ). IsAscending (drop i ps)) (sym begins) (ascends_lower 0 (suc (k - 1)) _ (omega arith) (rest-ascends 0 (k - 1) ps up (omega arith)))
-
-    ends : size ≡ position_or_len (nat_lt n) (drop start ps)
-    ends = until (subst IsAscending (sym all) rest) ∙ ap (position_or_len (nat_lt n)) all
-
-    long : start + size - start ≡ size
-    long = omega arith
-
-    parts : take start ps ++ (turns ++ drop (start + size - start) (drop start ps))
-        ≡ before_first (nat_lt (k - 1)) ps ++ (turned k n (before_first (nat_lt n) (drop (position_or_len (nat_lt (k - 1)) ps) ps)) ++ drop (position_or_len (nat_lt n) (drop (position_or_len (nat_lt (k - 1)) ps) ps)) (drop (position_or_len (nat_lt (k - 1)) ps) ps))
-    parts =
-        (λ i. take start ps ++ ((turn ∙ ap (λ (j : ℕ). turned k n (take j (drop start ps))) (long ∙ ends)) i ++ ap (λ (j : ℕ). drop j (drop start ps)) (long ∙ ends) i))
-        ∙ (λ i. take (begins i) ps ++ (turned k n (before_first (nat_lt n) (drop (begins i) ps)) ++ drop (position_or_len (nat_lt n) (drop (begins i) ps)) (drop (begins i) ps)))
+-- among no positions nothing is moved
+pub none_moved : (k n : ℕ) → IsMoved k n [] []
+unfolding IsMoved
+none_moved k n up = record { ascends = tt; places = λ p. refl }

@@ -2,7 +2,8 @@
 -- moved, and has the same room.
 use Rattle.std.proofs.Common.{◌≡◌, ℕ, zero, suc, ◌+◌, ◌-◌, ◌<◌, ◌≤◌, ◌==◌, Bool, false, nat_lt, if◌then◌else◌, List, [], ◌∷◌, ◌++◌, length, slice_get, take, drop, Option, Some, None, refl, sym, ap, subst, ◌∙◌, append_assoc, arith, length-append, length-drop}
 use Rattle.std.specs.Option.{option_map_or}
-use Rattle.rd_depend.proofs.Prelude.{nat_tests, drop_of_length-le, length-take-le, take_all, take-append-drop, drop-drop, Entry, numbered, without, DependIndex, AscendsFrom, AreMoved, IsMoved, contains, moved_position, positions_from, positions, number_of, touches, Touch, kept, capacity, IsIndexOf, GivesRoom}
+use Rattle.rd_depend.proofs.Prelude.{nat_tests, drop_of_length-le, length-take-le, take_all, take-append-drop, drop-drop, Entry, numbered, without, DependIndex, AscendsFrom, AreMoved, contains, moved_position, positions_from, positions, number_of, touches, Touch, kept, capacity, IsIndexOf, GivesRoom}
+use Rattle.rd_depend.specs.Lists.{IsMoved}
 use Rattle.rd_depend.specs.Moved.{moved_to}
 use Rattle.rd_depend.proofs.IndexPositions.{positions-ascend, ascending, number-append}
 use Rattle.rd_depend.proofs.IndexChanges.{drop_one}
@@ -100,6 +101,7 @@ has-numbered test zero es = has-below 1 0 (positions test es) (positions-ascend 
 has-numbered test (suc j) es = let e : suc j ≡ 1 + j = omega arith in ap (contains (positions test es)) e ∙ has-positions test 1 j es
 
 positions-moved : (test : Entry → Bool) (k n : ℕ) (es : List Entry) (new : List ℕ) → 1 ≤ k → k ≤ n → Cut es k n → IsMoved k n (positions test es) new → new ≡ positions test (moved_to es k n)
+unfolding IsMoved
 positions-moved test k n es new some order c moves = same_ascending 0 0 new (positions test (moved_to es k n)) all.ascends (ascending test (moved_to es k n)) same
   where
     all : AreMoved k n (positions test es) new

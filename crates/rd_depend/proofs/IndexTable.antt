@@ -1,6 +1,9 @@
 -- The table of keys: which key has which index, and what a change of the lists by index is for the
 -- keys.
 use Rattle.rd_depend.proofs.Prelude.{common_steps, nat_tests, option_map, slice_get-push_same, slice_get-push_other, Key, Table, key_eq, slot_in, key_eq-true, key_eq-refl, key_eq-sym, Lists, list_at, spare_at, one_if, list_of, capacity_of, lists_of, kept_in, spare_in, counts, IsReady, KeepsLists, Puts, TakesLast}
+use Rattle.rd_depend.specs.Tables.{Moves, capacity_at}
+use Rattle.rd_depend.specs.Lists.{IsMoved}
+use Rattle.rd_depend.proofs.IndexLists.{none_moved}
 use Rattle.std.proofs.Common.{◌≡◌, ℕ, zero, suc, ◌+◌, ◌-◌, ◌<◌, ◌≤◌, Bool, true, false, ◌&&◌, ◌==◌, if◌then◌else◌, List, [], ◌∷◌, ◌++◌, length, get_or, take, Option, Some, None, slice_get, position, Vec, refl, sym, ap, subst, ◌∙◌, arith, eqb-true, eq-eqb}
 use Rattle.std.proofs.lemmas.Map.Keys.{apart_from_distinct}
 use Rattle.std.specs.Cmp.{both_ways}
@@ -12,17 +15,11 @@ use Rattle.std.specs.declared.alloc.Global.{Global}
 -- at its index is the key
 pub slot-there : (keys : List Key) (k : Key) (i : ℕ) → slot_in keys k ≡ Some i → slice_get keys i ≡ Some k
 slot-there [] k i h = absurd cc
-slot-there (q ∷ qs) k i h = by (key_eq k q) refl (slot-there qs k) h
-  where
-    by : (b : Bool) → key_eq k q ≡ b → ((j : ℕ) → slot_in qs k ≡ Some j → slice_get qs j ≡ Some k) → (if b then Some 0 else option_map (λ n. suc n) (slot_in qs k)) ≡ Some i → slice_get (q ∷ qs) i ≡ Some k
-    by b e rest g = grind arith
+slot-there (q ∷ qs) k i h = grind (arith, key_eq-true, slot-there qs k)
 
 pub slot-within : (keys : List Key) (k : Key) (i : ℕ) → slot_in keys k ≡ Some i → i < length keys
 slot-within [] k i h = absurd cc
-slot-within (q ∷ qs) k i h = by (key_eq k q) (slot-within qs k) h
-  where
-    by : (b : Bool) → ((j : ℕ) → slot_in qs k ≡ Some j → j < length qs) → (if b then Some 0 else option_map (λ n. suc n) (slot_in qs k)) ≡ Some i → i < length (q ∷ qs)
-    by b rest g = grind arith
+slot-within (q ∷ qs) k i h = grind (arith, slot-within qs k)
 
 -- a key that is at an index has that index, since no key occurs twice
 stands-slot : (keys : List Key) (k : Key) (i : ℕ) (d : Key) → IsDistinct key_eq keys → i < length keys → k ≡ get_or keys i d → slot_in keys k ≡ Some i
@@ -72,46 +69,22 @@ pub position-slot : (keys : List Key) (k : Key) → position (key_eq k) keys ≡
 position-slot [] k = grind (arith, nat_tests)
 position-slot (q ∷ qs) k = grind (arith, position-slot qs k)
 
--- a change at one index, as a change under a key
-
-changed_at : (old new : Lists) (f : List ℕ → List ℕ) (b : Bool) (i : ℕ)
-    → ((j : ℕ) → list_at new j ≡ (if b && (j == i) then f (list_at old j) else list_at old j))
-    → (o : Option ℕ) → list_of new o ≡ (if b && is_slot i o then f (list_of old o) else list_of old o)
-changed_at old new f b i h o = grind arith
-
-pub changed : (keys : List Key) (k q : Key) (i : ℕ) → slot_in keys k ≡ Some i → (old new : Lists) (f : List ℕ → List ℕ) (b : Bool)
-    → ((j : ℕ) → list_at new j ≡ (if b && (j == i) then f (list_at old j) else list_at old j))
-    → list_of new (slot_in keys q) ≡ (if b && key_eq q k then f (list_of old (slot_in keys q)) else list_of old (slot_in keys q))
-changed keys k q i slot old new f b h =
-    changed_at old new f b i h (slot_in keys q)
-    ∙ ap (λ (c : Bool). if b && c then f (list_of old (slot_in keys q)) else list_of old (slot_in keys q)) (slot-same keys k q i slot)
-
 -- how many more a list has room for
 abbrev room_left : Lists → Option ℕ → ℕ
 room_left lists o = capacity_of lists o - length (list_of lists o)
 
-pub used_at : (old new : Lists) (b : Bool) (i : ℕ) → ((j : ℕ) → spare_at old j ≤ spare_at new j + one_if (b && (j == i)))
-    → (o : Option ℕ) → room_left old o ≤ room_left new o + one_if (b && is_slot i o)
-used_at old new b i h None = omega arith
-used_at old new b i h (Some j) = h j
+-- what holds of each list by its index, by whether it is this one, holds of each key's, by whether
+-- it is this key
+keyed : (keys : List Key) (k q : Key) (i : ℕ) → slot_in keys k ≡ Some i → (b : Bool) (P : Bool → Option ℕ → Type 0) → ((j : ℕ) → P (b && (j == i)) (Some j)) → P false None
+    → P (b && key_eq q k) (slot_in keys q)
+keyed keys k q i slot b P some none = subst (λ (c : Bool). P (b && c) (slot_in keys q)) (slot-same keys k q i slot) (by (slot_in keys q))
+  where
+    no : (c : Bool) → false ≡ (c && false)
+    no c = grind arith
 
-pub used : (keys : List Key) (k q : Key) (i : ℕ) → slot_in keys k ≡ Some i → (old new : Lists) (b : Bool)
-    → ((j : ℕ) → spare_at old j ≤ spare_at new j + one_if (b && (j == i)))
-    → room_left old (slot_in keys q) ≤ room_left new (slot_in keys q) + one_if (b && key_eq q k)
-used keys k q i slot old new b h =
-    subst (λ (c : Bool). room_left old (slot_in keys q) ≤ room_left new (slot_in keys q) + one_if (b && c)) (slot-same keys k q i slot)
-    (used_at old new b i h (slot_in keys q))
-
-pub freed_at : (old new : Lists) (b : Bool) (i : ℕ) → ((j : ℕ) → spare_at new j ≡ spare_at old j + one_if (b && (j == i)))
-    → (o : Option ℕ) → room_left new o ≡ room_left old o + one_if (b && is_slot i o)
-freed_at old new b i h o = grind arith
-
-pub freed : (keys : List Key) (k q : Key) (i : ℕ) → slot_in keys k ≡ Some i → (old new : Lists) (b : Bool)
-    → ((j : ℕ) → spare_at new j ≡ spare_at old j + one_if (b && (j == i)))
-    → room_left new (slot_in keys q) ≡ room_left old (slot_in keys q) + one_if (b && key_eq q k)
-freed keys k q i slot old new b h =
-    subst (λ (c : Bool). room_left new (slot_in keys q) ≡ room_left old (slot_in keys q) + one_if (b && c)) (slot-same keys k q i slot)
-    (freed_at old new b i h (slot_in keys q))
+    by : (o : Option ℕ) → P (b && is_slot i o) o
+    by None = subst (λ (c : Bool). P c None) (no b) none
+    by (Some j) = some j
 
 -- what the table's calls ask for
 
@@ -129,10 +102,7 @@ spare_there t k w i slot h = subst (λ (o : Option ℕ). 0 < room_left (lists_of
 
 pub absent : (keys : List Key) (k : Key) → slot_in keys k ≡ None → list_any (key_eq k) keys ≡ false
 absent [] k h = refl
-absent (q ∷ qs) k h = by (key_eq k q) refl (absent qs k) h
-  where
-    by : (b : Bool) → key_eq k q ≡ b → (slot_in qs k ≡ None → list_any (key_eq k) qs ≡ false) → (if b then Some 0 else option_map (λ n. suc n) (slot_in qs k)) ≡ None → list_any (key_eq k) (q ∷ qs) ≡ false
-    by b e rest g = grind arith
+absent (q ∷ qs) k h = grind (arith, absent qs k)
 
 -- the index itself, or this one if the test holds
 abbrev or_slot : Option ℕ → Bool → ℕ → Option ℕ
@@ -177,18 +147,20 @@ pub puts : (old new : Table) (k : Key) (wrote : Bool) (p i : ℕ) → new.keys.k
     → ((j : ℕ) → spare_at old.writes.items j ≤ spare_at new.writes.items j + one_if (wrote && (j == i)))
     → slot_in old.keys.keys k ≡ Some i → Puts (Some k) wrote p old new
 puts old new k wrote p i keys all writes room_all room_writes slot = record {
-  lists = λ w q. ap (λ (ks : List Key). list_of (lists_of new w) (slot_in ks q)) keys ∙ lists w q;
-  room = λ w q. subst (λ (ks : List Key). spare_in old w q ≤ room_left (lists_of new w) (slot_in ks q) + one_if (counts w wrote && key_eq q k)) (sym keys) (room w q);
+  lists = λ w q. ap (λ (ks : List Key). list_of (lists_of new w) (slot_in ks q)) keys
+      ∙ keyed old.keys.keys k q i slot (counts w wrote) (λ c o. list_of (lists_of new w) o ≡ (if c then list_of (lists_of old w) o ++ p ∷ [] else list_of (lists_of old w) o)) (lists w) refl;
+  room = λ w q. subst (λ (ks : List Key). spare_in old w q ≤ room_left (lists_of new w) (slot_in ks q) + one_if (counts w wrote && key_eq q k)) (sym keys)
+      (keyed old.keys.keys k q i slot (counts w wrote) (λ c o. room_left (lists_of old w) o ≤ room_left (lists_of new w) o + one_if c) (room w) (omega arith));
   slots = λ q. ap (λ (ks : List Key). slot_in ks q) keys;
 }
   where
-    lists : (w : Bool) (q : Key) → list_of (lists_of new w) (slot_in old.keys.keys q) ≡ (if counts w wrote && key_eq q k then kept_in old w q ++ p ∷ [] else kept_in old w q)
-    lists false q = changed old.keys.keys k q i slot old.all.items new.all.items (λ l. l ++ p ∷ []) true all
-    lists true q = changed old.keys.keys k q i slot old.writes.items new.writes.items (λ l. l ++ p ∷ []) wrote writes
+    lists : (w : Bool) (j : ℕ) → list_at (lists_of new w) j ≡ (if counts w wrote && (j == i) then list_at (lists_of old w) j ++ p ∷ [] else list_at (lists_of old w) j)
+    lists false = all
+    lists true = writes
 
-    room : (w : Bool) (q : Key) → spare_in old w q ≤ room_left (lists_of new w) (slot_in old.keys.keys q) + one_if (counts w wrote && key_eq q k)
-    room false q = used old.keys.keys k q i slot old.all.items new.all.items true room_all
-    room true q = used old.keys.keys k q i slot old.writes.items new.writes.items wrote room_writes
+    room : (w : Bool) (j : ℕ) → spare_at (lists_of old w) j ≤ spare_at (lists_of new w) j + one_if (counts w wrote && (j == i))
+    room false = room_all
+    room true = room_writes
 
 pub takes_last : (old new : Table) (k : Key) (wrote : Bool) (i : ℕ) → new.keys.keys ≡ old.keys.keys
     → ((j : ℕ) → list_at new.all.items j ≡ (if j == i then take (length (list_at old.all.items j) - 1) (list_at old.all.items j) else list_at old.all.items j))
@@ -197,15 +169,36 @@ pub takes_last : (old new : Table) (k : Key) (wrote : Bool) (i : ℕ) → new.ke
     → ((j : ℕ) → spare_at new.writes.items j ≡ spare_at old.writes.items j + one_if (wrote && (j == i)))
     → slot_in old.keys.keys k ≡ Some i → TakesLast (Some k) wrote old new
 takes_last old new k wrote i keys all writes room_all room_writes slot = record {
-  lists = λ w q. ap (λ (ks : List Key). list_of (lists_of new w) (slot_in ks q)) keys ∙ lists w q;
-  room = λ w q. ap (λ (ks : List Key). room_left (lists_of new w) (slot_in ks q)) keys ∙ room w q;
+  lists = λ w q. ap (λ (ks : List Key). list_of (lists_of new w) (slot_in ks q)) keys
+      ∙ keyed old.keys.keys k q i slot (counts w wrote)
+      (λ c o. list_of (lists_of new w) o ≡ (if c then take (length (list_of (lists_of old w) o) - 1) (list_of (lists_of old w) o) else list_of (lists_of old w) o)) (lists w) refl;
+  room = λ w q. ap (λ (ks : List Key). room_left (lists_of new w) (slot_in ks q)) keys
+      ∙ keyed old.keys.keys k q i slot (counts w wrote) (λ c o. room_left (lists_of new w) o ≡ room_left (lists_of old w) o + one_if c) (room w) refl;
 }
   where
-    lists : (w : Bool) (q : Key) → list_of (lists_of new w) (slot_in old.keys.keys q)
-        ≡ (if counts w wrote && key_eq q k then take (length (kept_in old w q) - 1) (kept_in old w q) else kept_in old w q)
-    lists false q = changed old.keys.keys k q i slot old.all.items new.all.items (λ l. take (length l - 1) l) true all
-    lists true q = changed old.keys.keys k q i slot old.writes.items new.writes.items (λ l. take (length l - 1) l) wrote writes
+    lists : (w : Bool) (j : ℕ) → list_at (lists_of new w) j
+        ≡ (if counts w wrote && (j == i) then take (length (list_at (lists_of old w) j) - 1) (list_at (lists_of old w) j) else list_at (lists_of old w) j)
+    lists false = all
+    lists true = writes
 
-    room : (w : Bool) (q : Key) → room_left (lists_of new w) (slot_in old.keys.keys q) ≡ spare_in old w q + one_if (counts w wrote && key_eq q k)
-    room false q = freed old.keys.keys k q i slot old.all.items new.all.items true room_all
-    room true q = freed old.keys.keys k q i slot old.writes.items new.writes.items wrote room_writes
+    room : (w : Bool) (j : ℕ) → spare_at (lists_of new w) j ≡ spare_at (lists_of old w) j + one_if (counts w wrote && (j == i))
+    room false = room_all
+    room true = room_writes
+
+pub moves : (old new : Table) (k n : ℕ) → new.keys.keys ≡ old.keys.keys → ((i : ℕ) → IsMoved k n (list_at old.all.items i) (list_at new.all.items i))
+    → ((i : ℕ) → IsMoved k n (list_at old.writes.items i) (list_at new.writes.items i)) → ((i : ℕ) → capacity_at new.all.items i ≡ capacity_at old.all.items i)
+    → ((i : ℕ) → capacity_at new.writes.items i ≡ capacity_at old.writes.items i) → Moves k n old new
+moves old new k n keys all writes room_all room_writes = record {
+  lists = λ w q. subst (λ (ks : List Key). IsMoved k n (kept_in old w q) (list_of (lists_of new w) (slot_in ks q))) (sym keys) (lists w (slot_in old.keys.keys q));
+  capacity = λ w q. ap (λ (ks : List Key). capacity_of (lists_of new w) (slot_in ks q)) keys ∙ capacity w (slot_in old.keys.keys q);
+}
+  where
+    lists : (w : Bool) (o : Option ℕ) → IsMoved k n (list_of (lists_of old w) o) (list_of (lists_of new w) o)
+    lists w None = none_moved k n
+    lists false (Some i) = all i
+    lists true (Some i) = writes i
+
+    capacity : (w : Bool) (o : Option ℕ) → capacity_of (lists_of new w) o ≡ capacity_of (lists_of old w) o
+    capacity w None = refl
+    capacity false (Some i) = room_all i
+    capacity true (Some i) = room_writes i

@@ -27,7 +27,7 @@ pub record AreMoved (k n : ℕ) (old new : List ℕ) : Type 0 where
   pub places : (p : ℕ) → contains new (moved_position k n p) ≡ contains old p
 
 -- so they are if the old ones ascend
-abbrev pub IsMoved : ℕ → ℕ → List ℕ → List ℕ → Type 0
+unfoldable pub IsMoved : ℕ → ℕ → List ℕ → List ℕ → Type 0
 IsMoved k n old new = IsAscending old → AreMoved k n old new
 
 -- each position one less; but the first one, if it is k, becomes n after the others
