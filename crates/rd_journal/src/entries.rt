@@ -19,7 +19,7 @@ ghost use Rattle.rd_journal.specs.Numbers.{just, IsOrder};
 mod gathering;
 mod slots;
 
-use super::live_entries::{LiveEntries, entry_at};
+use super::entry_list::{EntryList, entry_at};
 use gathering::gather;
 use rd_depend::DependIndex;
 use rd_step::Entry;
@@ -67,26 +67,26 @@ impl Entries {
     }
 
     /// Returns the entries of the live steps.
-    pub(crate) fn live(&self) -> LiveEntries<'_>
+    pub(crate) fn live(&self) -> EntryList<'_>
         ensures { result ≡ live_entries self.now }
     {
         self.first(self.live)
     }
 
     /// Returns the first `n` entries of the steps ahead.
-    pub(crate) fn ahead(&self, n: usize) -> LiveEntries<'_>
+    pub(crate) fn ahead(&self, n: usize) -> EntryList<'_>
         requires within { n ≤ length (ahead_entries self.now) }
         ensures { result ≡ take n (ahead_entries self.now) }
     {
-        self.first(self.live + n).behind(self.live)
+        self.first(self.live + n).after(self.live)
     }
 
     /// Returns the first `n` entries, live or ahead.
-    fn first(&self, n: usize) -> LiveEntries<'_>
+    fn first(&self, n: usize) -> EntryList<'_>
         requires within { n ≤ self.now.live + self.now.ahead }
         ensures { result ≡ take n (all_entries self.now) }
     {
-        LiveEntries::new(&self.slots, &self.order[..n])
+        EntryList::new(&self.slots, &self.order[..n])
     }
 
     /// How many steps are live.

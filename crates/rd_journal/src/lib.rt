@@ -8,10 +8,10 @@
 #![tactic(auto)]
 
 mod entries;
+mod entry_list;
 mod indexing;
 pub mod laws;
-mod live_entries;
 mod sessions;
 
-pub use live_entries::LiveEntries;
+pub use entry_list::EntryList;
 pub use sessions::Session;

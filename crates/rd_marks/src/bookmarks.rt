@@ -187,8 +187,8 @@ impl Bookmarks {
         if shared == one.number || shared == other.number {
             return Ok(one.number == other.number);
         }
-        let ones = self.stretches.entries_behind(alloc, one, shared)?;
-        let others = self.stretches.entries_behind(alloc, other, shared)?;
+        let ones = self.stretches.entries_after(alloc, one, shared)?;
+        let others = self.stretches.entries_after(alloc, other, shared)?;
         are_equivalent(alloc, &ones, &others)
     }
 

@@ -12,7 +12,7 @@ use super::origins::Origin;
 use super::searches::{calls_by, last_below, puts_into, step_of};
 use rd_actor::OpReply;
 use rd_cell::{Place, Refusal};
-use rd_journal::{LiveEntries, Session};
+use rd_journal::{EntryList, Session};
 
 /// Returns the origin of the value that the live step of this number, from 1, took: the last step
 /// before it that put a value into the same cell, and the call in which this put was made.
@@ -51,7 +51,7 @@ fn takes_value(reply: Option<OpReply>) -> bool
 
 /// Returns the number of the last step before step `k` that put a value into the cell; none if
 /// there is no such step, or no cell.
-fn last_put(steps: &LiveEntries, k: u64, cell: Option<Place>) -> Option<u64>
+fn last_put(steps: &EntryList, k: u64, cell: Option<Place>) -> Option<u64>
     ensures { result ≡ put_of steps.now k cell }
 {
     let cell = cell?;
@@ -60,7 +60,7 @@ fn last_put(steps: &LiveEntries, k: u64, cell: Option<Place>) -> Option<u64>
 
 /// Returns the number of the last call before the step of this number by that step's actor; none if
 /// there is no such call or step.
-fn last_call(steps: &LiveEntries, number: Option<u64>) -> Option<u64>
+fn last_call(steps: &EntryList, number: Option<u64>) -> Option<u64>
     ensures { result ≡ call_of steps.now number }
 {
     let number = number?;

@@ -10,13 +10,13 @@ ghost use Rattle.rd_origin.specs.Positions.{last_position};
 
 use rd_actor::{Act, Pc};
 use rd_cell::Place;
-use rd_journal::LiveEntries;
+use rd_journal::EntryList;
 use rd_step::Entry;
 
 /// Returns the greatest number, below this one, of a step that passes the test; none if there is no
 /// such step.
 pub(crate) fn last_below<F: Fn(&Entry) -> bool>(
-    steps: &LiveEntries,
+    steps: &EntryList,
     below: u64,
     test: F,
 ) -> Option<u64>
@@ -36,7 +36,7 @@ pub(crate) fn last_below<F: Fn(&Entry) -> bool>(
 }
 
 /// Returns the step of this number, from 1, if there is one.
-pub(crate) fn step_of<'a>(steps: &LiveEntries<'a>, number: u64) -> Option<&'a Entry>
+pub(crate) fn step_of<'a>(steps: &EntryList<'a>, number: u64) -> Option<&'a Entry>
     ensures { MatchOption result (numbered steps.now number ≡ None) (λ step. numbered steps.now number ≡ Some step.now) }
 {
     if number == 0 {

@@ -8,7 +8,7 @@ ghost use Rattle.rd_journal.specs.State.{run_of};
 ghost use Rattle.rd_step.specs.Lists.{numbered};
 ghost use Rattle.rd_journal.specs.Laws.{IsStepAfter};
 
-use super::super::live_entries::LiveEntries;
+use super::super::entry_list::EntryList;
 use super::Session;
 use super::starting::undo_after;
 use rd_cell::{Place, Refusal};
@@ -36,7 +36,7 @@ impl<const R: usize> Session<R> {
     }
 
     /// The entries of the live steps, in their order. They are those of a run from the start.
-    pub fn live(&self) -> LiveEntries<'_>
+    pub fn live(&self) -> EntryList<'_>
         ensures entries { result ≡ (journal self.now).live }
         ensures run { IsRunFrom (state self.now).start result }
         ensures events { events result ≡ (state self.now).live }

@@ -7,13 +7,13 @@ ghost use Rattle.rd_step.specs.Prelude.{model, room, run, World as Model};
 ghost use Rattle.rd_journal.specs.Journal.{events, IsRunFrom, LeadsTo};
 ghost use Rattle.rd_journal.specs.Room.{HasRoom, room_returned_by};
 
-use super::super::live_entries::LiveEntries;
+use super::super::entry_list::EntryList;
 use rd_inverse::unstep;
 use rd_step::World;
 
 /// Undoes all steps that led to the world except the first `n`, the last one first. It gives the
 /// room of their makings back, and takes no memory.
-pub(super) fn undo_after<const R: usize>(world: &mut World<R>, steps: &LiveEntries, n: usize)
+pub(super) fn undo_after<const R: usize>(world: &mut World<R>, steps: &EntryList, n: usize)
     requires within { n ≤ length steps.now }
     requires leads { (start : Model) × LeadsTo start (model world.old) steps.now }
     ensures leads { (start : Model) → LeadsTo start (model world.old) steps.now → LeadsTo start (model world.new) (take n steps.now) }
@@ -26,7 +26,7 @@ pub(super) fn undo_after<const R: usize>(world: &mut World<R>, steps: &LiveEntri
 
 /// Makes the steps of a run from the world again, one after another. There is room for their
 /// makings, and that for others stays.
-pub(super) fn step_all<const R: usize>(world: &mut World<R>, steps: &LiveEntries)
+pub(super) fn step_all<const R: usize>(world: &mut World<R>, steps: &EntryList)
     requires runs { IsRunFrom (model world.old) steps.now }
     requires room { HasRoom steps.now (room world.old) }
     ensures ran { run (model world.old) (events steps.now) ≡ Ok (record { world = model world.new; entries = steps.now }) }

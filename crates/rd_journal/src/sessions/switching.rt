@@ -9,8 +9,8 @@ ghost use Rattle.rd_journal.specs.Entries.{ahead_entries};
 ghost use Rattle.rd_journal.specs.Room.{room_returned_by, room_without, HasRoomForAll, LacksRoom, LacksRoomForMakings, LacksIndexRoom};
 ghost use Rattle.rd_journal.specs.State.{switch};
 
+use super::super::entry_list::EntryList;
 use super::super::indexing::index_instead;
-use super::super::live_entries::LiveEntries;
 use super::Session;
 use super::starting::{step_all, undo_after};
 use rd_cell::Refusal;
@@ -45,7 +45,7 @@ impl<const R: usize> Session<R> {
         self.entries.make_room_for(kept as usize + given.len())?;
         make_room_for_makings(
             &mut self.world,
-            &self.entries.live().behind(kept as usize),
+            &self.entries.live().after(kept as usize),
             given,
         )
     }
@@ -72,7 +72,7 @@ impl<const R: usize> Session<R> {
         index_instead(&mut self.index, &self.entries, n, given)?;
         undo_after(&mut self.world, &self.entries.live(), n);
         self.entries.exchange(n, given);
-        step_all(&mut self.world, &self.entries.live().behind(n));
+        step_all(&mut self.world, &self.entries.live().after(n));
         self.undone = 0;
         Ok(())
     }
@@ -97,7 +97,7 @@ impl<const R: usize> Session<R> {
 /// `NoMemory` if room was refused.
 fn make_room_for_makings<const R: usize>(
     world: &mut World<R>,
-    dropped: &LiveEntries,
+    dropped: &EntryList,
     given: &[Entry],
 ) -> Result<(), Refusal>
     ensures ok { OnOk result (HasRoomForAll (model world.new) given.now (room_without dropped.now (world_room world.new))) }
@@ -129,7 +129,7 @@ fn makings_of(entries: &[Entry]) -> [usize; ACTOR_NUMBERS]
 
 /// Returns, for each actor's number, by how many its makings exceed those among the dropped
 /// entries.
-fn makings_missing(dropped: &LiveEntries, given: [usize; ACTOR_NUMBERS]) -> [usize; ACTOR_NUMBERS]
+fn makings_missing(dropped: &EntryList, given: [usize; ACTOR_NUMBERS]) -> [usize; ACTOR_NUMBERS]
     ensures { (m : ℕ) → m < ACTOR_NUMBERS → get_or result m 0 ≡ get_or given m 0 - room_returned_by dropped.now m }
 {
     let mut counts = given;

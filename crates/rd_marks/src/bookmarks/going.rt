@@ -84,7 +84,7 @@ fn switch_to<const R: usize>(
     let live = session.live();
     let beginning = stretches.follow(here.cut(live.len()), &live);
     let common = stretches.common(beginning, node);
-    match stretches.entries_behind(alloc, node, common) {
+    match stretches.entries_after(alloc, node, common) {
         Err(_) => Err(Refusal::NoMemory),
         Ok(entries) => session.switch(common as u64, &entries),
     }

@@ -7,7 +7,7 @@ ghost use Rattle.rd_step.specs.Prelude.{MOST_STEPS};
 ghost use Rattle.rd_step.specs.Run.{events};
 
 use super::{Node, Stretch, Stretches};
-use rd_journal::LiveEntries;
+use rd_journal::EntryList;
 use rd_step::Entry;
 use std::alloc::{AllocError, Global};
 
@@ -89,7 +89,7 @@ impl Stretches {
         &mut self,
         alloc: Global,
         at: Node,
-        live: &LiveEntries,
+        live: &EntryList,
     ) -> Result<Grown, AllocError>
         requires within { IsWithin self.old.list.items at }
         requires few { length live.now ≤ MOST_STEPS }
@@ -129,7 +129,7 @@ impl Stretches {
     /// # Errors
     ///
     /// `AllocError` if the room was refused. The lists stay.
-    fn extend(&mut self, at: Node, live: &LiveEntries) -> Result<Grown, AllocError>
+    fn extend(&mut self, at: Node, live: &EntryList) -> Result<Grown, AllocError>
         requires end { IsEnd self.old.list.items at }
         requires more { at.number < length live.now }
         requires few { length live.now ≤ MOST_STEPS }
@@ -138,7 +138,7 @@ impl Stretches {
         ensures ok { IfOk result (λ grown. IsGrown self.old.list.items self.new.list.items at live.now grown) }
         ensures err { OnErr result (IsUnchanged self.old.list.items self.new.list.items) }
     {
-        let rest = live.behind(at.number);
+        let rest = live.after(at.number);
         append(&mut self.list[at.stretch].entries, &rest)?;
         Ok(Grown {
             node: Node {
@@ -154,12 +154,7 @@ impl Stretches {
     /// # Errors
     ///
     /// `AllocError` if the room was refused. The lists stay.
-    fn branch_off(
-        &mut self,
-        alloc: Global,
-        at: Node,
-        live: &LiveEntries,
-    ) -> Result<Grown, AllocError>
+    fn branch_off(&mut self, alloc: Global, at: Node, live: &EntryList) -> Result<Grown, AllocError>
         requires within { IsWithin self.old.list.items at }
         requires more { at.number < length live.now }
         requires few { length live.now ≤ MOST_STEPS }
@@ -171,7 +166,7 @@ impl Stretches {
         let i = self.next_off(at);
         self.list.reserve(1)?;
         let mut entries = Vec::new(alloc);
-        append(&mut entries, &live.behind(at.number))?;
+        append(&mut entries, &live.after(at.number))?;
         let stretch = Stretch {
             shared: at.number,
             entries,
@@ -230,7 +225,7 @@ impl Stretches {
 /// # Errors
 ///
 /// `AllocError` if the room was refused. The entries stay.
-fn append(entries: &mut Vec<Entry>, more: &LiveEntries) -> Result<(), AllocError>
+fn append(entries: &mut Vec<Entry>, more: &EntryList) -> Result<(), AllocError>
     ensures ok { OnOk result (entries.new.items ≡ entries.old.items ++ more.now) }
     ensures err { OnErr result (entries.new.items ≡ entries.old.items) }
     ensures succeeds { length entries.old.items + length more.now ≤ vec_capacity entries.old → IsOk result }

@@ -5,7 +5,7 @@ ghost use Rattle.rd_step.specs.Run.{events};
 ghost use Rattle.rd_step.specs.declared.entries.Event.{Event as Happening};
 
 use super::{Node, Stretches};
-use rd_journal::LiveEntries;
+use rd_journal::EntryList;
 use rd_step::{Entry, Event};
 
 impl Stretches {
@@ -13,7 +13,7 @@ impl Stretches {
 
     /// Returns the node with the most entries with which the live steps begin, found from a node
     /// with whose entries they begin.
-    pub(crate) fn follow(&self, from: Node, live: &LiveEntries) -> Node
+    pub(crate) fn follow(&self, from: Node, live: &EntryList) -> Node
         requires within { IsWithin self.now.list.items from }
         requires along { IsAlong self.now.list.items from.stretch from.number (events live.now) }
         ensures within { IsWithin self.now.list.items result }
@@ -36,7 +36,7 @@ impl Stretches {
     /// Returns how many of the live steps the list of a stretch begins with; the first `n` are
     /// known, and the entries after them are the stretch's own.
     #[tactic(auto, using(crate::proofs::Reading::along_steps))]
-    fn along(&self, i: usize, n: usize, live: &LiveEntries) -> usize
+    fn along(&self, i: usize, n: usize, live: &EntryList) -> usize
         requires there { i < length self.now.list.items }
         requires own { shared_at self.now.list.items i ≤ n }
         requires along { IsAlong self.now.list.items i n (events live.now) }
@@ -46,8 +46,8 @@ impl Stretches {
     {
         let stretch = &self.list[i];
         n + alike(
-            own_behind(&stretch.entries, n - stretch.shared),
-            &live.behind(n),
+            own_after(&stretch.entries, n - stretch.shared),
+            &live.after(n),
         )
     }
 }
@@ -67,7 +67,7 @@ fn farther(at: Node, i: usize, number: usize) -> Node
 
 /// How many of the live steps these entries begin with.
 #[tactic(auto, using(crate::proofs::Reading::alike_on, crate::proofs::Reading::alike_past))]
-fn alike(entries: &[Entry], live: &LiveEntries) -> usize
+fn alike(entries: &[Entry], live: &EntryList) -> usize
     ensures enough { result ≤ length entries.now }
     ensures within { result ≤ length live.now }
     ensures alike { take result (events entries.now) ≡ take result (events live.now) }
@@ -83,7 +83,7 @@ fn alike(entries: &[Entry], live: &LiveEntries) -> usize
 }
 
 /// Returns the entries after the first `n`.
-fn own_behind(entries: &[Entry], n: usize) -> &[Entry]
+fn own_after(entries: &[Entry], n: usize) -> &[Entry]
     requires { n ≤ length entries.now }
     ensures { result.now ≡ drop n entries.now }
 {

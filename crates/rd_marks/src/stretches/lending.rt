@@ -43,7 +43,7 @@ impl Stretches {
     ///
     /// `AllocError` if memory was refused for a copy, which never happens if there are no such
     /// entries, or all entries of the node are of one stretch.
-    pub(crate) fn entries_behind(
+    pub(crate) fn entries_after(
         &self,
         alloc: Global,
         of: Node,
@@ -111,7 +111,7 @@ impl Stretches {
         ensures ok { IfOk result (λ list. list.items ≡ events (entries_at self.now.list.items of)) }
         ensures succeeds { of.number ≡ 0 → IsOk result }
     {
-        let entries = self.entries_behind(alloc, of, 0)?;
+        let entries = self.entries_after(alloc, of, 0)?;
         let mut list = Vec::with_capacity(alloc, entries.len())?;
         for i in 0..entries.len() {
             list.push_reserved(entries[i].event);

@@ -37,9 +37,9 @@ step_all-requires g c =
     let self = c.args.self.now in
     let j = journal self in (
       omega (arith, c.undo_after.new.world.small),
-      may_exchange c.args.n j c.args.given.now c.behind.result c.live.result (model c.undo_after.new.world) (room self.world) (room c.undo_after.new.world)
+      may_exchange c.args.n j c.args.given.now c.after.result c.live.result (model c.undo_after.new.world) (room self.world) (room c.undo_after.new.world)
           (is_session self).runs c.live.ensures c.undo_after.ensures.leads c.undo_after.ensures.room c.requires.run c.requires.makings
-          (given_again j.live c.args.given.now _ _ _ c.args.n c.requires.within c.behind.ensures c.live-2.ensures c.exchange.ensures.live),
+          (given_again j.live c.args.given.now _ _ _ c.args.n c.requires.within c.after.ensures c.live-2.ensures c.exchange.ensures.live),
     )
 
 pub invariant_of-self-2 : goal.invariant_of-self-2
@@ -52,9 +52,9 @@ invariant_of-self-2 g c =
     grind (arith, take-append-le, append-nil) in
     record {
       kept =
-          (exchanged n j (whole_journal (model c.step_all.new.world) c.exchange.new.self) given c.behind.result c.live.result (model c.undo_after.new.world) (room c.step_all.new.world)
+          (exchanged n j (whole_journal (model c.step_all.new.world) c.exchange.new.self) given c.after.result c.live.result (model c.undo_after.new.world) (room c.step_all.new.world)
           (is_session self).runs c.requires.within c.requires.few c.live.ensures c.undo_after.ensures.leads
-          (given_again j.live given _ _ _ n c.requires.within c.behind.ensures c.live-2.ensures c.exchange.ensures.live) c.step_all.ensures.ran
+          (given_again j.live given _ _ _ n c.requires.within c.after.ensures c.live-2.ensures c.exchange.ensures.live) c.step_all.ensures.ran
           (record { live = c.exchange.ensures.live; undone = c.exchange.ensures.ahead })).session;
       within = omega arith;
       indexed = subst (λ (xs : List Entry). IsIndexOf c.index_instead.new.index xs) all c.in_ok-index_instead.ensures.ok;
@@ -66,7 +66,7 @@ returns-clause-state g c =
     let j = journal self in
     let n = c.args.n in
     let given = c.args.given.now in
-    (exchanged n j (with_undone 0 (whole_journal (model c.step_all.new.world) c.exchange.new.self)) given c.behind.result c.live.result (model c.undo_after.new.world) (room c.step_all.new.world)
+    (exchanged n j (with_undone 0 (whole_journal (model c.step_all.new.world) c.exchange.new.self)) given c.after.result c.live.result (model c.undo_after.new.world) (room c.step_all.new.world)
     (is_session self).runs c.requires.within c.requires.few c.live.ensures c.undo_after.ensures.leads
-    (given_again j.live given _ _ _ n c.requires.within c.behind.ensures c.live-2.ensures c.exchange.ensures.live) c.step_all.ensures.ran
+    (given_again j.live given _ _ _ n c.requires.within c.after.ensures c.live-2.ensures c.exchange.ensures.live) c.step_all.ensures.ran
     (record { live = c.exchange.ensures.live; undone = refl })).state

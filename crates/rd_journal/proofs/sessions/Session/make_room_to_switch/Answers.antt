@@ -24,4 +24,4 @@ pub returns-clause-makings : goal.returns-clause-makings
 returns-clause-makings g c =
     let world = c.make_room_for_makings.new.world in
     subst (λ (xs : List Entry). OnOk c.make_room_for_makings.result (HasRoomForAll (model world) c.args.given.now (room_without xs (room world))))
-    (c.behind.ensures ∙ ap (drop c.args.kept) c.live.ensures) c.make_room_for_makings.ensures.ok
+    (c.after.ensures ∙ ap (drop c.args.kept) c.live.ensures) c.make_room_for_makings.ensures.ok

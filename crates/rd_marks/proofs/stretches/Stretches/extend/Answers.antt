@@ -12,7 +12,7 @@ invariant_of-self c =
     let grown = extended ss few c.args.self.now.nested c.args.self.now.fresh c.args.live.now c.requires.few c.args.at c.requires.more c.requires.along c.requires.deepest c.requires.end t in
     let at = stretch_at ss ss c.args.at.stretch c.index_mut.result.now refl c.requires.end.there c.index_mut.ensures.value in
     let left = same_left ss few c.args.self.now.nested c.args.self.now.fresh c.args.at.stretch c.requires.end.there t in
-    grind (arith, at, left, c.append.ensures.ok, c.append.ensures.err, c.behind-rest.ensures, grown)
+    grind (arith, at, left, c.append.ensures.ok, c.append.ensures.err, c.after-rest.ensures, grown)
 
 pub returns-in_err-append-clause-err : goal.returns-in_err-append-clause-err
 returns-in_err-append-clause-err c = grind (arith, stretch_at, fact_passed_up, same_left)
@@ -23,4 +23,4 @@ returns-clause-ok c =
     let t : Stretch = record { shared = c.index_mut.result.now.shared; entries = c.append.new.entries } in
     let few : length ss < 2 ^ 64 = omega (arith, c.args.self.now.list.ok, c.args.self.now.list.small) in
     let grown = extended ss few c.args.self.now.nested c.args.self.now.fresh c.args.live.now c.requires.few c.args.at c.requires.more c.requires.along c.requires.deepest c.requires.end t in
-    grind (arith, stretch_at, c.index_mut.ensures.value, c.len.ensures, c.in_ok-append.ensures.ok, c.behind-rest.ensures, grown)
+    grind (arith, stretch_at, c.index_mut.ensures.value, c.len.ensures, c.in_ok-append.ensures.ok, c.after-rest.ensures, grown)

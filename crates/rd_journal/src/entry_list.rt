@@ -12,12 +12,12 @@ use std::marker::Model;
 /// Entries of the live steps, or of those ahead of them, in their order: a list that is read where
 /// the entries are kept, by the numbers of their slots.
 #[derive(Drop)]
-pub struct LiveEntries<'a> {
+pub struct EntryList<'a> {
     slots: &'a [Entry],
     numbers: &'a [u32],
 }
 
-impl<'a> Model for LiveEntries<'a> {
+impl<'a> Model for EntryList<'a> {
     ghost use Rattle.std.specs.Prelude.{List, ◌<◌, length};
     ghost use Rattle.std.specs.List.{All};
     ghost use Rattle.rd_step.specs.declared.entries.Entry.{Entry as SomeEntry};
@@ -30,13 +30,13 @@ impl<'a> Model for LiveEntries<'a> {
     ghost invariant = { λ r. All (λ n. n < length r.slots.now) r.numbers.now };
 }
 
-impl<'a> LiveEntries<'a> {
+impl<'a> EntryList<'a> {
     /// Returns the entries in the slots of these numbers.
-    pub(crate) fn new(slots: &'a [Entry], numbers: &'a [u32]) -> LiveEntries<'a>
+    pub(crate) fn new(slots: &'a [Entry], numbers: &'a [u32]) -> EntryList<'a>
         requires { All (λ n. n < length slots.now) numbers.now }
         ensures { result ≡ at_numbers slots.now numbers.now }
     {
-        LiveEntries { slots, numbers }
+        EntryList { slots, numbers }
     }
 
     /// Returns the number of entries.
@@ -66,11 +66,11 @@ impl<'a> LiveEntries<'a> {
     }
 
     /// Returns the entries after the first `n`.
-    pub fn behind(&self, n: usize) -> LiveEntries<'a>
+    pub fn after(&self, n: usize) -> EntryList<'a>
         requires { n ≤ length self.now }
         ensures { result ≡ drop n self.now }
     {
-        LiveEntries::new(self.slots, numbers_after(self.numbers, n))
+        EntryList::new(self.slots, numbers_after(self.numbers, n))
     }
 }
 
