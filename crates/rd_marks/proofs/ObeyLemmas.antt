@@ -11,7 +11,7 @@ use Rattle.rd_marks.specs.Book.{MayRefuseAsGoing}
 use Rattle.rd_marks.specs.Commands.{step_counts}
 use Rattle.rd_marks.specs.declared.books.Book.{Book}
 use Rattle.rd_marks.specs.Events.{as_event}
-use Rattle.rd_marks.proofs.Starts.{apply_start, undo_start, undo_at_start, roll_start, back_start, redo_start, forward_start}
+use Rattle.rd_marks.proofs.Starts.{apply_start, undo_at_start, roll_start, back_start, forward_start}
 
 -- what an answer leaves: the start, and everything if it is a refusal
 pub record LeavesStart (b : BookState) (a : Answered) : Type 0 where
@@ -45,11 +45,11 @@ obeyed_leaves b (command.ArrayEnq actor value) a h = happened_leaves b (record {
 obeyed_leaves b (command.ArrayDeq actor) a h = happened_leaves b (record { actor = actor; act = act.ADeq }) a h
 obeyed_leaves b (command.Go actor) a h = happened_leaves b (record { actor = actor; act = act.Go }) a h
 obeyed_leaves b (command.Starve actor choice) a h = happened_leaves b (record { actor = actor; act = act.Starve choice }) a h
-obeyed_leaves b command.Undo a h = as_this b a _ (state_leaves b step_counts (undo b.session) (undo_start b.session)) h
+obeyed_leaves b command.Undo a h = as_this b a _ (state_leaves b step_counts (undo b.session) (back_start b.session 1)) h
 obeyed_leaves b (command.UndoAt k) a h = as_this b a _ (state_leaves b step_counts (undo_at b.session k) (undo_at_start b.session k)) h
 obeyed_leaves b (command.Roll k) a h = as_this b a _ (state_leaves b step_counts (roll b.session k) (roll_start b.session k)) h
 obeyed_leaves b (command.Back n) a h = as_this b a _ (state_leaves b step_counts (back b.session n) (back_start b.session n)) h
-obeyed_leaves b command.Redo a h = as_this b a _ (state_leaves b step_counts (redo b.session) (redo_start b.session)) h
+obeyed_leaves b command.Redo a h = as_this b a _ (state_leaves b step_counts (redo b.session) (forward_start b.session 1)) h
 obeyed_leaves b (command.Forward n) a h = as_this b a _ (state_leaves b step_counts (forward b.session n) (forward_start b.session n)) h
 obeyed_leaves b (command.Mark name) a h = grind (arith, made_leaves)
 obeyed_leaves b (command.DropMark name) a h = grind (arith, as_this)

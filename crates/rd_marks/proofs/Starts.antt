@@ -2,16 +2,10 @@
 use Rattle.std.proofs.Common.{◌≡◌, ℕ, ap, List, [], Result, Ok, Err, OnOk, OnErr, arith}
 pub use Rattle.rd_journal.proofs.Calls.{back_start, forward_start}
 use Rattle.rd_journal.specs.Sessions.{AnswersAs}
-use Rattle.rd_marks.proofs.Prelude.{Refusal, World, Event, Entry, Session, state, Journal, start_of, State, state_of, apply, undo, redo, undo_at, roll, MarkName, AreRuns}
+use Rattle.rd_marks.proofs.Prelude.{Refusal, World, Event, Entry, Session, state, Journal, start_of, State, state_of, apply, undo_at, roll, MarkName, AreRuns}
 
 pub apply_start : (s : State) (e : Event) (t : State) → apply s e ≡ Ok t → t.start ≡ s.start
 apply_start s e t h = grind arith
-
-pub undo_start : (s t : State) → undo s ≡ Ok t → t.start ≡ s.start
-undo_start s t h = back_start s 1 t h
-
-pub redo_start : (s t : State) → redo s ≡ Ok t → t.start ≡ s.start
-redo_start s t h = forward_start s 1 t h
 
 pub undo_at_start : (s : State) (k : ℕ) (t : State) → undo_at s k ≡ Ok t → t.start ≡ s.start
 undo_at_start s k t l = grind arith

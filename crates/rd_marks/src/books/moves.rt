@@ -11,14 +11,6 @@ impl<const R: usize> Book<R> {
     ghost use Rattle.rd_marks.specs.Commands.{IsObeyed, step_counts};
     ghost use Rattle.rd_marks.specs.declared.commands.Command.TheVariants as command;
 
-    /// Undoes the last live step. Returns how many steps are live and undone then.
-    pub(super) fn answer_undo(&mut self) -> Result<Reply, Refusal>
-        ensures { IsObeyed (book_state self.old) command.Undo (record { answer = result; state = book_state self.new }) }
-    {
-        let done = self.session.undo();
-        self.counts_after(done)
-    }
-
     /// Undoes the live step of this number alone. Returns how many steps are live and undone then.
     pub(super) fn answer_undo_at(&mut self, k: u64) -> Result<Reply, Refusal>
         ensures { IsObeyed (book_state self.old) (command.UndoAt k) (record { answer = result; state = book_state self.new }) }
@@ -44,14 +36,6 @@ impl<const R: usize> Book<R> {
         ensures { IsObeyed (book_state self.old) (command.Back n) (record { answer = result; state = book_state self.new }) }
     {
         let done = self.session.back(n);
-        self.counts_after(done)
-    }
-
-    /// Makes the step again that was undone last. Returns how many steps are live and undone then.
-    pub(super) fn answer_redo(&mut self) -> Result<Reply, Refusal>
-        ensures { IsObeyed (book_state self.old) command.Redo (record { answer = result; state = book_state self.new }) }
-    {
-        let done = self.session.redo();
         self.counts_after(done)
     }
 

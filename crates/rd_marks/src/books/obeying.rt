@@ -88,11 +88,11 @@ impl<const R: usize> Book<R> {
         ensures room { ForErr result (MayRefuseAsGoing self.old command) }
     {
         match command {
-            Command::Undo => self.answer_undo(),
+            Command::Undo => self.answer_back(1),
             Command::UndoAt(k) => self.answer_undo_at(k),
             Command::Roll(k) => self.answer_roll(k),
             Command::Back(n) => self.answer_back(n),
-            Command::Redo => self.answer_redo(),
+            Command::Redo => self.answer_forward(1),
             Command::Forward(n) => self.answer_forward(n),
             Command::Mark(name) => self.answer_mark(name),
             Command::DropMark(name) => self.answer_drop_mark(name),
