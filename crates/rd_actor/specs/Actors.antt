@@ -9,20 +9,8 @@ use Rattle.rd_actor.specs.declared.actors.Op.TheVariants as op
 
 -- the record of an actor in no call
 abbrev pub idle : Actor
-idle = record {
-  pc = Idle;
-  op = None;
-  crq = root;
-  new = root;
-  next = root;
-  t = 0;
-  h = 0;
-  closed = false;
-  val = None;
-  safe = false;
-  idx = 0;
-  pass = 0;
-}
+idle =
+    record { pc = Idle; op = None; crq = root; new = root; next = root; t = 0; h = 0; closed = false; val = None; safe = false; idx = 0; pass = 0 }
 
 -- the record of an actor in an enqueue of this value, whose next step draws a position on the root
 abbrev pub poised : ℕ → Actor

@@ -4,7 +4,6 @@ use Rattle.std.specs.Prelude.{ℕ, ◌+◌, ◌%◌, ◌^◌, ◌<◌, Bool, tru
 use Rattle.std.specs.Bool.{beq}
 use Rattle.rd_cell.specs.declared.cells.Cell.{Cell}
 use Rattle.rd_cell.specs.declared.places.Place.TheVariants as place
-use Rattle.rd_cell.specs.declared.contents.ArrSlot.{ArrSlot}
 use Rattle.rd_cell.specs.declared.contents.ArrSlot.TheVariants as slot
 use Rattle.rd_cell.specs.declared.contents.Content.TheVariants as content
 use Rattle.rd_cell.specs.declared.access.Access.{Access}
@@ -87,12 +86,9 @@ need_choice _ = Err refusal.NoChoice
 
 -- the one access that an actor asks for over rings of R cells, or why it has none
 abbrev pub need : ℕ → Actor → Act → Result Access Refusal
-need R a (act.Enq x) = need_call a.pc
-need R a act.Deq = need_call a.pc
-need R a (act.AEnq x) = need_call a.pc
-need R a act.ADeq = need_call a.pc
 need R a act.Go = need_at R a.pc a
 need R a (act.Starve b) = need_choice a.pc
+need R a _ = need_call a.pc
 
 -- the numbers in this row's access fit the words of the program: the index of a cell that is moved
 -- on to its next round is below 2^64, and the number of a slot of the array is a byte
@@ -109,19 +105,10 @@ abbrev pub IsRepresentable : ℕ → Actor → Act → Type 0
 IsRepresentable R a act.Go = IsRepresentableAt R a.pc a
 IsRepresentable R a _ = Unit {0}
 
--- the actor moved to this control point, with its other words as they are
-abbrev pub with_pc : Pc → Actor → Actor
-with_pc pc a = record a { pc = pc }
-
 -- the control point after a pass that found its segment empty: the first pass reads the next
 -- segment, the second moves the queue's head
 abbrev pub pc_after_empty_pass : Actor → Pc
 pc_after_empty_pass a = if a.pass == 1 then Q13 else Q14
-
--- an enqueue that drew a position from a tail goes on to its cell, or to make a segment if the ring
--- is closed
-abbrev pub after_tail_add : Actor → Bool → ℕ → Actor
-after_tail_add a closed count = record a { t = count; pc = if closed then E12 else E5 }
 
 -- an enqueue that read a cell's safe bit and index tries the cell if it is empty and its index is
 -- not past the position: at once if the cell is safe, else after a look at the head
@@ -133,26 +120,8 @@ after_enqueue_reads_index a safe idx =
 -- unsafe if the value is older, moves an empty cell on to the next round, and passes by a cell
 -- whose index is past its position
 abbrev pub after_dequeue_reads_index : Actor → Bool → ℕ → Actor
-after_dequeue_reads_index a safe idx = record a {
-  safe = safe;
-  idx = idx;
-  pc = if nat_lt a.h idx then Q8 else (if is_some a.val then (if idx == a.h then Q5 else Q6) else Q7);
-}
-
--- an enqueue that read the head because its cell is unsafe tries the cell if its position is not
--- below the head, and else checks whether the ring is full
-abbrev pub after_unsafe_check : Actor → ℕ → Actor
-after_unsafe_check a g = record a { pc = if nat_le g a.t then E8 else E9 }
-
--- an enqueue that read the head closes the ring if that is full, else it has to choose whether it
--- starves
-abbrev pub after_full_check : ℕ → Actor → ℕ → Actor
-after_full_check R a g = record a { h = g; pc = if nat_le (g + R) a.t then E11 else E10 }
-
--- a dequeue that read the tail goes on to repair it if nothing is enqueued after its position, else
--- it draws the next one
-abbrev pub after_empty_check : Actor → ℕ → Actor
-after_empty_check a count = record a { t = count; pc = if nat_le count (a.h + 1) then Q9 else Q2 }
+after_dequeue_reads_index a safe idx =
+    record a { safe = safe; idx = idx; pc = if nat_lt a.h idx then Q8 else (if is_some a.val then (if idx == a.h then Q5 else Q6) else Q7) }
 
 -- a repair that read the tail again starts over if the tail changed, ends if the tail is closed or
 -- not below the head, and else tries to move it
@@ -166,66 +135,58 @@ abbrev pub after_take : Option ℕ → Actor → Actor × Option OpReply
 after_take (Some v) a = (idle, Some (op_reply.Value v))
 after_take None a = (a, None)
 
--- an enqueue on the array that swapped its value in is over if nobody had been at the slot before,
--- else it draws the next position
-abbrev pub after_swap_in : Actor → ArrSlot → Actor × Option OpReply
-after_swap_in a slot.Empty = (idle, Some op_reply.Enqueued)
-after_swap_in a _ = (with_pc A1 a, None)
-
--- a dequeue on the array that swapped its slot out replies the value that it found, else it looks
--- at the tail
-abbrev pub after_swap_out : Actor → ArrSlot → Actor × Option OpReply
-after_swap_out a (slot.Value v) = (idle, Some (op_reply.Value v))
-after_swap_out a _ = (with_pc B3 a, None)
-
--- a dequeue on the array that read the tail is over if nothing is enqueued after its position, else
--- it draws the next one
-abbrev pub after_array_empty_check : Actor → ℕ → Actor × Option OpReply
-after_array_empty_check a count = if nat_le count (a.h + 1) then (idle, Some op_reply.Empty) else (with_pc B1 a, None)
-
 -- how an actor at this control point goes on with an answer, and what it replies; an answer of a
 -- kind that the row's access never gives changes nothing
 abbrev pub after_at : ℕ → Pc → Actor → Answer → Actor × Option OpReply
 after_at R E1 a (answer.Found (content.Name s)) = (record a { crq = s; pc = E2 }, None)
 after_at R E2 a (answer.Found (content.Next (Some m))) = (record a { next = m; pc = E3 }, None)
-after_at R E2 a (answer.Found (content.Next None)) = (with_pc E4 a, None)
-after_at R E3 a answer = (with_pc E1 a, None)
-after_at R E4 a (answer.Found (content.Tail closed count)) = (after_tail_add a closed count, None)
+after_at R E2 a (answer.Found (content.Next None)) = (record a { pc = E4 }, None)
+after_at R E3 a answer = (record a { pc = E1 }, None)
+-- on to the cell of the position drawn, or to a segment of its own if the ring is closed
+after_at R E4 a (answer.Found (content.Tail closed count)) = (record a { t = count; pc = if closed then E12 else E5 }, None)
 after_at R E5 a (answer.Value v) = (record a { val = v; pc = E6 }, None)
 after_at R E6 a (answer.SafeAndIndex safe idx) = (after_enqueue_reads_index a safe idx, None)
-after_at R E7 a (answer.Found (content.Number g)) = (after_unsafe_check a g, None)
+-- tries the unsafe cell if its position is not below the head
+after_at R E7 a (answer.Found (content.Number g)) = (record a { pc = if nat_le g a.t then E8 else E9 }, None)
 after_at R E8 a answer.Won = (idle, Some op_reply.Enqueued)
-after_at R E8 a answer.Lost = (with_pc E9 a, None)
-after_at R E9 a (answer.Found (content.Number g)) = (after_full_check R a g, None)
-after_at R E11 a answer = (with_pc E12 a, None)
+after_at R E8 a answer.Lost = (record a { pc = E9 }, None)
+-- closes the ring if it is full, else has to choose whether it starves
+after_at R E9 a (answer.Found (content.Number g)) = (record a { h = g; pc = if nat_le (g + R) a.t then E11 else E10 }, None)
+after_at R E11 a answer = (record a { pc = E12 }, None)
 after_at R E12 a (answer.Made s) = (record a { new = s; pc = E13 }, None)
-after_at R E13 a answer.Won = (with_pc E14 a, None)
-after_at R E13 a answer.Lost = (with_pc E1 a, None)
+after_at R E13 a answer.Won = (record a { pc = E14 }, None)
+after_at R E13 a answer.Lost = (record a { pc = E1 }, None)
 after_at R E14 a answer = (idle, Some op_reply.Enqueued)
 after_at R Q1 a (answer.Found (content.Name s)) = (record a { crq = s; pass = 1; pc = Q2 }, None)
 after_at R Q2 a (answer.Found (content.Number g)) = (record a { h = g; pc = Q3 }, None)
 after_at R Q3 a (answer.Value v) = (record a { val = v; pc = Q4 }, None)
 after_at R Q4 a (answer.SafeAndIndex safe idx) = (after_dequeue_reads_index a safe idx, None)
 after_at R Q5 a answer.Won = after_take a.val a
-after_at R Q5 a answer.Lost = (with_pc Q3 a, None)
-after_at R Q6 a answer.Won = (with_pc Q8 a, None)
-after_at R Q6 a answer.Lost = (with_pc Q3 a, None)
-after_at R Q7 a answer.Won = (with_pc Q8 a, None)
-after_at R Q7 a answer.Lost = (with_pc Q3 a, None)
-after_at R Q8 a (answer.Found (content.Tail closed count)) = (after_empty_check a count, None)
+after_at R Q5 a answer.Lost = (record a { pc = Q3 }, None)
+after_at R Q6 a answer.Won = (record a { pc = Q8 }, None)
+after_at R Q6 a answer.Lost = (record a { pc = Q3 }, None)
+after_at R Q7 a answer.Won = (record a { pc = Q8 }, None)
+after_at R Q7 a answer.Lost = (record a { pc = Q3 }, None)
+-- on to repair the tail if nothing is enqueued after its position, else draws the next one
+after_at R Q8 a (answer.Found (content.Tail closed count)) = (record a { t = count; pc = if nat_le count (a.h + 1) then Q9 else Q2 }, None)
 after_at R Q9 a (answer.Found (content.Tail closed count)) = (record a { closed = closed; t = count; pc = Q10 }, None)
 after_at R Q10 a (answer.Found (content.Number g)) = (record a { h = g; pc = Q11 }, None)
 after_at R Q11 a (answer.Found (content.Tail closed count)) = (after_repair_check a closed count, None)
-after_at R Q12 a answer.Won = (with_pc (pc_after_empty_pass a) a, None)
-after_at R Q12 a answer.Lost = (with_pc Q9 a, None)
+after_at R Q12 a answer.Won = (record a { pc = pc_after_empty_pass a }, None)
+after_at R Q12 a answer.Lost = (record a { pc = Q9 }, None)
 after_at R Q13 a (answer.Found (content.Next None)) = (idle, Some op_reply.Empty)
 after_at R Q13 a (answer.Found (content.Next (Some m))) = (record a { next = m; pass = 2; pc = Q2 }, None)
-after_at R Q14 a answer = (with_pc Q1 a, None)
+after_at R Q14 a answer = (record a { pc = Q1 }, None)
 after_at R A1 a (answer.Found (content.Number u)) = (record a { t = u; pc = A2 }, None)
-after_at R A2 a (answer.Found (content.Slot slot)) = after_swap_in a slot
+-- over if nobody had been at the slot before, else draws the next position
+after_at R A2 a (answer.Found (content.Slot slot.Empty)) = (idle, Some op_reply.Enqueued)
+after_at R A2 a (answer.Found (content.Slot _)) = (record a { pc = A1 }, None)
 after_at R B1 a (answer.Found (content.Number g)) = (record a { h = g; pc = B2 }, None)
-after_at R B2 a (answer.Found (content.Slot slot)) = after_swap_out a slot
-after_at R B3 a (answer.Found (content.Number u)) = after_array_empty_check a u
+-- replies the value that it found, else looks at the tail
+after_at R B2 a (answer.Found (content.Slot (slot.Value v))) = (idle, Some (op_reply.Value v))
+after_at R B2 a (answer.Found (content.Slot _)) = (record a { pc = B3 }, None)
+-- over if nothing is enqueued after its position, else draws the next one
+after_at R B3 a (answer.Found (content.Number u)) = if nat_le u (a.h + 1) then (idle, Some op_reply.Empty) else (record a { pc = B1 }, None)
 after_at R _ a _ = (a, None)
 
 -- the actor's next record, and what it replies if its call is over
@@ -235,4 +196,4 @@ after R a act.Deq answer = (calling Q1 op.Deq, None)
 after R a (act.AEnq x) answer = (calling A1 (op.AEnq x), None)
 after R a act.ADeq answer = (calling B1 op.ADeq, None)
 after R a act.Go answer = after_at R a.pc a answer
-after R a (act.Starve b) answer = (with_pc (if b then E11 else E4) a, None)
+after R a (act.Starve b) answer = (record a { pc = if b then E11 else E4 }, None)

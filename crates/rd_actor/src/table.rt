@@ -4,10 +4,11 @@
 //! the words set and of the next control point. The helpers below have the rows that choose between
 //! control points.
 
-ghost use Rattle.std.specs.Prelude.{◌≡◌, ◌+◌, ◌%◌, ◌^◌, ◌<◌, ◌≤◌, true, false, Some, None};
+ghost use Rattle.std.specs.Prelude.{◌≡◌, ◌+◌, ◌%◌, ◌^◌, ◌<◌, ◌≤◌, true, false, nat_le, if◌then◌else◌, Some, None};
 ghost use Rattle.rd_cell.specs.declared.limits.TheConstants.{MOST_CELLS};
 ghost use Rattle.rd_cell.specs.declared.operations.Operation.TheVariants.{CasName, CasTail, Cas2, Swap};
-ghost use Rattle.rd_actor.specs.Table.{value_to_put, cell_with, need, need_at, IsRepresentable, IsRepresentableAt, after, after_at, with_pc, pc_after_empty_pass, after_take, after_swap_in, after_swap_out, after_array_empty_check, after_tail_add, after_enqueue_reads_index, after_dequeue_reads_index, after_unsafe_check, after_full_check, after_empty_check, after_repair_check};
+ghost use Rattle.rd_actor.specs.Actors.{idle};
+ghost use Rattle.rd_actor.specs.Table.{value_to_put, cell_with, need, need_at, IsRepresentable, IsRepresentableAt, after, after_at, pc_after_empty_pass, after_take, after_enqueue_reads_index, after_dequeue_reads_index, after_repair_check};
 
 use super::actors::{Act, Actor, Op, OpReply, Pc};
 use rd_cell::{Access, Answer, ArrSlot, Cell, Content, Operation, Place, Refusal, SegName};
@@ -154,9 +155,17 @@ fn after_at<const R: usize>(actor: &Actor, answer: Answer) -> (Actor, Option<OpR
         (Pc::Q13, Answer::Found(Content::Next(Some(name)))) => second_pass(actor, name),
         (Pc::Q14, _) => with_pc(actor, Pc::Q1),
         (Pc::A1, Answer::Found(Content::Number(tail))) => with_tail(actor, tail),
-        (Pc::A2, Answer::Found(Content::Slot(slot))) => return after_swap_in(actor, slot),
+        (Pc::A2, Answer::Found(Content::Slot(ArrSlot::Empty))) => return (
+            Actor::idle(),
+            Some(OpReply::Enqueued),
+        ),
+        (Pc::A2, Answer::Found(Content::Slot(_))) => with_pc(actor, Pc::A1),
         (Pc::B1, Answer::Found(Content::Number(head))) => with_head(actor, head, Pc::B2),
-        (Pc::B2, Answer::Found(Content::Slot(slot))) => return after_swap_out(actor, slot),
+        (Pc::B2, Answer::Found(Content::Slot(ArrSlot::Value(value)))) => return (
+            Actor::idle(),
+            Some(OpReply::Value(value)),
+        ),
+        (Pc::B2, Answer::Found(Content::Slot(_))) => with_pc(actor, Pc::B3),
         (Pc::B3, Answer::Found(Content::Number(tail))) => return after_array_empty_check(
             actor, tail,
         ),
@@ -168,7 +177,7 @@ fn after_at<const R: usize>(actor: &Actor, answer: Answer) -> (Actor, Option<OpR
 
 /// Returns the actor moved to this control point, with its other words as they are.
 fn with_pc(actor: &Actor, pc: Pc) -> Actor
-    ensures { result ≡ with_pc pc actor.now }
+    ensures { result ≡ record actor.now { pc = pc } }
 {
     Actor { pc, ..*actor }
 }
@@ -199,7 +208,7 @@ fn help_tail(actor: &Actor, name: SegName) -> Actor
 /// After E4: returns the enqueue's record, which drew this position and goes on to its cell, or to
 /// make a segment if the ring is closed.
 fn after_tail_add(actor: &Actor, closed: bool, count: u64) -> Actor
-    ensures { result ≡ after_tail_add actor.now closed count }
+    ensures { result ≡ record actor.now { t = count; pc = if closed then Pc.E12 else Pc.E5 } }
 {
     Actor {
         t: count,
@@ -237,7 +246,7 @@ fn after_enqueue_reads_index(actor: &Actor, safe: bool, idx: u64) -> Actor
 /// After E7: returns the enqueue's record, which tries the unsafe cell if its position is not below
 /// this head.
 fn after_unsafe_check(actor: &Actor, head: u64) -> Actor
-    ensures { result ≡ after_unsafe_check actor.now head }
+    ensures { result ≡ record actor.now { pc = if nat_le head actor.now.t then Pc.E8 else Pc.E9 } }
 {
     let pc = if head <= actor.t { Pc::E8 } else { Pc::E9 };
     Actor { pc, ..*actor }
@@ -247,7 +256,7 @@ fn after_unsafe_check(actor: &Actor, head: u64) -> Actor
 /// whether it starves.
 fn after_full_check<const R: usize>(actor: &Actor, head: u64) -> Actor
     requires { R ≤ MOST_CELLS }
-    ensures { result ≡ after_full_check R actor.now head }
+    ensures { result ≡ record actor.now { h = head; pc = if nat_le (head + R) actor.now.t then Pc.E11 else Pc.E10 } }
 {
     // This is `head + R <= t`, whose sum could overflow.
     let full = head <= actor.t && R as u64 <= actor.t - head;
@@ -331,7 +340,7 @@ fn after_take(actor: &Actor) -> (Actor, Option<OpReply>)
 /// After Q8: returns the dequeue's record, which goes on to repair the tail if nothing is enqueued
 /// after its position, else draws the next position.
 fn after_empty_check(actor: &Actor, count: u64) -> Actor
-    ensures { result ≡ after_empty_check actor.now count }
+    ensures { result ≡ record actor.now { t = count; pc = if nat_le count (actor.now.h + 1) then Pc.Q9 else Pc.Q2 } }
 {
     // This is `count <= h + 1`, whose sum could overflow.
     let empty = count == 0 || count - 1 <= actor.h;
@@ -404,32 +413,10 @@ fn with_tail(actor: &Actor, tail: u64) -> Actor
     }
 }
 
-/// After A2: returns the record and reply of an enqueue on the array, which is over if nobody had
-/// been at its slot before, else draws the next position.
-fn after_swap_in(actor: &Actor, slot: ArrSlot) -> (Actor, Option<OpReply>)
-    ensures { result ≡ after_swap_in actor.now slot }
-{
-    match slot {
-        ArrSlot::Empty => (Actor::idle(), Some(OpReply::Enqueued)),
-        ArrSlot::Top | ArrSlot::Value(_) => (with_pc(actor, Pc::A1), None),
-    }
-}
-
-/// After B2: returns the record and reply of a dequeue on the array, which replies the value that
-/// it found, else looks at the tail.
-fn after_swap_out(actor: &Actor, slot: ArrSlot) -> (Actor, Option<OpReply>)
-    ensures { result ≡ after_swap_out actor.now slot }
-{
-    match slot {
-        ArrSlot::Value(value) => (Actor::idle(), Some(OpReply::Value(value))),
-        ArrSlot::Empty | ArrSlot::Top => (with_pc(actor, Pc::B3), None),
-    }
-}
-
 /// After B3: returns the record and reply of a dequeue on the array, which is over if nothing is
 /// enqueued after its position, else draws the next one.
 fn after_array_empty_check(actor: &Actor, count: u64) -> (Actor, Option<OpReply>)
-    ensures { result ≡ after_array_empty_check actor.now count }
+    ensures { result ≡ (if nat_le count (actor.now.h + 1) then (idle, Some OpReply.Empty) else (record actor.now { pc = Pc.B1 }, None)) }
 {
     // This is `count <= h + 1`, whose sum could overflow.
     if count == 0 || count - 1 <= actor.h {

@@ -1,5 +1,5 @@
 -- Cells: when two are equal, and those of a new segment.
-use Rattle.std.specs.Prelude.{ℕ, Bool, true, ◌==◌, ◌&&◌, if◌then◌else◌, Option, Some, None}
+use Rattle.std.specs.Prelude.{ℕ, Bool, true, ◌==◌, ◌&&◌, Option}
 use Rattle.std.specs.Bool.{beq}
 use Rattle.std.specs.Option.{option_eq}
 use Rattle.rd_cell.specs.declared.cells.Cell.{Cell}
@@ -11,7 +11,3 @@ cell_eq a b = beq a.safe b.safe && (a.idx == b.idx) && option_eq ◌==◌ a.val 
 -- cell u of a new segment, with this value: safe and at index u
 abbrev pub new_cell : ℕ → Option ℕ → Cell
 new_cell u val = record { safe = true; idx = u; val = val }
-
--- the value in cell u of a new segment that holds x: x in cell 0, and none in any other
-abbrev pub value_in_cell : ℕ → ℕ → Option ℕ
-value_in_cell x u = if u == 0 then Some x else None

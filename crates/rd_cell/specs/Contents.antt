@@ -1,5 +1,5 @@
 -- Contents: what each place has, before and after a write.
-use Rattle.std.specs.Prelude.{ℕ, Bool, true, false, nat_lt, nat_le, if◌then◌else◌, Option, Some, None, is_some}
+use Rattle.std.specs.Prelude.{ℕ, Bool, true, false, ◌==◌, nat_lt, nat_le, if◌then◌else◌, Option, Some, None, is_some}
 use Rattle.rd_cell.specs.declared.limits.TheConstants.{COUNTER_END, SLOTS}
 use Rattle.rd_cell.specs.declared.places.SegName.{SegName}
 use Rattle.rd_cell.specs.declared.places.Place.{Place}
@@ -8,7 +8,6 @@ use Rattle.rd_cell.specs.declared.contents.Content.{Content}
 use Rattle.rd_cell.specs.declared.contents.Content.TheVariants as content
 use Rattle.rd_cell.specs.Places.{covers}
 use Rattle.rd_cell.specs.declared.cells.Cell.{Cell}
-use Rattle.rd_cell.specs.Cells.{value_in_cell}
 
 -- the content of each place, or none if the place is not there. A cell and the whole of a segment
 -- are no places of the map: the first is a name for the cell's two halves, the second for the
@@ -97,5 +96,5 @@ fresh_segment R _ = None
 -- of a fresh one, except that its tail is 1 and x is in cell 0
 abbrev pub holding : ℕ → ℕ → Contents
 holding R x (place.Tail s) = Some (content.Tail false 1)
-holding R x (place.Val s u) = if nat_lt u R then Some (content.Val (value_in_cell x u)) else None
+holding R x (place.Val s u) = if nat_lt u R then Some (content.Val (if u == 0 then Some x else None)) else None
 holding R x p = fresh_segment R p

@@ -34,8 +34,7 @@ writes answer c = Ok (record { answer = answer; writes = Some c })
 -- the effect of a compare-and-swap: if the test holds it wins and writes this content, else it
 -- loses and writes nothing
 abbrev pub swaps : Bool → Content → Result Effect Refusal
-swaps true c = writes answer.Won c
-swaps false c = reads answer.Lost
+swaps won c = if won then writes answer.Won c else reads answer.Lost
 
 -- the effect of a fetch-and-add on a counter at n: it answers the old content and writes the new
 -- one, or is refused where n is the limit

@@ -2,7 +2,7 @@
 -- generated types and their variants, and lemmas of these crates and of std.
 pub use Rattle.std.proofs.lemmas.Bool.{and_parts, cond-false, cond-true, cond_both}
 pub use Rattle.std.proofs.lemmas.Result.{IfOk-at_ok}
-pub use Rattle.rd_actor.specs.Table.{after_at, after_swap_out, after_take, cell_with, need_at, value_to_put}
+pub use Rattle.rd_actor.specs.Table.{after_at, after_take, cell_with, need_at, value_to_put}
 pub use Rattle.rd_actor.specs.Words.{array_enqueues, enqueues}
 pub use Rattle.rd_actor.specs.declared.actors.Op.{Op}
 pub use Rattle.rd_actor.specs.declared.actors.Pc.{Pc}
@@ -11,7 +11,7 @@ pub use Rattle.rd_cell.proofs.AccessLemmas.{halves_there}
 pub use Rattle.rd_cell.proofs.CellLemmas.{cell_eq-true}
 pub use Rattle.rd_cell.specs.Access.{effect_at, make, no_access, operate}
 unfoldable pub use Rattle.rd_cell.specs.Access.{number_made}
-pub use Rattle.rd_cell.specs.Cells.{cell_eq, value_in_cell}
+pub use Rattle.rd_cell.specs.Cells.{cell_eq}
 pub use Rattle.rd_cell.specs.Contents.{after_write, after_write_at, holding, share}
 pub use Rattle.rd_cell.specs.Operations.{swaps, wrote_cell}
 pub use Rattle.rd_cell.specs.Results.{result_map}

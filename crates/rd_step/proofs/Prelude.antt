@@ -7,7 +7,7 @@ pub use Rattle.std.proofs.lemmas.Option.{slice_get_past}
 pub use Rattle.std.proofs.lemmas.Result.{IfOk-at_ok}
 pub use Rattle.std.specs.List.{list_all}
 pub use Rattle.rd_actor.specs.Actors.{idle, poised}
-pub use Rattle.rd_actor.specs.Table.{after, after_at, after_swap_in, after_swap_out, after_take, need, need_at, need_call, need_choice, pc_after_empty_pass, with_pc}
+pub use Rattle.rd_actor.specs.Table.{after, after_at, after_take, need, need_at, need_call, need_choice, pc_after_empty_pass}
 pub use Rattle.rd_actor.specs.Words.{array_dequeues, array_enqueues, pass_fits, words_fit, words_fit_at}
 pub use Rattle.rd_actor.specs.declared.actors.Act.{Act}
 pub use Rattle.rd_actor.specs.declared.actors.Actor.{Actor}

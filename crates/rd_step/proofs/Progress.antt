@@ -1,7 +1,7 @@
 -- Progress: what an actor of a well-formed world asks for suits what is there, and the answer leads
 -- it to another control point.
 use Rattle.std.proofs.Common.{◌+◌, ◌≡◌, ◌≢◌, ℕ, ◌≤◌, Bool, true, false, if◌then◌else◌, nat_lt, nat_le, refl, sym, ◌∙◌, ap, subst, arith, Option, Some, None, is_some, is_none, ok_or, Result, Ok, Err, IfOk}
-use Rattle.rd_step.proofs.Prelude.{COUNTER_END, holding, common_steps, cond_both, and_parts, IfOk-at_ok, fun_ext, MOST_SEGMENTS, Cell, SegName, Place, Wrote, ArrSlot, Content, Operation, Access, NoPlace, At, Make, Refusal, some_covers, is_nothing, written, Contents, is_there, operand, Effect, effect, Performed, operate, make, perform, swaps, adds, effect_at, result_map, after_write-outside, written-covers, ok_or_ok, Act, Actor, Pc, Idle, E4, E11, Q5, A2, B2, need, need_at, need_call, need_choice, after_take, after_swap_in, after_swap_out, after_at, after, words_fit_at, World, Event, Stepped, step, Presence, content_fits, record_fits, actor_fits, IsWellFormed}
+use Rattle.rd_step.proofs.Prelude.{COUNTER_END, holding, common_steps, cond_both, and_parts, IfOk-at_ok, fun_ext, MOST_SEGMENTS, Cell, SegName, Place, Wrote, ArrSlot, Content, Operation, Access, NoPlace, At, Make, Refusal, some_covers, is_nothing, written, Contents, is_there, operand, Effect, effect, Performed, operate, make, perform, swaps, adds, effect_at, result_map, after_write-outside, written-covers, ok_or_ok, Act, Actor, Pc, Idle, E4, E11, Q5, A2, B2, need, need_at, need_call, need_choice, after_take, after_at, after, words_fit_at, World, Event, Stepped, step, Presence, content_fits, record_fits, actor_fits, IsWellFormed}
 use Rattle.rd_ring.specs.Prelude.{number_made}
 use Rattle.rd_cell.proofs.ResultLemmas.{and_then_err}
 use Rattle.rd_step.specs.Laws.{IsStepRefusal, SuitsContent, MovesOn, ChangesOnly}
@@ -88,11 +88,11 @@ array_adds_lead R pc a limit n old new h = cond_both (nat_lt n limit) _ _ (λ (r
 take_leads : (a : Actor) (v : Option ℕ) → is_some v ≡ true → (after_take v a).0.pc ≢ Q5
 take_leads a v h = grind arith
 
-swap_in_leads : (a : Actor) (slot : ArrSlot) → (after_swap_in a slot).0.pc ≢ A2
-swap_in_leads a slot = grind arith
+swap_in_leads : (R : ℕ) (a : Actor) (slot : ArrSlot) → (after_at R A2 a (answer.Found (content.Slot slot))).0.pc ≢ A2
+swap_in_leads R a slot = grind arith
 
-swap_out_leads : (a : Actor) (slot : ArrSlot) → (after_swap_out a slot).0.pc ≢ B2
-swap_out_leads a slot = grind arith
+swap_out_leads : (R : ℕ) (a : Actor) (slot : ArrSlot) → (after_at R B2 a (answer.Found (content.Slot slot))).0.pc ≢ B2
+swap_out_leads R a slot = grind arith
 
 -- each row leads on, if the actor's words fit it
 row_leads : (R : ℕ) (there : Presence) (pc : Pc) (a : Actor) → words_fit_at pc a ≡ true → IfOk (need_at R pc a) (Leads R there pc a)

@@ -25,15 +25,7 @@ with_actor n a actors m = if m == n then Some a else actors m
 abbrev pub step_outcome : World → Event → Actor → Performed → Actor × Option OpReply → Stepped
 step_outcome w e a did next = record {
   world = record { ring = w.ring; at = contents_after did w.at; actor = with_actor e.actor next.0 w.actor };
-  entry = record {
-    event = e;
-    place = did.place;
-    wrote = did.wrote;
-    answer = did.answer;
-    reply = next.1;
-    old_actor = a;
-    old_content = did.old;
-  };
+  entry = record { event = e; place = did.place; wrote = did.wrote; answer = did.answer; reply = next.1; old_actor = a; old_content = did.old };
 }
 
 -- the step of an event in a world: the event's actor asks for its one access, which is done at its
