@@ -1,7 +1,7 @@
 -- What the laws state: going back and forward again, steps undone out of their order and redone, and
 -- the old words of an entry.
 use Rattle.std.proofs.Common.{◌≡◌, ℕ, sym, ◌∙◌, Ok, arith, length-append, length-drop, ◌-◌, ◌≤◌, refl, ap, List, [], ◌∷◌, ◌++◌, length, take, drop, Option, Some, None, Result, subst, get_or, ◌+◌, ◌<◌}
-use Rattle.rd_journal.proofs.Prelude.{le-ltb, ltb-false, cond-false, take_at, drop_at, take-append-drop, Journal, IsRun, State, state_of, back, forward, length-map, first_dependant, Ran, step, unstep, Entry, IsTakenOut, taken_out, IsMovedLast, IsUndoneAlone, run_of, live_event, undo_at, redo, and_then, Refusal, result_map, map-append, World, closure, closure_of, without_closure, Event, events, start_of, IsClosureLast, undone_marked, roll, take-map, run, IsWellFormed, run_keeps, IsStepAfter, middle}
+use Rattle.rd_journal.proofs.Prelude.{le-ltb, ltb-false, cond-false, take_at, drop_at, take-append-drop, Journal, IsRun, State, state_of, back, forward, length-map, first_dependant, Ran, step, unstep, Entry, IsTakenOut, taken_out, IsMovedLast, IsUndoneAlone, run_of, live_event, undo_at, and_then, Refusal, result_map, map-append, World, closure, closure_of, without_closure, Event, events, start_of, IsClosureLast, undone_marked, roll, take-map, run, IsWellFormed, run_keeps, IsStepAfter, middle}
 use Rattle.rd_journal.proofs.Runs.{as_ok, as_ok-same, step_event, grown}
 use Rattle.rd_journal.proofs.ListLemmas.{nth, drop_one_less}
 use Rattle.rd_journal.proofs.LoneUndo.{IsNumber, from_it, may_undo_at, undo_at_goes}
@@ -45,7 +45,7 @@ abbrev pub again_journal : Journal → ℕ → Entry → Journal
 again_journal old n x = record { world = old.world; live = (take (n - 1) old.live ++ drop n old.live) ++ x ∷ []; undone = old.undone }
 
 again : (old : Journal) (n : ℕ) (x : Entry) → IsNumber old.live n x → first_dependant old.live n ≡ None → IsRun old
-    → IsRun (again_journal old n x) × (and_then (undo_at (state_of old) n) redo ≡ Ok (state_of (again_journal old n x)))
+    → IsRun (again_journal old n x) × (and_then (undo_at (state_of old) n) (λ s. forward s 1) ≡ Ok (state_of (again_journal old n x)))
 again old n x at none runs =
     let may = may_undo_at old n x at none runs in
     let v = unstep old.world x in
@@ -58,12 +58,12 @@ again old n x at none runs =
     let goes : step v x.event ≡ Ok (record { world = old.world; entry = x }) = ap (step v) its ∙ out.again in
     let back_on = grown v old.world xs (x ∷ old.undone) old.undone x x.event is.runs goes runs.undone_run_on in (
       back_on.runs,
-      ap (λ (r : Result State Refusal). and_then r redo) (undo_at_goes n old left runs at.some at.within none moved is.start).0
+      ap (λ (r : Result State Refusal). and_then r (λ s. forward s 1)) (undo_at_goes n old left runs at.some at.within none moved is.start).0
           ∙ state_forward 1 left (again_journal old n x) (omega arith) back_on.start (record { live = refl; undone = refl }),
     )
 
 pub redone_last : (i j k : Journal) (n : ℕ) → IsRun i → IsRun k → undo_at (state_of i) n ≡ Ok (state_of j)
-    → redo (state_of j) ≡ Ok (state_of k) → IsMovedLast n i k
+    → forward (state_of j) 1 ≡ Ok (state_of k) → IsMovedLast n i k
 redone_last i j k n ri rk undone redone =
     let went = went_out (state_of i) (state_of j) (record { world = i.world; entries = i.live }) n ri.live_ran undone in
     let len = length-map i.live (λ (x : Entry). x.event) in
@@ -72,7 +72,7 @@ redone_last i j k n ri rk undone redone =
     let at : IsNumber i.live n found.0 = record { some = went.0; within = within; here = found.1 } in
     let is = again i n found.0 at went.2 ri in
     let same : state_of k ≡ state_of (again_journal i n found.0) =
-    as_ok-same _ _ (sym redone ∙ ap (λ (r : Result State Refusal). and_then r redo) (sym undone) ∙ is.1) in
+    as_ok-same _ _ (sym redone ∙ ap (λ (r : Result State Refusal). and_then r (λ s. forward s 1)) (sym undone) ∙ is.1) in
     let one : k ≡ again_journal i n found.0 = one_journal k (again_journal i n found.0) rk is.0 same in
     record {
       world = ap (λ (l : Journal). l.world) one;

@@ -36,4 +36,4 @@ pub use Rattle.rd_journal.specs.Entries.{ahead_entries, kept_entries, live_entri
 unfoldable pub use Rattle.rd_journal.specs.Entries.{all_entries}
 pub use Rattle.rd_journal.specs.Room.{HasRoom, HasRoomForAll, LacksIndexRoom, room_returned_by, room_without}
 pub use Rattle.rd_journal.specs.Sessions.{journal, state}
-pub use Rattle.rd_journal.specs.State.{State, MayLackMemory, apply, back, forward, live_event, redo, roll, run_of, state_of, switch, undo, undo_at, undone_marked, with_event}
+pub use Rattle.rd_journal.specs.State.{State, MayLackMemory, apply, back, forward, live_event, roll, run_of, state_of, switch, undo_at, undone_marked, with_event}

@@ -51,15 +51,7 @@ abbrev pub back : State → ℕ → Result State Refusal
 back s n =
     if nat_lt (length s.live) n
     then Err (refusal.NothingToUndo (length s.live))
-    else Ok (record {
-      start = s.start;
-      live = take (length s.live - n) s.live;
-      undone = drop (length s.live - n) s.live ++ s.undone;
-    })
-
--- the state after undoing the last live step; refused if there is none
-abbrev pub undo : State → Result State Refusal
-undo s = back s 1
+    else Ok (record { start = s.start; live = take (length s.live - n) s.live; undone = drop (length s.live - n) s.live ++ s.undone })
 
 -- the state after redoing the n steps that were undone last; refused if fewer are undone
 abbrev pub forward : State → ℕ → Result State Refusal
@@ -67,10 +59,6 @@ forward s n =
     if nat_lt (length s.undone) n
     then Err refusal.NothingToRedo
     else Ok (record { start = s.start; live = s.live ++ take n s.undone; undone = drop n s.undone })
-
--- the state after redoing the step that was undone last; refused if there is none
-abbrev pub redo : State → Result State Refusal
-redo s = forward s 1
 
 -- the live event of this number, from 1; refused if there is none
 abbrev pub live_event : State → ℕ → Result Event Refusal

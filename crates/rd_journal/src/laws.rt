@@ -5,7 +5,7 @@ ghost use Rattle.std.specs.Prelude.{◌≡◌, ℕ, length, Ok};
 ghost use Rattle.rd_step.specs.Prelude.{closure_of};
 ghost use Rattle.rd_journal.specs.Journal.{Journal, start_of, IsRun};
 ghost use Rattle.rd_journal.specs.Laws.{IsMovedLast, IsClosureLast, IsOneRun};
-ghost use Rattle.rd_journal.specs.State.{State, state_of, undo_at, back, redo, forward, roll};
+ghost use Rattle.rd_journal.specs.State.{State, state_of, undo_at, back, forward, roll};
 
 /// The loop lemma for states: going back and then forward as far gives the start, the live events
 /// and the undone events from before.
@@ -53,7 +53,7 @@ pub fn live_and_undone_are_one_run()
 /// rd_inverse.
 pub fn a_step_undone_alone_and_redone_is_the_last()
     ensures { (i j k : Journal) (n : ℕ) → IsRun i → IsRun k → undo_at (state_of i) n ≡ Ok (state_of j)
-        → redo (state_of j) ≡ Ok (state_of k) → IsMovedLast n i k }
+        → forward (state_of j) 1 ≡ Ok (state_of k) → IsMovedLast n i k }
 {}
 
 /// If all steps that a rollback undid are redone, the world is that from before it, no entry has

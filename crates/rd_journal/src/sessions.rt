@@ -28,7 +28,7 @@ ghost use Rattle.rd_journal.specs.SessionFields.{whole_journal, IsSession};
 ghost use Rattle.rd_journal.specs.Room.{ComesAfterRoom, LacksRoom};
 ghost use Rattle.rd_depend.specs.Index.{IsIndexOf};
 ghost use Rattle.rd_journal.specs.Entries.{ahead_entries, kept_entries};
-ghost use Rattle.rd_journal.specs.State.{apply, reply_to, MayLackMemory, undo, undo_at, back, redo, forward, roll, switch};
+ghost use Rattle.rd_journal.specs.State.{apply, reply_to, MayLackMemory, undo_at, back, forward, roll, switch};
 ghost use Rattle.rd_journal.specs.Moves.{IsStepOf, IsMovedBack, IsMovedForward, IsBeforeLast, IsUndoneAlone, IsRunWithout, IsSwitched, IsRolledBack, IsWithoutClosure, answer_at, roll_answer};
 
 use super::entries::Entries;
@@ -132,7 +132,7 @@ impl<const R: usize> Session<R> {
     ///
     /// `NothingToUndo(0)` if no step is live. Nothing has changed then.
     pub fn undo(&mut self) -> Result<(), Refusal>
-        ensures state { AnswersAs (undo (state self.old)) result self.old self.new }
+        ensures state { AnswersAs (back (state self.old) 1) result self.old self.new }
         ensures entries { OnOk result (IsMovedBack 1 (journal self.old) (journal self.new)) }
         ensures succeeds { 1 ≤ length (journal self.old).live → IsOk result }
         ensures along { GoesAlong self.old self.new }
@@ -227,7 +227,7 @@ impl<const R: usize> Session<R> {
     ///
     /// `NothingToRedo` if no step is undone. Nothing has changed then.
     pub fn redo(&mut self) -> Result<(), Refusal>
-        ensures state { AnswersAs (redo (state self.old)) result self.old self.new }
+        ensures state { AnswersAs (forward (state self.old) 1) result self.old self.new }
         ensures entries { OnOk result (IsMovedForward 1 (journal self.old) (journal self.new)) }
         ensures along { GoesAlong self.old self.new }
     {

@@ -2,7 +2,7 @@
 use Rattle.std.proofs.Common.{◌≡◌, ℕ, sym, subst, List, [], ◌∷◌, ◌++◌, length, Some, None, Result, Ok, Err, OnErr, IfErr, ◌∙◌, arith}
 use Rattle.std.proofs.lemmas.Option.{same_Some}
 use Rattle.rd_journal.specs.Sessions.{MayRefuse}
-use Rattle.rd_marks.proofs.Prelude.{Refusal, Event, Session, State, apply, reply_to, undo, undo_at, roll, back, redo, forward, Command, BookState, MarkName, with_session, goto_mark, Answered, answer_with, Happened, IsAsDefined, NeedsNoMemory, IsObeyed, AreObeyed}
+use Rattle.rd_marks.proofs.Prelude.{Refusal, Event, Session, State, apply, reply_to, undo_at, roll, back, forward, Command, BookState, MarkName, with_session, goto_mark, Answered, answer_with, Happened, IsAsDefined, NeedsNoMemory, IsObeyed, AreObeyed}
 use Rattle.rd_marks.specs.declared.commands.Command.TheVariants as command
 use Rattle.rd_marks.specs.declared.replies.Reply.{Reply}
 use Rattle.rd_marks.specs.declared.replies.Reply.TheVariants.{Applied}
@@ -45,11 +45,11 @@ obeyed_leaves b (command.ArrayEnq actor value) a h = happened_leaves b (record {
 obeyed_leaves b (command.ArrayDeq actor) a h = happened_leaves b (record { actor = actor; act = act.ADeq }) a h
 obeyed_leaves b (command.Go actor) a h = happened_leaves b (record { actor = actor; act = act.Go }) a h
 obeyed_leaves b (command.Starve actor choice) a h = happened_leaves b (record { actor = actor; act = act.Starve choice }) a h
-obeyed_leaves b command.Undo a h = as_this b a _ (state_leaves b step_counts (undo b.session) (back_start b.session 1)) h
+obeyed_leaves b command.Undo a h = as_this b a _ (state_leaves b step_counts (back b.session 1) (back_start b.session 1)) h
 obeyed_leaves b (command.UndoAt k) a h = as_this b a _ (state_leaves b step_counts (undo_at b.session k) (undo_at_start b.session k)) h
 obeyed_leaves b (command.Roll k) a h = as_this b a _ (state_leaves b step_counts (roll b.session k) (roll_start b.session k)) h
 obeyed_leaves b (command.Back n) a h = as_this b a _ (state_leaves b step_counts (back b.session n) (back_start b.session n)) h
-obeyed_leaves b command.Redo a h = as_this b a _ (state_leaves b step_counts (redo b.session) (forward_start b.session 1)) h
+obeyed_leaves b command.Redo a h = as_this b a _ (state_leaves b step_counts (forward b.session 1) (forward_start b.session 1)) h
 obeyed_leaves b (command.Forward n) a h = as_this b a _ (state_leaves b step_counts (forward b.session n) (forward_start b.session n)) h
 obeyed_leaves b (command.Mark name) a h = grind (arith, made_leaves)
 obeyed_leaves b (command.DropMark name) a h = grind (arith, as_this)

@@ -17,7 +17,7 @@ pub use Rattle.rd_depend.specs.Equivalence.{DecidesEquivalence}
 pub use Rattle.rd_journal.specs.Journal.{Journal, start_of}
 pub use Rattle.rd_journal.specs.Entries.{ahead_entries}
 pub use Rattle.rd_journal.specs.Sessions.{journal, state, track}
-pub use Rattle.rd_journal.specs.State.{State, MayLackMemory, apply, back, forward, redo, reply_to, roll, run_of, state_of, switch, undo, undo_at, with_event}
+pub use Rattle.rd_journal.specs.State.{State, MayLackMemory, apply, back, forward, reply_to, roll, run_of, state_of, switch, undo_at, with_event}
 pub use Rattle.rd_journal.specs.declared.sessions.Session.{Session}
 pub use Rattle.rd_step.proofs.PassedUp.{fact_passed_up}
 pub use Rattle.rd_step.specs.Equivalence.{IsEquivalent}

@@ -4,7 +4,7 @@ use Rattle.std.specs.Prelude.{◌≡◌, ℕ, ◌<◌, ◌⊎◌, Bool, List, []
 use Rattle.rd_step.specs.Prelude.{Refusal, content_at, Ran, numbered, and_then, result_map}
 use Rattle.rd_actor.specs.declared.actors.Act.TheVariants as act
 use Rattle.rd_step.specs.declared.entries.Event.{Event}
-use Rattle.rd_journal.specs.State.{State, run_of, apply, reply_to, MayLackMemory, undo, undo_at, roll, back, redo, forward}
+use Rattle.rd_journal.specs.State.{State, run_of, apply, reply_to, MayLackMemory, undo_at, roll, back, forward}
 use Rattle.rd_origin.specs.Origins.{origin_in}
 use Rattle.rd_origin.specs.Writers.{last_writer_in}
 use Rattle.rd_marks.specs.declared.commands.Command.{Command}
@@ -84,11 +84,11 @@ IsObeyed b (command.ArrayEnq actor value) answered = Happened b (record { actor 
 IsObeyed b (command.ArrayDeq actor) answered = Happened b (record { actor = actor; act = act.ADeq }) answered
 IsObeyed b (command.Go actor) answered = Happened b (record { actor = actor; act = act.Go }) answered
 IsObeyed b (command.Starve actor choice) answered = Happened b (record { actor = actor; act = act.Starve choice }) answered
-IsObeyed b command.Undo answered = answered ≡ move_answer b (undo b.session)
+IsObeyed b command.Undo answered = answered ≡ move_answer b (back b.session 1)
 IsObeyed b (command.UndoAt k) answered = answered ≡ move_answer b (undo_at b.session k)
 IsObeyed b (command.Roll k) answered = answered ≡ move_answer b (roll b.session k)
 IsObeyed b (command.Back n) answered = answered ≡ move_answer b (back b.session n)
-IsObeyed b command.Redo answered = answered ≡ move_answer b (redo b.session)
+IsObeyed b command.Redo answered = answered ≡ move_answer b (forward b.session 1)
 IsObeyed b (command.Forward n) answered = answered ≡ move_answer b (forward b.session n)
 IsObeyed b (command.Mark name) answered = IsAsDefined b (answer_with b (λ c. reply.Marked (length c.session.live)) (λ c. c) (mark b name)) (IsOk (mark b name)) answered
 IsObeyed b (command.DropMark name) answered = answered ≡ answer_with b (λ c. reply.Dropped) (λ c. c) (drop_mark b name)
