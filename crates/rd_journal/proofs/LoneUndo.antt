@@ -1,7 +1,7 @@
 -- Undoing one live step alone, on which no later one depends, over whole journals.
 use Rattle.std.specs.List.{list_any}
 use Rattle.std.proofs.lemmas.Bool.{or_from}
-use Rattle.rd_journal.proofs.Prelude.{common_steps, cases_Bool, cond-true, cond-false, map-append, take-map, drop-map, take-append-drop, depends, IsFree, first_dependant, MOST_STEPS, Entry, position_from, WasStepped, IsTakenOut, Journal, start_of, world_before, IsRun, IsUndoneAlone, IsRunWithout, answer_unless, answer_at, state_of, undo_at, and_then, events, without}
+use Rattle.rd_journal.proofs.Prelude.{common_steps, cases_Bool, cond-true, cond-false, map-append, take-map, drop-map, take-append-drop, depends, IsFree, first_dependant, MOST_STEPS, Entry, position_from, WasStepped, IsTakenOut, Journal, start_of, world_before, IsRun, IsUndoneAlone, IsRunWithout, unless_depended, answer_at, state_of, undo_at, and_then, events, without}
 use Rattle.std.proofs.Common.{◌≡◌, refl, ℕ, ◌+◌, ◌-◌, ◌<◌, ◌≤◌, ◌⊎◌, inl, inr, sym, ◌∙◌, ap, subst, arith, List, [], ◌∷◌, ◌++◌, length, take, drop, get_or, Some, None, Ok, Err, length-append}
 use Rattle.rd_journal.proofs.ListLemmas.{nth, drop_one_less}
 use Rattle.rd_journal.proofs.Calls.{entry_missing, entry_found, event_of_entry}
@@ -87,9 +87,9 @@ undone_run k old new moved start runs = let left = without-events old.live k in 
 
 -- the k-th live step is looked up, then its first dependant
 undo_at_there : (j : Journal) (k : ℕ) (x : Entry) → IsRun j → IsNumber j.live k x
-    → (undo_at (state_of j) k ≡ and_then (answer_unless (first_dependant j.live k))
+    → (undo_at (state_of j) k ≡ and_then (unless_depended (first_dependant j.live k))
     (λ _. Ok (record { start = start_of j; live = without (events j.live) k; undone = x.event ∷ events j.undone })))
-    × (answer_unless (first_dependant j.live k) ≡ answer_at j k)
+    × (unless_depended (first_dependant j.live k) ≡ answer_at j k)
 undo_at_there j k x runs at = let found = entry_found j k x at.some at.within at.here in (grind (arith, event_of_entry), grind arith)
 
 pub undo_at_goes : (k : ℕ) (old new : Journal) → IsRun old → 1 ≤ k → k ≤ length old.live → first_dependant old.live k ≡ None → IsUndoneAlone k old new

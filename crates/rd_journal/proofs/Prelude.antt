@@ -27,7 +27,7 @@ pub use Rattle.rd_step.specs.Room.{makes_segment, room_returned, room_used}
 pub use Rattle.rd_step.specs.Run.{preceded_by}
 pub use Rattle.rd_step.specs.declared.entries.Entry.{Entry}
 pub use Rattle.rd_step.specs.declared.entries.Event.{Event}
-pub use Rattle.rd_journal.specs.Journal.{IsRun, IsRunFrom, Journal, LeadsTo, entry_of, events, start_of, world_before, answer_unless}
+pub use Rattle.rd_journal.specs.Journal.{IsRun, IsRunFrom, Journal, LeadsTo, entry_of, events, start_of, world_before, unless_depended}
 pub use Rattle.rd_journal.specs.SessionFields.{IsSession, whole_journal}
 pub use Rattle.rd_journal.specs.Laws.{IsClosureLast, IsMovedLast, IsOneRun, IsStepAfter}
 pub use Rattle.rd_journal.specs.Moves.{IsBeforeLast, IsLengthened, IsMovedBack, IsMovedForward, IsRolledBack, IsSwitched, IsUndoneAlone, IsRunWithout, IsWithoutClosure, answer_at, roll_answer}

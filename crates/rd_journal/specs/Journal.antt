@@ -39,6 +39,6 @@ abbrev pub entry_of : Journal → ℕ → Result Entry Refusal
 entry_of j k = ok_or (numbered j.live k) (refusal.NoSuchStep (length j.live))
 
 -- the answer to undoing a step alone: done, or `Depended` with the first step that depends on it
-abbrev pub answer_unless : Option ℕ → Result Unit Refusal
-answer_unless None = Ok tt
-answer_unless (Some j) = Err (refusal.Depended j)
+abbrev pub unless_depended : Option ℕ → Result Unit Refusal
+unless_depended None = Ok tt
+unless_depended (Some j) = Err (refusal.Depended j)

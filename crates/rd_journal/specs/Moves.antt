@@ -3,7 +3,7 @@ use Rattle.std.specs.Prelude.{◌≡◌, ℕ, ◌-◌, List, [], ◌∷◌, ◌+
 use Rattle.rd_step.specs.Prelude.{Refusal, step, first_dependant, without, unmarked, closure, closure_of, without_closure, run, and_then, result_map}
 use Rattle.rd_step.specs.declared.entries.Event.{Event}
 use Rattle.rd_step.specs.declared.entries.Entry.{Entry}
-use Rattle.rd_journal.specs.Journal.{Journal, start_of, events, entry_of, answer_unless}
+use Rattle.rd_journal.specs.Journal.{Journal, start_of, events, entry_of, unless_depended}
 use Rattle.rd_journal.specs.Numbers.{just}
 
 -- the journal got one more live entry, the last, and none is undone
@@ -47,7 +47,7 @@ IsRunWithout k old new = run (start_of old) (without (events old.live) k) ≡ Ok
 -- the answer to undoing the k-th live step alone: `NoSuchStep` if there is no such step, `Depended`
 -- with the first live step that depends on it if there is one, else done
 abbrev pub answer_at : Journal → ℕ → Result Unit Refusal
-answer_at j k = and_then (entry_of j k) (λ _. answer_unless (first_dependant j.live k))
+answer_at j k = and_then (entry_of j k) (λ _. unless_depended (first_dependant j.live k))
 
 -- the first n live entries stayed, the given ones are after them now, and none is undone
 pub record IsSwitched (n : ℕ) (given : List Entry) (old new : Journal) : Type 0 where

@@ -5,7 +5,7 @@ use Rattle.std.specs.List.{items_where_true}
 use Rattle.std.specs.Result.{result_ok}
 use Rattle.rd_step.specs.Prelude.{Refusal, OpReply, World, Stepped, step, Ran, run, first_dependant, numbered, without, closure, unmarked, MOST_STEPS, and_then, result_map}
 use Rattle.rd_step.specs.declared.entries.Event.{Event}
-use Rattle.rd_journal.specs.Journal.{Journal, start_of, events, answer_unless}
+use Rattle.rd_journal.specs.Journal.{Journal, start_of, events, unless_depended}
 use Rattle.rd_cell.specs.declared.refusal.Refusal.TheVariants as refusal
 
 -- the start, the live events in their order, and the undone events, the one undone last in front
@@ -70,7 +70,7 @@ abbrev pub undo_at : State → ℕ → Result State Refusal
 undo_at s k =
     and_then (live_event s k) (λ e.
     and_then (run_of s) (λ ran.
-    and_then (answer_unless (first_dependant ran.entries k)) (λ _.
+    and_then (unless_depended (first_dependant ran.entries k)) (λ _.
     Ok (record { start = s.start; live = without s.live k; undone = e ∷ s.undone }))))
 
 -- the state where the marked live events became the front of undone, in their order, and all others

@@ -2,13 +2,13 @@
 use Rattle.std.proofs.Common.{◌≡◌, ◌↔◌, ℕ, refl, Option, Some, None, Ok, Err, arith}
 use Rattle.rd_marks.proofs.Prelude.{Entry, state_of, undo_at, Journal, BookState}
 use Rattle.rd_step.specs.Prelude.{numbered, first_dependant, and_then}
-use Rattle.rd_journal.specs.Journal.{IsRun, answer_unless}
+use Rattle.rd_journal.specs.Journal.{IsRun, unless_depended}
 use Rattle.rd_journal.proofs.Calls.{event_of_entry}
 use Rattle.rd_marks.specs.Headline.{IsRunOfLive}
 use Rattle.rd_cell.specs.declared.refusal.Refusal.TheVariants as refusal
 
 -- undoing a step alone names just the dependant that is found
-names : {X : Type 0} (x : X) (n : ℕ) (found : Option ℕ) → (and_then (answer_unless found) (λ _. Ok x) ≡ Err (refusal.Depended n)) ↔ (found ≡ Some n)
+names : {X : Type 0} (x : X) (n : ℕ) (found : Option ℕ) → (and_then (unless_depended found) (λ _. Ok x) ≡ Err (refusal.Depended n)) ↔ (found ≡ Some n)
 names x n None = grind arith
 names x n (Some j) = grind arith
 
