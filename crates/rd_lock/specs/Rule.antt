@@ -93,11 +93,12 @@ module _ {E O : Type 0} where
   abbrev pub HasPass : List (View E O) → ℕ → ℕ → Type 0
   HasPass views seat pass = (v : View E O) × HasView views seat v × IsIn pass (numbers_of v.members)
 
-  -- the view of a pass in a lock that was just opened with both words at `first`
+  -- the view of this pass of a lock with this many seats and this origin, which was just opened with
+  -- both words at `first`: it has seen nothing
   abbrev pub newcomer : ℕ → O → ℕ → ℕ → PassView E O
   newcomer seats root first pass = record { pass = pass; seats = seats; origin = root; seen = []; next = first; served = first }
 
-  -- the views of this many passes in a lock that was just opened, with the numbers from `pass` on
+  -- the views of this many passes of the same lock, with the numbers from `pass` on
   abbrev pub newcomers : ℕ → O → ℕ → ℕ → ℕ → List (PassView E O)
   newcomers seats root first pass zero = []
   newcomers seats root first pass (suc n) = newcomer seats root first pass ∷ newcomers seats root first (suc pass) n
