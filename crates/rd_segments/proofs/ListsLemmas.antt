@@ -2,7 +2,7 @@
 use Rattle.std.proofs.Common.{◌≡◌, ◌≢◌, ℕ, ◌+◌, ◌-◌, ◌<◌, ◌≤◌, Bool, true, ◌==◌, ◌&&◌, if◌then◌else◌, ◌⊎◌, sym, ◌∙◌, ap, subst, arith, List, [], ◌∷◌, ◌++◌, take, length, set, get_or, Option, Some, None, is_some, slice_get, eq-eqb, ne_eqb, Result, OnErr, OnOk}
 use Rattle.rd_segments.proofs.Prelude.{with_item, cond-true, cond-false, and_left, and_right, slice_get_past, slice_get-get_or, SegName, Place, root, name_eq, operand, slice_get-set_same, slice_get-set_other, Segment, ListOf, by_number, by_name, part_of, count_in, count, Changes, IsLengthened, spare_in, spare}
 use Rattle.std.proofs.lemmas.Bool.{and_from}
-use Rattle.std.proofs.lemmas.Option.{slice_get_within}
+use Rattle.std.proofs.lemmas.Option.{slice_get_cases, slice_get_within}
 use Rattle.std.specs.declared.alloc.AllocError.{AllocError}
 use Rattle.rd_cell.proofs.ListLemmas.{slice_get-push_same, slice_get-push_other, slice_get-take_same, slice_get-take_other}
 use Rattle.rd_segments.specs.Room.{room_used}
@@ -53,6 +53,11 @@ segment_there o p h = grind arith
 -- a maker's list is read at its number
 pub list_read : {R : ℕ} (makers : List (ListOf (Segment R))) (m : ℕ) (list : ListOf (Segment R)) → m < length makers → list ≡ get_or makers m list → slice_get makers m ≡ Some list
 list_read makers m list within read = slice_get-get_or makers m list within ∙ ap Some (sym read)
+
+-- a segment whose number is within its maker's list is there
+pub found_there : {R : ℕ} (makers : List (ListOf (Segment R))) (name : SegName) (m : ℕ) (list : ListOf (Segment R)) → m ≡ name.maker → m < length makers
+    → list ≡ get_or makers m list → name.n < length list.items → is_some (by_name makers name) ≡ true
+found_there makers name m list is within read below = grind (arith, list_read, slice_get_cases)
 
 -- a list that another took the place of, at one maker
 spare_replaced : {R : ℕ} (makers : List (ListOf (Segment R))) (m : ℕ) (list left : ListOf (Segment R)) → m < length makers → list ≡ get_or makers m list

@@ -22,8 +22,8 @@ pub fn find<const R: usize>(makers: &Vec<Vec<Segment<R>>>, name: SegName) -> Opt
     }
 }
 
-/// Does an operation on the segment of this name, which must be there, and returns what it did;
-/// refused as `Segment::operate` is.
+/// Does an operation on the segment of this name, and returns what it did; refused as
+/// `Segment::operate` is, and by `NoSuchPlace` if there is no such segment.
 pub fn operate_in<const R: usize>(
     makers: &mut Vec<Vec<Segment<R>>>,
     name: SegName,
@@ -31,7 +31,6 @@ pub fn operate_in<const R: usize>(
     operation: Operation,
 ) -> Result<Done, Refusal>
     requires small { R ≤ MOST_CELLS }
-    requires there { IsTrue (is_some (by_name makers.old.items name)) }
     requires its { segment_of place ≡ Some name }
     requires suits { IsTrue (suits_segments operation) }
     ensures ok { IfOk result (λ done. Operates everywhere place operation done (segments_of makers.old.items) (segments_of makers.new.items)) }
@@ -41,7 +40,11 @@ pub fn operate_in<const R: usize>(
     ensures number { length makers.new.items ≡ length makers.old.items }
     ensures capacity { vec_capacity makers.new ≡ vec_capacity makers.old }
 {
-    makers[usize::from(name.maker)][name.n as usize].operate(place, operation)
+    let (maker, n) = (usize::from(name.maker), name.n as usize);
+    if maker >= makers.len() || n >= makers[maker].len() {
+        return Err(Refusal::NoSuchPlace);
+    }
+    makers[maker][n].operate(place, operation)
 }
 
 /// Puts an old content back at a place of the segment of this name, which must be there.

@@ -180,12 +180,7 @@ impl<const R: usize> Space<R> {
         ensures capacity { capacity self.new ≡ capacity self.old }
     {
         match place.segment() {
-            Some(name) => {
-                if find(&self.makers, name).is_none() {
-                    return Err(Refusal::NoSuchPlace);
-                }
-                operate_in(&mut self.makers, name, place, operation)
-            }
+            Some(name) => operate_in(&mut self.makers, name, place, operation),
             None if place.is_array() => self.array.operate(place, operation),
             None => match place {
                 Place::QHead => operate_on_name(&mut self.qhead, place, operation),

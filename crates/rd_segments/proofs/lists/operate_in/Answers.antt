@@ -1,27 +1,22 @@
 use Rattle.std.proofs.Common.{arith}
-use Rattle.rd_segments.proofs.ListsLemmas.{spare_written, maker_within}
+use Rattle.rd_segments.proofs.ListsLemmas.{list_read, spare_written, found_there}
 use Rattle.rd_segments.proofs.SegmentsLemmas.{operates_in, refuses_in, unchanged_in}
 use Rattle.rd_segments.proofs.lists.operate_in.Goals as goal
 
 pub returns-clause-ok : goal.returns-clause-ok
 returns-clause-ok g c =
-    operates_in c.args.makers.now.items c.args.name c.from.result c.index_mut.result.now c.index_mut-2.result.now c.operate.new.self
-    c.args.place c.args.operation
-    (record { maker = c.from.ensures; there = c.requires.there; list_is = c.index_mut.ensures.value; segment_is = c.index_mut-2.ensures.value; own = c.requires.its })
-    c.operate.result c.operate.ensures.ok
+    operates_in c.args.makers.now.items c.args.name c.from-maker.result c.index_mut.result.now c.index_mut-2.result.now c.operate.new.self
+    c.args.place c.args.operation (grind (arith, found_there, list_read)) c.operate.result c.operate.ensures.ok
 
 pub returns-clause-err : goal.returns-clause-err
 returns-clause-err g c =
-    refuses_in c.args.makers.now.items c.args.name c.from.result c.index_mut.result.now c.index_mut-2.result.now c.operate.new.self
-    c.args.place c.args.operation
-    (record { maker = c.from.ensures; there = c.requires.there; list_is = c.index_mut.ensures.value; segment_is = c.index_mut-2.ensures.value; own = c.requires.its })
-    c.operate.result c.operate.ensures.err
+    refuses_in c.args.makers.now.items c.args.name c.from-maker.result c.index_mut.result.now c.index_mut-2.result.now c.operate.new.self
+    c.args.place c.args.operation (grind (arith, found_there, list_read)) c.operate.result c.operate.ensures.err
 
 pub returns-clause-unchanged : goal.returns-clause-unchanged
 returns-clause-unchanged g c =
-    unchanged_in c.args.makers.now.items c.args.name c.from.result c.index_mut.result.now c.index_mut-2.result.now c.operate.new.self c.args.place
-    (record { maker = c.from.ensures; there = c.requires.there; list_is = c.index_mut.ensures.value; segment_is = c.index_mut-2.ensures.value; own = c.requires.its })
-    c.operate.result c.operate.ensures.unchanged
+    unchanged_in c.args.makers.now.items c.args.name c.from-maker.result c.index_mut.result.now c.index_mut-2.result.now c.operate.new.self c.args.place
+    (grind (arith, found_there, list_read)) c.operate.result c.operate.ensures.unchanged
 
 pub returns-clause-room : goal.returns-clause-room
-returns-clause-room g c = grind (arith, maker_within, spare_written)
+returns-clause-room g c = grind (arith, spare_written)

@@ -2,8 +2,8 @@ use Rattle.std.proofs.Common.{sym, arith}
 use Rattle.rd_segments.proofs.SpaceLemmas.{space_operates, unchanged_fields, head_operates, tail_operates, array_operates, array_unchanged}
 use Rattle.rd_segments.proofs.space.Space.operate.Goals as goal
 
-pub returns-else-is_none-clause-ok : goal.returns-else-is_none-clause-ok
-returns-else-is_none-clause-ok g c =
+pub returns-in-Some-clause-ok : goal.returns-in-Some-clause-ok
+returns-in-Some-clause-ok g c =
     space_operates c.args.self.now.makers.items c.operate_in.new.makers.items c.args.self.now.qhead c.args.self.now.qtail c.args.self.now.array
     c.in-Some.name c.args.place c.args.operation (sym c.in-Some.ensures) c.operate_in.result c.operate_in.ensures.ok
 
@@ -27,11 +27,11 @@ returns-in-None-clause-unchanged g c =
     array_unchanged c.args.self.now.makers.items c.args.self.now.qhead c.args.self.now.qtail c.args.self.now.array c.operate.new.self
     c.operate.result c.operate.ensures.unchanged
 
-pub returns-else-is_none-clause-err : goal.returns-else-is_none-clause-err
-returns-else-is_none-clause-err g c = grind arith
+pub returns-in-Some-clause-err : goal.returns-in-Some-clause-err
+returns-in-Some-clause-err g c = grind arith
 
-pub returns-else-is_none-clause-unchanged : goal.returns-else-is_none-clause-unchanged
-returns-else-is_none-clause-unchanged g c =
+pub returns-in-Some-clause-unchanged : goal.returns-in-Some-clause-unchanged
+returns-in-Some-clause-unchanged g c =
     unchanged_fields c.args.self.now.makers.items c.operate_in.new.makers.items c.args.self.now.qhead c.args.self.now.qtail c.args.self.now.array
     c.operate_in.result c.operate_in.ensures.unchanged
 
