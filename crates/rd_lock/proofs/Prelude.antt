@@ -1,7 +1,7 @@
 -- The words that several proofs of the crate use: definitions of this crate and of those below,
 -- generated types and their variants, and lemmas of these crates and of std.
 pub use Rattle.atomic_table.proofs.Lists.{at_last, at_longer, at_set, set_else, set_here}
-pub use Rattle.atomic_table.specs.Table.{Act, Allows, Final, Joins, Me, Seen, Splits, State, Valid, carried_after, gives, homes_after, keeps, opening, rest, takes}
+pub use Rattle.atomic_table.specs.Table.{Act, Allows, Final, Joins, Me, Seen, Splits, State, Valid, carried_after, gives, homes_after, keeps, opening, takes}
 pub use Rattle.rd_lock.specs.Histories.{Adds, AreAll, AreComparable, Continues, IsIn, NamesUpTo, Pairwise, put_by, numbers, only, placed, signed}
 pub use Rattle.rd_lock.specs.Locks.{IsOut, IsPassOf, IsSamePass, IsWaiting, me, next_seen, number, opened_origin, seats}
 pub use Rattle.rd_lock.specs.Opening.{IsClosedOver, IsEnded, IsEndedWith, IsNewPass}

@@ -2,5 +2,4 @@ pub mod Histories
 pub mod Rule
 pub mod Steps
 pub mod Locks
-pub mod Seats
 pub mod Opening

@@ -8,7 +8,7 @@
 -- 3     Polls         served  the same, and it holds where n is its ticket
 -- 6     Releases      served  served := n + 1, seen := what it put, and it is out
 --
--- Kinds 4 and 5 move the value, and 7 and 8 join and split seats: `src/slot.rt`, `src/plays.rt`.
+-- Kinds 4 and 5 move the value, and 7 and 8 join and split seats: `src/tickets.rt`, `src/plays.rt`.
 use Rattle.std.specs.Prelude.{◌≡◌, ◌≢◌, ℕ, ◌+◌, ◌^◌, ◌≤◌, max, List, [], ◌∷◌, map, Option, Some}
 use Rattle.atomic_table.specs.Table.{Me}
 use Rattle.rd_lock.specs.declared.views.PassView.{PassView}

@@ -13,7 +13,6 @@ mod opening;
 mod passes;
 mod plays;
 mod rule;
-mod slot;
 mod tables;
 mod tickets;
 mod views;

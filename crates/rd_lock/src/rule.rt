@@ -11,7 +11,8 @@ pub const SERVED: usize = 0;
 /// The index of the word `next`.
 pub const NEXT: usize = 1;
 
-/// The index of the value's slot.
+/// The index of the value's slot. The seat that has taken the slot exchanges what is in it, by plain
+/// reads and writes of memory that it alone has.
 pub const SLOT: usize = 0;
 
 /// The invariant of the lock's table.

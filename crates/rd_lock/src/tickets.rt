@@ -5,8 +5,7 @@ ghost use Rattle.rd_lock.specs.Locks.{next_seen, seats, IsOut, IsWaiting, IsPass
 use super::locks::TicketLock;
 use super::passes::Pass;
 use super::plays::{Draws, LoadsNext, LoadsServed, Polls, Releases, Tries};
-use super::rule::{NEXT, SERVED};
-use super::slot::{put_in, take_out};
+use super::rule::{NEXT, SERVED, SLOT};
 use super::views::Recorded;
 use crossbeam_utils::Backoff;
 use std::sync::Wait;
@@ -66,7 +65,9 @@ impl<T: Recorded> TicketLock<T> {
         }
         let next = shared.compare_exchange::<Tries>(&mut pass.seat, NEXT, served, served + 1);
         if next == served {
-            return Ok(take_out(shared, &mut pass.seat));
+            let found = shared.exchange(&mut pass.seat, SLOT, None);
+            let Some(value) = found else { unreachable!() };
+            return Ok(value);
         }
         if next >= TICKETS {
             return Err(TryTakeError::TicketsEnded);
@@ -116,7 +117,9 @@ impl<T: Recorded> TicketLock<T> {
         let pause = Backoff::new();
         'looks: for _ in rt.forever() {
             if shared.load::<Polls>(&mut pass.seat, SERVED) == ticket {
-                return take_out(shared, &mut pass.seat);
+                let found = shared.exchange(&mut pass.seat, SLOT, None);
+                let Some(value) = found else { unreachable!() };
+                return value;
             }
             pause.snooze();
         }
@@ -133,7 +136,8 @@ impl<T: Recorded> TicketLock<T> {
         ensures ok { HasPut pass.old pass.new value }
     {
         let shared = &self.table.shared;
-        put_in(shared, &mut pass.seat, value);
+        let found = shared.exchange(&mut pass.seat, SLOT, Some(value));
+        let None = found else { unreachable!() };
         shared.fetch_add::<Releases>(&mut pass.seat, SERVED, 1);
     }
 }

@@ -7,5 +7,5 @@ pub fetch_add-requires : goal.fetch_add-requires
 fetch_add-requires g c = let pass = c.args.pass.now in let due = c.requires.value in (
   search rules,
   search rules,
-  releases (lock_of g.T.Recorded.history g.T.Recorded.origin _ _) _ _ pass.seat.me.0 c.put_in.new.seat.me c.args.value pass.alone due.held.0 due.held.1 c.requires.own.knows_opening due.rooted due.held.2 due.held.3 c.put_in.ensures.left,
+  releases (lock_of g.T.Recorded.history g.T.Recorded.origin _ _) _ _ pass.seat.me.0 _ c.args.value pass.alone due.held.0 due.held.1 c.requires.own.knows_opening due.rooted due.held.2 due.held.3 (search rules),
 )

@@ -1,4 +1,4 @@
-use Rattle.std.proofs.Common.{rules, arith}
+use Rattle.std.proofs.Common.{rules, arith, Some}
 use Rattle.rd_lock.proofs.Prelude.{lock_of}
 use Rattle.rd_lock.proofs.Looks.{looks_served}
 use Rattle.rd_lock.proofs.Draws.{tries}
@@ -13,3 +13,6 @@ compare_exchange-next-requires g c = let pass = c.args.pass.now in (
   search rules,
   tries (lock_of g.T.Recorded.history g.T.Recorded.origin _ _) _ _ pass.seat.me c.load-served.new.seat.me c.load-served.result pass.alone c.requires.out pass.hand c.load-served.ensures.2 (omega arith),
 )
+
+pub exchange-found-requires : goal.exchange-found-requires
+exchange-found-requires g c = let won = c.compare_exchange-next.ensures.2.won (omega arith) in (search rules, (Some won.0, search rules))

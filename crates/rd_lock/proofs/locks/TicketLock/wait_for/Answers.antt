@@ -1,4 +1,4 @@
-use Rattle.std.proofs.Common.{rules}
+use Rattle.std.proofs.Common.{rules, Some}
 use Rattle.rd_lock.proofs.Prelude.{lock_of}
 use Rattle.rd_lock.proofs.Waits.{polls}
 use Rattle.rd_lock.proofs.locks.TicketLock.wait_for.Goals as goal
@@ -9,3 +9,6 @@ load-requires g c = let pass = c.looks.pass in let i = c.looks.invariant in (
   search rules,
   polls (lock_of g.T.Recorded.history g.T.Recorded.origin _ _) _ _ pass.seat.me c.args.ticket pass.alone i.waits pass.hand,
 )
+
+pub exchange-found-requires : goal.exchange-found-requires
+exchange-found-requires g c = let taken = c.load.ensures.2.served (search rules) in (search rules, (Some taken.0, search rules))
