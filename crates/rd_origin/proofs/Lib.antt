@@ -1,6 +1,5 @@
 pub mod Prelude
 pub mod Search
-pub mod Writing
 pub mod Split
 pub mod Rows
 pub mod Ops
