@@ -5,9 +5,10 @@
 
 The programs of the gate have their whole input before them, so none of them shows that a reply goes
 out before the next line is read. Here the program gets no line more until it has replied. The lines
-are those of `each-command.script` of `rehearsals`, one of each command, and the replies those of
-its view in the stored output there. Each line prints one line; the status is 1 if a reply is
-another, or has not come after ten seconds. Only Python's standard library is used.
+are those of `each-command.script` of `rehearsals`, and the replies those of its view in the stored
+output there. Each line prints one line; the status is 1 if a reply is another, or has not come
+after ten seconds, or if a command of the manual has no line. Only Python's standard library is
+used.
 """
 
 import argparse
@@ -16,6 +17,7 @@ from pathlib import Path
 
 sys.path.insert(0, str(Path(__file__).resolve().parent.parent / "tools"))
 
+import manual
 import program
 
 REHEARSALS = program.CRATES / "rehearsals"
@@ -33,6 +35,9 @@ def rows():
     lines = SCRIPT.read_text(encoding="ascii").splitlines()
     if len(lines) != len(replies):
         raise program.Broken(f"{SCRIPT.name} has {len(lines)} lines, and its stored view {len(replies)} replies")
+    lacking = {form.split(" ")[0] for form in manual.FORMS} - {line.split(" ")[0] for line in lines}
+    if lacking:
+        raise program.Broken(f"{SCRIPT.name} has no line for {', '.join(sorted(lacking))}")
     return list(zip(lines, replies))
 
 

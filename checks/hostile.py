@@ -4,12 +4,12 @@ it answers with the manual.
 
     python3 checks/hostile.py [--program P]
 
-What a line is, and what a trace is, comes from its own grammars here, written from docs/MANUAL.md
-and not from the code. On each trace that is loaded docs/trace.schema.json is tried too: what it
-refuses has to be BadTrace, and what it takes may be BadTrace only where no schema can say so. Each
-check prints one line; the status is 1 if any of them differs. The timed ones say how time and
-memory grow with the text. Like schema.py it needs `jsonschema`: python3-jsonschema of Debian, or
-jsonschema of pip.
+What a line is comes from the tables of docs/MANUAL.md, and what a trace is from a grammar here that
+is written from that page: neither from the code. On each trace that is loaded
+docs/trace.schema.json is tried too: what it refuses has to be BadTrace, and what it takes may be
+BadTrace only where no schema can say so. Each check prints one line; the status is 1 if any of them
+differs. The timed ones say how time and memory grow with the text. Like schema.py it needs
+`jsonschema`: python3-jsonschema of Debian, or jsonschema of pip.
 """
 
 import argparse
@@ -24,6 +24,7 @@ from pathlib import Path
 
 sys.path.insert(0, str(Path(__file__).resolve().parent.parent / "tools"))
 
+import manual
 import program
 import schema
 from program import SECONDS, peak_of
@@ -37,13 +38,14 @@ BAD_TRACE = "lcrqdb: refused 27 BadTrace\n"
 
 NUMBER = rb"(?:0|[1-9][0-9]*)"
 MOST = {"A": 2**8 - 1, "X": 2**64 - 1, "M": 2**8 - 1, "S": 2**32 - 1, "I": 2**8 - 1}
-PLACES = ["qhead", "qtail", "head M.S", "tail M.S", "next M.S", "cell M.S I", "value M.S I", "index M.S I", "whole M.S"]
-PLACES += ["ahead", "atail", "acell I"]
-FORMS = ["enq A X", "deq A", "aenq A X", "adeq A", "go A", "starve A yes", "starve A no", "undo", "undo X", "roll X", "back X"]
-FORMS += ["redo", "forward X", "mark NAME", "drop NAME", "goto NAME", "marks", "markat X", "same NAME NAME", "origin X"]
-FORMS += ["actor A", "step X", "len"] + [f"{word} {place}" for word in ("show", "writer") for place in PLACES]
 NAME = re.compile(rb"[a-z0-9-]{1,16}")
 MOST_BYTES = 256
+
+
+def forms_of(line):
+    """The forms of a line of the manual: X for a number that is not an actor's, and each place."""
+    form = re.sub(r"\b[KNI]\b", "X", line)
+    return [form.replace("PLACE", place) for place in manual.PLACES] if "PLACE" in form else [form]
 
 
 def form_of(form):
@@ -56,11 +58,14 @@ def form_of(form):
         elif part == "NAME":
             ranges.append(None)
             pattern += "([!-~]+)"
+        elif part.isupper():
+            raise SystemExit(f"no range for the {part} of {form}")
         else:
             pattern += re.escape(part)
     return re.compile(pattern.encode()), ranges
 
 
+FORMS = [form for line in manual.FORMS for form in forms_of(line)]
 GRAMMAR = [form_of(form) for form in FORMS]
 
 
@@ -113,6 +118,14 @@ SPELLED += ["marks", "markat 1", "same a b", "origin 4", "writer qtail", "writer
 SPELLED += ["show tail 255.4294967295", "show next 0.0", "show cell 0.0 255", "show whole 1.0", "show ahead", "show atail"]
 SPELLED += ["show value 0.0 3", "show index 255.4294967295 255", "writer value 0.0 0", "writer index 16.1 10"]
 SPELLED += ["show acell 63", "actor 1", "step 1", "len"]
+
+
+def line_of(form):
+    """A line of this form."""
+    return re.sub("[A-Z]+", lambda word: "a" if word[0] == "NAME" else "1", form)
+
+
+SPELLED += [line_of(form) for form in FORMS if not any(form_of(form)[0].fullmatch(line.encode()) for line in SPELLED)]
 
 
 def mutations(line):

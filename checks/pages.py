@@ -26,14 +26,13 @@ TOP = Path(__file__).resolve().parent.parent
 sys.path.insert(0, str(TOP / "tools"))
 
 import contracts
+import manual
 from program import CRATES
 
 EXAMPLES = TOP / "crates" / "lessons" / "data"
 REHEARSALS = TOP / "crates" / "rehearsals"
 BLOCK = re.compile(r"^( *)```(\w+)\n(.*?)^ *```$", re.MULTILINE | re.DOTALL)
-REPLY = re.compile(
-    r"(?:ok|at|is|marked|marks|mark|actor|step|origin|writer|refused|viewer|history|same|dropped)\b.*|dropped"
-)
+REPLY = re.compile(rf"(?:{'|'.join(sorted(manual.REPLIES))}|viewer|history)\b.*")
 OUTPUT = "  output|"  # before each line of standard output in the stored output of `rehearsals`
 
 # The pages, and of each the examples in their order: a name, and that of the one whose lines the

@@ -16,10 +16,10 @@ from pathlib import Path
 
 sys.path.insert(0, str(Path(__file__).resolve().parent.parent / "tools"))
 
+import manual
 import program
 
 LESSONS = program.CRATES / "lessons" / "data"
-EACH = program.CRATES / "rehearsals" / "data" / "each-command.script"  # a line of each command
 
 # A name, the words, standard input, the status, and how standard output and standard error begin.
 ROWS = [
@@ -224,10 +224,11 @@ def is_as_its_page_says(built: str, page: Path) -> bool:
 
 
 def help_fault(built: str) -> str:
-    """Which commands the help of `run` leaves out, or nothing."""
+    """Which lines and places the help of `run` leaves out or the manual does not have, or nothing."""
     _, text, _ = run(built, ["run", "--help"])
-    listed = set(text.partition("Lines of a script:")[2].replace(",", " ").split())
-    return " ".join(sorted({line.split(" ")[0] for line in EACH.read_text().splitlines()} - listed))
+    rows = text.partition("Lines of a script:\n")[2].partition("\n\n")[0].splitlines()
+    listed = {form for row in rows for form in row.split(maxsplit=1)[1].split(", ")}
+    return ", ".join(sorted(listed ^ {*manual.FORMS, *manual.PLACES}))
 
 
 def all_checks(built: str):
@@ -236,7 +237,7 @@ def all_checks(built: str):
         yield row[0], run_row(built, row)
     for row in TRACES:
         yield row[0], run_trace(built, row)
-    yield "the help has each command", help_fault(built)
+    yield "the help has the lines and the places of the manual", help_fault(built)
     yield "a closed pipe", closed_pipe(built)
     yield "a full device", full_device(built)
     for page in sorted(LESSONS.glob("[0-9]*.md")):
