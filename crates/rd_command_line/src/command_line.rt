@@ -16,6 +16,7 @@ use super::requests::{Options, OptionsFault, ring_of};
 use clap::error::ErrorKind;
 use clap::{Arg, ArgAction, ArgMatches, Command, Error, value_parser};
 use rd_cell::limits::MOST_ACTORS;
+use rd_script::FORMS;
 use rd_trace::Ring;
 use std::alloc::{AllocError, Global};
 use std::convert::AsStr;
@@ -25,17 +26,6 @@ const VERSION: &str = "0.1.0";
 
 /// The numbers of cells that a ring may have, as the command line spells them.
 static RINGS: [&str; 3] = ["2", "4", "8"];
-
-/// The end of the help of `run` and `load`: the lines of a script in six rows, and where the manual
-/// is.
-const LINES: &str = "Lines of a script:\n  \
-    calls      enq A X, deq A, aenq A X, adeq A\n  \
-    steps      go A, starve A yes, starve A no\n  \
-    undo       undo, undo K, roll K, back N, redo, forward N\n  \
-    bookmarks  mark NAME, drop NAME, goto NAME, marks, markat I, same NAME NAME\n  \
-    queries    show PLACE, writer PLACE, actor A, step K, origin K, len\n  \
-    places     qhead, qtail, head M.S, tail M.S, next M.S, cell M.S I, value M.S I, index M.S I, whole M.S, ahead, atail, acell I\n\n\
-    The manual is docs/MANUAL.md in the repository of lcrqdb";
 
 /// Reads the words of a command line, of which the first is the program's name, and returns its
 /// options, or why it gives none.
@@ -201,7 +191,7 @@ fn run_over<'a>(alloc: Global) -> Result<Command<'a>, AllocError>
 {
     Command::new(alloc, "run")
         .about("Does the lines of a script and writes a reply to each")
-        .after_help(LINES)
+        .after_help(FORMS)
         .arg(file(alloc, "FILE").help("The script; - is standard input"))?
         .arg(actors(alloc))?
         .arg(ring(alloc))
@@ -226,7 +216,7 @@ fn load<'a>(alloc: Global) -> Result<Command<'a>, AllocError>
 {
     Command::new(alloc, "load")
         .about("Does the lines of standard input over the run of a trace")
-        .after_help(LINES)
+        .after_help(FORMS)
         .arg(file(alloc, "TRACE").help("A trace, as run --trace writes it"))
 }
 

@@ -21,6 +21,7 @@ pub use devices::sinks::{Sink, WriteFault, WriteSink, write_all};
 pub use devices::sources::{ReadFault, ReadSource, Source};
 pub use faults::{LineFault, ScriptFault};
 pub use reading::commands::command_in;
+pub use reading::keywords::FORMS;
 pub use reading::whole_texts::lines;
 pub use script::{run, write_answer};
 pub use writing::headings::{Heading, set_heading};

@@ -3,7 +3,7 @@
 
 mod arguments;
 pub mod commands;
-mod keywords;
+pub mod keywords;
 pub mod lines;
 mod numbers;
 mod places;

@@ -1,8 +1,19 @@
-//! The first word of each line, which determines the kind of command that the line spells.
+//! The first word of each line, which determines the kind of command that the line spells; and the
+//! forms of lines, as a help lists them.
 
 ghost use Rattle.std.specs.Prelude.{◌≡◌, ◌≢◌, IfSome, IfNone};
 ghost use Rattle.rd_script.specs.declared.reading.keywords.Keyword.{Keyword as Word};
 ghost use Rattle.rd_script.specs.Grammar.{keyword_text};
+
+/// The forms of lines in six rows, and where the manual is: the end of a help.
+pub const FORMS: &str = "Lines of a script:\n  \
+    calls      enq A X, deq A, aenq A X, adeq A\n  \
+    steps      go A, starve A yes, starve A no\n  \
+    undo       undo, undo K, roll K, back N, redo, forward N\n  \
+    bookmarks  mark NAME, drop NAME, goto NAME, marks, markat I, same NAME NAME\n  \
+    queries    show PLACE, writer PLACE, actor A, step K, origin K, len\n  \
+    places     qhead, qtail, head M.S, tail M.S, next M.S, cell M.S I, value M.S I, index M.S I, whole M.S, ahead, atail, acell I\n\n\
+    The manual is docs/MANUAL.md in the repository of lcrqdb";
 
 /// A line's first word.
 #[derive(Clone, Copy, Debug, PartialEq, Eq)]
