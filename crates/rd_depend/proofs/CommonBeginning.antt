@@ -1,22 +1,13 @@
--- Where one list of events begins another, and where it can't.
-use Rattle.rd_depend.proofs.Prelude.{common_steps, Entry, Event, events}
-use Rattle.std.proofs.Common.{◌≡◌, ℕ, zero, suc, ◌<◌, ◌≤◌, arith, List, [], ◌∷◌, length, get_or, min, slice_get, Some}
-use Rattle.std.proofs.lemmas.List.{length-map}
-use Rattle.std.proofs.lemmas.Option.{slice_get_within}
-use Rattle.rd_depend.specs.Beginnings.{IsPrefix}
+-- Where neither of two lists begins the other.
+use Rattle.std.proofs.Common.{◌≡◌, ℕ, zero, suc, ◌<◌, refl, arith, List, [], ◌∷◌, length, slice_get, Some}
+use Rattle.rd_depend.specs.Beginnings.{IsPrefix, NeitherIsPrefix}
 
--- a list that begins another is no longer than it
-pub begins_within : (a b : List Entry) → IsPrefix (events a) (events b) → length a ≤ length b
-begins_within a b h = grind (arith, common_steps)
+-- a list does not begin one that ends before it, or that goes on with another element
+begins_not : {X : Type 0} (xs ys : List X) (n : ℕ) → ((x : X) → slice_get xs n ≡ Some x → slice_get ys n ≡ Some x → ⊥) → n < length xs → IsPrefix xs ys → ⊥
+begins_not [] ys n apart within h = omega arith
+begins_not (x ∷ xs) [] n apart within h = cc
+begins_not (x ∷ xs) (y ∷ ys) zero apart within h = apart x refl cc
+begins_not (x ∷ xs) (y ∷ ys) (suc n) apart within h = begins_not xs ys n apart (omega arith) cc
 
--- where the events differ, neither list begins the other
-pub differ_there : (a b : List Entry) (n : ℕ) (c d : Entry) → n < length a → n < length b → ((get_or a n c).event ≡ (get_or b n d).event → ⊥)
-    → IsPrefix (events a) (events b) → ⊥
-differ_there [] b n c d within_a within_b other h = omega arith
-differ_there (x ∷ xs) [] n c d within_a within_b other h = omega arith
-differ_there (x ∷ xs) (y ∷ ys) zero c d within_a within_b other h = other cc
-differ_there (x ∷ xs) (y ∷ ys) (suc n) c d within_a within_b other h = differ_there xs ys n c d (omega arith) (omega arith) other cc
-
--- past the end of the shorter list there is no event in both
-pub nothing_past : (a b : List Entry) (n : ℕ) → min (length a) (length b) ≤ n → (e : Event) → slice_get (events a) n ≡ Some e → slice_get (events b) n ≡ Some e → ⊥
-nothing_past a b n past e here there = grind (arith, slice_get_within, length-map)
+pub neither_begins : {X : Type 0} (xs ys : List X) (n : ℕ) → ((x : X) → slice_get xs n ≡ Some x → slice_get ys n ≡ Some x → ⊥) → n < length xs → n < length ys → NeitherIsPrefix xs ys
+neither_begins xs ys n apart in_xs in_ys = (begins_not xs ys n apart in_xs, begins_not ys xs n (λ x there here. apart x here there) in_ys)

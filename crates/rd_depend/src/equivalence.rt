@@ -10,9 +10,8 @@ ghost use Rattle.rd_depend.specs.Beginnings.{NeitherIsPrefix};
 ghost use Rattle.rd_depend.specs.Equivalence.{DecidesEquivalence};
 ghost use Rattle.rd_depend.specs.ComparedSteps.{GoesOn, IsOutOfOrder, left_of, reached_of};
 
-use super::beginnings::common_beginning;
 use super::keeping_order::{ReachedByKey, StepsByActor, is_alike};
-use rd_step::Entry;
+use rd_step::{Entry, common_beginning};
 use std::alloc::{AllocError, Global};
 
 /// Whether the events of two runs from one start are causally equivalent: one list is the other up
@@ -27,7 +26,7 @@ pub fn are_equivalent(alloc: Global, a: &[Entry], b: &[Entry]) -> Result<bool, A
     ensures answer { IfOk result (DecidesEquivalence a.now b.now) }
     ensures memory { OnErr result (NeitherIsPrefix (events a.now) (events b.now)) }
 {
-    let common = common_beginning(a, b);
+    let common = common_beginning(&a, &b);
     compare(alloc, &a[common..], &b[common..])
 }
 

@@ -8,7 +8,6 @@
 //! is put in, and finds the same answer, and the last writer of a place, by a few look-ups.
 #![tactic(auto)]
 
-mod beginnings;
 mod dependence;
 mod equivalence;
 mod index;

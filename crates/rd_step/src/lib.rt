@@ -6,6 +6,7 @@
 #![tactic(auto)]
 
 mod entries;
+mod event_lists;
 mod fields;
 mod flaws;
 pub mod laws;
@@ -13,6 +14,7 @@ mod parts;
 mod worlds;
 
 pub use entries::{Entry, Event};
+pub use event_lists::{EventList, common_beginning};
 pub use flaws::{Flaw, Unassembled};
 pub use parts::Parts;
 pub use rd_ring::SegmentParts;

@@ -8,6 +8,7 @@ ghost use Rattle.rd_step.specs.World.{World as Model};
 
 mod again;
 mod assembling;
+mod beginnings;
 mod copies;
 mod limits;
 mod rows;

@@ -1,5 +1,7 @@
 use Rattle.std.proofs.Common.{arith}
-use Rattle.rd_depend.proofs.Prelude.{IfOk-weaker, DecidesEquivalence}
+use Rattle.std.proofs.lemmas.List.{length-map, take-map}
+use Rattle.rd_depend.proofs.Prelude.{IfOk-weaker, DecidesEquivalence, events}
+use Rattle.rd_depend.proofs.CommonBeginning.{neither_begins}
 use Rattle.rd_depend.proofs.Exactness.{right_behind}
 use Rattle.rd_depend.proofs.equivalence.are_equivalent.Goals as goal
 
@@ -7,8 +9,8 @@ pub returns-clause-answer : goal.returns-clause-answer
 returns-clause-answer c =
     let common = c.common_beginning-common.ensures in
     IfOk-weaker c.compare.result _ (DecidesEquivalence c.args.a.now c.args.b.now)
-    (λ same right. right_behind c.args.a.now c.args.b.now c.common_beginning-common.result same common.in_first common.in_second common.same right)
+    (λ same right. right_behind c.args.a.now c.args.b.now c.common_beginning-common.result same (simp length-map at common.in_first) (simp length-map at common.in_second) (simp take-map at common.same) right)
     c.compare.ensures.answer
 
 pub returns-clause-memory : goal.returns-clause-memory
-returns-clause-memory c = grind arith
+returns-clause-memory c = grind (arith, length-map, neither_begins (events c.args.a.now) (events c.args.b.now) _ c.common_beginning-common.ensures.longest)
