@@ -6,7 +6,7 @@ ghost use Rattle.std.specs.Prelude.{◌≡◌, ◌<◌, ◌≤◌, List, None, S
 ghost use Rattle.std.specs.List.{All};
 ghost use Rattle.rd_journal.specs.Numbers.{at_numbers};
 
-use rd_step::Entry;
+use rd_step::{Entry, Event, EventList};
 use std::marker::Model;
 
 /// Entries of the live steps, or of those ahead of them, in their order: a list that is read where
@@ -71,6 +71,20 @@ impl<'a> EntryList<'a> {
         ensures { result ≡ drop n self.now }
     {
         EntryList::new(self.slots, numbers_after(self.numbers, n))
+    }
+}
+
+impl EventList for EntryList<'_> {
+    ghost use Rattle.rd_step.specs.Run.{events};
+
+    ghost listed = { events };
+
+    fn count(&self) -> usize {
+        self.len()
+    }
+
+    fn event(&self, position: usize) -> Option<Event> {
+        Some(self.get(position)?.event)
     }
 }
 

@@ -1,6 +1,6 @@
 -- Reading the entries of a node, and what the stretches have in common with other entries.
-use Rattle.std.proofs.Common.{◌≡◌, ◌⊎◌, ℕ, zero, suc, ◌+◌, ◌-◌, ◌<◌, ◌≤◌, min, length-drop, refl, sym, ap, ◌∙◌, List, [], ◌∷◌, ◌++◌, length, take, drop, get_or, reverse, slice_get, option_map, Some, arith}
-use Rattle.rd_marks.proofs.Prelude.{drop-cons, take-add, cases_lt, append_assoc, drop-map, drop-take, length-map, reverse-append, take-take, slice_get-map, slice_get_read, slice_get_within, Event, Entry, Node, Stretch, count_of, stretch_list, list_before, shared_at, entries_at, IsWithin, IsOwn, IsAlong, AreNested, AreFresh, events}
+use Rattle.std.proofs.Common.{◌≡◌, ◌⊎◌, ℕ, zero, suc, ◌+◌, ◌-◌, ◌<◌, ◌≤◌, length-drop, refl, sym, ap, ◌∙◌, List, [], ◌∷◌, ◌++◌, length, take, drop, get_or, reverse, slice_get, option_map, Some, arith}
+use Rattle.rd_marks.proofs.Prelude.{drop-cons, take-add, cases_lt, append_assoc, drop-map, drop-take, length-map, reverse-append, take-take, slice_get-map, slice_get_read, Event, Entry, Node, Stretch, count_of, stretch_list, list_before, shared_at, entries_at, IsWithin, IsOwn, IsAlong, AreNested, AreFresh, events}
 use Rattle.rd_step.specs.Lists.{numbered}
 use Rattle.rd_marks.proofs.StretchLists.{own_at, stretch_there, total, shared_within, begins_shared, behind_shared, list_past}
 use Rattle.rd_marks.proofs.Fresh.{Follows, follows_compared, follows_skipped, along_itself, along_within, between}
@@ -36,14 +36,6 @@ alike_no_further : {X : Type 0} (n m : ℕ) (xs ys : List X) → suc (n + m) ≤
 alike_no_further n m xs ys long same apart =
     let found = there_is ys (n + m) long in
     grind (arith, same, slice_get_drop, slice_get_take xs (suc (n + m)) (n + m), slice_get_take ys (suc (n + m)) (n + m), found, apart found.0)
-
--- one event more, and no more than there are
-pub alike_on : (xs ys : List Entry) (n : ℕ) (x y : Entry) → n < length xs → n < length ys → x ≡ get_or xs n x → y ≡ get_or ys n y → x.event ≡ y.event
-    → take n (events xs) ≡ take n (events ys) → take (n + 1) (events xs) ≡ take (n + 1) (events ys)
-alike_on xs ys n x y inside inside_too its its_too same alike = grind (arith, one_more (events xs) n x.event, one_more (events ys) n y.event, slice_get-map, option_map, slice_get_read)
-
-pub alike_past : (xs ys : List Entry) (n : ℕ) → min (length xs) (length ys) ≤ n → (e : Event) → slice_get (events xs) n ≡ Some e → slice_get (events ys) n ≡ Some e → ⊥
-alike_past xs ys n past e here there = grind (arith, slice_get_within, length-map)
 
 -- From the last one up
 

@@ -1,12 +1,11 @@
 //! Following a list from the start as far as the stretches have it.
 
-ghost use Rattle.std.specs.Prelude.{◌≡◌, ◌↔◌, ◌<◌, ◌≤◌, ℕ, suc, Some, IsTrue, length, take, drop, slice_get, slice_index_or};
+ghost use Rattle.std.specs.Prelude.{◌≡◌, ◌<◌, ◌≤◌, suc, length, drop};
 ghost use Rattle.rd_step.specs.Run.{events};
-ghost use Rattle.rd_step.specs.declared.entries.Event.{Event as Happening};
 
 use super::{Node, Stretches};
 use rd_journal::EntryList;
-use rd_step::{Entry, Event};
+use rd_step::{Entry, common_beginning};
 
 impl Stretches {
     ghost use Rattle.rd_marks.specs.Stretches.{shared_at, IsWithin, IsAlong, IsDeepest};
@@ -45,8 +44,8 @@ impl Stretches {
         ensures most { IsAlong self.now.list.items i (suc result) (events live.now) → ⊥ }
     {
         let stretch = &self.list[i];
-        n + alike(
-            own_after(&stretch.entries, n - stretch.shared),
+        n + common_beginning(
+            &own_after(&stretch.entries, n - stretch.shared),
             &live.after(n),
         )
     }
@@ -65,42 +64,10 @@ fn farther(at: Node, i: usize, number: usize) -> Node
     }
 }
 
-/// How many of the live steps these entries begin with.
-#[tactic(auto, using(crate::proofs::Reading::alike_on, crate::proofs::Reading::alike_past))]
-fn alike(entries: &[Entry], live: &EntryList) -> usize
-    ensures enough { result ≤ length entries.now }
-    ensures within { result ≤ length live.now }
-    ensures alike { take result (events entries.now) ≡ take result (events live.now) }
-    ensures most { (e : Happening) → slice_get (events entries.now) result ≡ Some e → slice_get (events live.now) result ≡ Some e → ⊥ }
-{
-    let most = entries.len().min(live.len());
-    for n in 0..most {
-        if !is_same(&get_entry(entries, n).event, &live.at(n).event) {
-            return n;
-        }
-    }
-    most
-}
-
 /// Returns the entries after the first `n`.
 fn own_after(entries: &[Entry], n: usize) -> &[Entry]
     requires { n ≤ length entries.now }
     ensures { result.now ≡ drop n entries.now }
 {
     &entries[n..]
-}
-
-/// Returns the entry at this index.
-fn get_entry(entries: &[Entry], index: usize) -> &Entry
-    requires { index < length entries.now }
-    ensures { result.now ≡ slice_index_or entries.now index result.now }
-{
-    &entries[index]
-}
-
-/// Whether two events are equal.
-fn is_same(a: &Event, b: &Event) -> bool
-    ensures { IsTrue result ↔ (a.now ≡ b.now) }
-{
-    a == b
 }
