@@ -1,10 +1,9 @@
 -- Steps that are made again: what goes through, and what is refused.
-use Rattle.rd_trace.proofs.Prelude.{common_steps, AllByRecursion, cond-false, IsDistinct-head, IsDistinct-tail, take-append_seam, drop-append_seam, append-nil, length-map, map-append, map_more, get_or-map, take_more, take_all, take-take, take-append-drop, length-take-le, length-drop, World, Refusal, Stepped, step, Ran, run, MOST_STEPS, result_map, Entry, Event, State, step_after, with_event, apply, back, MarkName, MOST_MARKS, bytes_of, mark_name_eq, Mark, BookState, with_session, marked_events, mark, GoThrough, MarksGoThrough, HaveDifferentNames, SavedMark, LoadTraceFault, Flawed, TraceMark, TraceStep, saved_mark, start_world, start_flaw, Trace, loaded_state, session_at, first_refused, first_refused_mark, trace_fault, Replays, RefusesOne, GoesTo, MakesLive, SetsMarks, unless_memory}
-use Rattle.std.proofs.Common.{le-ltb, ◌≡◌, ◌≢◌, ◌⊎◌, inl, inr, ℕ, suc, ◌+◌, ◌-◌, ◌<◌, ◌≤◌, ◌==◌, if◌then◌else◌, Bool, false, List, [], ◌∷◌, ◌++◌, length, take, drop, get_or, map, Some, None, is_some, Option, option_map, Result, Ok, Err, IsOk, refl, sym, ap, ap₂, ◌∙◌, subst, arith, append_assoc, length-append, ne_eqb}
+use Rattle.rd_trace.proofs.Prelude.{common_steps, AllByRecursion, cond-false, IsDistinct-head, IsDistinct-tail, take-append_seam, drop-append_seam, append-nil, length-map, map-append, map_more, take_all, take-append-drop, length-take-le, length-drop, World, Refusal, Stepped, step, Ran, run, MOST_STEPS, result_map, Event, State, step_after, with_event, apply, back, MarkName, MOST_MARKS, bytes_of, mark_name_eq, Mark, BookState, with_session, marked_events, mark, GoThrough, MarksGoThrough, HaveDifferentNames, SavedMark, LoadTraceFault, Flawed, TraceMark, TraceStep, saved_mark, start_world, start_flaw, Trace, loaded_state, session_at, first_refused, first_refused_mark, trace_fault, Replays, RefusesOne, GoesTo, MakesLive, SetsMarks, unless_memory}
+use Rattle.std.proofs.Common.{le-ltb, ◌≡◌, ◌⊎◌, inl, inr, ℕ, suc, ◌+◌, ◌-◌, ◌<◌, ◌≤◌, if◌then◌else◌, Bool, false, List, [], ◌∷◌, ◌++◌, length, take, drop, get_or, map, Some, None, is_some, Option, option_map, Result, Ok, Err, IsOk, refl, sym, ap, ap₂, ◌∙◌, subst, arith, append_assoc, length-append, ne_eqb}
 use Rattle.std.proofs.lemmas.Cmp.{nat_list_eq_equiv}
 use Rattle.std.specs.Option.{option_or}
 use Rattle.std.specs.Result.{result_err}
-use Rattle.rd_step.specs.Run.{events}
 use Rattle.rd_step.proofs.Equivalence.{ran_through}
 use Rattle.rd_marks.specs.declared.replies.Reply.{Reply}
 use Rattle.rd_marks.specs.BookState.{at_events}
@@ -147,16 +146,6 @@ not_happened b after e cause (inr h) = inr (cc (ap (λ (a : Answered). a.answer)
 
 back_left : (n k : ℕ) (s t : State) → n + k ≡ length s.live → back s n ≡ Ok t → t ≡ record { start = s.start; live = take k s.live; undone = drop k s.live ++ s.undone }
 back_left n k s t h goes = grind (arith, le-ltb, cond-false)
-
--- Which live events a list begins with
-
--- one more event that is the same in both
-pub one_shared : (xs : List Entry) (es fs : List Event) (k : ℕ) (x : Entry) (f : Event) → events xs ≡ es → k < length xs → k < length fs → x ≡ get_or xs k x
-    → x.event ≡ get_or fs k f → take k es ≡ take k fs → take (k + 1) es ≡ take (k + 1) fs
-one_shared xs es fs k x f all within below is same shared = grind (arith, common_steps, length-map, get_or-map, take_item, take_more)
-
-pub shared_less : (j k : ℕ) (es fs : List Event) → k ≤ j → take j es ≡ take j fs → take k es ≡ take k fs
-shared_less j k es fs h same = sym (take-take k j es h) ∙ ap (λ (gs : List Event). take k gs) same ∙ take-take k j fs h
 
 -- Making just these events live
 

@@ -1,9 +1,8 @@
 //! A session that was read, made to happen: its bookmarks one after another, then its live events,
 //! then its undone ones.
 
-ghost use Rattle.std.specs.Prelude.{◌≡◌, ◌<◌, ◌≤◌, ◌↔◌, ◌++◌, [], map, length, take, IsTrue, IfErr};
+ghost use Rattle.std.specs.Prelude.{◌≡◌, ◌<◌, ◌≤◌, ◌++◌, [], map, length, IfErr};
 ghost use Rattle.rd_step.specs.Prelude.{MOST_CELLS};
-ghost use Rattle.rd_journal.specs.Sessions.{state};
 ghost use Rattle.rd_marks.specs.Book.{book_state};
 ghost use Rattle.rd_marks.specs.NameBytes.{MOST_MARKS};
 ghost use Rattle.rd_trace.specs.Starts.{HasActorCount};
@@ -21,7 +20,7 @@ use super::starts::Start;
 use rd_cell::Refusal;
 use rd_journal::Session;
 use rd_marks::Book;
-use rd_step::{Event, Unassembled, World};
+use rd_step::{Event, Unassembled, World, common_beginning};
 use std::alloc::Global;
 
 /// An event that was refused.
@@ -121,32 +120,9 @@ fn make_live<const R: usize>(
 fn go_to<const R: usize>(book: &mut Book<R>, events: &[Event]) -> Result<(), RefusedEvent>
     ensures { GoesTo (book_state book.old) events.now (book_state book.new) result }
 {
-    let kept = shared_beginning(book.session(), events);
+    let kept = common_beginning(&book.session().live(), &events);
     book.keep_first(kept as u64);
     step_all(book, &events[kept..])
-}
-
-/// Returns how many live events of a session a list begins with.
-fn shared_beginning<const R: usize>(session: &Session<R>, events: &[Event]) -> usize
-    ensures through { GoThrough (state session.now).start (state session.now).live }
-    ensures live { result ≤ length (state session.now).live }
-    ensures within { result ≤ length events.now }
-    ensures same { take result (state session.now).live ≡ take result events.now }
-{
-    let live = session.live();
-    for k in 0..live.len().min(events.len()) {
-        if !is_same(&live.at(k).event, &events[k]) {
-            return k;
-        }
-    }
-    live.len().min(events.len())
-}
-
-/// Whether two events are equal.
-fn is_same(event: &Event, other: &Event) -> bool
-    ensures { IsTrue result ↔ (event.now ≡ other.now) }
-{
-    *event == *other
 }
 
 /// Makes events happen in order, where none is undone, or returns the first one that was refused.

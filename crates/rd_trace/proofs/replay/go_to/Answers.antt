@@ -1,5 +1,5 @@
-use Rattle.std.proofs.Common.{◌≡◌, take, subst, arith}
-use Rattle.rd_trace.proofs.Prelude.{common_steps, State, book_state}
+use Rattle.std.proofs.Common.{◌≡◌, take, arith}
+use Rattle.rd_trace.proofs.Prelude.{common_steps, book_state}
 use Rattle.rd_trace.proofs.ReplayLemmas.{rest_of, goes_to}
 use Rattle.rd_trace.proofs.replay.go_to.Goals as goal
 
@@ -9,7 +9,7 @@ step_all-requires g c = grind (arith, common_steps, c.keep_first.ensures)
 pub returns : goal.returns
 returns g c =
     let old = book_state c.args.book.now in
-    let kept = c.shared_beginning-kept.result in
+    let kept = c.common_beginning-kept.result in
     let es = c.args.events.now in
-    let same : take kept old.session.live ≡ take kept es = subst (λ (s : State). take kept s.live ≡ take kept es) c.session.ensures.state c.shared_beginning-kept.ensures.same in
+    let same : take kept old.session.live ≡ take kept es = cc in
     goes_to old (book_state c.keep_first.new.self) (book_state c.step_all.new.book) es _ kept c.step_all.result c.keep_first.ensures same (rest_of kept es) c.step_all.ensures.goes
