@@ -1,10 +1,9 @@
 -- What the program does for the words of a command line, over files and streams.
-use Rattle.std.specs.Prelude.{◌≡◌, ◌≢◌, ◌⊎◌, ℕ, Bool, false, List, codes, length, map, Option, Result, Ok, Err, Vec}
+use Rattle.std.specs.Prelude.{◌≡◌, ◌≢◌, ◌⊎◌, ℕ, Bool, List, codes, length, map, Option, Result, Ok, Err, Vec}
 use Rattle.std.specs.Global.{Global}
-use Rattle.std.specs.Io.KnownBytes.{Keeps}
 use Rattle.clap.specs.Walk.{Text}
 use Rattle.rd_marks.specs.BookState.{BookState}
-use Rattle.rd_script.specs.Script.{Devices}
+use Rattle.rd_script.specs.Streams.{Devices, IsUnused, Stream}
 use Rattle.rd_trace.specs.Traces.{ring_length}
 use Rattle.rd_trace.specs.Loading.{fresh_state}
 use Rattle.rd_program.specs.declared.faults.ProgramFault.{ProgramFault}
@@ -21,10 +20,10 @@ use Rattle.rd_command_line.specs.CommandLine.{EndsFor, GivesOptions}
 
 -- the script in a file was played over a book in this state, whatever text the file gave; or the
 -- file could not be opened, and the output is as it was
-abbrev pub PlaysFile : BookState → Bool → Option (List ℕ) → Option (List ℕ) → Bool → Result ℕ ProgramFault → Type 0
-PlaysFile before traced output output' failed result =
-    ((result ≡ Err program.Read) × Keeps output output' × (failed ≡ false))
-    ⊎ ((d : Devices) × (d.out_before ≡ output) × (d.out_after ≡ output') × (d.out_failed ≡ failed) × PlaysScript before traced d result)
+abbrev pub PlaysFile : BookState → Bool → Stream → Result ℕ ProgramFault → Type 0
+PlaysFile before traced output result =
+    ((result ≡ Err program.Read) × IsUnused output)
+    ⊎ ((file : Stream) × PlaysScript before traced (record { input = file; output = output }) result)
 
 -- some text of a file was loaded, whatever the file gave, and the script on the input was run over
 -- its trace; or the file could not be opened or read, and neither stream was used
@@ -35,26 +34,22 @@ LoadsFile d result =
 
 -- the scripts in this many files were viewed over a book in this state, whatever the files gave; or
 -- a file could not be opened or read, and the output is as it was
-abbrev pub ViewsFiles : ℕ → BookState → Option (List ℕ) → Option (List ℕ) → Bool → Result ℕ ProgramFault → Type 0
-ViewsFiles count before output output' failed result =
-    (((fault : ProgramFault) × (result ≡ Err fault) × IsUnread fault) × Keeps output output' × (failed ≡ false))
-    ⊎ ((scripts : List (Vec ℕ Global)) × (length scripts ≡ count) × ViewsOver before scripts output output' failed result)
-
--- the input was not used: no byte was read, and it has not failed
-abbrev pub LeavesInput : Devices → Type 0
-LeavesInput d = Keeps d.in_before d.in_after × (d.in_failed ≡ false)
+abbrev pub ViewsFiles : ℕ → BookState → Stream → Result ℕ ProgramFault → Type 0
+ViewsFiles count before output result =
+    (((fault : ProgramFault) × (result ≡ Err fault) × IsUnread fault) × IsUnused output)
+    ⊎ ((scripts : List (Vec ℕ Global)) × (length scripts ≡ count) × ViewsOver before scripts output result)
 
 -- the script of this name was played over a book in this state: that on the input if the name is
 -- `-`, else that in the file of this name, with the input not used
 abbrev pub PlaysNamed : Text → BookState → Bool → Devices → Result ℕ ProgramFault → Type 0
 PlaysNamed name before traced d result =
     ((name ≡ codes "-") × PlaysScript before traced d result)
-    ⊎ ((name ≢ codes "-") × LeavesInput d × PlaysFile before traced d.out_before d.out_after d.out_failed result)
+    ⊎ ((name ≢ codes "-") × IsUnused d.input × PlaysFile before traced d.output result)
 
 -- what the program did for these options, by the result
 abbrev pub DoesOptions : Options → Devices → Result ℕ ProgramFault → Type 0
 DoesOptions (Run file actors ring trace) d result = PlaysNamed file.now (fresh_state (ring_length ring) actors) trace d result
-DoesOptions (View files actors ring) d result = LeavesInput d × ViewsFiles (length files.items) (fresh_state (ring_length ring) actors) d.out_before d.out_after d.out_failed result
+DoesOptions (View files actors ring) d result = IsUnused d.input × ViewsFiles (length files.items) (fresh_state (ring_length ring) actors) d.output result
 DoesOptions (Load file) d result = LoadsFile d result
 
 -- the outcome of a command line of these words: they give options, and what the options ask for was
@@ -72,11 +67,10 @@ HasOutcome text (Err taken) d outcome = (outcome ≡ taken) × TouchesNothing d
 
 -- what the program did from its words to its end: it came to an outcome, with what that left on the
 -- output, and then ended as after that outcome
-pub record Performs {S : Type 0} (text : S → Text) (words : Result (Vec S Global) Outcome) (status : ℕ) (d : Devices)
-    (errors errors' : Option (List ℕ)) (errors_failed : Bool) : Type 0 where
+pub record Performs {S : Type 0} (text : S → Text) (words : Result (Vec S Global) Outcome) (status : ℕ) (d : Devices) (errors : Stream) : Type 0 where
   pub outcome : Outcome
   -- the bytes that the output had at the outcome, and whether it had failed
   pub reported : Option (List ℕ)
   pub report_failed : Bool
-  pub does : HasOutcome text words (record d { out_after = reported; out_failed = report_failed }) outcome
-  pub ends : Ends outcome status report_failed d.out_failed reported d.out_after errors_failed errors errors'
+  pub does : HasOutcome text words (record d { output = record d.output { after = reported; failed = report_failed } }) outcome
+  pub ends : Ends outcome status report_failed (record d.output { before = reported }) errors

@@ -1,6 +1,7 @@
 -- The outcome of a command line that gives no options, and how the program ends after each outcome.
-use Rattle.std.specs.Prelude.{◌≡◌, ◌⊎◌, ℕ, Bool, true, false, List, codes, string_bytes, Option, Err, String}
+use Rattle.std.specs.Prelude.{◌≡◌, ◌⊎◌, ℕ, Bool, true, false, codes, string_bytes, Err, String}
 use Rattle.std.specs.Global.{Global}
+use Rattle.rd_script.specs.Streams.{Stream}
 use Rattle.rd_program.specs.declared.faults.ProgramFault.TheVariants as program
 use Rattle.rd_program.specs.Endings.{EndsAs, GetsNothing, Takes}
 use Rattle.rd_command_line.specs.declared.requests.OptionsFault.{OptionsFault}
@@ -21,14 +22,10 @@ abbrev pub is_shown : Outcome → Bool
 is_shown (Shown text) = true
 is_shown _ = false
 
--- how the program ends after an outcome: the status, and of each stream whether it has failed and
--- what it has then; at most one of them gets a text, and standard output may have failed before
-abbrev pub Ends : Outcome → ℕ → Bool → Bool → Option (List ℕ) → Option (List ℕ) → Bool → Option (List ℕ) → Option (List ℕ) → Type 0
-Ends (Done done) status failed output_failed output output' errors_failed errors errors' =
-    EndsAs done status errors_failed errors errors' × GetsNothing failed output_failed output output'
-Ends (Shown text) status failed output_failed output output' errors_failed errors errors' =
-    (status ≡ 0) × Takes output_failed output output' (string_bytes text) × GetsNothing false errors_failed errors errors'
-Ends (Refused text) status failed output_failed output output' errors_failed errors errors' =
-    (status ≡ 2) × Takes errors_failed errors errors' (string_bytes text) × GetsNothing failed output_failed output output'
-Ends TooManyFiles status failed output_failed output output' errors_failed errors errors' =
-    (status ≡ 2) × Takes errors_failed errors errors' (codes "lcrqdb: 1 to 64 files\n") × GetsNothing failed output_failed output output'
+-- how the program ends after an outcome: the status, and what becomes of standard output, which may
+-- have failed before, and of standard error; at most one of them gets a text
+abbrev pub Ends : Outcome → ℕ → Bool → Stream → Stream → Type 0
+Ends (Done done) status had_failed output errors = EndsAs done status errors × GetsNothing had_failed output
+Ends (Shown text) status had_failed output errors = (status ≡ 0) × Takes output (string_bytes text) × GetsNothing false errors
+Ends (Refused text) status had_failed output errors = (status ≡ 2) × Takes errors (string_bytes text) × GetsNothing had_failed output
+Ends TooManyFiles status had_failed output errors = (status ≡ 2) × Takes errors (codes "lcrqdb: 1 to 64 files\n") × GetsNothing had_failed output

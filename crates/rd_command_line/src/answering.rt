@@ -5,9 +5,9 @@ ghost use Rattle.std.specs.Prelude.{◌≡◌, ◌≤◌, IfOk, IfErr, length, m
 ghost use Rattle.std.specs.Process.{exit_status};
 ghost use Rattle.clap.specs.declared.error.kind.ErrorKind.TheVariants.{InvalidValue};
 ghost use Rattle.rd_desk.specs.declared.desks.TheConstants.{MOST_VIEWERS};
+ghost use Rattle.rd_script.specs.Streams.{devices, sink_stream};
 ghost use Rattle.rd_trace.specs.Traces.{ring_length};
 ghost use Rattle.rd_trace.specs.Loading.{fresh_state};
-ghost use Rattle.rd_trace.specs.Devices.{devices};
 ghost use Rattle.rd_program.specs.declared.faults.ProgramFault.TheVariants.{Read};
 ghost use Rattle.rd_program.specs.Program.{IsUnread};
 ghost use Rattle.rd_command_line.specs.Options.{AreInRange, IsMistake};
@@ -44,7 +44,7 @@ pub fn perform<R: Files + Threads + Wait + Sync, S: AsStr + Drop, I: Source, O: 
     requires errors_work { E.has_failed errors.old ≡ false }
     ensures performs { Performs S.text words (exit_status result)
         (devices I.Source O.Sink input.old input.new output.old output.new)
-        (E.contents errors.old) (E.contents errors.new) (E.has_failed errors.new) }
+        (sink_stream E.Sink errors.old errors.new) }
 {
     let outcome = outcome_of(rt, alloc, words, input, output);
     outcome.end(output, errors)
@@ -164,7 +164,7 @@ fn play_file<R: Files, O: Sink>(
 ) -> Result<u64, ProgramFault>
     requires output_works { O.has_failed output.old ≡ false }
     ensures { PlaysFile (fresh_state (ring_length setup.ring) setup.actors) trace
-        (O.contents output.old) (O.contents output.new) (O.has_failed output.new) result }
+        (sink_stream O.Sink output.old output.new) result }
 {
     let file = open_file(rt, name)?;
     play(alloc, &mut ReadSource::new(file), output, setup, trace)
@@ -183,7 +183,7 @@ fn view_files<R: Files + Threads + Wait + Sync, O: Sink>(
     requires some_files { 1 ≤ length names.now }
     requires few_files { length names.now ≤ MOST_VIEWERS }
     ensures { ViewsFiles (length names.now) (fresh_state (ring_length setup.ring) setup.actors)
-        (O.contents output.old) (O.contents output.new) (O.has_failed output.new) result }
+        (sink_stream O.Sink output.old output.new) result }
 {
     let scripts = whole_files(rt, alloc, names)?;
     view(rt, alloc, scripts.as_slice(), output, setup)

@@ -2,6 +2,7 @@
 
 ghost use Rattle.std.specs.Prelude.{◌≡◌, false, true};
 ghost use Rattle.std.specs.Process.{exit_status};
+ghost use Rattle.rd_script.specs.Streams.{sink_stream};
 ghost use Rattle.rd_program.specs.Endings.{Takes};
 ghost use Rattle.rd_command_line.specs.Outcomes.{Ends, IsOutcomeOf, is_shown};
 
@@ -52,9 +53,8 @@ impl Outcome {
     pub fn end<O: Sink, E: Sink>(&self, output: &mut O, errors: &mut E) -> ExitCode
         requires output_works { is_shown self.now ≡ true → O.has_failed output.old ≡ false }
         requires errors_work { E.has_failed errors.old ≡ false }
-        ensures { Ends self.now (exit_status result)
-            (O.has_failed output.old) (O.has_failed output.new) (O.contents output.old) (O.contents output.new)
-            (E.has_failed errors.new) (E.contents errors.old) (E.contents errors.new) }
+        ensures { Ends self.now (exit_status result) (O.has_failed output.old)
+            (sink_stream O.Sink output.old output.new) (sink_stream E.Sink errors.old errors.new) }
     {
         match self {
             Outcome::Done(done) => rd_program::end(done, errors),
@@ -77,7 +77,7 @@ impl Outcome {
 /// Writes a text to a stream, as far as the stream takes it.
 fn show<K: Sink>(stream: &mut K, text: &str)
     requires { K.has_failed stream.old ≡ false }
-    ensures { Takes (K.has_failed stream.new) (K.contents stream.old) (K.contents stream.new) text.now }
+    ensures { Takes (sink_stream K.Sink stream.old stream.new) text.now }
 {
     let _ = write_all(stream, text.as_bytes());
 }

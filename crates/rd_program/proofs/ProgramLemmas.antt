@@ -2,7 +2,8 @@
 use Rattle.std.proofs.Common.{◌≡◌, ℕ, Bool, false, List, Option, Result, Ok, Err, sym, subst}
 use Rattle.std.specs.Prelude.{IsErrAnd}
 use Rattle.rd_marks.specs.BookState.{BookState}
-use Rattle.rd_script.specs.Script.{Devices, RanToEnd}
+use Rattle.rd_script.specs.Streams.{Devices}
+use Rattle.rd_script.specs.Script.{RanToEnd}
 use Rattle.rd_trace.specs.declared.faults.WriteTraceFault.{WriteTraceFault}
 use Rattle.rd_program.specs.declared.faults.ProgramFault.{ProgramFault}
 use Rattle.rd_program.specs.Program.{WritesIf, RanToTrace}
@@ -13,16 +14,16 @@ fault_passed_up P fault (Ok x) is p = absurd is
 fault_passed_up P fault (Err e) is p = subst (λ x. P (Err x)) (sym is) p
 
 -- a run that came to its end leaves a writer that works
-ran_with_writer : (before after : BookState) (d : Devices) (n : ℕ) → RanToEnd before after d n → RanToEnd before after (record d { out_failed = false }) n
-ran_with_writer before after d n ran = subst (λ failed. RanToEnd before after (record d { out_failed = failed }) n) ran.out_works ran
+ran_with_writer : (before after : BookState) (d : Devices) (n : ℕ) → RanToEnd before after d n → RanToEnd before after (record d { output = record d.output { failed = false } }) n
+ran_with_writer before after d n ran = subst (λ failed. RanToEnd before after (record d { output = record d.output { failed = failed } }) n) ran.out_works ran
 
 -- a run that came to its end, and what became of its trace
 pub ran_to_trace : (before after : BookState) (traced : Bool) (d : Devices) (reported : Option (List ℕ)) (failed : Bool) (n : ℕ) (written : Result (Unit {0}) WriteTraceFault)
-    → RanToEnd before after (record d { out_after = reported; out_failed = failed }) n
-    → WritesIf traced after reported d.out_after d.out_failed written → RanToTrace before traced d n written
+    → RanToEnd before after (record d { output = record d.output { after = reported; failed = failed } }) n
+    → WritesIf traced after (record d.output { before = reported }) written → RanToTrace before traced d n written
 ran_to_trace before after traced d reported failed n written ran trace = record {
   after = after;
   reported = reported;
-  ran = ran_with_writer before after (record d { out_after = reported; out_failed = failed }) n ran;
+  ran = ran_with_writer before after (record d { output = record d.output { after = reported; failed = failed } }) n ran;
   trace = trace;
 }

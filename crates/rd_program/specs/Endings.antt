@@ -1,11 +1,12 @@
 -- How the program ends after each outcome: its exit status, and what standard error then has.
-use Rattle.std.specs.Prelude.{◌≡◌, ℕ, Bool, true, false, List, ◌++◌, codes, Option, Result, Ok, Err}
+use Rattle.std.specs.Prelude.{◌≡◌, ℕ, Bool, true, false, List, ◌++◌, codes, Result, Ok, Err}
 use Rattle.std.specs.Io.KnownBytes.{Appends}
 use Rattle.rd_cell.specs.declared.refusal.Refusal.TheVariants as refusal
 use Rattle.rd_script.specs.declared.answers.AnyRefusal.{AnyRefusal}
 use Rattle.rd_script.specs.declared.answers.AnyRefusal.TheVariants as refused
 use Rattle.rd_script.specs.declared.faults.ScriptFault.TheVariants as script
 use Rattle.rd_script.specs.Device.{TakesBeginning}
+use Rattle.rd_script.specs.Streams.{Stream}
 use Rattle.rd_script.specs.Replies.{text_of}
 use Rattle.rd_trace.specs.declared.faults.LoadTraceFault.{LoadTraceFault}
 use Rattle.rd_trace.specs.declared.faults.LoadTraceFault.TheVariants as load
@@ -48,18 +49,21 @@ refusal_of (View fault) = view_refusal fault
 abbrev pub error_line : AnyRefusal → List ℕ
 error_line refusal = codes "lcrqdb: " ++ text_of (Err refusal)
 
--- a stream took this text: it has the text after what it had, or, if it has failed, a beginning of
--- the text
-abbrev pub Takes : Bool → Option (List ℕ) → Option (List ℕ) → List ℕ → Type 0
-Takes false old new text = Appends old new text
-Takes true old new text = TakesBeginning old new text
+-- a stream has this text after what it had, or, if it has failed, a beginning of the text
+abbrev pub TakesBy : Bool → Stream → List ℕ → Type 0
+TakesBy false s text = Appends s.before s.after text
+TakesBy true s text = TakesBeginning s.before s.after text
+
+-- a stream took this text, all of it unless it has failed
+abbrev pub Takes : Stream → List ℕ → Type 0
+Takes s text = TakesBy s.failed s text
 
 -- a stream got nothing: it has what it had, and has failed only if it had failed before
-abbrev pub GetsNothing : Bool → Bool → Option (List ℕ) → Option (List ℕ) → Type 0
-GetsNothing failed failed' old new = (new ≡ old) × (failed' ≡ failed)
+abbrev pub GetsNothing : Bool → Stream → Type 0
+GetsNothing had_failed s = (s.after ≡ s.before) × (s.failed ≡ had_failed)
 
 -- how the program ends after an outcome: with status 0 and nothing more on standard error, which
 -- has not failed, or with status 1 and the line of the refusal there
-abbrev pub EndsAs : Result ℕ ProgramFault → ℕ → Bool → Option (List ℕ) → Option (List ℕ) → Type 0
-EndsAs (Ok lines) status failed errors errors' = (status ≡ 0) × GetsNothing false failed errors errors'
-EndsAs (Err fault) status failed errors errors' = (status ≡ 1) × Takes failed errors errors' (error_line (refusal_of fault))
+abbrev pub EndsAs : Result ℕ ProgramFault → ℕ → Stream → Type 0
+EndsAs (Ok lines) status errors = (status ≡ 0) × GetsNothing false errors
+EndsAs (Err fault) status errors = (status ≡ 1) × Takes errors (error_line (refusal_of fault))

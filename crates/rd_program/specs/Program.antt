@@ -1,10 +1,10 @@
 -- What the program does: a script's run over a book, with the trace of it after the report if one
 -- is asked for, and a script's run over the run of a trace.
 use Rattle.std.specs.Prelude.{◌≡◌, ◌⊎◌, ℕ, Bool, true, false, List, Option, Result, Ok, Err}
-use Rattle.std.specs.Io.KnownBytes.{Keeps}
 use Rattle.rd_marks.specs.BookState.{BookState}
 use Rattle.rd_script.specs.declared.faults.ScriptFault.{ScriptFault}
-use Rattle.rd_script.specs.Script.{Devices, RanToEnd, RunsScript}
+use Rattle.rd_script.specs.Streams.{Devices, IsUnused, Stream}
+use Rattle.rd_script.specs.Script.{RanToEnd, RunsScript}
 use Rattle.rd_trace.specs.declared.faults.WriteTraceFault.{WriteTraceFault}
 use Rattle.rd_trace.specs.declared.any_book.AnyBook.{AnyBook}
 use Rattle.rd_trace.specs.Writing.{WritesTrace, is_write_fault}
@@ -16,12 +16,9 @@ use Rattle.rd_program.specs.declared.faults.ProgramFault.TheVariants.{NoMemory, 
 abbrev pub IsUnread : ProgramFault → Type 0
 IsUnread fault = (fault ≡ NoMemory) ⊎ (fault ≡ Read)
 
--- neither device was used: no byte was read or written, and the reader has not failed
-pub record TouchesNothing (d : Devices) : Type 0 where
-  pub gave_nothing : Keeps d.in_before d.in_after
-  pub took_nothing : Keeps d.out_before d.out_after
-  pub in_works : d.in_failed ≡ false
-  pub out_works : d.out_failed ≡ false
+-- neither device was used
+abbrev pub TouchesNothing : Devices → Type 0
+TouchesNothing d = IsUnused d.input × IsUnused d.output
 
 -- what a script's run over a book in this state did, whatever state it left
 abbrev pub RunsOver : BookState → Devices → Result ℕ ScriptFault → Type 0
@@ -29,9 +26,9 @@ RunsOver before d result = (after : BookState) × RunsScript before after d resu
 
 -- what became of the trace of a book in this state, if it was asked for: it was written, as far as
 -- the result states; else nothing was written
-abbrev pub WritesIf : Bool → BookState → Option (List ℕ) → Option (List ℕ) → Bool → Result (Unit {0}) WriteTraceFault → Type 0
-WritesIf true b old new failed result = WritesTrace b old new result × (failed ≡ is_write_fault result)
-WritesIf false b old new failed result = (result ≡ Ok tt) × (new ≡ old) × (failed ≡ false)
+abbrev pub WritesIf : Bool → BookState → Stream → Result (Unit {0}) WriteTraceFault → Type 0
+WritesIf true b output result = WritesTrace b output.before output.after result × (output.failed ≡ is_write_fault result)
+WritesIf false b output result = (result ≡ Ok tt) × (output.after ≡ output.before) × (output.failed ≡ false)
 
 -- a script of n lines ran to its end over a book in this state, its report was written, and this
 -- became of the trace of its run
@@ -39,8 +36,8 @@ pub record RanToTrace (before : BookState) (traced : Bool) (d : Devices) (n : �
   pub after : BookState
   -- what the writer had when the report was whole
   pub reported : Option (List ℕ)
-  pub ran : RanToEnd before after (record d { out_after = reported; out_failed = false }) n
-  pub trace : WritesIf traced after reported d.out_after d.out_failed written
+  pub ran : RanToEnd before after (record d { output = record d.output { after = reported; failed = false } }) n
+  pub trace : WritesIf traced after (record d.output { before = reported }) written
 
 -- what `run` did over a book in this state, by its result: it ran a script, and, if that came to
 -- its end and a trace was asked for, wrote the trace after the report

@@ -1,8 +1,9 @@
 -- Several scripts over one fresh world: what was written, and how the view ended.
 use Rattle.std.specs.Result.{result_map_both}
-use Rattle.std.specs.Prelude.{◌≡◌, ℕ, Bool, List, length, Option, Result, Vec}
+use Rattle.std.specs.Prelude.{◌≡◌, ℕ, List, length, Result, Vec}
 use Rattle.std.specs.Global.{Global}
 use Rattle.rd_marks.specs.BookState.{BookState}
+use Rattle.rd_script.specs.Streams.{Stream}
 use Rattle.rd_desk.specs.declared.histories.History.{History}
 use Rattle.rd_desk.specs.Histories.{entries}
 use Rattle.rd_view.specs.declared.faults.ViewFault.{ViewFault}
@@ -15,6 +16,6 @@ abbrev pub view_outcome : Result History ViewFault → Result ℕ ProgramFault
 view_outcome viewed = result_map_both (λ history. length (entries history)) View viewed
 
 -- what became of a view of these scripts over a book in this state, by the program's outcome
-abbrev pub ViewsOver : BookState → List (Vec ℕ Global) → Option (List ℕ) → Option (List ℕ) → Bool → Result ℕ ProgramFault → Type 0
-ViewsOver opened scripts old new failed result =
-    (viewed : Result History ViewFault) × (result ≡ view_outcome viewed) × ViewsScripts opened scripts old new failed viewed
+abbrev pub ViewsOver : BookState → List (Vec ℕ Global) → Stream → Result ℕ ProgramFault → Type 0
+ViewsOver opened scripts output result =
+    (viewed : Result History ViewFault) × (result ≡ view_outcome viewed) × ViewsScripts opened scripts output.before output.after output.failed viewed

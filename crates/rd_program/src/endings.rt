@@ -2,6 +2,7 @@
 
 ghost use Rattle.std.specs.Prelude.{◌≡◌, false};
 ghost use Rattle.std.specs.Process.{exit_status};
+ghost use Rattle.rd_script.specs.Streams.{sink_stream};
 ghost use Rattle.rd_program.specs.Endings.{EndsAs, Takes, error_line};
 
 use super::faults::ProgramFault;
@@ -12,7 +13,7 @@ use std::process::ExitCode;
 /// fault on standard error. If standard error fails, the status is the same.
 pub fn end<E: Sink>(outcome: &Result<u64, ProgramFault>, errors: &mut E) -> ExitCode
     requires { E.has_failed errors.old ≡ false }
-    ensures { EndsAs outcome.now (exit_status result) (E.has_failed errors.new) (E.contents errors.old) (E.contents errors.new) }
+    ensures { EndsAs outcome.now (exit_status result) (sink_stream E.Sink errors.old errors.new) }
 {
     match outcome {
         Ok(_) => ExitCode::from(0),
@@ -26,7 +27,7 @@ pub fn end<E: Sink>(outcome: &Result<u64, ProgramFault>, errors: &mut E) -> Exit
 /// Writes the program's name and the line of a refusal to a stream.
 fn write_line<K: Sink>(stream: &mut K, refusal: AnyRefusal) -> Result<(), WriteFault>
     requires { K.has_failed stream.old ≡ false }
-    ensures { Takes (K.has_failed stream.new) (K.contents stream.old) (K.contents stream.new) (error_line refusal) }
+    ensures { Takes (sink_stream K.Sink stream.old stream.new) (error_line refusal) }
 {
     let mut text = Text::new();
     set_text(&mut text, &Err(refusal));

@@ -3,9 +3,9 @@
 //! trace.
 
 ghost use Rattle.std.specs.Prelude.{◌≡◌, ℕ, false, IfOk, IfErr, IfSome};
+ghost use Rattle.rd_script.specs.Streams.{devices, sink_stream};
 ghost use Rattle.rd_trace.specs.Traces.{ring_length};
 ghost use Rattle.rd_trace.specs.Loading.{any_state, fresh_state};
-ghost use Rattle.rd_trace.specs.Devices.{devices};
 ghost use Rattle.rd_program.specs.Program.{IsUnread, PlaysScript, ResumesTrace, WritesIf};
 
 use super::faults::ProgramFault;
@@ -68,8 +68,7 @@ fn write_if<K: Sink>(
     trace: bool,
 ) -> Result<(), WriteTraceFault>
     requires { K.has_failed writer.old ≡ false }
-    ensures { WritesIf trace (any_state book.now)
-        (K.contents writer.old) (K.contents writer.new) (K.has_failed writer.new) result }
+    ensures { WritesIf trace (any_state book.now) (sink_stream K.Sink writer.old writer.new) result }
 {
     if trace {
         return book.write_trace(alloc, writer);

@@ -3,6 +3,7 @@
 ghost use Rattle.std.specs.Prelude.{◌≡◌, ◌≤◌, false, length};
 ghost use Rattle.rd_desk.specs.declared.desks.TheConstants.{MOST_VIEWERS};
 ghost use Rattle.rd_marks.specs.Book.{book_state};
+ghost use Rattle.rd_script.specs.Streams.{sink_stream};
 ghost use Rattle.rd_trace.specs.Traces.{ring_length};
 ghost use Rattle.rd_trace.specs.Loading.{fresh_state};
 ghost use Rattle.rd_program.specs.Viewers.{ViewsOver};
@@ -34,7 +35,7 @@ pub fn view<R: Threads + Wait + Sync, K: Sink>(
     requires few_scripts { length scripts.now ≤ MOST_VIEWERS }
     requires writer_works { K.has_failed writer.old ≡ false }
     ensures views { ViewsOver (fresh_state (ring_length setup.ring) setup.actors) scripts.now
-        (K.contents writer.old) (K.contents writer.new) (K.has_failed writer.new) result }
+        (sink_stream K.Sink writer.old writer.new) result }
 {
     match AnyBook::fresh(alloc, setup.ring, setup.actors) {
         Ok(AnyBook::Two(book)) => view_over(rt, alloc, scripts, writer, book),
@@ -55,8 +56,7 @@ fn view_over<R: Threads + Wait + Sync, K: Sink, const N: usize>(
     requires some { 1 ≤ length scripts.now }
     requires few { length scripts.now ≤ MOST_VIEWERS }
     requires works { K.has_failed writer.old ≡ false }
-    ensures { ViewsOver (book_state book.entry) scripts.now
-        (K.contents writer.old) (K.contents writer.new) (K.has_failed writer.new) result }
+    ensures { ViewsOver (book_state book.entry) scripts.now (sink_stream K.Sink writer.old writer.new) result }
 {
     let history = view_scripts(rt, alloc, scripts, writer, book)?;
     Ok(history.len())

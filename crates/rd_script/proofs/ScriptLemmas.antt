@@ -5,7 +5,8 @@ use Rattle.rd_marks.specs.BookState.{BookState}
 use Rattle.rd_script.specs.declared.faults.ScriptFault.{ScriptFault}
 use Rattle.rd_script.specs.Replies.{text_of}
 use Rattle.rd_script.specs.Answers.{LineAnswered, AnswersLine}
-use Rattle.rd_script.specs.Script.{HasReport, Devices, RanToEnd, StoppedAtRead, StoppedAtWrite, RunsScript}
+use Rattle.rd_script.specs.Streams.{Devices}
+use Rattle.rd_script.specs.Script.{HasReport, RanToEnd, StoppedAtRead, StoppedAtWrite, RunsScript}
 use Rattle.rd_script.proofs.ResultLemmas.{Err-from_error}
 use Rattle.rd_script.proofs.KnownLemmas.{Consumes-nil, Consumes-join, Appends-nil, Appends-join}
 
@@ -55,22 +56,29 @@ HasReport-more s [] report mid line a h k = grind (arith, append-nil)
 HasReport-more s (x ∷ xs) report mid line a h k = grind (arith, append_assoc, HasReport-more h.0.state xs h.1 mid line a h.4 k)
 
 -- this many lines were read, obeyed and reported, and both devices work
-pub record IsGoingOn (before now : BookState) (in_before in_now : Option (List ℕ)) (in_failed : Bool) (out_before out_now : Option (List ℕ)) (out_failed : Bool) (n : ℕ) : Type 0 where
-  pub in_works : in_failed ≡ false
-  pub out_works : out_failed ≡ false
+pub record IsGoingOn (before now : BookState) (d : Devices) (n : ℕ) : Type 0 where
+  pub in_works : d.input.failed ≡ false
+  pub out_works : d.output.failed ≡ false
   pub given : List ℕ
-  pub took : Consumes in_before in_now given
+  pub took : Consumes d.input.before d.input.after given
   pub lines : List (List ℕ)
   pub splits : Splits given lines
   pub counted : length lines ≡ n
   pub enough : n ≤ length given
   pub report : List ℕ
-  pub wrote : Appends out_before out_now report
+  pub wrote : Appends d.output.before d.output.after report
   pub reports : HasReport before lines report now
   pub start : now.session.start ≡ before.session.start
 
+-- the devices before the first line
+abbrev devices_at : Option (List ℕ) → Bool → Option (List ℕ) → Bool → Devices
+devices_at in_now in_failed out_now out_failed = record {
+  input = record { before = in_now; after = in_now; failed = in_failed };
+  output = record { before = out_now; after = out_now; failed = out_failed };
+}
+
 -- before the first line
-pub starts : (s : BookState) (in_now : Option (List ℕ)) (in_failed : Bool) (out_now : Option (List ℕ)) (out_failed : Bool) → in_failed ≡ false → out_failed ≡ false → IsGoingOn s s in_now in_now in_failed out_now out_now out_failed 0
+pub starts : (s : BookState) (in_now : Option (List ℕ)) (in_failed : Bool) (out_now : Option (List ℕ)) (out_failed : Bool) → in_failed ≡ false → out_failed ≡ false → IsGoingOn s s (devices_at in_now in_failed out_now out_failed) 0
 starts s in_now in_failed out_now out_failed in_works out_works = record {
   in_works = in_works;
   out_works = out_works;
@@ -86,30 +94,26 @@ starts s in_now in_failed out_now out_failed in_works out_works = record {
   start = refl;
 }
 
-module _ (before now : BookState) (in_before in_now : Option (List ℕ)) (in_failed : Bool) (out_before out_now : Option (List ℕ)) (out_failed : Bool) (n : ℕ) (g : IsGoingOn before now in_before in_now in_failed out_before out_now out_failed n) where
+module _ (before now : BookState) (d : Devices) (n : ℕ) (g : IsGoingOn before now d n) where
   -- the devices after more calls
   abbrev now_at : Option (List ℕ) → Bool → Option (List ℕ) → Bool → Devices
   now_at in_new in_failed' out_new out_failed' = record {
-    in_before = in_before;
-    in_after = in_new;
-    in_failed = in_failed';
-    out_before = out_before;
-    out_after = out_new;
-    out_failed = out_failed';
+    input = record d.input { after = in_new; failed = in_failed' };
+    output = record d.output { after = out_new; failed = out_failed' };
   }
 
   -- the end
-  pub ran_to_end : (in_new : Option (List ℕ)) (in_failed' : Bool) → Consumes in_now in_new [] → IsAtEnd in_new → in_failed' ≡ false → RanToEnd before now (now_at in_new in_failed' out_now out_failed) n
+  pub ran_to_end : (in_new : Option (List ℕ)) (in_failed' : Bool) → Consumes d.input.after in_new [] → IsAtEnd in_new → in_failed' ≡ false → RanToEnd before now (now_at in_new in_failed' d.output.after d.output.failed) n
   ran_to_end in_new in_failed' keeps ended in_works = grind (arith, append-nil, lines-whole)
 
   -- the reader failed
-  pub stopped_at_read : (in_new : Option (List ℕ)) (in_failed' : Bool) → ReadsPart in_now in_new in_failed' → StoppedAtRead before now (now_at in_new in_failed' out_now out_failed)
+  pub stopped_at_read : (in_new : Option (List ℕ)) (in_failed' : Bool) → ReadsPart d.input.after in_new in_failed' → StoppedAtRead before now (now_at in_new in_failed' d.output.after d.output.failed)
   stopped_at_read in_new in_failed' part =
       let whole : ended_lines_of (g.given ++ part.text) ≡ g.lines = g.splits.ended part.text ∙ (ap (λ ls. g.lines ++ ls) (ended-none part.text part.is_one) ∙ append-nil g.lines) in
       record {
         out_works = g.out_works;
         given = g.given ++ part.text;
-        took = Consumes-join in_before in_now in_new g.given part.text g.took part.took;
+        took = Consumes-join d.input.before d.input.after in_new g.given part.text g.took part.took;
         cause = elim part.cause [ inl failed ↦ inl failed | inr many ↦ inr (omega (arith, many, length-append g.given part.text)) ];
         report = g.report;
         wrote = g.wrote;
@@ -117,28 +121,28 @@ module _ (before now : BookState) (in_before in_now : Option (List ℕ)) (in_fai
       }
 
   -- 2^64 - 1 lines without an end
-  pub stopped_endless : n ≡ 2 ^ 64 - 1 → StoppedAtRead before now (now_at in_now in_failed out_now out_failed)
+  pub stopped_endless : n ≡ 2 ^ 64 - 1 → StoppedAtRead before now (now_at d.input.after d.input.failed d.output.after d.output.failed)
   stopped_endless most = grind (arith, ended-whole)
 
   -- one more line, ended by a line feed, was obeyed and reported
-  pub goes_on : (in_new out_new : Option (List ℕ)) (in_failed' out_failed' : Bool) (line : Line) (read : ReadsLine in_now in_new line (10 ∷ [])) (a : LineAnswered) → AnswersLine now read.text a → (after : BookState) → a.state ≡ after → Appends out_now out_new (text_of a.answer) → in_failed' ≡ false → out_failed' ≡ false → after.session.start ≡ now.session.start → IsGoingOn before after in_before in_new in_failed' out_before out_new out_failed' (n + 1)
+  pub goes_on : (in_new out_new : Option (List ℕ)) (in_failed' out_failed' : Bool) (line : Line) (read : ReadsLine d.input.after in_new line (10 ∷ [])) (a : LineAnswered) → AnswersLine now read.text a → (after : BookState) → a.state ≡ after → Appends d.output.after out_new (text_of a.answer) → in_failed' ≡ false → out_failed' ≡ false → after.session.start ≡ now.session.start → IsGoingOn before after (now_at in_new in_failed' out_new out_failed') (n + 1)
   goes_on in_new out_new in_failed' out_failed' line read a answers after leaves wrote in_works out_works start = record {
     in_works = in_works;
     out_works = out_works;
     given = g.given ++ (read.text ++ 10 ∷ []);
-    took = Consumes-join in_before in_now in_new g.given (read.text ++ 10 ∷ []) g.took read.took;
+    took = Consumes-join d.input.before d.input.after in_new g.given (read.text ++ 10 ∷ []) g.took read.took;
     lines = g.lines ++ read.text ∷ [];
     splits = Splits-line g.given g.lines read.text g.splits read.is_one;
     counted = length-append g.lines (read.text ∷ []) ∙ ap (λ k. k + 1) g.counted;
     enough = omega (arith, g.enough, length-append g.given (read.text ++ 10 ∷ []), length-append read.text (10 ∷ []));
     report = g.report ++ text_of a.answer;
-    wrote = Appends-join out_before out_now out_new g.report (text_of a.answer) g.wrote wrote;
+    wrote = Appends-join d.output.before d.output.after out_new g.report (text_of a.answer) g.wrote wrote;
     reports = subst (λ x. HasReport before (g.lines ++ read.text ∷ []) (g.report ++ text_of a.answer) x) leaves (HasReport-more before g.lines g.report now read.text a g.reports answers);
     start = start ∙ g.start;
   }
 
   -- the last line was obeyed and reported
-  pub ran_to_last : (in_new out_new : Option (List ℕ)) (in_failed' out_failed' : Bool) (line : Line) (r : ReadsLast in_now in_new line) (a : LineAnswered) → AnswersLine now r.read.text a → (after : BookState) → a.state ≡ after → Appends out_now out_new (text_of a.answer) → in_failed' ≡ false → out_failed' ≡ false → RanToEnd before after (now_at in_new in_failed' out_new out_failed') (n + 1)
+  pub ran_to_last : (in_new out_new : Option (List ℕ)) (in_failed' out_failed' : Bool) (line : Line) (r : ReadsLast d.input.after in_new line) (a : LineAnswered) → AnswersLine now r.read.text a → (after : BookState) → a.state ≡ after → Appends d.output.after out_new (text_of a.answer) → in_failed' ≡ false → out_failed' ≡ false → RanToEnd before after (now_at in_new in_failed' out_new out_failed') (n + 1)
   ran_to_last in_new out_new in_failed' out_failed' line r a answers after leaves wrote in_works out_works =
       let text = r.read.text in
       let all : lines_of (g.given ++ (text ++ [])) ≡ g.lines ++ text ∷ [] = ap (λ t. lines_of (g.given ++ t)) (append-nil text) ∙ (g.splits.all text ∙ ap (λ ls. g.lines ++ ls) (lines-last text r.read.is_one r.some)) in
@@ -146,18 +150,18 @@ module _ (before now : BookState) (in_before in_now : Option (List ℕ)) (in_fai
         in_works = in_works;
         out_works = out_works;
         given = g.given ++ (text ++ []);
-        took = Consumes-join in_before in_now in_new g.given (text ++ []) g.took r.read.took;
+        took = Consumes-join d.input.before d.input.after in_new g.given (text ++ []) g.took r.read.took;
         ended = r.ended;
         counted = ap length all ∙ (length-append g.lines (text ∷ []) ∙ ap (λ k. k + 1) g.counted);
         report = g.report ++ text_of a.answer;
-        wrote = Appends-join out_before out_now out_new g.report (text_of a.answer) g.wrote wrote;
+        wrote = Appends-join d.output.before d.output.after out_new g.report (text_of a.answer) g.wrote wrote;
         reports =
             subst (λ ls. HasReport before ls (g.report ++ text_of a.answer) after) (sym all)
             (subst (λ x. HasReport before (g.lines ++ text ∷ []) (g.report ++ text_of a.answer) x) leaves (HasReport-more before g.lines g.report now text a g.reports answers));
       }
 
   -- the writer failed at the answer to a line that a line feed ended
-  pub stopped_at_write : (in_new out_new : Option (List ℕ)) (in_failed' out_failed' : Bool) (line : Line) (read : ReadsLine in_now in_new line (10 ∷ [])) (a : LineAnswered) → AnswersLine now read.text a → (after : BookState) → a.state ≡ after → TakesBeginning out_now out_new (text_of a.answer) → in_failed' ≡ false → out_failed' ≡ true → StoppedAtWrite before after (now_at in_new in_failed' out_new out_failed')
+  pub stopped_at_write : (in_new out_new : Option (List ℕ)) (in_failed' out_failed' : Bool) (line : Line) (read : ReadsLine d.input.after in_new line (10 ∷ [])) (a : LineAnswered) → AnswersLine now read.text a → (after : BookState) → a.state ≡ after → TakesBeginning d.output.after out_new (text_of a.answer) → in_failed' ≡ false → out_failed' ≡ true → StoppedAtWrite before after (now_at in_new in_failed' out_new out_failed')
   stopped_at_write in_new out_new in_failed' out_failed' line read a answers after leaves wrote in_works fails =
       let given = g.given ++ (read.text ++ 10 ∷ []) in
       let lines = g.lines ++ read.text ∷ [] in
@@ -166,7 +170,7 @@ module _ (before now : BookState) (in_before in_now : Option (List ℕ)) (in_fai
         in_works = in_works;
         out_failed = fails;
         given = given;
-        took = Consumes-join in_before in_now in_new g.given (read.text ++ 10 ∷ []) g.took read.took;
+        took = Consumes-join d.input.before d.input.after in_new g.given (read.text ++ 10 ∷ []) g.took read.took;
         lines = g.lines;
         last = read.text;
         all = lines-whole given lines splits;
@@ -179,18 +183,18 @@ module _ (before now : BookState) (in_before in_now : Option (List ℕ)) (in_fai
         leaves = leaves;
         part = wrote.part;
         begins = wrote.begins;
-        wrote = Appends-join out_before out_now out_new g.report wrote.part g.wrote wrote.took;
+        wrote = Appends-join d.output.before d.output.after out_new g.report wrote.part g.wrote wrote.took;
       }
 
   -- the writer failed at the answer to the last line
-  pub stopped_at_last_write : (in_new out_new : Option (List ℕ)) (in_failed' out_failed' : Bool) (line : Line) (r : ReadsLast in_now in_new line) (a : LineAnswered) → AnswersLine now r.read.text a → (after : BookState) → a.state ≡ after → TakesBeginning out_now out_new (text_of a.answer) → in_failed' ≡ false → out_failed' ≡ true → StoppedAtWrite before after (now_at in_new in_failed' out_new out_failed')
+  pub stopped_at_last_write : (in_new out_new : Option (List ℕ)) (in_failed' out_failed' : Bool) (line : Line) (r : ReadsLast d.input.after in_new line) (a : LineAnswered) → AnswersLine now r.read.text a → (after : BookState) → a.state ≡ after → TakesBeginning d.output.after out_new (text_of a.answer) → in_failed' ≡ false → out_failed' ≡ true → StoppedAtWrite before after (now_at in_new in_failed' out_new out_failed')
   stopped_at_last_write in_new out_new in_failed' out_failed' line r a answers after leaves wrote in_works fails =
       let text = r.read.text in
       record {
         in_works = in_works;
         out_failed = fails;
         given = g.given ++ (text ++ []);
-        took = Consumes-join in_before in_now in_new g.given (text ++ []) g.took r.read.took;
+        took = Consumes-join d.input.before d.input.after in_new g.given (text ++ []) g.took r.read.took;
         lines = g.lines;
         last = text;
         all = ap (λ t. lines_of (g.given ++ t)) (append-nil text) ∙ (g.splits.all text ∙ ap (λ ls. g.lines ++ ls) (lines-last text r.read.is_one r.some));
@@ -203,7 +207,7 @@ module _ (before now : BookState) (in_before in_now : Option (List ℕ)) (in_fai
         leaves = leaves;
         part = wrote.part;
         begins = wrote.begins;
-        wrote = Appends-join out_before out_now out_new g.report wrote.part g.wrote wrote.took;
+        wrote = Appends-join d.output.before d.output.after out_new g.report wrote.part g.wrote wrote.took;
       }
 
 -- a script that ended by a fault, of which the result tells

@@ -1,4 +1,5 @@
 pub mod Device
+pub mod Streams
 pub mod Portions
 pub mod Puts
 pub mod Texts

@@ -1,12 +1,13 @@
 -- What a run of a script did: which lines it read, obeyed and reported, for each way to end.
 use mathlib.Core.List.{IsPrefix}
-use Rattle.std.specs.Prelude.{◌≡◌, ℕ, ◌+◌, ◌^◌, ◌≤◌, ◌⊎◌, Bool, true, false, List, [], ◌∷◌, ◌++◌, length, Option, Result, Ok, Err}
+use Rattle.std.specs.Prelude.{◌≡◌, ℕ, ◌+◌, ◌^◌, ◌≤◌, ◌⊎◌, true, false, List, [], ◌∷◌, ◌++◌, length, Option, Result, Ok, Err}
 use Rattle.std.specs.Io.KnownBytes.{Consumes, Appends, IsAtEnd}
 use Rattle.rd_marks.specs.BookState.{BookState}
 use Rattle.rd_script.specs.declared.devices.sinks.WriteFault.{WriteFault}
 use Rattle.rd_script.specs.declared.faults.ScriptFault.{ScriptFault}
 use Rattle.rd_script.specs.declared.faults.ScriptFault.TheVariants.{Read, Write}
 use Rattle.rd_script.specs.Device.{TakesBeginning}
+use Rattle.rd_script.specs.Streams.{Devices}
 use Rattle.rd_script.specs.Lines.{lines_of, ended_lines_of}
 use Rattle.rd_script.specs.Answers.{LineAnswered, AnswersLine}
 use Rattle.rd_script.specs.Replies.{LineAnswer, text_of}
@@ -24,53 +25,43 @@ HasReport s (line ∷ lines) report after =
     (answered : LineAnswered) × (rest : List ℕ) × AnswersLine s line answered
     × (report ≡ text_of answered.answer ++ rest) × HasReport answered.state lines rest after
 
--- the bytes that a reader has left and those that a writer has, before a run and after it, and
--- whether each has failed then
-pub record Devices : Type 0 where
-  pub in_before : Option (List ℕ)
-  pub in_after : Option (List ℕ)
-  pub in_failed : Bool
-  pub out_before : Option (List ℕ)
-  pub out_after : Option (List ℕ)
-  pub out_failed : Bool
-
 -- the run came to the end: the reader gave n lines and then the end, their report was written, and
 -- neither device failed
 pub record RanToEnd (before after : BookState) (d : Devices) (n : ℕ) : Type 0 where
-  pub in_works : d.in_failed ≡ false
-  pub out_works : d.out_failed ≡ false
+  pub in_works : d.input.failed ≡ false
+  pub out_works : d.output.failed ≡ false
   pub given : List ℕ
-  pub took : Consumes d.in_before d.in_after given
-  pub ended : IsAtEnd d.in_after
+  pub took : Consumes d.input.before d.input.after given
+  pub ended : IsAtEnd d.input.after
   pub counted : length (lines_of given) ≡ n
   pub report : List ℕ
-  pub wrote : Appends d.out_before d.out_after report
+  pub wrote : Appends d.output.before d.output.after report
   pub reports : HasReport before (lines_of given) report after
 
 -- the reader failed, or gave 2^64 - 1 bytes without an end, and the writer has not failed: the
 -- lines that a line feed ended were obeyed, and their report was written
 pub record StoppedAtRead (before after : BookState) (d : Devices) : Type 0 where
-  pub out_works : d.out_failed ≡ false
+  pub out_works : d.output.failed ≡ false
   pub given : List ℕ
-  pub took : Consumes d.in_before d.in_after given
-  pub cause : (d.in_failed ≡ true) ⊎ (2 ^ 64 ≤ length given + 1)
+  pub took : Consumes d.input.before d.input.after given
+  pub cause : (d.input.failed ≡ true) ⊎ (2 ^ 64 ≤ length given + 1)
   pub report : List ℕ
-  pub wrote : Appends d.out_before d.out_after report
+  pub wrote : Appends d.output.before d.output.after report
   pub reports : HasReport before (ended_lines_of given) report after
 
 -- the writer failed at the answer to the last line that was read, and the reader has not failed:
 -- all lines were obeyed, the report of the lines before the last was written, and a beginning of
 -- the last one's answer
 pub record StoppedAtWrite (before after : BookState) (d : Devices) : Type 0 where
-  pub in_works : d.in_failed ≡ false
-  pub out_failed : d.out_failed ≡ true
+  pub in_works : d.input.failed ≡ false
+  pub out_failed : d.output.failed ≡ true
   pub given : List ℕ
-  pub took : Consumes d.in_before d.in_after given
+  pub took : Consumes d.input.before d.input.after given
   -- the lines that were read: none is incomplete
   pub lines : List (List ℕ)
   pub last : List ℕ
   pub all : lines_of given ≡ lines ++ last ∷ []
-  pub whole : (ended_lines_of given ≡ lines_of given) ⊎ IsAtEnd d.in_after
+  pub whole : (ended_lines_of given ≡ lines_of given) ⊎ IsAtEnd d.input.after
   -- the report of the lines before the last
   pub report : List ℕ
   pub reached : BookState
@@ -82,7 +73,7 @@ pub record StoppedAtWrite (before after : BookState) (d : Devices) : Type 0 wher
   -- the beginning of its text
   pub part : List ℕ
   pub begins : IsPrefix part (text_of answered.answer)
-  pub wrote : Appends d.out_before d.out_after (report ++ part)
+  pub wrote : Appends d.output.before d.output.after (report ++ part)
 
 -- what a run of a script did, by its result
 abbrev pub RunsScript : BookState → BookState → Devices → Result ℕ ScriptFault → Type 0

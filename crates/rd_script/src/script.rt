@@ -7,6 +7,7 @@ ghost use Rattle.rd_marks.specs.declared.replies.Reply.{Reply};
 ghost use Rattle.rd_marks.specs.Book.{book_state};
 ghost use Rattle.rd_marks.specs.Commands.{Happened, IsObeyed};
 ghost use Rattle.rd_script.specs.Device.{TakesBeginning};
+ghost use Rattle.rd_script.specs.Streams.{devices};
 ghost use Rattle.rd_script.specs.Lines.{Holds};
 ghost use Rattle.rd_script.specs.Replies.{text_of};
 ghost use Rattle.rd_script.specs.Answers.{LineAnswered, AnswersLine, line_answer};
@@ -37,14 +38,8 @@ pub fn run<S: Source, K: Sink, const R: usize>(
 ) -> Result<u64, ScriptFault>
     requires reader_works { S.has_failed reader.old ≡ false }
     requires writer_works { K.has_failed writer.old ≡ false }
-    ensures runs { RunsScript (book_state book.old) (book_state book.new) (record {
-      in_before = S.bytes reader.old;
-      in_after = S.bytes reader.new;
-      in_failed = S.has_failed reader.new;
-      out_before = K.contents writer.old;
-      out_after = K.contents writer.new;
-      out_failed = K.has_failed writer.new;
-    }) result }
+    ensures runs { RunsScript (book_state book.old) (book_state book.new)
+        (devices S.Source K.Sink reader.old reader.new writer.old writer.new) result }
     ensures start { (book_state book.new).session.start ≡ (book_state book.old).session.start }
 {
     let mut line = Line::new();

@@ -13,4 +13,3 @@ pub mod Saved
 pub mod Loading
 pub mod Steps
 pub mod Writing
-pub mod Devices

@@ -7,7 +7,7 @@ ghost use Rattle.rd_marks.specs.Book.{book_state};
 ghost use Rattle.rd_trace.specs.Traces.{ring_length};
 ghost use Rattle.rd_trace.specs.Loading.{any_state, fresh_state, IsBookIn};
 ghost use Rattle.rd_trace.specs.Writing.{WritesTrace, is_write_fault};
-ghost use Rattle.rd_trace.specs.Devices.{devices};
+ghost use Rattle.rd_script.specs.Streams.{devices};
 
 use super::faults::WriteTraceFault;
 use super::rings::Ring;

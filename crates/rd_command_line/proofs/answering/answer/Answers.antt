@@ -7,5 +7,5 @@ returns-in-Err-clause-answers g c = inr (
   c.in-Err.fault,
   c.in-Err.ensures.err,
   c.of.ensures,
-  record { gave_nothing = Keeps-refl _; took_nothing = Keeps-refl _; in_works = c.requires.input_works; out_works = c.requires.output_works },
+  ((Keeps-refl _, c.requires.input_works), (Keeps-refl _, c.requires.output_works)),
 )

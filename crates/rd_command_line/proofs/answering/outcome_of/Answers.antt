@@ -1,6 +1,6 @@
 use Rattle.std.proofs.Common.{rules, refl, subst, sym}
 use Rattle.std.proofs.KnownBytes.{Keeps-refl}
-use Rattle.rd_trace.specs.Devices.{devices}
+use Rattle.rd_script.specs.Streams.{devices}
 use Rattle.rd_command_line.specs.Answering.{HasOutcome}
 use Rattle.rd_command_line.proofs.AnsweringLemmas.{has_outcome}
 use Rattle.rd_command_line.proofs.answering.outcome_of.Goals as goal
@@ -15,5 +15,5 @@ returns-in-Err-clause-answers g c =
     let d = devices g.I.Source g.O.Sink c.args.input.now c.args.input.now c.args.output.now c.args.output.now in
     subst (λ words. HasOutcome g.S.AsStr.text words d c.in-Err.outcome) (sym c.in-Err.is) (
       refl,
-      record { gave_nothing = Keeps-refl _; took_nothing = Keeps-refl _; in_works = c.requires.input_works; out_works = c.requires.output_works },
+      ((Keeps-refl _, c.requires.input_works), (Keeps-refl _, c.requires.output_works)),
     )

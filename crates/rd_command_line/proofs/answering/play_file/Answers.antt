@@ -1,5 +1,6 @@
 use Rattle.std.proofs.Common.{Err, ap, inl}
 use Rattle.std.proofs.KnownBytes.{Keeps-refl}
+use Rattle.rd_script.specs.Streams.{sink_stream}
 use Rattle.rd_trace.specs.Traces.{ring_length}
 use Rattle.rd_trace.specs.Loading.{fresh_state}
 use Rattle.rd_program.proofs.ProgramLemmas.{fault_passed_up}
@@ -9,10 +10,9 @@ use Rattle.rd_command_line.proofs.answering.play_file.Goals as goal
 
 pub returns-in_err-file : goal.returns-in_err-file
 returns-in_err-file g c =
-    let output = g.O.Sink.contents c.args.output.now in
-    let failed = g.O.Sink.has_failed c.args.output.now in
-    fault_passed_up (λ r. PlaysFile (fresh_state (ring_length c.args.setup.ring) c.args.setup.actors) c.args.trace output output failed r) c.in_err-file.field-0.0
-    c.from_residual.result c.from_residual.ensures.1 (inl (ap Err c.in_err-file.ensures, Keeps-refl output, c.requires.output_works))
+    let output = sink_stream g.O.Sink c.args.output.now c.args.output.now in
+    fault_passed_up (λ r. PlaysFile (fresh_state (ring_length c.args.setup.ring) c.args.setup.actors) c.args.trace output r) c.in_err-file.field-0.0
+    c.from_residual.result c.from_residual.ensures.1 (inl (ap Err c.in_err-file.ensures, (Keeps-refl _, c.requires.output_works)))
 
 pub returns : goal.returns
 returns g c = plays_file _ _ _ _ c.play.ensures.plays

@@ -1,19 +1,18 @@
 use Rattle.std.proofs.Common.{◌∙◌, ◌++◌, codes, subst, Err}
 use Rattle.rd_script.specs.Replies.{text_of}
+use Rattle.rd_script.specs.Streams.{sink_stream}
 use Rattle.rd_program.specs.Endings.{Takes}
 use Rattle.rd_program.proofs.EndingLemmas.{takes_both, takes_front}
 use Rattle.rd_program.proofs.endings.write_line.Goals as goal
 
 pub returns-in_err-write_all : goal.returns-in_err-write_all
 returns-in_err-write_all g c =
-    takes_front (g.K.Sink.has_failed c.write_all.new.writer) (g.K.Sink.contents c.args.stream.now) (g.K.Sink.contents c.write_all.new.writer) (codes "lcrqdb: ") (text_of (Err c.args.refusal))
+    takes_front (sink_stream g.K.Sink c.args.stream.now c.write_all.new.writer) (codes "lcrqdb: ") (text_of (Err c.args.refusal))
     c.in_err-write_all.ensures.fails c.in_err-write_all.ensures.err
 
 pub returns : goal.returns
 returns g c =
-    let failed = g.K.Sink.has_failed c.write_all-2.new.writer in
-    let old = g.K.Sink.contents c.args.stream.now in
-    let new = g.K.Sink.contents c.write_all-2.new.writer in
-    subst (λ back. Takes failed old new (codes "lcrqdb: " ++ back)) (c.as_slice.ensures.value ∙ c.set_text.ensures)
-    (takes_both failed old (g.K.Sink.contents c.write_all.new.writer) new (codes "lcrqdb: ") c.as_slice.result.now c.write_all-2.result c.in_ok-write_all.ensures.ok
+    let s = sink_stream g.K.Sink c.args.stream.now c.write_all-2.new.writer in
+    subst (λ back. Takes s (codes "lcrqdb: " ++ back)) (c.as_slice.ensures.value ∙ c.set_text.ensures)
+    (takes_both s (g.K.Sink.contents c.write_all.new.writer) (codes "lcrqdb: ") c.as_slice.result.now c.write_all-2.result c.in_ok-write_all.ensures.ok
     c.write_all-2.ensures.ok c.write_all-2.ensures.err c.write_all-2.ensures.works c.write_all-2.ensures.fails)

@@ -1,5 +1,5 @@
 use Rattle.std.proofs.Common.{subst}
-use Rattle.rd_trace.specs.Devices.{devices}
+use Rattle.rd_script.specs.Streams.{devices}
 use Rattle.rd_program.specs.Program.{PlaysScript}
 use Rattle.rd_program.proofs.program.play.Goals as goal
 

@@ -1,6 +1,6 @@
 use Rattle.std.proofs.Common.{Ok, Err}
 use Rattle.rd_trace.specs.Loading.{any_state}
-use Rattle.rd_trace.specs.Devices.{devices}
+use Rattle.rd_script.specs.Streams.{devices}
 use Rattle.rd_program.specs.declared.faults.ProgramFault.TheVariants.{Script, Trace}
 use Rattle.rd_program.specs.Program.{PlaysScript}
 use Rattle.rd_program.proofs.ProgramLemmas.{fault_passed_up, ran_to_trace}

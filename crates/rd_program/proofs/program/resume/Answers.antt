@@ -1,5 +1,5 @@
 use Rattle.std.proofs.KnownBytes.{Keeps-refl}
-use Rattle.rd_trace.specs.Devices.{devices}
+use Rattle.rd_script.specs.Streams.{devices}
 use Rattle.rd_trace.specs.Loading.{any_state}
 use Rattle.rd_program.specs.declared.faults.ProgramFault.TheVariants.{Script, Load}
 use Rattle.rd_program.specs.Program.{ResumesTrace}
@@ -11,7 +11,7 @@ returns-in_err-book g c =
     let d = devices g.S.Source g.K.Sink c.args.reader.now c.args.reader.now c.args.writer.now c.args.writer.now in
     record {
       resumes = fault_passed_up (λ r. ResumesTrace c.args.text.now d r) (Load c.in_err-book.field-0.0) c.from_residual.result c.from_residual.ensures.1 (
-        record { gave_nothing = Keeps-refl _; took_nothing = Keeps-refl _; in_works = c.requires.reader_works; out_works = c.requires.writer_works },
+        ((Keeps-refl _, c.requires.reader_works), (Keeps-refl _, c.requires.writer_works)),
         c.in_err-book.ensures.loads,
       );
     }

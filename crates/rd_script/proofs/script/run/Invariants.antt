@@ -1,4 +1,5 @@
 use Rattle.rd_script.proofs.Prelude.{book_state}
+use Rattle.rd_script.specs.Streams.{devices}
 use Rattle.rd_script.proofs.ScriptLemmas.{IsGoingOn}
 use Rattle.rd_script.proofs.script.run.Given as goal
 
@@ -6,5 +7,4 @@ use Rattle.rd_script.proofs.script.run.Given as goal
 abbrev pub invariant-loop-done : goal.invariant-loop-done
 invariant-loop-done g l =
     IsGoingOn (book_state l.initial.book) (book_state l.book)
-    (g.S.Source.bytes l.initial.reader) (g.S.Source.bytes l.reader) (g.S.Source.has_failed l.reader)
-    (g.K.Sink.contents l.initial.writer) (g.K.Sink.contents l.writer) (g.K.Sink.has_failed l.writer) l.done
+    (devices g.S.Source g.K.Sink l.initial.reader l.reader l.initial.writer l.writer) l.done

@@ -1,0 +1,36 @@
+-- What a call does to the streams that it reads and writes, from what these are before and after.
+use Rattle.std.specs.Prelude.{◌≡◌, ℕ, Bool, false, List, Option}
+use Rattle.std.specs.Io.KnownBytes.{Keeps}
+use Rattle.rd_script.specs.declared.devices.sources.Source.{Ghosts as SourceOf}
+use Rattle.rd_script.specs.declared.devices.sinks.Sink.{Ghosts as SinkOf}
+
+-- a stream over a call: the bytes that a source has left or that a sink has taken, before the call
+-- and after it, and whether it has failed then
+pub record Stream : Type 0 where
+  pub before : Option (List ℕ)
+  pub after : Option (List ℕ)
+  pub failed : Bool
+
+-- the stream of a source, from what it was before a call and after it
+abbrev pub source_stream : {S : Type 0} → SourceOf S → S → S → Stream
+source_stream source old new = record { before = source.bytes old; after = source.bytes new; failed = source.has_failed new }
+
+-- the stream of a sink
+abbrev pub sink_stream : {K : Type 0} → SinkOf K → K → K → Stream
+sink_stream sink old new = record { before = sink.contents old; after = sink.contents new; failed = sink.has_failed new }
+
+-- the reader and the writer of a run
+pub record Devices : Type 0 where
+  pub input : Stream
+  pub output : Stream
+
+-- the devices of a call, from what its source and its sink were before it and after it
+abbrev pub devices : {S K : Type 0} → SourceOf S → SinkOf K → S → S → K → K → Devices
+devices source sink reader reader' writer writer' = record {
+  input = source_stream source reader reader';
+  output = sink_stream sink writer writer';
+}
+
+-- a stream was not used: no byte was read or written, and it has not failed
+abbrev pub IsUnused : Stream → Type 0
+IsUnused s = Keeps s.before s.after × (s.failed ≡ false)
