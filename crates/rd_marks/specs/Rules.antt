@@ -1,7 +1,7 @@
 -- What holds of the bookmarks of every book: there are no more than may be, with different names,
 -- and the events of each are those of a run.
-use Rattle.std.specs.Prelude.{◌≤◌, List, [], ◌∷◌, map, length, IsOk}
-use Rattle.std.specs.List.{IsDistinct}
+use Rattle.std.specs.Prelude.{◌≤◌, List, map, length, IsOk}
+use Rattle.std.specs.List.{AllByRecursion, IsDistinct}
 use Rattle.rd_step.specs.Prelude.{World, run, MOST_STEPS}
 use Rattle.rd_step.specs.declared.entries.Event.{Event}
 use Rattle.rd_marks.specs.NameBytes.{MOST_MARKS}
@@ -15,8 +15,7 @@ pub record GoThrough (start : World) (events : List Event) : Type 0 where
 
 -- the events of each bookmark can run from the start
 abbrev pub MarksGoThrough : World → List Mark → Type 0
-MarksGoThrough start [] = Unit {0}
-MarksGoThrough start (m ∷ ms) = GoThrough start m.events × MarksGoThrough start ms
+MarksGoThrough start ms = AllByRecursion (λ m. GoThrough start m.events) ms
 
 -- no two bookmarks have the same name
 abbrev pub HaveDifferentNames : List Mark → Type 0

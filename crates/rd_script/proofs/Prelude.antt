@@ -18,7 +18,7 @@ pub use Rattle.rd_step.specs.Prelude.{SegName}
 pub use Rattle.rd_script.specs.Contents.{name_words}
 pub use Rattle.rd_script.specs.Device.{GivesByte, TakesBeginning}
 pub use Rattle.rd_script.specs.Grammar.{AreArgumentsInRange, Argument, Byte, Choice, IsArgumentInRange, IsSegmentInRange, Kind, Long, Name, Segment, arguments_of, keyword_of, keyword_text, kind_text, names_after, word_of, argument_words}
-pub use Rattle.rd_script.specs.Lines.{AreSaid, Holds, IsOneLine, ReadsLast, ReadsLine, ReadsNext, ReadsPart, ended_lines_of, lines_of, with_first_byte}
+pub use Rattle.rd_script.specs.Lines.{Holds, IsOneLine, ReadsLast, ReadsLine, ReadsNext, ReadsPart, ended_lines_of, lines_of, with_first_byte}
 pub use Rattle.rd_script.specs.Reading.{AreNoNames, ReadsCommand, ReadsNameless}
 pub use Rattle.rd_script.specs.Spelling.{AreOne, IsInRange, IsMisnamed, NamesBadly, Says, is_word, most_line_bytes, spelling}
 pub use Rattle.rd_script.specs.Texts.{yes_or_no}

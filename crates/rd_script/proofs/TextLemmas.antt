@@ -1,6 +1,7 @@
 -- The lines of a whole text, as the parts between its line feeds, and what they say.
+use Rattle.std.specs.List.{AllZip}
 use Rattle.std.proofs.Common.{◌≡◌, ◌≢◌, ℕ, Bool, ◌==◌, if◌then◌else◌, List, [], ◌∷◌, ◌++◌, refl, ap, Result, arith}
-use Rattle.rd_script.proofs.Prelude.{ne_eqb, slice_split, onto_first, Command, LineFault, Says, with_first_byte, lines_of, AreSaid}
+use Rattle.rd_script.proofs.Prelude.{ne_eqb, slice_split, onto_first, Command, LineFault, Says, with_first_byte, lines_of}
 
 -- one byte more before the text
 one-more : (ends : Bool) (x : ℕ) (parts lines : List (List ℕ)) → parts ≡ lines
@@ -21,8 +22,8 @@ parts-of_unended (x ∷ y ∷ ys) some unended =
     (parts-of_unended (y ∷ ys) (λ e. cc) (λ front e. unended (x ∷ front) (ap (λ t. x ∷ t) e)))
 
 -- one line more, with what it says
-pub AreSaid-more : (lines : List (List ℕ)) (said : List (Result Command LineFault)) (line : List ℕ) (r : Result Command LineFault) → AreSaid lines said → Says line r → AreSaid (lines ++ line ∷ []) (said ++ r ∷ [])
-AreSaid-more [] [] line r are says = (says, tt)
-AreSaid-more [] (y ∷ ys) line r are says = absurd are
-AreSaid-more (x ∷ xs) [] line r are says = absurd are
-AreSaid-more (x ∷ xs) (y ∷ ys) line r are says = (are.0, AreSaid-more xs ys line r are.1 says)
+pub said_more : (lines : List (List ℕ)) (said : List (Result Command LineFault)) (line : List ℕ) (r : Result Command LineFault) → AllZip Says lines said → Says line r → AllZip Says (lines ++ line ∷ []) (said ++ r ∷ [])
+said_more [] [] line r are says = (says, tt)
+said_more [] (y ∷ ys) line r are says = absurd are
+said_more (x ∷ xs) [] line r are says = absurd are
+said_more (x ∷ xs) (y ∷ ys) line r are says = (are.0, said_more xs ys line r are.1 says)

@@ -1,14 +1,13 @@
 -- The lines of a text and what they spell, and the reading of one line: which bytes the source gave
 -- for it.
 use Rattle.std.specs.Prelude.{◌≡◌, ◌≢◌, ℕ, ◌+◌, ◌^◌, ◌<◌, ◌≤◌, ◌⊎◌, ◌==◌, if◌then◌else◌, Bool, true, List, [], ◌∷◌, ◌++◌, length, Option, Result, Ok, Err, MatchBool}
+use Rattle.std.specs.List.{AllByRecursion}
 use Rattle.std.specs.Io.KnownBytes.{Consumes, IsAtEnd}
 use Rattle.rd_script.specs.declared.reading.lines.Line.{Line}
 use Rattle.rd_script.specs.declared.reading.lines.Reading.{Reading}
 use Rattle.rd_script.specs.declared.reading.lines.Reading.TheVariants.{Ended, Last, End}
 use Rattle.rd_script.specs.declared.devices.sources.ReadFault.{ReadFault}
-use Rattle.rd_marks.specs.declared.commands.Command.{Command}
-use Rattle.rd_script.specs.declared.faults.LineFault.{LineFault}
-use Rattle.rd_script.specs.Spelling.{Says, most_line_bytes}
+use Rattle.rd_script.specs.Spelling.{most_line_bytes}
 
 -- the lines with this byte put at the beginning of the first one; if there is no line, the byte
 -- makes one
@@ -20,13 +19,6 @@ with_first_byte byte (line ∷ lines) = (byte ∷ line) ∷ lines
 abbrev pub lines_of : List ℕ → List (List ℕ)
 lines_of [] = []
 lines_of (byte ∷ bytes) = if byte == 10 then [] ∷ lines_of bytes else with_first_byte byte (lines_of bytes)
-
--- for each line, this is the command that it spells, or its fault
-abbrev pub AreSaid : List (List ℕ) → List (Result Command LineFault) → Type 0
-AreSaid [] [] = Unit {0}
-AreSaid (line ∷ lines) (said ∷ others) = Says line said × AreSaid lines others
-AreSaid [] (said ∷ others) = ⊥
-AreSaid (line ∷ lines) [] = ⊥
 
 -- the lines that a line feed ends, with this byte put at the beginning of the first one; if there
 -- is no such line, none
@@ -41,8 +33,7 @@ ended_lines_of (byte ∷ bytes) = if byte == 10 then [] ∷ ended_lines_of bytes
 
 -- no byte of the text is a line feed
 abbrev pub IsOneLine : List ℕ → Type 0
-IsOneLine [] = Unit {0}
-IsOneLine (byte ∷ bytes) = (byte ≢ 10) × IsOneLine bytes
+IsOneLine bytes = AllByRecursion (λ byte. byte ≢ 10) bytes
 
 -- the buffer has a line of these bytes: it keeps all of them, or knows that they are more than a
 -- line may have

@@ -23,7 +23,8 @@ pub use Rattle.rd_marks.specs.declared.books.Book.{Book}
 pub use Rattle.rd_marks.specs.declared.commands.Command.{Command}
 pub use Rattle.rd_script.specs.Device.{TakesBeginning}
 pub use Rattle.rd_script.specs.Headings.{heading_text}
-pub use Rattle.rd_script.specs.Lines.{AreSaid, lines_of}
+pub use Rattle.rd_script.specs.Lines.{lines_of}
+pub use Rattle.rd_script.specs.Spelling.{Says}
 pub use Rattle.rd_script.specs.Replies.{text_of}
 pub use Rattle.rd_script.specs.declared.faults.LineFault.{LineFault}
 pub use Rattle.rd_script.specs.declared.writing.headings.Heading.TheVariants.{Viewer}

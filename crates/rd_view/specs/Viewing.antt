@@ -17,7 +17,8 @@ use Rattle.rd_desk.specs.Viewers.{IsChain}
 use Rattle.std.specs.List.{AllByRecursion, AllZip}
 use Rattle.rd_script.specs.declared.faults.LineFault.{LineFault}
 use Rattle.rd_script.specs.Device.{TakesBeginning}
-use Rattle.rd_script.specs.Lines.{lines_of, AreSaid}
+use Rattle.rd_script.specs.Lines.{lines_of}
+use Rattle.rd_script.specs.Spelling.{Says}
 use Rattle.rd_view.specs.declared.faults.ViewFault.{ViewFault}
 use Rattle.rd_view.specs.declared.faults.ViewFault.TheVariants as view
 use Rattle.rd_view.specs.Views.{view_text}
@@ -30,7 +31,7 @@ commands_of (Err fault ∷ said) = commands_of said
 
 -- for each script, these are the commands and the faults of its lines
 abbrev pub AreRead : List (Vec ℕ Global) → List (Vec (Result Command LineFault) Global) → Type 0
-AreRead scripts said = AllZip (λ script lines. AreSaid (lines_of script.items) lines.items) scripts said
+AreRead scripts said = AllZip (λ script lines. AllZip Says (lines_of script.items) lines.items) scripts said
 
 -- the calls that a history has of these commands with these answers: those that the desk did not
 -- refuse

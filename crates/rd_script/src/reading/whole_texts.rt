@@ -1,8 +1,9 @@
 //! What the lines of a whole text spell: each is read like a line from a device.
 
 ghost use Rattle.std.specs.Prelude.{◌≡◌, ◌≢◌, ◌==◌, [], IfOk, IfErr, IsOk};
-ghost use Rattle.std.specs.List.{slice_split};
-ghost use Rattle.rd_script.specs.Lines.{lines_of, AreSaid};
+ghost use Rattle.std.specs.List.{AllZip, slice_split};
+ghost use Rattle.rd_script.specs.Lines.{lines_of};
+ghost use Rattle.rd_script.specs.Spelling.{Says};
 
 use super::commands::command_in;
 use crate::faults::LineFault;
@@ -17,7 +18,7 @@ use std::alloc::Global;
 ///
 /// `NoMemory` if the room for them was refused. Never if the text is empty.
 pub fn lines(alloc: Global, text: &[u8]) -> Result<Vec<Result<Command, LineFault>>, Refusal>
-    ensures ok { IfOk result (λ said. AreSaid (lines_of text.now) said.items) }
+    ensures ok { IfOk result (λ said. AllZip Says (lines_of text.now) said.items) }
     ensures err { IfErr result (λ refusal. refusal ≡ Refusal.NoMemory) }
     ensures succeeds { text.now ≡ [] → IsOk result }
 {

@@ -1,9 +1,9 @@
 use Rattle.std.proofs.Common.{arith, subst}
-use Rattle.rd_view.proofs.Prelude.{AreSaid, lines_of}
+use Rattle.rd_view.proofs.Prelude.{AllZip, Says, lines_of}
 use Rattle.rd_desk.proofs.ChainLemmas.{next_pair}
 use Rattle.rd_view.proofs.viewing.lines_of_all.Goals as goal
 
 pub loop-script-preserved : goal.loop-script-preserved
 loop-script-preserved c =
-    rw c.in_ok-push.ensures.items (next_pair (λ script lines. AreSaid (lines_of script.items) lines.items) c.args.scripts.now c.loop-script.said.items c.loop-script.script-index c.script-item.result c.in-Ok.lines (omega arith) c.script-item.is c.loop-script.invariant
-    (subst (λ bytes. AreSaid (lines_of bytes) c.in-Ok.lines.items) c.as_slice.ensures.value c.in-Ok.ensures.ok))
+    rw c.in_ok-push.ensures.items (next_pair (λ script lines. AllZip Says (lines_of script.items) lines.items) c.args.scripts.now c.loop-script.said.items c.loop-script.script-index c.script-item.result c.in-Ok.lines (omega arith) c.script-item.is c.loop-script.invariant
+    (subst (λ bytes. AllZip Says (lines_of bytes) c.in-Ok.lines.items) c.as_slice.ensures.value c.in-Ok.ensures.ok))

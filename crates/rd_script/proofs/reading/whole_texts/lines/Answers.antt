@@ -1,7 +1,8 @@
+use Rattle.std.specs.List.{AllZip}
 use Rattle.std.proofs.Common.{rules, tests, ◌≡◌, ◌==◌, List, [], ◌∷◌, ◌++◌, map, refl, ◌∙◌, subst, Bor, ℕ}
-use Rattle.rd_script.proofs.Prelude.{map-append, YieldsList-from_slice_split, AreSaid}
+use Rattle.rd_script.proofs.Prelude.{map-append, YieldsList-from_slice_split, Says}
 use Rattle.rd_script.proofs.PartLemmas.{all_parts}
-use Rattle.rd_script.proofs.TextLemmas.{AreSaid-more}
+use Rattle.rd_script.proofs.TextLemmas.{said_more}
 use Rattle.rd_script.proofs.reading.whole_texts.lines.Goals as goal
 
 pub loop-line-preserved : goal.loop-line-preserved
@@ -9,7 +10,7 @@ loop-line-preserved c =
     let pushed : c.push.new.self.items ≡ c.loop-line.said.items ++ c.command_in.result ∷ [] = search rules in
     let given : map (λ (line : Bor (List ℕ)). line.now) (c.loop-line.yielded ++ c.in-Some.line ∷ []) ≡ map (λ (line : Bor (List ℕ)). line.now) c.loop-line.yielded ++ c.in-Some.line.now ∷ []
     = map-append _ c.loop-line.yielded (c.in-Some.line ∷ []) in
-    let more = AreSaid-more _ c.loop-line.said.items c.in-Some.line.now c.command_in.result c.loop-line.invariant c.command_in.ensures.says in
+    let more = said_more _ c.loop-line.said.items c.in-Some.line.now c.command_in.result c.loop-line.invariant c.command_in.ensures.says in
     rw (pushed, given) more
 
 pub returns-clause-ok : goal.returns-clause-ok
@@ -17,4 +18,4 @@ returns-clause-ok c =
     let all =
     all_parts c.loop-line.yielded _ c.loop-line.yielded_by _ _ c.in-None.is c.next.ensures.steps
     (YieldsList-from_slice_split _ (λ byte. byte == 10) c.without_last_feed.result.now (search rules) (search rules) refl (λ x r q k. search (rules, tests))) in
-    subst (λ lines. AreSaid lines c.loop-line.said.items) (all ∙ c.without_last_feed.ensures) c.loop-line.invariant
+    subst (λ lines. AllZip Says lines c.loop-line.said.items) (all ∙ c.without_last_feed.ensures) c.loop-line.invariant
