@@ -42,6 +42,19 @@ number-below k [] i d within gt = omega arith
 number-below k (p ∷ ps) zero d within gt = grind (arith, nat_tests)
 number-below k (p ∷ ps) (suc i) d within gt = grind (arith, nat_tests, number-below k ps i d (omega arith) gt)
 
+-- nor are there more than all of them
+number-within : (k : ℕ) (ps : List ℕ) → position_or_len (nat_lt k) ps ≤ length ps
+number-within k [] = omega arith
+number-within k (p ∷ ps) = grind (arith, nat_tests, number-within k ps)
+
+-- where there are some and the last one is at most k, all are
+pub number-all : (k : ℕ) (ps : List ℕ) (d : ℕ) → IsAscending ps → 1 ≤ length ps → get_or ps (length ps - 1) d ≤ k → length ps ≡ position_or_len (nat_lt k) ps
+number-all k ps d up some le = omega (arith, number-within k ps, number-above 0 k ps (length ps - 1) d up (omega arith) le)
+
+-- where there are none, none is
+pub number-none : (k : ℕ) (ps : List ℕ) → length ps ≡ 0 → length ps ≡ position_or_len (nat_lt k) ps
+number-none k ps none = omega (arith, none, number-within k ps)
+
 -- half of what is below a power of two
 pub halved : (round n : ℕ) → round < 17 → n < 2 ^ (17 - round) → n / 2 < 2 ^ (17 - (round + 1))
 halved round n within h = let e : 2 ^ (17 - round) ≡ 2 * 2 ^ (17 - (round + 1)) = powers (17 - round) (17 - (round + 1)) (omega arith) in omega arith

@@ -187,11 +187,16 @@ fn lower(positions: &mut [u32])
     }
 }
 
-/// Returns how many positions are at most `k`, where they ascend.
+/// Returns how many positions are at most `k`, where they ascend. Of most lists all are, so the last
+/// one is looked at first.
 fn count_up_to(positions: &[u32], k: u32) -> usize
     ensures within { result ≤ length positions.now }
     ensures count { IsAscending positions.now → result ≡ position_or_len (nat_lt k) positions.now }
 {
+    let len = positions.len();
+    if len == 0 || positions[len - 1] <= k {
+        return len;
+    }
     positions.partition_point(|p| *p <= k)
 }
 

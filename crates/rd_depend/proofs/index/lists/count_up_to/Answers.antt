@@ -1,11 +1,19 @@
-use Rattle.std.proofs.Common.{rules}
+use Rattle.std.proofs.Common.{rules, arith}
 use Rattle.std.specs.Prelude.{leb}
 use Rattle.std.proofs.lemmas.List.Sorted.{IsPartitionPoint-from_clause, IsPartitionedBy-leb}
-use Rattle.rd_depend.proofs.IndexLists.{non_decreasing, point-is}
+use Rattle.rd_depend.proofs.IndexLists.{non_decreasing, number-all, number-none, point-is}
 use Rattle.rd_depend.proofs.index.lists.count_up_to.Goals as goal
+use Rattle.rd_depend.proofs.index.lists.count_up_to.Goals.{then-len-eq0-via-then-len-eq0, then-len-eq0-via-else-len-eq0+then-positions-len}
 
 pub returns-clause-count : goal.returns-clause-count
 returns-clause-count c = λ up.
     let parted = IsPartitionedBy-leb (λ p. p) _ c.args.k (non_decreasing 0 _ up) in
     let point = IsPartitionPoint-from_clause (λ p. leb p c.args.k) _ _ c.partition_point.ensures.partitioned parted (λ a r q k. search rules) in
     point-is c.args.k _ _ point c.partition_point.ensures.bound
+
+pub returns-then-len-eq0-clause-count : goal.returns-then-len-eq0-clause-count
+returns-then-len-eq0-clause-count c = λ up.
+    elim c.then-len-eq0.branch [
+      | then-len-eq0-via-then-len-eq0 w ↦ number-none c.args.k c.args.positions.now (search (rules, arith))
+      | then-len-eq0-via-else-len-eq0+then-positions-len w ↦ number-all c.args.k c.args.positions.now 0 up (search (rules, arith)) (search (rules, arith))
+    ]
