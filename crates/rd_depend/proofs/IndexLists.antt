@@ -177,3 +177,12 @@ moved k n start size ps turns new some order at until turn is up = subst (AreMov
 pub none_moved : (k n : ℕ) → IsMoved k n [] []
 unfolding IsMoved
 none_moved k n up = record { ascends = tt; places = λ p. refl }
+
+-- where all are below k, none moves
+pub unmoved : (k n start : ℕ) (ps : List ℕ) → 1 ≤ k → k ≤ n → (IsAscending ps → start ≡ position_or_len (nat_lt (k - 1)) ps) → start ≡ length ps → IsMoved k n ps ps
+unmoved k n start ps some order at all =
+    let none : length ps - start ≡ 0 = omega (arith, all) in
+    let zero_long : start + 0 - start ≡ 0 = omega arith in
+    moved k n start 0 ps [] ps some order at (λ up. sym (ap (λ (j : ℕ). position_or_len (nat_lt n) (take j (drop start ps))) none))
+    (sym (ap (λ (j : ℕ). turned k n (take j (drop start ps))) zero_long))
+    (sym (take-append-drop start ps) ∙ ap (λ (j : ℕ). take start ps ++ drop j (drop start ps)) (sym zero_long))

@@ -160,6 +160,9 @@ fn move_among(positions: &mut [u32], k: u32, n: u32)
     ensures { IsMoved k n positions.old positions.new }
 {
     let start = count_up_to(positions, k - 1);
+    if start == positions.len() {
+        return;
+    }
     let end = start + count_up_to(&positions[start..], n);
     turn(&mut positions[start..end], k, n);
 }
