@@ -11,11 +11,7 @@ pub record Stream : Type 0 where
   pub after : Option (List ℕ)
   pub failed : Bool
 
--- the stream of a source, from what it was before a call and after it
-abbrev pub source_stream : {S : Type 0} → SourceOf S → S → S → Stream
-source_stream source old new = record { before = source.bytes old; after = source.bytes new; failed = source.has_failed new }
-
--- the stream of a sink
+-- the stream of a sink, from what it was before a call and after it
 abbrev pub sink_stream : {K : Type 0} → SinkOf K → K → K → Stream
 sink_stream sink old new = record { before = sink.contents old; after = sink.contents new; failed = sink.has_failed new }
 
@@ -27,7 +23,7 @@ pub record Devices : Type 0 where
 -- the devices of a call, from what its source and its sink were before it and after it
 abbrev pub devices : {S K : Type 0} → SourceOf S → SinkOf K → S → S → K → K → Devices
 devices source sink reader reader' writer writer' = record {
-  input = source_stream source reader reader';
+  input = record { before = source.bytes reader; after = source.bytes reader'; failed = source.has_failed reader' };
   output = sink_stream sink writer writer';
 }
 
