@@ -73,25 +73,25 @@ fn commands_of(rt: &impl Abort, alloc: Global, run: u64, viewer: u64) -> Vec<Com
 fn replays(rt: &impl Abort, alloc: Global, history: &History) {
     let mut book = fresh(rt, alloc);
     for number in 1..history.len() + 1 {
-        let Some((_, call)) = history.entry(number) else {
-            panic!(rt; "no entry {number}")
+        let Some((_, call)) = history.call(number) else {
+            panic!(rt; "no call {number}")
         };
-        assert!(rt; book.obey(call.command) == call.answer, "entry {number}");
+        assert!(rt; book.obey(call.command) == call.answer, "call {number}");
     }
 }
 
 fn are_in_order(rt: &impl Abort, history: &History, run: u64, rans: &[Ran<DeskPass<4>>]) {
     let mut made = [0; 65];
     for number in 1..history.len() + 1 {
-        let Some((who, call)) = history.entry(number) else {
-            panic!(rt; "no entry {number}")
+        let Some((who, call)) = history.call(number) else {
+            panic!(rt; "no call {number}")
         };
         let Ran::Answered { answers, .. } = &rans[who as usize - 1] else {
             panic!(rt; "no thread")
         };
         let place = made[who as usize];
-        assert!(rt; call.command == command(run, who, place as u64), "entry {number}");
-        assert!(rt; answers[place] == Ok(call.answer), "entry {number}");
+        assert!(rt; call.command == command(run, who, place as u64), "call {number}");
+        assert!(rt; answers[place] == Ok(call.answer), "call {number}");
         made[who as usize] = place + 1;
     }
     assert!(rt; made[1..] == [CALLS; 64], "not all calls are there");
