@@ -1,5 +1,5 @@
 -- What is kept of two runs while they are compared goes on over one more step as it should.
-use Rattle.rd_depend.proofs.Prelude.{common_steps, slice_get-get_or, slice_get_past, and_from, and_parts, map-append, reverse-append, nil_from_length, option_to_list, set, is_nothing, slice_get-set_same, slice_get-set_other, Entry, Key, PlacedStep, Reached, is_value_written, key_eq, is_that, place_key, value_key, segment_key, key_eq-true, key_eq-refl, key_eq-sym, is_making, bound, passed, passed_under, IsInOrder, IsAfter, Placed, reached_or_nothing, with_first, list_at, items_of}
+use Rattle.rd_depend.proofs.Prelude.{common_steps, slice_get-get_or, slice_get_past, and_from, and_parts, map-append, reverse-append, nil_from_length, option_to_list, set, is_nothing, slice_get-set_same, slice_get-set_other, Entry, Key, PlacedStep, Reached, is_value_written, key_eq, is_that, place_key, value_key, segment_key, key_eq-true, key_eq-refl, key_eq-sym, is_making, last_blocking, passed, passed_under, IsInOrder, IsAfter, Placed, reached_or_nothing, with_first, list_at, items_of}
 use Rattle.std.proofs.Common.{◌≡◌, ◌↔◌, ℕ, ◌+◌, ◌<◌, ◌≤◌, Bool, true, false, not, ◌&&◌, ◌==◌, if◌then◌else◌, cond, IsTrue, List, [], ◌∷◌, ◌++◌, length, map, get_or, reverse, Vec, Global, Option, Some, None, IsSome, MatchOption, refl, sym, ap, subst, ◌∙◌, arith}
 use Rattle.rd_depend.proofs.IndexKeys.{place_value, place_segment, value_segment}
 
@@ -22,7 +22,7 @@ written_down old new key r w i news its = λ j k. (ap (reached_or_nothing k) (ne
 after_other : (s : Key → Reached) (a b : Option Key) (w v : Bool) (i j : ℕ) → ((q : Key) → (is_that q a && is_that q b) ≡ false)
     → IsAfter (passed_under a w i s) b v j ↔ IsAfter s b v j
 after_other s a None w v i j apart = (λ h. tt, λ h. tt)
-after_other s a (Some k) w v i j apart = subst (λ (r : Reached). (bound r v < j) ↔ (bound (s k) v < j)) (sym same) (λ h. h, λ h. h)
+after_other s a (Some k) w v i j apart = subst (λ (r : Reached). (last_blocking r v < j) ↔ (last_blocking (s k) v < j)) (sym same) (λ h. h, λ h. h)
   where
     same : passed_under a w i s k ≡ s k
     same = grind (arith, key_eq-refl)

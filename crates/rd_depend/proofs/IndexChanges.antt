@@ -1,6 +1,6 @@
 -- The calls of an index, from what they do to its lists.
 use Rattle.std.proofs.Common.{◌≡◌, ℕ, zero, suc, ◌+◌, ◌-◌, ◌<◌, ◌≤◌, Bool, true, false, ◌&&◌, ◌||◌, ◌==◌, if◌then◌else◌, List, [], ◌∷◌, ◌++◌, length, take, drop, Option, Some, slice_get, refl, sym, ap, subst, ◌∙◌, append_assoc, arith, length-append, eq-eqb, Result, IsOk, OnOk, is_err, rules}
-use Rattle.rd_depend.proofs.Prelude.{Entry, DependIndex, Home, Homes, Key, Table, Lists, list_at, spare_at, one_if, kept_in, spare_in, counts, AreReady, KeepsLists, Puts, TakesLast, HasLast, Touch, By, Under, touches, kept, spare, number_of, IsIndexOf, HasRoomFor, GivesRoom, UsesRoom, IsLast, homes_of, Adds, Keeps, EndsWith}
+use Rattle.rd_depend.proofs.Prelude.{Entry, DependIndex, Home, Homes, Key, Table, Lists, list_at, spare_at, one_if, kept_in, spare_in, is_kept_in, AreReady, KeepsLists, Puts, TakesLast, HasLast, Touch, By, Under, touches, kept, spare, number_of, IsIndexOf, HasRoomFor, GivesRoom, UsesRoom, IsLast, homes_of, Adds, Keeps, EndsWith}
 use Rattle.rd_depend.proofs.IndexKeys.{is_home, is_in, under, AreSeparate, separate}
 use Rattle.rd_depend.proofs.IndexPositions.{positions-push, positions-pop, number-append}
 
@@ -28,13 +28,13 @@ ready_kept t u k wrote slot keeps ready = grind arith
 
 -- what is ready under one key stays so where another is put
 pub ready_after : (t u : Table) (s : Option Key) (wrote : Bool) (h : Home) (p : ℕ) (slot : Option ℕ)
-    → ((w : Bool) (q : Key) → s ≡ Some q → counts w wrote ≡ true → is_home h w q ≡ false)
+    → ((w : Bool) (q : Key) → s ≡ Some q → is_kept_in w wrote ≡ true → is_home h w q ≡ false)
     → AreReady t s wrote slot → Puts h.key h.wrote p t u → AreReady u s wrote slot
 ready_after t u s wrote h p slot apart ready put = grind arith
 
 -- and what has a last position keeps it where another key's is taken
 pub last_after : (t u : Table) (s : Option Key) (wrote : Bool) (h : Home)
-    → ((w : Bool) (q : Key) → s ≡ Some q → counts w wrote ≡ true → is_home h w q ≡ false)
+    → ((w : Bool) (q : Key) → s ≡ Some q → is_kept_in w wrote ≡ true → is_home h w q ≡ false)
     → HasLast t s wrote → TakesLast h.key h.wrote t u → HasLast u s wrote
 last_after t u s wrote h apart has took = grind arith
 

@@ -1,7 +1,7 @@
 -- The first dependant, from the first later positions in an actor's list, a place's and a
 -- segment's.
-use Rattle.std.proofs.Common.{◌≡◌, ℕ, zero, suc, ◌+◌, ◌<◌, ◌≤◌, Bool, true, false, not, ◌||◌, ◌==◌, if◌then◌else◌, nat_lt, List, [], ◌∷◌, length, drop, Option, Some, None, option_and_then, refl, sym, ap, subst, ◌∙◌, arith}
-use Rattle.rd_depend.proofs.Prelude.{nat_tests, is_some, SegName, Place, some_overlap, is_nothing, written, interfere, Entry, Wrote, position_from, first_dependant, depends, depends_on_one, numbered, symmetric, DependIndex, At, In, is_under, is_under_some, own_key, value_of_place, whole_key, AscendsFrom, IsAscending, find, earlier, Touch, By, reached, is_value_written, touches, positions_from, positions, kept, IsIndexOf}
+use Rattle.std.proofs.Common.{◌≡◌, ℕ, zero, suc, ◌+◌, ◌<◌, ◌≤◌, Bool, true, false, not, ◌||◌, ◌==◌, if◌then◌else◌, nat_lt, List, [], ◌∷◌, length, drop, Option, Some, None, refl, sym, ap, subst, ◌∙◌, arith}
+use Rattle.rd_depend.proofs.Prelude.{nat_tests, is_some, SegName, Place, some_overlap, is_nothing, written, interfere, Entry, Wrote, position_from, depends, depends_on_one, symmetric, DependIndex, At, In, is_under, is_under_some, own_key, value_of_place, whole_key, AscendsFrom, IsAscending, find, earlier, Touch, By, touched_or_written, is_value_written, touches, positions_from, positions, kept, IsIndexOf}
 use Rattle.rd_depend.proofs.IndexPositions.{positions-ascend, positions-number, number-within, ascending}
 use Rattle.rd_cell.specs.declared.places.Place.TheVariants as place
 
@@ -51,26 +51,25 @@ scanned x k n (y ∷ ys) h = by (depends x y) (scanned x k (n + 1) ys (omega ari
         → find (nat_lt k) (if b then n ∷ positions_from (depends x) (n + 1) ys else positions_from (depends x) (n + 1) ys) ≡ (if b then Some n else position_from (depends x) (n + 1) ys)
     by b g = grind arith
 
--- what is found is the first dependant
-pub first-is : (es : List Entry) (k : ℕ) (x : Entry) → numbered es k ≡ Some x → find (nat_lt k) (positions (depends x) es) ≡ first_dependant es k
-first-is es k x h =
+-- what is found is the first of the entries after the first k that depends on the step
+pub first-after : (x : Entry) (k : ℕ) (es : List Entry) → find (nat_lt k) (positions (depends x) es) ≡ position_from (depends x) (k + 1) (drop k es)
+first-after x k es =
     skipped (depends x) k 1 k es (omega arith)
     ∙ (let e : 1 + k ≡ k + 1 = omega arith in ap (λ (m : ℕ). find (nat_lt k) (positions_from (depends x) m (drop k es))) e)
     ∙ scanned x k (k + 1) (drop k es) (omega arith)
-    ∙ sym (ap (option_and_then (λ (y : Entry). position_from (depends y) (k + 1) (drop k es))) h)
+
+-- whether one of these entries depends on the step is whether the step depends on one of them
+pub found-on : (x : Entry) (n : ℕ) (ys : List Entry) → is_some (position_from (depends x) n ys) ≡ depends_on_one ys x
+found-on x n [] = refl
+found-on x n (y ∷ ys) = by (depends x y) (found-on x (n + 1) ys) ∙ ap (λ (b : Bool). b || depends_on_one ys x) (symmetric x y)
+  where
+    by : (b : Bool) → is_some (position_from (depends x) (n + 1) ys) ≡ depends_on_one ys x
+        → is_some (if b then Some n else position_from (depends x) (n + 1) ys) ≡ (b || depends_on_one ys x)
+    by b h = grind arith
 
 -- what is found after the first k tells whether the step depends on one of those
 pub found-after : (x : Entry) (k : ℕ) (es : List Entry) → is_some (find (nat_lt k) (positions (depends x) es)) ≡ depends_on_one (drop k es) x
-found-after x k es =
-    ap is_some (skipped (depends x) k 1 k es (omega arith) ∙ scanned x k (1 + k) (drop k es) (omega arith)) ∙ some (1 + k) (drop k es)
-  where
-    some : (n : ℕ) (ys : List Entry) → is_some (position_from (depends x) n ys) ≡ depends_on_one ys x
-    some n [] = refl
-    some n (y ∷ ys) = by (depends x y) (some (n + 1) ys) ∙ ap (λ (b : Bool). b || depends_on_one ys x) (symmetric x y)
-      where
-        by : (b : Bool) → is_some (position_from (depends x) (n + 1) ys) ≡ depends_on_one ys x
-            → is_some (if b then Some n else position_from (depends x) (n + 1) ys) ≡ (b || depends_on_one ys x)
-        by b h = grind arith
+found-after x k es = ap is_some (first-after x k es) ∙ found-on x (k + 1) (drop k es)
 
 -- which places overlap
 
@@ -128,8 +127,8 @@ meets p v y = interfere (Some p) v y.place y.wrote
 -- written where it is not kept; all else is written wherever anything is
 abbrev pub looks : Place → Wrote → Entry → Bool
 looks p v y =
-    is_under_some (value_of_place p) (reached (not (is_value_written v)) y)
-    || (is_under (own_key p) (reached (is_nothing v) y) || is_under_some (whole_key p) (reached (is_nothing v) y))
+    is_under_some (value_of_place p) (touched_or_written (not (is_value_written v)) y)
+    || (is_under (own_key p) (touched_or_written (is_nothing v) y) || is_under_some (whole_key p) (touched_or_written (is_nothing v) y))
 
 looked : (p : Place) (v : Wrote) (y : Entry) → looks p v y ≡ meets p v y
 looked p v y = grind (arith, overlaps-keys, under_either)
@@ -141,12 +140,12 @@ none_found k n (x ∷ xs) = none_found k (n + 1) xs
 
 -- what is found under the three keys
 pub found_at : (p : Place) (v : Wrote) (k : ℕ) (es : List Entry) (value own whole both all : Option ℕ)
-    → value ≡ find (nat_lt k) (positions (λ y. is_under_some (value_of_place p) (reached (not (is_value_written v)) y)) es)
-    → own ≡ find (nat_lt k) (positions (λ y. is_under (own_key p) (reached (is_nothing v) y)) es)
-    → whole ≡ find (nat_lt k) (positions (λ y. is_under_some (whole_key p) (reached (is_nothing v) y)) es)
+    → value ≡ find (nat_lt k) (positions (λ y. is_under_some (value_of_place p) (touched_or_written (not (is_value_written v)) y)) es)
+    → own ≡ find (nat_lt k) (positions (λ y. is_under (own_key p) (touched_or_written (is_nothing v) y)) es)
+    → whole ≡ find (nat_lt k) (positions (λ y. is_under_some (whole_key p) (touched_or_written (is_nothing v) y)) es)
     → both ≡ earlier own whole → all ≡ earlier value both → all ≡ find (nat_lt k) (positions (meets p v) es)
 found_at p v k es value own whole both all a b c two three =
-    let rest = λ (y : Entry). is_under (own_key p) (reached (is_nothing v) y) || is_under_some (whole_key p) (reached (is_nothing v) y) in
+    let rest = λ (y : Entry). is_under (own_key p) (touched_or_written (is_nothing v) y) || is_under_some (whole_key p) (touched_or_written (is_nothing v) y) in
     let in_two : both ≡ find (nat_lt k) (positions rest es) = two ∙ (λ i. earlier (b i) (c i)) ∙ earlier-first _ _ rest (λ y. refl) k 1 es in
     three ∙ (λ i. earlier (a i) (in_two i)) ∙ earlier-first _ rest (meets p v) (λ y. sym (looked p v y)) k 1 es
 

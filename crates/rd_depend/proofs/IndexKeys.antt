@@ -1,18 +1,18 @@
 -- What is kept under a key, and the three keys of a place: its own, that of a cell's value half,
 -- and its segment's.
 use Rattle.std.proofs.Common.{◌≡◌, Bool, true, false, ◌&&◌, ◌||◌, Option, Some, ap, ◌∙◌, arith}
-use Rattle.rd_depend.proofs.Prelude.{and_from, or_right, Place, Entry, Home, Homes, Key, is_that, is_under, place_key, value_key, segment_key, counts, reached, homes_of, key_eq-refl}
+use Rattle.rd_depend.proofs.Prelude.{and_from, or_right, Place, Entry, Home, Homes, Key, is_that, is_under, place_key, value_key, segment_key, is_kept_in, touched_or_written, homes_of, key_eq-refl}
 
 -- whether a list is one of a key's, for a step that wrote there or didn't
 abbrev pub is_home : Home → Bool → Key → Bool
-is_home h w q = counts w h.wrote && is_that q h.key
+is_home h w q = is_kept_in w h.wrote && is_that q h.key
 
 -- or of one of three keys
 abbrev pub is_in : Homes → Bool → Key → Bool
 is_in h w q = (is_home h.place w q || is_home h.value w q) || is_home h.segment w q
 
 -- a step is kept where one of its three keys holds it, and nowhere else
-pub under : (w : Bool) (q : Key) (x : Entry) → is_under q (reached w x) ≡ is_in (homes_of x) w q
+pub under : (w : Bool) (q : Key) (x : Entry) → is_under q (touched_or_written w x) ≡ is_in (homes_of x) w q
 under w q x = grind arith
 
 -- The keys differ
@@ -40,27 +40,27 @@ pub record AreSeparate (h : Homes) : Type 0 where
 pub separate : (h : Homes) (x : Entry) → h ≡ homes_of x → AreSeparate h
 separate h x is = grind (arith, apart, either_apart, place_value, place_segment, value_segment)
 
-pub home_own : (h : Home) (w : Bool) (q : Key) → h.key ≡ Some q → counts w h.wrote ≡ true → is_home h w q ≡ true
-home_own h w q e c = and_from (counts w h.wrote) (is_that q h.key) c (ap (is_that q) e ∙ key_eq-refl q)
+pub home_own : (h : Home) (w : Bool) (q : Key) → h.key ≡ Some q → is_kept_in w h.wrote ≡ true → is_home h w q ≡ true
+home_own h w q e c = and_from (is_kept_in w h.wrote) (is_that q h.key) c (ap (is_that q) e ∙ key_eq-refl q)
 
 first_false : (a b : Bool) → (a && b) ≡ false → b ≡ true → a ≡ false
 first_false a b h k = grind arith
 
 -- so the lists of the second key are none of the first, and those of the third are none of either
-pub value_other : (h : Homes) → AreSeparate h → (w : Bool) (q : Key) → h.value.key ≡ Some q → counts w h.value.wrote ≡ true → is_home h.place w q ≡ false
+pub value_other : (h : Homes) → AreSeparate h → (w : Bool) (q : Key) → h.value.key ≡ Some q → is_kept_in w h.value.wrote ≡ true → is_home h.place w q ≡ false
 value_other h s w q e c = first_false (is_home h.place w q) (is_home h.value w q) (s.first w q) (home_own h.value w q e c)
 
-pub segment_other : (h : Homes) → AreSeparate h → (w : Bool) (q : Key) → h.segment.key ≡ Some q → counts w h.segment.wrote ≡ true
+pub segment_other : (h : Homes) → AreSeparate h → (w : Bool) (q : Key) → h.segment.key ≡ Some q → is_kept_in w h.segment.wrote ≡ true
     → (is_home h.place w q ≡ false) × (is_home h.value w q ≡ false)
 segment_other h s w q e c = grind (arith, home_own)
 
 -- a list of one of the keys is one of the three keys'
 
-pub in_place : (h : Homes) (w : Bool) (q : Key) → h.place.key ≡ Some q → counts w h.place.wrote ≡ true → is_in h w q ≡ true
+pub in_place : (h : Homes) (w : Bool) (q : Key) → h.place.key ≡ Some q → is_kept_in w h.place.wrote ≡ true → is_in h w q ≡ true
 in_place h w q e c = grind arith
 
-pub in_value : (h : Homes) (w : Bool) (q : Key) → h.value.key ≡ Some q → counts w h.value.wrote ≡ true → is_in h w q ≡ true
+pub in_value : (h : Homes) (w : Bool) (q : Key) → h.value.key ≡ Some q → is_kept_in w h.value.wrote ≡ true → is_in h w q ≡ true
 in_value h w q e c = grind (arith, home_own)
 
-pub in_segment : (h : Homes) (w : Bool) (q : Key) → h.segment.key ≡ Some q → counts w h.segment.wrote ≡ true → is_in h w q ≡ true
+pub in_segment : (h : Homes) (w : Bool) (q : Key) → h.segment.key ≡ Some q → is_kept_in w h.segment.wrote ≡ true → is_in h w q ≡ true
 in_segment h w q e c = or_right (is_home h.place w q || is_home h.value w q) (is_home h.segment w q) (home_own h.segment w q e c)

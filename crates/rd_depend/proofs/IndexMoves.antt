@@ -2,7 +2,7 @@
 -- moved, and has the same room.
 use Rattle.std.proofs.Common.{◌≡◌, ℕ, zero, suc, ◌+◌, ◌-◌, ◌<◌, ◌≤◌, ◌==◌, Bool, false, nat_lt, if◌then◌else◌, List, [], ◌∷◌, ◌++◌, length, slice_get, take, drop, Option, Some, None, refl, sym, ap, subst, ◌∙◌, append_assoc, arith, length-append, length-drop}
 use Rattle.std.specs.Option.{option_map_or}
-use Rattle.rd_depend.proofs.Prelude.{nat_tests, drop_of_length-le, length-take-le, take_all, take-append-drop, drop-drop, Entry, numbered, without, DependIndex, AscendsFrom, AreMoved, contains, moved_position, positions_from, positions, number_of, touches, Touch, kept, capacity, IsIndexOf, GivesRoom}
+use Rattle.rd_depend.proofs.Prelude.{nat_tests, drop_of_length-le, length-take-le, take_all, take-append-drop, drop-drop, Entry, numbered, without, DependIndex, AscendsFrom, AreMoved, contains, moved_position, positions_from, positions, number_of, touches, Touch, kept, capacity, IsIndexOf, KeepsRoom}
 use Rattle.rd_depend.specs.Lists.{IsMoved}
 use Rattle.rd_depend.specs.Moved.{moved_to}
 use Rattle.rd_depend.proofs.IndexPositions.{positions-ascend, ascending, number-append}
@@ -137,7 +137,7 @@ moved_index old new k n some order within moves len es is =
     }
 
 pub moved_room : (old new : DependIndex) (k n : ℕ) → 1 ≤ k → k ≤ n → n ≤ old.len → ((es : List Entry) → IsIndexOf old es → IsIndexOf new (moved_to es k n))
-    → ((t : Touch) → capacity new t ≡ capacity old t) → (es : List Entry) → IsIndexOf old es → GivesRoom old new []
+    → ((t : Touch) → capacity new t ≡ capacity old t) → (es : List Entry) → IsIndexOf old es → KeepsRoom old new
 moved_room old new k n some order within moves stays es is = λ t.
     omega (arith, room_stays old new es (moved_to es k n) is (moves es is) stays t, number-moved (touches t) es k n (cut es k n some order (omega arith)))
 

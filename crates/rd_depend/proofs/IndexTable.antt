@@ -1,6 +1,6 @@
 -- The table of keys: which key has which index, and what a change of the lists by index is for the
 -- keys.
-use Rattle.rd_depend.proofs.Prelude.{common_steps, nat_tests, option_map, slice_get-push_same, slice_get-push_other, Key, Table, key_eq, slot_in, key_eq-true, key_eq-refl, key_eq-sym, Lists, list_at, spare_at, one_if, list_of, capacity_of, lists_of, kept_in, spare_in, counts, IsReady, KeepsLists, Puts, TakesLast}
+use Rattle.rd_depend.proofs.Prelude.{common_steps, nat_tests, option_map, slice_get-push_same, slice_get-push_other, Key, Table, key_eq, slot_in, key_eq-true, key_eq-refl, key_eq-sym, Lists, list_at, spare_at, one_if, list_of, capacity_of, lists_of, kept_in, spare_in, is_kept_in, IsReady, KeepsLists, Puts, TakesLast}
 use Rattle.rd_depend.specs.Tables.{Moves, capacity_at}
 use Rattle.rd_depend.specs.Lists.{IsMoved}
 use Rattle.rd_depend.proofs.IndexLists.{none_moved}
@@ -88,11 +88,11 @@ keyed keys k q i slot b P some none = subst (λ (c : Bool). P (b && c) (slot_in 
 
 -- what the table's calls ask for
 
-pub ready_room : (t : Table) (k : Key) (wrote : Bool) (i : ℕ) → IsReady t k wrote i → (w : Bool) → counts w wrote ≡ true → 0 < spare_at (lists_of t w) i
+pub ready_room : (t : Table) (k : Key) (wrote : Bool) (i : ℕ) → IsReady t k wrote i → (w : Bool) → is_kept_in w wrote ≡ true → 0 < spare_at (lists_of t w) i
 ready_room t k wrote i r w c = subst (λ (o : Option ℕ). 0 < room_left (lists_of t w) o) r.at (r.room w c)
 
-pub last_there : (t : Table) (k : Key) (wrote : Bool) (i : ℕ) → slot_in t.keys.keys k ≡ Some i → ((w : Bool) → counts w wrote ≡ true → 1 ≤ length (kept_in t w k))
-    → (w : Bool) → counts w wrote ≡ true → 1 ≤ length (list_at (lists_of t w) i)
+pub last_there : (t : Table) (k : Key) (wrote : Bool) (i : ℕ) → slot_in t.keys.keys k ≡ Some i → ((w : Bool) → is_kept_in w wrote ≡ true → 1 ≤ length (kept_in t w k))
+    → (w : Bool) → is_kept_in w wrote ≡ true → 1 ≤ length (list_at (lists_of t w) i)
 last_there t k wrote i slot h w c = subst (λ (o : Option ℕ). 1 ≤ length (list_of (lists_of t w) o)) slot (h w c)
 
 pub spare_there : (t : Table) (k : Key) (w : Bool) (i : ℕ) → slot_in t.keys.keys k ≡ Some i → 0 < spare_in t w k → 0 < spare_at (lists_of t w) i
@@ -148,17 +148,17 @@ pub puts : (old new : Table) (k : Key) (wrote : Bool) (p i : ℕ) → new.keys.k
     → slot_in old.keys.keys k ≡ Some i → Puts (Some k) wrote p old new
 puts old new k wrote p i keys all writes room_all room_writes slot = record {
   lists = λ w q. ap (λ (ks : List Key). list_of (lists_of new w) (slot_in ks q)) keys
-      ∙ keyed old.keys.keys k q i slot (counts w wrote) (λ c o. list_of (lists_of new w) o ≡ (if c then list_of (lists_of old w) o ++ p ∷ [] else list_of (lists_of old w) o)) (lists w) refl;
-  room = λ w q. subst (λ (ks : List Key). spare_in old w q ≤ room_left (lists_of new w) (slot_in ks q) + one_if (counts w wrote && key_eq q k)) (sym keys)
-      (keyed old.keys.keys k q i slot (counts w wrote) (λ c o. room_left (lists_of old w) o ≤ room_left (lists_of new w) o + one_if c) (room w) (omega arith));
+      ∙ keyed old.keys.keys k q i slot (is_kept_in w wrote) (λ c o. list_of (lists_of new w) o ≡ (if c then list_of (lists_of old w) o ++ p ∷ [] else list_of (lists_of old w) o)) (lists w) refl;
+  room = λ w q. subst (λ (ks : List Key). spare_in old w q ≤ room_left (lists_of new w) (slot_in ks q) + one_if (is_kept_in w wrote && key_eq q k)) (sym keys)
+      (keyed old.keys.keys k q i slot (is_kept_in w wrote) (λ c o. room_left (lists_of old w) o ≤ room_left (lists_of new w) o + one_if c) (room w) (omega arith));
   slots = λ q. ap (λ (ks : List Key). slot_in ks q) keys;
 }
   where
-    lists : (w : Bool) (j : ℕ) → list_at (lists_of new w) j ≡ (if counts w wrote && (j == i) then list_at (lists_of old w) j ++ p ∷ [] else list_at (lists_of old w) j)
+    lists : (w : Bool) (j : ℕ) → list_at (lists_of new w) j ≡ (if is_kept_in w wrote && (j == i) then list_at (lists_of old w) j ++ p ∷ [] else list_at (lists_of old w) j)
     lists false = all
     lists true = writes
 
-    room : (w : Bool) (j : ℕ) → spare_at (lists_of old w) j ≤ spare_at (lists_of new w) j + one_if (counts w wrote && (j == i))
+    room : (w : Bool) (j : ℕ) → spare_at (lists_of old w) j ≤ spare_at (lists_of new w) j + one_if (is_kept_in w wrote && (j == i))
     room false = room_all
     room true = room_writes
 
@@ -170,18 +170,18 @@ pub takes_last : (old new : Table) (k : Key) (wrote : Bool) (i : ℕ) → new.ke
     → slot_in old.keys.keys k ≡ Some i → TakesLast (Some k) wrote old new
 takes_last old new k wrote i keys all writes room_all room_writes slot = record {
   lists = λ w q. ap (λ (ks : List Key). list_of (lists_of new w) (slot_in ks q)) keys
-      ∙ keyed old.keys.keys k q i slot (counts w wrote)
+      ∙ keyed old.keys.keys k q i slot (is_kept_in w wrote)
       (λ c o. list_of (lists_of new w) o ≡ (if c then take (length (list_of (lists_of old w) o) - 1) (list_of (lists_of old w) o) else list_of (lists_of old w) o)) (lists w) refl;
   room = λ w q. ap (λ (ks : List Key). room_left (lists_of new w) (slot_in ks q)) keys
-      ∙ keyed old.keys.keys k q i slot (counts w wrote) (λ c o. room_left (lists_of new w) o ≡ room_left (lists_of old w) o + one_if c) (room w) refl;
+      ∙ keyed old.keys.keys k q i slot (is_kept_in w wrote) (λ c o. room_left (lists_of new w) o ≡ room_left (lists_of old w) o + one_if c) (room w) refl;
 }
   where
     lists : (w : Bool) (j : ℕ) → list_at (lists_of new w) j
-        ≡ (if counts w wrote && (j == i) then take (length (list_at (lists_of old w) j) - 1) (list_at (lists_of old w) j) else list_at (lists_of old w) j)
+        ≡ (if is_kept_in w wrote && (j == i) then take (length (list_at (lists_of old w) j) - 1) (list_at (lists_of old w) j) else list_at (lists_of old w) j)
     lists false = all
     lists true = writes
 
-    room : (w : Bool) (j : ℕ) → spare_at (lists_of new w) j ≡ spare_at (lists_of old w) j + one_if (counts w wrote && (j == i))
+    room : (w : Bool) (j : ℕ) → spare_at (lists_of new w) j ≡ spare_at (lists_of old w) j + one_if (is_kept_in w wrote && (j == i))
     room false = room_all
     room true = room_writes
 

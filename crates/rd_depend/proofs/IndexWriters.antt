@@ -1,6 +1,6 @@
 -- The last writer of a place, from the last positions up to a number in a place's list and a
 -- segment's.
-use Rattle.rd_depend.proofs.Prelude.{nat_lt, common_steps, Place, some_overlap, Entry, DependIndex, is_under, is_under_some, own_key, value_of_place, whole_key, IsAscending, before_first, last_or, later, Touch, reached, touches, positions_from, positions, kept, IsIndexOf, one_further, last_position, writes_to}
+use Rattle.rd_depend.proofs.Prelude.{nat_lt, common_steps, Place, some_overlap, Entry, DependIndex, is_under, is_under_some, own_key, value_of_place, whole_key, IsAscending, before_first, last_or, later, Touch, touched_or_written, touches, positions_from, positions, kept, IsIndexOf, one_further, last_position, writes_to}
 use Rattle.std.proofs.Common.{◌≡◌, ℕ, zero, suc, ◌+◌, ◌-◌, ◌<◌, ◌≤◌, Bool, true, false, ◌||◌, List, [], ◌∷◌, length, get_or, take, Option, Some, None, refl, sym, ap, ◌∙◌, arith}
 use Rattle.rd_depend.proofs.IndexCuts.{positions-up_to}
 use Rattle.rd_depend.proofs.IndexFirst.{kept-ascends, kept-short, overlaps-keys}
@@ -55,10 +55,10 @@ none_last (x ∷ xs) = ap (one_further false) (none_last xs)
 -- the steps that wrote a place, or one of the places that it names: by the three keys under which
 -- what they wrote is kept
 pub last_at : (p : Place) (es : List Entry) (value own whole both all : Option ℕ)
-    → value ≡ last_position (λ y. is_under_some (value_of_place p) (reached true y)) es → own ≡ last_position (λ y. is_under (own_key p) (reached true y)) es
-    → whole ≡ last_position (λ y. is_under_some (whole_key p) (reached true y)) es → both ≡ later own whole → all ≡ later value both
+    → value ≡ last_position (λ y. is_under_some (value_of_place p) (touched_or_written true y)) es → own ≡ last_position (λ y. is_under (own_key p) (touched_or_written true y)) es
+    → whole ≡ last_position (λ y. is_under_some (whole_key p) (touched_or_written true y)) es → both ≡ later own whole → all ≡ later value both
     → all ≡ last_position (writes_to p) es
 last_at p es value own whole both all a b c two three =
-    let rest = λ (y : Entry). is_under (own_key p) (reached true y) || is_under_some (whole_key p) (reached true y) in
+    let rest = λ (y : Entry). is_under (own_key p) (touched_or_written true y) || is_under_some (whole_key p) (touched_or_written true y) in
     let in_two : both ≡ last_position rest es = two ∙ (λ i. later (b i) (c i)) ∙ later-last _ _ rest (λ y. refl) es in
-    three ∙ (λ i. later (a i) (in_two i)) ∙ later-last _ rest (writes_to p) (λ y. meet (reached true y) (Some p) ∙ overlaps-keys p (reached true y)) es
+    three ∙ (λ i. later (a i) (in_two i)) ∙ later-last _ rest (writes_to p) (λ y. meet (touched_or_written true y) (Some p) ∙ overlaps-keys p (touched_or_written true y)) es

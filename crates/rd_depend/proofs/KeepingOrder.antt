@@ -1,6 +1,6 @@
 -- Steps keep the order of dependent ones at the places where they are in another list exactly where
 -- they may be taken out of it one after another.
-use Rattle.rd_depend.proofs.Prelude.{common_steps, eqb-false, map-append, Entry, Key, Reached, is_under, bound, passed, passed_over, nothing_reached, AreAlike, Placed, by_actor, all_left, with_steps, KeepsOrder}
+use Rattle.rd_depend.proofs.Prelude.{common_steps, eqb-false, map-append, Entry, Key, Reached, is_under, last_blocking, passed, passed_over, nothing_reached, AreAlike, Placed, by_actor, all_left, with_steps, KeepsOrder}
 use Rattle.std.proofs.Common.{◌≡◌, ◌≢◌, ℕ, ◌+◌, ◌<◌, ◌≤◌, Bool, true, false, ◌==◌, if◌then◌else◌, List, [], ◌∷◌, ◌++◌, length, map, refl, sym, ap, subst, ◌∙◌, arith, eqb-true, length-append}
 use Rattle.std.proofs.lemmas.List.Elements.{filter-append}
 use Rattle.std.specs.List.{enumerate_from}
@@ -12,7 +12,7 @@ use Rattle.rd_depend.proofs.TakingOut.{touched-alike, wrote-alike, alike-sym, Ar
 
 -- at position i a step is after all earlier ones on which it depends
 abbrev IsAfterAll : (Key → Reached) → Entry → ℕ → Type 0
-IsAfterAll s x i = (k : Key) → is_under k x.place ≡ true → bound (s k) (wrote_under k x.place x.wrote) < i
+IsAfterAll s x i = (k : Key) → is_under k x.place ≡ true → last_blocking (s k) (wrote_under k x.place x.wrote) < i
 
 -- t is how far the steps reached after one more
 abbrev Passes : (Key → Reached) → Entry → ℕ → (Key → Reached) → Type 0

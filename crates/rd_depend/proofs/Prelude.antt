@@ -28,16 +28,16 @@ pub use Rattle.rd_step.specs.declared.entries.Event.{Event}
 pub use Rattle.rd_depend.specs.Changes.{Adds, EndsWith, Keeps, homes_of}
 pub use Rattle.rd_depend.specs.ComparedSteps.{GoesOn, IsOutOfOrder, all_left, by_actor, left_of, reached_of, reached_or_nothing, with_first}
 pub use Rattle.rd_depend.specs.Equivalence.{DecidesEquivalence}
-pub use Rattle.rd_depend.specs.Index.{By, GivesRoom, HasRoomFor, IsIndexOf, IsLast, Touch, Under, UsesRoom, capacity, is_value_written, kept, number_of, positions, positions_from, reached, spare, touches}
+pub use Rattle.rd_depend.specs.Index.{By, GivesRoom, HasRoomFor, IsIndexOf, IsLast, KeepsRoom, Touch, Under, UsesRoom, capacity, is_value_written, kept, number_of, positions, positions_from, spare, touched_or_written, touches}
 pub use Rattle.rd_depend.specs.KeyLaws.{key_eq-refl, key_eq-sym, key_eq-true}
-pub use Rattle.rd_depend.specs.Keys.{is_kept_at, key_eq, is_that, is_under, is_under_some, own_key, place_key, segment_key, segment_of_place, slot_in, value_key, value_of_place, whole_key}
-pub use Rattle.rd_depend.specs.KeepingOrder.{AreAlike, IsAfter, IsInOrder, KeepsOrder, Placed, bound, is_making, nothing_reached, passed, passed_over, passed_under, with_steps}
+pub use Rattle.rd_depend.specs.Keys.{is_kept_at, key_eq, is_that, is_under, is_under_some, own_key, place_key, key_of_segment, segment_key, slot_in, value_key, value_of_place, whole_key}
+pub use Rattle.rd_depend.specs.KeepingOrder.{AreAlike, IsAfter, IsInOrder, KeepsOrder, Placed, is_making, last_blocking, nothing_reached, passed, passed_over, passed_under, with_steps}
 pub use Rattle.std.specs.List.{before_first, find, last_or, position_or_len}
 pub use Rattle.std.specs.Prelude.{nat_lt}
 pub use Rattle.rd_depend.specs.Lists.{AreMoved, AscendsFrom, IsAscending, IsMoved, earlier, contains, later, moved_position, turned}
 pub use Rattle.rd_depend.specs.Tables.{Lists, capacity_at, capacity_of, items_of, list_at, list_of, one_if, spare_at}
-pub use Rattle.rd_depend.specs.Sharing.{SharesPlace, is_of_map, one_wrote, touched, wrote}
-pub use Rattle.rd_depend.specs.Tables.{AreReady, HasLast, IsReady, KeepsLists, Puts, TakesLast, counts, kept_in, lists_of, spare_in}
+pub use Rattle.rd_depend.specs.Sharing.{SharesPlace, either_wrote, is_of_map, touched, wrote}
+pub use Rattle.rd_depend.specs.Tables.{AreReady, HasLast, IsReady, KeepsLists, Puts, TakesLast, is_kept_in, kept_in, lists_of, spare_in}
 pub use Rattle.rd_depend.specs.Writers.{one_further, last_position, writes_to}
 pub use Rattle.rd_depend.specs.declared.index.DependIndex.{DependIndex}
 pub use Rattle.rd_depend.specs.declared.index.changing.Home.{Home}

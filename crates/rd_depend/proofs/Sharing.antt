@@ -1,7 +1,7 @@
 -- Two entries depend on each other exactly where they have one actor, or share a place of the map
 -- that one of them wrote.
 use Rattle.std.proofs.Common.{◌≡◌, ◌↔◌, ◌⊎◌, Bool, true, false, inl, inr, Option, Some, eq-eqb, arith}
-use Rattle.rd_depend.proofs.Prelude.{or_cases, or_left, or_right, covers-refl, both_cover, written-covers, Place, covers, overlaps, some_covers, some_overlap, written, interfere, depends, Entry, is_of_map, wrote, SharesPlace, one_wrote}
+use Rattle.rd_depend.proofs.Prelude.{or_cases, or_left, or_right, covers-refl, both_cover, written-covers, Place, covers, overlaps, some_covers, some_overlap, written, interfere, depends, Entry, is_of_map, wrote, SharesPlace, either_wrote}
 use Rattle.rd_cell.specs.declared.places.Place.TheVariants as place
 
 -- a place of the map that a place names
@@ -73,14 +73,14 @@ shared x y = grind (arith, or_cases, shares, eq-eqb, interferes)
 
 -- where two entries interfere, one of them wrote, and their places overlap
 
-by_one : (x y : Entry) → SharesPlace x y → one_wrote x y ≡ true
+by_one : (x y : Entry) → SharesPlace x y → either_wrote x y ≡ true
 by_one x y s = grind arith
 
 not_so : (b c : Bool) → (b ≡ true → c ≡ true) → c ≡ false → b ≡ false
 not_so b c f h = grind arith
 
-pub nobody_wrote : (x y : Entry) → one_wrote x y ≡ false → interfere x.place x.wrote y.place y.wrote ≡ false
-nobody_wrote x y = not_so (interfere x.place x.wrote y.place y.wrote) (one_wrote x y) (λ h. by_one x y (shares x y h))
+pub nobody_wrote : (x y : Entry) → either_wrote x y ≡ false → interfere x.place x.wrote y.place y.wrote ≡ false
+nobody_wrote x y = not_so (interfere x.place x.wrote y.place y.wrote) (either_wrote x y) (λ h. by_one x y (shares x y h))
 
 pub apart : (x y : Entry) → some_overlap x.place y.place ≡ false → interfere x.place x.wrote y.place y.wrote ≡ false
 apart x y = not_so (interfere x.place x.wrote y.place y.wrote) (some_overlap x.place y.place)

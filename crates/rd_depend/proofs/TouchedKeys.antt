@@ -1,7 +1,7 @@
 -- The keys under which a step touched: those of its place; what it wrote under them; and its order
 -- and how far it reached, key by key.
 use Rattle.std.proofs.Common.{◌≡◌, ◌⊎◌, ℕ, ◌<◌, Bool, true, false, not, if◌then◌else◌, Option, Some, arith}
-use Rattle.rd_depend.proofs.Prelude.{SegName, Place, Wrote, is_nothing, written, name_eq, Entry, Key, At, In, Reached, is_under, place_key, value_key, segment_key, is_value_written, is_making, bound, passed, IsAfter, IsInOrder}
+use Rattle.rd_depend.proofs.Prelude.{SegName, Place, Wrote, is_nothing, written, name_eq, Entry, Key, At, In, Reached, is_under, place_key, value_key, segment_key, is_value_written, is_making, last_blocking, passed, IsAfter, IsInOrder}
 use Rattle.rd_cell.specs.declared.places.Place.TheVariants as place
 use Rattle.rd_depend.specs.KeepingOrder.{passed_over}
 
@@ -46,13 +46,13 @@ pub passed_at : (s : Key → Reached) (x : Entry) (i : ℕ) (k : Key)
 unfolding passed_over
 passed_at s x i k = grind arith
 
-pub in_order_at : (s : Key → Reached) (x : Entry) (i : ℕ) → IsInOrder s x i → (k : Key) → is_under k x.place ≡ true → bound (s k) (wrote_under k x.place x.wrote) < i
+pub in_order_at : (s : Key → Reached) (x : Entry) (i : ℕ) → IsInOrder s x i → (k : Key) → is_under k x.place ≡ true → last_blocking (s k) (wrote_under k x.place x.wrote) < i
 in_order_at s x i order k touched = grind (arith, under_one, wrote_place, wrote_value, wrote_segment)
 
-after_at : (s : Key → Reached) (o : Option Key) (w : Bool) (i : ℕ) → ((k : Key) → o ≡ Some k → bound (s k) w < i) → IsAfter s o w i
+after_at : (s : Key → Reached) (o : Option Key) (w : Bool) (i : ℕ) → ((k : Key) → o ≡ Some k → last_blocking (s k) w < i) → IsAfter s o w i
 after_at s o w i h = grind arith
 
-pub in_order_from : (s : Key → Reached) (x : Entry) (i : ℕ) → ((k : Key) → is_under k x.place ≡ true → bound (s k) (wrote_under k x.place x.wrote) < i) → IsInOrder s x i
+pub in_order_from : (s : Key → Reached) (x : Entry) (i : ℕ) → ((k : Key) → is_under k x.place ≡ true → last_blocking (s k) (wrote_under k x.place x.wrote) < i) → IsInOrder s x i
 in_order_from s x i h = record {
   place = after_at s (place_key x.place) _ i (λ k e. grind (arith, one_under, wrote_place));
   value = after_at s (value_key x.place) _ i (λ k e. grind (arith, one_under, wrote_value));

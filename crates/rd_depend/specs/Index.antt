@@ -18,14 +18,14 @@ pub data Touch : Type 0 where
   Under : Bool → Key → Touch
 
 -- the place that names what an entry's step touched, or what it wrote
-abbrev pub reached : Bool → Entry → Option Place
-reached false x = x.place
-reached true x = written x.place x.wrote
+abbrev pub touched_or_written : Bool → Entry → Option Place
+touched_or_written false x = x.place
+touched_or_written true x = written x.place x.wrote
 
 -- whether an entry is to be kept in the list for this
 abbrev pub touches : Touch → Entry → Bool
 touches (By a) x = a == x.event.actor
-touches (Under w k) x = is_under k (reached w x)
+touches (Under w k) x = is_under k (touched_or_written w x)
 
 -- whether a step that wrote this wrote the value half of its cell
 abbrev pub is_value_written : Wrote → Bool
@@ -75,6 +75,14 @@ pub record HasRoomFor (index : DependIndex) (entries : List Entry) : Type 0 wher
 -- of the entries that go were taken out
 pub record HasRoomInstead (index : DependIndex) (gone given : List Entry) : Type 0 where
   pub lists : (t : Touch) → number_of (touches t) given ≤ spare index t + number_of (touches t) gone
+
+-- each list has as much room as before
+abbrev pub KeepsRoom : DependIndex → DependIndex → Type 0
+KeepsRoom old new = (t : Touch) → spare new t ≡ spare old t
+
+-- each list has at least as much room as before
+abbrev pub LosesNoRoom : DependIndex → DependIndex → Type 0
+LosesNoRoom old new = (t : Touch) → spare old t ≤ spare new t
 
 -- positions of these entries were taken out of the index, and each list has more room by its own
 abbrev pub GivesRoom : DependIndex → DependIndex → List Entry → Type 0

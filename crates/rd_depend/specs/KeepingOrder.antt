@@ -17,8 +17,8 @@ is_making _ = false
 
 -- the last position after which a step under a key has to be: that of the steps that touched it if
 -- this one writes, else that of the steps that wrote it
-abbrev pub bound : Reached → Bool → ℕ
-bound r wrote = if wrote then r.touched else r.wrote
+abbrev pub last_blocking : Reached → Bool → ℕ
+last_blocking r wrote = if wrote then r.touched else r.wrote
 
 -- how far the steps reached under a key after one more, at position i of the other run
 abbrev pub passed : Reached → Bool → ℕ → Reached
@@ -32,7 +32,7 @@ nothing_reached k = record { touched = 0; wrote = 0 }
 -- depends
 abbrev pub IsAfter : (Key → Reached) → Option Key → Bool → ℕ → Type 0
 IsAfter s None wrote i = Unit {0}
-IsAfter s (Some k) wrote i = bound (s k) wrote < i
+IsAfter s (Some k) wrote i = last_blocking (s k) wrote < i
 
 -- how far the steps reached under each key after one more under this one, if there is one, at
 -- position i of the other run

@@ -1,5 +1,5 @@
--- Keys: their equality is that of values, and what is kept under a key is what is kept under a
--- step's own keys.
+-- The test of two keys holds of equal keys alone, so it is an equivalence, and equal keys are hashed
+-- as one number. These are lemmas with their proofs: `Eq` and `Hash` of `Key` cite them.
 use Rattle.std.proofs.Common.{◌≡◌, true, ap, subst}
 use Rattle.std.specs.Cmp.{IsEquivalence, both_ways}
 use Rattle.std.specs.Hash as fed

@@ -50,12 +50,12 @@ abbrev pub value_key : Option Place → Option Key
 value_key o = option_and_then value_of_place o
 
 -- the key of the segment to which a place belongs, or of which it is the whole
-abbrev pub segment_of_place : Place → Option Key
-segment_of_place p = option_map In (named p)
+abbrev pub key_of_segment : Place → Option Key
+key_of_segment p = option_map In (named p)
 
 -- the key of the segment to which a place belongs, or of which it is the whole, if there is one
 abbrev pub segment_key : Option Place → Option Key
-segment_key o = option_and_then segment_of_place o
+segment_key o = option_and_then key_of_segment o
 
 -- the key of all places that a place names, except the value half of a cell: for the whole of a
 -- segment the segment's, else the place's

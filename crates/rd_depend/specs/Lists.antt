@@ -26,7 +26,7 @@ pub record AreMoved (k n : ℕ) (old new : List ℕ) : Type 0 where
   pub ascends : IsAscending new
   pub places : (p : ℕ) → contains new (moved_position k n p) ≡ contains old p
 
--- so they are if the old ones ascend
+-- if the old positions ascend, the new ones are these, moved
 unfoldable pub IsMoved : ℕ → ℕ → List ℕ → List ℕ → Type 0
 IsMoved k n old new = IsAscending old → AreMoved k n old new
 

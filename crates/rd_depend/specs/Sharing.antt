@@ -29,5 +29,5 @@ pub record SharesPlace (x y : Entry) : Type 0 where
   pub one_wrote : (wrote x place || wrote y place) ≡ true
 
 -- whether at least one of two entries wrote anything
-abbrev pub one_wrote : Entry → Entry → Bool
-one_wrote x y = not (is_nothing x.wrote) || not (is_nothing y.wrote)
+abbrev pub either_wrote : Entry → Entry → Bool
+either_wrote x y = not (is_nothing x.wrote) || not (is_nothing y.wrote)

@@ -5,6 +5,8 @@ use Rattle.std.specs.List.{before_first}
 use Rattle.std.specs.declared.alloc.Global.{Global}
 use Rattle.rd_depend.specs.declared.index.keys.Key.{Key}
 use Rattle.rd_depend.specs.declared.index.table.Table.{Table}
+use Rattle.rd_depend.specs.declared.index.table.Among.{Among}
+use Rattle.rd_depend.specs.declared.index.table.Among.TheVariants as among
 use Rattle.rd_depend.specs.Keys.{is_that, slot_in}
 use Rattle.rd_depend.specs.Lists.{IsAscending, IsMoved}
 
@@ -16,17 +18,13 @@ Lists = List (Vec ℕ Global)
 abbrev pub items_of : {X : Type 0} → Option (Vec X Global) → List X
 items_of o = option_map_or (λ list. list.items) o []
 
--- how many positions a list, if it is there, can have before it has to grow
-abbrev pub room_of : Option (Vec ℕ Global) → ℕ
-room_of o = option_map_or vec_capacity o 0
-
 -- the items of the list of this number
 abbrev pub list_at : {X : Type 0} → List (Vec X Global) → ℕ → List X
 list_at lists i = items_of (slice_get lists i)
 
 -- how many positions the list of this number, if there is one, can have before it has to grow
 abbrev pub capacity_at : Lists → ℕ → ℕ
-capacity_at lists i = room_of (slice_get lists i)
+capacity_at lists i = option_map_or vec_capacity (slice_get lists i) 0
 
 -- how many more positions the list of this number has room for
 abbrev pub spare_at : Lists → ℕ → ℕ
@@ -50,6 +48,11 @@ abbrev pub capacity_of : Lists → Option ℕ → ℕ
 capacity_of lists None = 0
 capacity_of lists (Some i) = capacity_at lists i
 
+-- whether only the positions of the steps that wrote are meant
+abbrev pub is_writes : Among → Bool
+is_writes among.Touches = false
+is_writes among.Writes = true
+
 -- the lists of all positions, or of the positions of steps that wrote
 abbrev pub lists_of : Table → Bool → Lists
 lists_of t false = t.all.items
@@ -68,15 +71,15 @@ abbrev pub spare_in : Table → Bool → Key → ℕ
 spare_in t w k = capacity_in t w k - length (kept_in t w k)
 
 -- whether a step is kept in a list: of all positions always, and of writes if the step wrote
-abbrev pub counts : Bool → Bool → Bool
-counts false wrote = true
-counts true wrote = wrote
+abbrev pub is_kept_in : Bool → Bool → Bool
+is_kept_in false wrote = true
+is_kept_in true wrote = wrote
 
 -- the key has this index, and each of its lists that is to keep the step has room for one more
 -- position
 pub record IsReady (t : Table) (k : Key) (wrote : Bool) (i : ℕ) : Type 0 where
   pub at : slot_in t.keys.keys k ≡ Some i
-  pub room : (w : Bool) → counts w wrote ≡ true → 0 < spare_in t w k
+  pub room : (w : Bool) → is_kept_in w wrote ≡ true → 0 < spare_in t w k
 
 -- the key, if there is one, has this index, and its lists have room for the step
 abbrev pub AreReady : Table → Option Key → Bool → Option ℕ → Type 0
@@ -96,7 +99,7 @@ pub record AreReadyAt (t : Table) (wrote : Bool) (o : Option ℕ) : Type 0 where
 
 -- each of the key's lists that keep such a step has a last position
 abbrev pub HasLast : Table → Option Key → Bool → Type 0
-HasLast t o wrote = (w : Bool) (k : Key) → o ≡ Some k → counts w wrote ≡ true → 1 ≤ length (kept_in t w k)
+HasLast t o wrote = (w : Bool) (k : Key) → o ≡ Some k → is_kept_in w wrote ≡ true → 1 ≤ length (kept_in t w k)
 
 -- the lists are as before, and no room was lost
 pub record KeepsLists (old new : Table) : Type 0 where
@@ -107,14 +110,14 @@ pub record KeepsLists (old new : Table) : Type 0 where
 -- the position was put at the end of those of the key's lists that are to keep the step; other
 -- lists are as before
 pub record Puts (k : Option Key) (wrote : Bool) (position : ℕ) (old new : Table) : Type 0 where
-  pub lists : (w : Bool) (q : Key) → kept_in new w q ≡ (if counts w wrote && is_that q k then kept_in old w q ++ position ∷ [] else kept_in old w q)
-  pub room : (w : Bool) (q : Key) → spare_in old w q ≤ spare_in new w q + one_if (counts w wrote && is_that q k)
+  pub lists : (w : Bool) (q : Key) → kept_in new w q ≡ (if is_kept_in w wrote && is_that q k then kept_in old w q ++ position ∷ [] else kept_in old w q)
+  pub room : (w : Bool) (q : Key) → spare_in old w q ≤ spare_in new w q + one_if (is_kept_in w wrote && is_that q k)
   pub slots : (q : Key) → slot_in new.keys.keys q ≡ slot_in old.keys.keys q
 
 -- those of the key's lists that keep the step lost their last position; other lists are as before
 pub record TakesLast (k : Option Key) (wrote : Bool) (old new : Table) : Type 0 where
-  pub lists : (w : Bool) (q : Key) → kept_in new w q ≡ (if counts w wrote && is_that q k then take (length (kept_in old w q) - 1) (kept_in old w q) else kept_in old w q)
-  pub room : (w : Bool) (q : Key) → spare_in new w q ≡ spare_in old w q + one_if (counts w wrote && is_that q k)
+  pub lists : (w : Bool) (q : Key) → kept_in new w q ≡ (if is_kept_in w wrote && is_that q k then take (length (kept_in old w q) - 1) (kept_in old w q) else kept_in old w q)
+  pub room : (w : Bool) (q : Key) → spare_in new w q ≡ spare_in old w q + one_if (is_kept_in w wrote && is_that q k)
 
 -- in each list, position k, if it was there, was moved after those up to n, and these are one less
 pub record Moves (k n : ℕ) (old new : Table) : Type 0 where

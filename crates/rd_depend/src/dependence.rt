@@ -2,7 +2,7 @@
 
 ghost use Rattle.std.specs.Prelude.{◌≡◌, ◌≤◌, length};
 ghost use Rattle.rd_step.specs.Prelude.{some_overlap, interfere, depends, first_dependant};
-ghost use Rattle.rd_depend.specs.Sharing.{one_wrote};
+ghost use Rattle.rd_depend.specs.Sharing.{either_wrote};
 
 use rd_cell::{Place, overlaps};
 use rd_step::Entry;
@@ -23,7 +23,7 @@ pub fn depends(a: &Entry, b: &Entry) -> bool
 fn interfere(a: &Entry, b: &Entry) -> bool
     ensures { result ≡ interfere a.now.place a.now.wrote b.now.place b.now.wrote }
 {
-    if !one_wrote(a, b) {
+    if !either_wrote(a, b) {
         return false;
     }
     if !some_overlap(a.place, b.place) {
@@ -34,8 +34,8 @@ fn interfere(a: &Entry, b: &Entry) -> bool
 
 /// Whether one of the steps wrote anything.
 #[inline(always)]
-fn one_wrote(a: &Entry, b: &Entry) -> bool
-    ensures { result ≡ one_wrote a.now b.now }
+fn either_wrote(a: &Entry, b: &Entry) -> bool
+    ensures { result ≡ either_wrote a.now b.now }
 {
     !a.wrote.is_nothing() || !b.wrote.is_nothing()
 }

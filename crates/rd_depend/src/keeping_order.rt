@@ -10,7 +10,7 @@
 
 ghost use Rattle.std.specs.Prelude.{◌≡◌, ◌↔◌, ◌<◌, [], ℕ, length, Some, None, IsTrue, IfOk, OnOk, MatchOption};
 ghost use Rattle.rd_depend.specs.declared.index.keys.Key.{Key as KeyOf};
-ghost use Rattle.rd_depend.specs.KeepingOrder.{AreAlike, IsAfter, IsInOrder, bound, is_making, nothing_reached, passed, passed_over, passed_under};
+ghost use Rattle.rd_depend.specs.KeepingOrder.{AreAlike, IsAfter, IsInOrder, last_blocking, is_making, nothing_reached, passed, passed_over, passed_under};
 ghost use Rattle.rd_depend.specs.ComparedSteps.{all_left, left_of, reached_of, with_first};
 ghost use Rattle.rd_depend.specs.Tables.{list_at};
 
@@ -38,7 +38,7 @@ impl Reached {
     /// Goes on over a step at this position of the other run, and returns whether it is there after
     /// all earlier ones on which it depends.
     fn pass(&mut self, wrote: bool, at: usize) -> bool
-        ensures order { IsTrue result ↔ (bound self.old wrote < at) }
+        ensures order { IsTrue result ↔ (last_blocking self.old wrote < at) }
         ensures reached { self.new ≡ passed self.old wrote at }
     {
         let last = if wrote { self.touched } else { self.wrote };

@@ -1,17 +1,13 @@
 -- What the index of the live entries and those after them finds, and where the entries before a
 -- closure are.
 use Rattle.std.proofs.Common.{◌≡◌, ℕ, zero, suc, ◌+◌, ◌-◌, ◌<◌, ◌≤◌, Bool, true, false, nat_lt, if◌then◌else◌, List, [], ◌∷◌, ◌++◌, length, get_or, take, drop, Option, Some, None, sym, ◌∙◌, ap, arith, length-append, length-drop}
-use Rattle.rd_journal.proofs.Prelude.{lt-ltb, le-ltb, append_assoc, length-take-le, take_at, take-append-le, drop-append-le, get_or_append_left, slice_get-get_or, position_from, first_dependant, depends, closure_from, numbered, closure_of, without_closure, unmarked, Entry}
+use Rattle.rd_journal.proofs.Prelude.{lt-ltb, le-ltb, append_assoc, length-take-le, take_at, take-append-le, drop-append-le, slice_get-get_or, position_from, first_dependant, depends, closure_from, numbered, closure_of, without_closure, unmarked, Entry}
 use Rattle.rd_journal.proofs.Gathering.{cut_at}
 use Rattle.rd_journal.proofs.ListLemmas.{nth}
 
 -- the entry of this number
 pub numbered_in : (xs : List Entry) (k : ℕ) (x : Entry) → 1 ≤ k → k ≤ length xs → x ≡ get_or xs (k - 1) x → numbered xs k ≡ Some x
 numbered_in xs k x some within here = grind (arith, slice_get-get_or)
-
--- the same with others after them
-pub numbered_before : (live others : List Entry) (k : ℕ) (x : Entry) → 1 ≤ k → k ≤ length live → x ≡ get_or live (k - 1) x → numbered (live ++ others) k ≡ Some x
-numbered_before live others k x some within here = grind (arith, numbered_in, length-append, get_or_append_left)
 
 -- those before the k-th are where they were when its closure is gathered last
 pub outside_begins : (l : List Entry) (k : ℕ) → 1 ≤ k → k ≤ length l → (rest : List Entry) × (without_closure l k ≡ take (k - 1) l ++ rest)
@@ -90,9 +86,8 @@ among x live others k position = grind (arith, found_within, within_live, length
 
 -- the first dependant among the live ones is what is found among all, if that is live
 pub found_live : (x : Entry) (live others : List Entry) (k : ℕ) (found : Option ℕ) → 1 ≤ k → k ≤ length live → x ≡ get_or live (k - 1) x
-    → (numbered (live ++ others) k ≡ Some x → found ≡ first_dependant (live ++ others) k) → first_dependant live k ≡ if_live live found
+    → found ≡ position_from (depends x) (k + 1) (drop k (live ++ others)) → first_dependant live k ≡ if_live live found
 found_live x live others k found some within here answer =
-    let there = numbered_before live others k x some within here in
     scan_is x live k (numbered_in live k x some within here) ∙ among x live others k within
     ∙ ap (λ (zs : List Entry). if_live live (position_from (depends x) (k + 1) zs)) (sym (drop-append-le k live others within))
-    ∙ ap (if_live live) (sym (answer there ∙ scan_is x (live ++ others) k there))
+    ∙ ap (if_live live) (sym answer)

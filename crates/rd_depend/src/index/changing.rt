@@ -5,7 +5,7 @@ ghost use Rattle.rd_step.specs.declared.entries.Entry.{Entry as SomeEntry};
 ghost use Rattle.rd_step.specs.Lists.{numbered, without};
 ghost use Rattle.rd_cell.specs.Places.{is_nothing};
 ghost use Rattle.rd_depend.specs.Keys.{place_key, value_key, segment_key};
-ghost use Rattle.rd_depend.specs.Index.{Touch, IsIndexOf, IsIndex, IsHeld, IsLast, HasRoomFor, GivesRoom, UsesRoom, position_count, touches, spare, capacity, is_value_written};
+ghost use Rattle.rd_depend.specs.Index.{Touch, IsIndexOf, IsIndex, IsHeld, IsLast, HasRoomFor, GivesRoom, UsesRoom, KeepsRoom, LosesNoRoom, position_count, touches, spare, capacity, is_value_written};
 ghost use Rattle.rd_depend.specs.Changes.{Adds, Keeps, homes_of, IsReadyFor, EndsWith};
 ghost use Rattle.rd_depend.specs.Moved.{moved_to};
 
@@ -54,7 +54,7 @@ impl DependIndex {
         ensures err { OnErr result ((es : List SomeEntry) → IsIndexOf self.old es → IsIndexOf self.new es) }
         ensures succeeds { (rest : List SomeEntry) → HasRoomFor self.old (entry.now ∷ rest) → IsOk result }
         ensures room { OnOk result (UsesRoom self.old self.new (entry.now ∷ [])) }
-        ensures room_stays { OnErr result (UsesRoom self.old self.new []) }
+        ensures room_stays { OnErr result (LosesNoRoom self.old self.new) }
     {
         let homes = homes_of(entry);
         let slots = self.reserve(entry, &homes)?;
@@ -75,7 +75,7 @@ impl DependIndex {
         ensures err { OnErr result ((es : List SomeEntry) → IsIndexOf self.old es → IsIndexOf self.new es) }
         ensures succeeds { HasRoomFor self.old entries.now → IsOk result }
         ensures room { OnOk result (UsesRoom self.old self.new entries.now) }
-        ensures room_stays { OnErr result (UsesRoom self.old self.new []) }
+        ensures room_stays { OnErr result (LosesNoRoom self.old self.new) }
     {
         let pushed = self.push_some(entries);
         if pushed < entries.len() {
@@ -98,7 +98,7 @@ impl DependIndex {
         ensures same { (es : List SomeEntry) → IsIndexOf self.old es → IsIndexOf self.new es }
         ensures room { OnOk result (HasRoomFor self.new entries.now) }
         ensures succeeds { HasRoomFor self.old entries.now → IsOk result }
-        ensures room_stays { UsesRoom self.old self.new [] }
+        ensures room_stays { LosesNoRoom self.old self.new }
     {
         self.push_all(entries)?;
         self.pop_all(entries);
@@ -140,7 +140,7 @@ impl DependIndex {
         requires order { k ≤ n }
         requires within { n ≤ position_count self.old }
         ensures moved { (es : List SomeEntry) → IsIndexOf self.old es → IsIndexOf self.new (moved_to es k n) }
-        ensures room { GivesRoom self.old self.new [] }
+        ensures room { KeepsRoom self.old self.new }
         ensures capacity { (t : Touch) → capacity self.new t ≡ capacity self.old t }
     {
         let k = k as u32;

@@ -4,12 +4,11 @@
 ghost use Rattle.std.specs.Prelude.{◌≡◌, ◌+◌, ◌<◌, ◌≤◌, ◌^◌, List, Some, IsSome, length, drop, nat_lt};
 ghost use Rattle.rd_cell.specs.Places.{interfere};
 ghost use Rattle.rd_step.specs.declared.entries.Entry.{Entry as SomeEntry};
-ghost use Rattle.rd_step.specs.Lists.{numbered};
-ghost use Rattle.rd_step.specs.Prelude.{depends, depends_on_one, first_dependant};
-ghost use Rattle.std.specs.List.{find};
+ghost use Rattle.rd_step.specs.Prelude.{depends, depends_on_one};
+ghost use Rattle.std.specs.List.{find, position_from};
 ghost use Rattle.rd_depend.specs.Lists.{earlier, IsAscending};
-ghost use Rattle.rd_depend.specs.Tables.{list_at};
-ghost use Rattle.rd_depend.specs.Index.{IsIndexOf, position_count, positions, reached};
+ghost use Rattle.rd_depend.specs.Tables.{is_writes, list_at};
+ghost use Rattle.rd_depend.specs.Index.{IsIndexOf, position_count, positions, touched_or_written};
 ghost use Rattle.rd_depend.specs.Probes.{probe_count};
 ghost use Rattle.rd_depend.specs.Keys.{is_under_some};
 
@@ -18,6 +17,7 @@ use super::changing::{is_value_written, value_key};
 use super::keys::Key;
 use super::positions::Positions;
 use super::probes::Probes;
+use super::table::Among;
 use rd_cell::{Place, Wrote};
 use rd_step::Entry;
 
@@ -27,8 +27,8 @@ impl DependIndex {
     pub fn first(&self, k: u64, entry: &Entry, probes: &mut Probes) -> Option<u64>
         requires within { k ≤ position_count self.now }
         requires counted { probe_count probes.old < 2 ^ 32 }
-        ensures answer { (es : List SomeEntry) → IsIndexOf self.now es → numbered es k ≡ Some entry.now → result ≡ first_dependant es k }
-        ensures above { (es : List SomeEntry) → IsIndexOf self.now es → result ≡ find (nat_lt k) (positions (depends entry.now) es) }
+        ensures answer { (es : List SomeEntry) → IsIndexOf self.now es
+            → result ≡ position_from (depends entry.now) (k + 1) (drop k es) }
         ensures cost { probe_count probes.new ≤ probe_count probes.old + 96 }
         ensures counts { probe_count probes.old < probe_count probes.new }
     {
@@ -65,11 +65,11 @@ impl DependIndex {
         ensures cost { probe_count probes.new ≤ probe_count probes.old + 57 }
         ensures counts { probe_count probes.old ≤ probe_count probes.new }
     {
-        let reads = wrote.is_nothing();
-        let keeps_value = !is_value_written(wrote);
-        let by_value = self.first_under(k, value_key(Some(place)), keeps_value, probes);
-        let own = self.first_under(k, Some(Key::of_place(place)), reads, probes);
-        let whole = self.first_under(k, Key::of_whole(place), reads, probes);
+        let among = Among::writes_if(wrote.is_nothing());
+        let of_value = Among::writes_if(!is_value_written(wrote));
+        let by_value = self.first_under(k, value_key(Some(place)), of_value, probes);
+        let own = self.first_under(k, Some(Key::of_place(place)), among, probes);
+        let whole = self.first_under(k, Key::of_whole(place), among, probes);
         earlier(by_value, earlier(own, whole))
     }
 
@@ -79,12 +79,12 @@ impl DependIndex {
         &self,
         k: u32,
         key: Option<Key>,
-        writes: bool,
+        among: Among,
         probes: &mut Probes,
     ) -> Option<u64>
         requires { probe_count probes.old < 2 ^ 34 }
         ensures answer { (es : List SomeEntry) → IsIndexOf self.now es
-            → result ≡ find (nat_lt k) (positions (λ y. is_under_some key (reached writes y)) es) }
+            → result ≡ find (nat_lt k) (positions (λ y. is_under_some key (touched_or_written (is_writes among) y)) es) }
         ensures cost { probe_count probes.new ≤ probe_count probes.old + 19 }
         ensures counts { probe_count probes.old ≤ probe_count probes.new }
         ensures looks { IsSome key → probe_count probes.old < probe_count probes.new }
@@ -92,7 +92,7 @@ impl DependIndex {
         let Some(key) = key else {
             return None;
         };
-        Positions::found(self.by_key.list(key, writes), probes).first_above(k, probes)
+        Positions::found(self.by_key.positions(key, among), probes).first_above(k, probes)
     }
 
     /// Returns the first position greater than `k` of a step of this actor, if there is one. It

@@ -6,7 +6,7 @@
 ghost use Rattle.std.specs.Prelude.{◌≡◌, ◌+◌, ◌*◌, ◌<◌, Some, None};
 ghost use Rattle.std.specs.Hash as fed;
 ghost use Rattle.std.specs.Cmp.{partial_equiv_from_equiv};
-ghost use Rattle.rd_depend.specs.Keys.{key_eq, key_number, own_key, place_number, packed, segment_of_place, whole_key};
+ghost use Rattle.rd_depend.specs.Keys.{key_eq, key_number, own_key, place_number, packed, key_of_segment, whole_key};
 ghost use Rattle.rd_depend.specs.KeyLaws.{key_equiv, key_number-same};
 
 use rd_cell::{Place, SegName};
@@ -25,7 +25,7 @@ impl Key {
     /// Returns the key of the segment to which a place belongs, or of which it is the whole, if
     /// there is one.
     pub(crate) fn of_segment(place: Place) -> Option<Key>
-        ensures { result ≡ segment_of_place place }
+        ensures { result ≡ key_of_segment place }
     {
         match place {
             Place::Head(name)

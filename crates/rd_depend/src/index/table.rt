@@ -16,6 +16,30 @@ use std::alloc::{AllocError, Global};
 /// How many hints there are of where a key is.
 const HINTS: usize = 512;
 
+/// Which of the positions kept under a key are meant.
+#[derive(Clone, Copy)]
+pub(crate) enum Among {
+    /// Those of all steps that touched it.
+    Touches,
+    /// Those of the steps that wrote it.
+    Writes,
+}
+
+impl Among {
+    ghost use Rattle.rd_depend.specs.Tables.{is_writes};
+
+    /// Returns the positions of the writes if the test holds, else all positions.
+    pub(crate) fn writes_if(only_writes: bool) -> Among
+        ensures { is_writes result ≡ only_writes }
+    {
+        if only_writes {
+            Among::Writes
+        } else {
+            Among::Touches
+        }
+    }
+}
+
 /// Keys with their lists, each by the index of its key. A key stays when its lists are empty.
 #[derive(Drop)]
 pub(crate) struct Table {
@@ -32,7 +56,7 @@ pub(crate) struct Table {
 impl Table {
     ghost use Rattle.std.specs.Prelude.{◌≤◌, Option, Some, Bool, true, IsOk, IfOk, IfSome, false, []};
     ghost use Rattle.rd_depend.specs.Keys.{slot_in};
-    ghost use Rattle.rd_depend.specs.Tables.{kept_in, spare_in, counts, IsReady, IsReadyAt, AreReady, AreReadyAt, KeepsLists, Puts, HasLast, TakesLast, Moves, Cuts};
+    ghost use Rattle.rd_depend.specs.Tables.{is_writes, kept_in, spare_in, is_kept_in, IsReady, IsReadyAt, AreReady, AreReadyAt, KeepsLists, Puts, HasLast, TakesLast, Moves, Cuts};
     ghost use Rattle.rd_depend.specs.declared.index.keys.Key.{Key as Kept};
 
     /// Returns a table without keys. It takes no memory.
@@ -72,16 +96,15 @@ impl Table {
     }
 
     /// Returns the positions kept under the key: all of them, or only those of steps that wrote.
-    pub(crate) fn list(&self, key: Key, writes: bool) -> &[u32]
-        ensures { result.now ≡ kept_in self.now writes key }
+    pub(crate) fn positions(&self, key: Key, among: Among) -> &[u32]
+        ensures { result.now ≡ kept_in self.now (is_writes among) key }
     {
         let Some(slot) = self.slot(key) else {
             return &[];
         };
-        if writes {
-            &self.writes[slot]
-        } else {
-            &self.all[slot]
+        match among {
+            Among::Touches => &self.all[slot],
+            Among::Writes => &self.writes[slot],
         }
     }
 
@@ -99,7 +122,7 @@ impl Table {
     ) -> Result<Option<usize>, AllocError>
         ensures same { KeepsLists self.old self.new }
         ensures ready { IfOk result (AreReady self.new key wrote) }
-        ensures succeeds { ((w : Bool) (k : Kept) → key ≡ Some k → counts w wrote ≡ true → 0 < spare_in self.old w k) → IsOk result }
+        ensures succeeds { ((w : Bool) (k : Kept) → key ≡ Some k → is_kept_in w wrote ≡ true → 0 < spare_in self.old w k) → IsOk result }
     {
         match key {
             None => Ok(None),
@@ -117,7 +140,7 @@ impl Table {
     fn reserve_under(&mut self, alloc: Global, key: Key, wrote: bool) -> Result<usize, AllocError>
         ensures same { KeepsLists self.old self.new }
         ensures ready { IfOk result (IsReady self.new key wrote) }
-        ensures succeeds { ((w : Bool) → counts w wrote ≡ true → 0 < spare_in self.old w key) → IsOk result }
+        ensures succeeds { ((w : Bool) → is_kept_in w wrote ≡ true → 0 < spare_in self.old w key) → IsOk result }
     {
         let slot = self.slot_or_new(alloc, key)?;
         reserve_in(&mut self.all, slot)?;

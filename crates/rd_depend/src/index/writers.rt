@@ -4,7 +4,7 @@
 ghost use Rattle.std.specs.Prelude.{◌≡◌, ◌+◌, ◌<◌, ◌≤◌, ◌^◌, true, IsSome, List, take};
 ghost use Rattle.rd_step.specs.declared.entries.Entry.{Entry as SomeEntry};
 ghost use Rattle.rd_depend.specs.Lists.{later};
-ghost use Rattle.rd_depend.specs.Index.{IsIndexOf, position_count, reached};
+ghost use Rattle.rd_depend.specs.Index.{IsIndexOf, position_count, touched_or_written};
 ghost use Rattle.rd_depend.specs.Probes.{probe_count};
 ghost use Rattle.rd_depend.specs.Keys.{is_under_some};
 ghost use Rattle.rd_depend.specs.Writers.{last_position, writes_to};
@@ -14,6 +14,7 @@ use super::changing::value_key;
 use super::keys::Key;
 use super::positions::Positions;
 use super::probes::Probes;
+use super::table::Among;
 use rd_cell::Place;
 
 impl DependIndex {
@@ -39,7 +40,7 @@ impl DependIndex {
     fn last_under(&self, n: u32, key: Option<Key>, probes: &mut Probes) -> Option<u64>
         requires { probe_count probes.old < 2 ^ 34 }
         ensures answer { (es : List SomeEntry) → IsIndexOf self.now es
-            → result ≡ last_position (λ y. is_under_some key (reached true y)) (take n es) }
+            → result ≡ last_position (λ y. is_under_some key (touched_or_written true y)) (take n es) }
         ensures cost { probe_count probes.new ≤ probe_count probes.old + 19 }
         ensures counts { probe_count probes.old ≤ probe_count probes.new }
         ensures looks { IsSome key → probe_count probes.old < probe_count probes.new }
@@ -47,7 +48,7 @@ impl DependIndex {
         let Some(key) = key else {
             return None;
         };
-        Positions::found(self.by_key.list(key, true), probes).last_up_to(n, probes)
+        Positions::found(self.by_key.positions(key, Among::Writes), probes).last_up_to(n, probes)
     }
 }
 

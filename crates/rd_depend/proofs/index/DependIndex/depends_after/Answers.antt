@@ -1,6 +1,6 @@
 use Rattle.std.proofs.Common.{sym, ap, ◌∙◌}
 use Rattle.rd_depend.proofs.Prelude.{is_some, By}
-use Rattle.rd_depend.proofs.IndexFirst.{found_in, found_of_actor, found-after}
+use Rattle.rd_depend.proofs.IndexFirst.{found_in, found_of_actor, found-after, found-on}
 use Rattle.rd_depend.proofs.index.DependIndex.depends_after.Goals as goal
 
 pub returns-then-is_some : goal.returns-then-is_some
@@ -10,4 +10,4 @@ returns-then-is_some c = λ es is.
     ∙ sym c.is_some.ensures ∙ c.if-is_some.true)) ∙ found-after c.args.entry.now c.args.n es
 
 pub returns : goal.returns
-returns c = λ es is. c.is_some-2.ensures ∙ ap is_some (c.first.ensures.above es is) ∙ found-after c.args.entry.now c.args.n es
+returns c = λ es is. c.is_some-2.ensures ∙ ap is_some (c.first.ensures.answer es is) ∙ found-on c.args.entry.now _ _

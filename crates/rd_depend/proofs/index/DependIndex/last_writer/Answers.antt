@@ -1,5 +1,5 @@
 use Rattle.std.proofs.Common.{true, take, ◌∙◌}
-use Rattle.rd_depend.proofs.Prelude.{is_under, is_under_some, reached, last_position}
+use Rattle.rd_depend.proofs.Prelude.{is_under, is_under_some, touched_or_written, last_position}
 use Rattle.rd_depend.proofs.IndexWriters.{last_at}
 use Rattle.rd_depend.proofs.index.DependIndex.last_writer.Goals as goal
 
@@ -7,7 +7,7 @@ pub returns-clause-answer : goal.returns-clause-answer
 returns-clause-answer c = λ es is.
     let first = take c.args.n es in
     last_at c.args.place first c.last_under-by_value.result c.last_under-own.result c.last_under-whole.result c.later.result c.later-2.result
-    (c.last_under-by_value.ensures.answer es is ∙ (λ i. last_position (λ y. is_under_some (c.value_key.ensures i) (reached true y)) first))
-    (c.last_under-own.ensures.answer es is ∙ (λ i. last_position (λ y. is_under (c.of_place.ensures i) (reached true y)) first))
-    (c.last_under-whole.ensures.answer es is ∙ (λ i. last_position (λ y. is_under_some (c.of_whole.ensures i) (reached true y)) first))
+    (c.last_under-by_value.ensures.answer es is ∙ (λ i. last_position (λ y. is_under_some (c.value_key.ensures i) (touched_or_written true y)) first))
+    (c.last_under-own.ensures.answer es is ∙ (λ i. last_position (λ y. is_under (c.of_place.ensures i) (touched_or_written true y)) first))
+    (c.last_under-whole.ensures.answer es is ∙ (λ i. last_position (λ y. is_under_some (c.of_whole.ensures i) (touched_or_written true y)) first))
     c.later.ensures c.later-2.ensures
