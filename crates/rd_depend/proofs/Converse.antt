@@ -1,17 +1,24 @@
--- Equivalence is symmetric, as taking out is.
-use Rattle.std.proofs.Common.{◌≡◌, sym, ◌∙◌, ap, subst, List, Ok, arith}
+-- Equivalence is symmetric and transitive, as taking out is.
+use Rattle.std.proofs.Common.{◌≡◌, sym, ◌∙◌, ap, refl, subst, List, Ok, arith}
 use Rattle.rd_depend.proofs.Prelude.{World, Ran, run, Event, Entry, IsEquivalent, events, run_entries, IsRunFrom, run_events}
 use Rattle.rd_depend.proofs.TakingOut.{takes_back}
+use Rattle.rd_depend.proofs.TakingOn.{takes_on}
 use Rattle.rd_depend.proofs.RunsAgree.{equivalent_taken, taken_equivalent}
 
 converse : (w : World) (es fs : List Entry) → IsRunFrom w es → IsRunFrom w fs → IsEquivalent w (events es) (events fs)
     → IsEquivalent w (events fs) (events es)
 converse w es fs runs_e runs_f k = grind (arith, taken_equivalent, takes_back, equivalent_taken)
 
+through : (w : World) (es fs gs : List Entry) → IsRunFrom w es → IsRunFrom w fs → IsRunFrom w gs → IsEquivalent w (events es) (events fs)
+    → IsEquivalent w (events fs) (events gs) → IsEquivalent w (events es) (events gs)
+through w es fs gs runs_e runs_f runs_g h k =
+    (taken_equivalent es gs (takes_on es fs gs (equivalent_taken w es fs runs_e runs_f h) (equivalent_taken w fs gs runs_f runs_g k)) w runs_e runs_g).0 refl
+
 as_run : (w : World) (es : List Event) (r : Ran) → run w es ≡ Ok r → IsRunFrom w r.entries
 as_run w es r h = ap run_entries (ap (run w) (run_events w es r h) ∙ h)
 
--- the law
+-- the laws
+
 pub equivalent_either_way : (w : World) (es fs : List Event) (r q : Ran) → run w es ≡ Ok r → run w fs ≡ Ok q → IsEquivalent w es fs
     → IsEquivalent w fs es
 equivalent_either_way w es fs r q h k same =
@@ -20,3 +27,19 @@ equivalent_either_way w es fs r q h k same =
     let back = converse w r.entries q.entries (as_run w es r h) (as_run w fs q k) (subst (λ (l : List Event). IsEquivalent w (events r.entries) l) (sym others)
     (subst (λ (l : List Event). IsEquivalent w l fs) (sym its) same)) in
     subst (λ (l : List Event). IsEquivalent w fs l) its (subst (λ (l : List Event). IsEquivalent w l (events r.entries)) others back)
+
+-- lists that are equivalent are so as the events of their entries
+of_entries : (w : World) (es fs : List Event) (xs ys : List Entry) → events xs ≡ es → events ys ≡ fs → IsEquivalent w es fs
+    → IsEquivalent w (events xs) (events ys)
+of_entries w es fs xs ys e f h =
+    subst (λ (l : List Event). IsEquivalent w (events xs) l) (sym f) (subst (λ (l : List Event). IsEquivalent w l fs) (sym e) h)
+
+pub equivalent_through : (w : World) (es fs gs : List Event) (r q p : Ran) → run w es ≡ Ok r → run w fs ≡ Ok q → run w gs ≡ Ok p
+    → IsEquivalent w es fs → IsEquivalent w fs gs → IsEquivalent w es gs
+equivalent_through w es fs gs r q p h k l first second =
+    let its = run_events w es r h in
+    let mid = run_events w fs q k in
+    let last = run_events w gs p l in
+    let all = through w r.entries q.entries p.entries (as_run w es r h) (as_run w fs q k) (as_run w gs p l)
+    (of_entries w es fs r.entries q.entries its mid first) (of_entries w fs gs q.entries p.entries mid last second) in
+    subst (λ (m : List Event). IsEquivalent w es m) last (subst (λ (m : List Event). IsEquivalent w m (events p.entries)) its all)

@@ -14,6 +14,7 @@ pub mod IndexWriters
 pub mod FirstOfActor
 pub mod TouchedKeys
 pub mod TakingOut
+pub mod TakingOn
 pub mod KeepingOrder
 pub mod KeysMeet
 pub mod Sharing

@@ -41,3 +41,9 @@ pub fn equivalence_is_symmetric()
     ensures { (w : World) (es fs : List Event) (r q : Ran) → run w es ≡ Ok r → run w fs ≡ Ok q → IsEquivalent w es fs
         → IsEquivalent w fs es }
 {}
+
+/// Causal equivalence of runs from one start is transitive.
+pub fn equivalence_is_transitive()
+    ensures { (w : World) (es fs gs : List Event) (r q p : Ran) → run w es ≡ Ok r → run w fs ≡ Ok q → run w gs ≡ Ok p
+        → IsEquivalent w es fs → IsEquivalent w fs gs → IsEquivalent w es gs }
+{}

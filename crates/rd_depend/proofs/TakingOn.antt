@@ -1,0 +1,136 @@
+-- Where one list may be had from a second by taking out, and the second from a third, the first may
+-- be had from the third.
+use Rattle.std.proofs.Common.{◌≡◌, ◌⊎◌, inl, inr, List, [], ◌∷◌, ◌++◌, refl, sym, ap, subst, ◌∙◌, append_assoc, arith}
+use Rattle.rd_depend.proofs.Prelude.{Entry, AreAlike}
+use Rattle.rd_depend.proofs.TakingOut.{AreApart, IsApartFrom, Takes, TakesAll}
+
+alike-trans : (x y z : Entry) → AreAlike x y → AreAlike y z → AreAlike x z
+alike-trans x y z h g = record { event = h.event ∙ g.event; place = h.place ∙ g.place; wrote = h.wrote ∙ g.wrote }
+
+takes-alike : (x y : Entry) (entries left : List Entry) → AreAlike x y → Takes y entries left → Takes x entries left
+takes-alike x y entries left h t = record {
+  earlier = t.earlier;
+  entry = t.entry;
+  later = t.later;
+  stands = t.stands;
+  alike = alike-trans x y t.entry h t.alike;
+  apart = t.apart;
+  leaves = t.leaves;
+}
+
+-- steps like two that are apart are apart
+apart-alike : (x y u v : Entry) → AreAlike x u → AreAlike y v → AreApart x y → AreApart u v
+apart-alike x y u v h g a = grind arith
+
+apart-append : (x : Entry) (ys zs : List Entry) → IsApartFrom x ys → IsApartFrom x zs → IsApartFrom x (ys ++ zs)
+apart-append x [] zs h g = g
+apart-append x (y ∷ ys) zs h g = (h.0, apart-append x ys zs h.1 g)
+
+apart-parts : (x : Entry) (ys zs : List Entry) → IsApartFrom x (ys ++ zs) → IsApartFrom x ys × IsApartFrom x zs
+apart-parts x [] zs h = (tt, h)
+apart-parts x (y ∷ ys) zs h = let rest = apart-parts x ys zs h.1 in ((h.0, rest.0), rest.1)
+
+-- Where a step stands in two lists joined
+
+-- it stands in the first list
+record StandsInFirst (xs ys earlier : List Entry) (x : Entry) (later : List Entry) : Type 0 where
+  middle : List Entry
+  first : xs ≡ earlier ++ x ∷ middle
+  second : later ≡ middle ++ ys
+
+-- it stands in the second list
+record StandsInSecond (xs ys earlier : List Entry) (x : Entry) (later : List Entry) : Type 0 where
+  middle : List Entry
+  first : earlier ≡ xs ++ middle
+  second : ys ≡ middle ++ x ∷ later
+
+in_either : (xs ys earlier : List Entry) (x : Entry) (later : List Entry) → xs ++ ys ≡ earlier ++ x ∷ later
+    → StandsInFirst xs ys earlier x later ⊎ StandsInSecond xs ys earlier x later
+in_either [] ys earlier x later h = inr (record { middle = earlier; first = refl; second = h })
+in_either (z ∷ xs) ys [] x later h =
+    let head : z ≡ x = cc in
+    let tail : xs ++ ys ≡ later = cc in
+    inl (record { middle = xs; first = ap (λ (e : Entry). e ∷ xs) head; second = sym tail })
+in_either (z ∷ xs) ys (w ∷ earlier) x later h =
+    let head : z ≡ w = cc in
+    let tail : xs ++ ys ≡ earlier ++ x ∷ later = cc in
+    elim (in_either xs ys earlier x later tail) [
+      | inl f ↦ inl (record { middle = f.middle; first = (λ i. head i ∷ f.first i); second = f.second })
+      | inr s ↦ inr (record { middle = s.middle; first = (λ i. sym head i ∷ s.first i); second = s.second })
+    ]
+
+-- Two steps that are apart may be taken out the one way round or the other
+
+record TakesBoth (x y : Entry) (entries left : List Entry) : Type 0 where
+  between : List Entry
+  first : Takes x entries between
+  second : Takes y between left
+
+exchanged : (x y : Entry) (entries between left : List Entry) → AreApart y x → Takes x entries between → Takes y between left → TakesBoth y x entries left
+exchanged x y entries between left apart t u = elim (in_either t.earlier t.later u.earlier u.entry u.later (sym t.leaves ∙ u.stands)) [
+  | inl f ↦
+      let parts = apart-parts t.entry u.earlier (u.entry ∷ f.middle) (subst (IsApartFrom t.entry) f.first t.apart) in
+      record {
+        between = u.earlier ++ (f.middle ++ t.entry ∷ t.later);
+        first = record {
+          earlier = u.earlier;
+          entry = u.entry;
+          later = f.middle ++ t.entry ∷ t.later;
+          stands = t.stands ∙ ap (λ (l : List Entry). l ++ t.entry ∷ t.later) f.first ∙ append_assoc u.earlier (u.entry ∷ f.middle) (t.entry ∷ t.later);
+          alike = u.alike;
+          apart = u.apart;
+          leaves = refl;
+        };
+        second = record {
+          earlier = u.earlier ++ f.middle;
+          entry = t.entry;
+          later = t.later;
+          stands = sym (append_assoc u.earlier f.middle (t.entry ∷ t.later));
+          alike = t.alike;
+          apart = apart-append t.entry u.earlier f.middle parts.0 parts.1.1;
+          leaves = u.leaves ∙ ap (λ (l : List Entry). u.earlier ++ l) f.second ∙ sym (append_assoc u.earlier f.middle t.later);
+        };
+      }
+  | inr s ↦
+      let parts = apart-parts u.entry t.earlier s.middle (subst (IsApartFrom u.entry) s.first u.apart) in
+      record {
+        between = (t.earlier ++ t.entry ∷ s.middle) ++ u.later;
+        first = record {
+          earlier = t.earlier ++ t.entry ∷ s.middle;
+          entry = u.entry;
+          later = u.later;
+          stands = t.stands ∙ ap (λ (l : List Entry). t.earlier ++ t.entry ∷ l) s.second ∙ sym (append_assoc t.earlier (t.entry ∷ s.middle) (u.entry ∷ u.later));
+          alike = u.alike;
+          apart = apart-append u.entry t.earlier (t.entry ∷ s.middle) parts.0 (apart-alike y x u.entry t.entry u.alike t.alike apart, parts.1);
+          leaves = refl;
+        };
+        second = record {
+          earlier = t.earlier;
+          entry = t.entry;
+          later = s.middle ++ u.later;
+          stands = append_assoc t.earlier (t.entry ∷ s.middle) u.later;
+          alike = t.alike;
+          apart = t.apart;
+          leaves = u.leaves ∙ ap (λ (l : List Entry). l ++ u.later) s.first ∙ append_assoc t.earlier s.middle u.later;
+        };
+      }
+]
+
+-- a step in the list, apart from those before it, may be taken out first
+taken_first : (earlier later entries : List Entry) (x : Entry) → IsApartFrom x earlier → TakesAll (earlier ++ x ∷ later) entries
+    → (left : List Entry) × Takes x entries left × TakesAll (earlier ++ later) left
+taken_first [] later entries x apart h = h
+taken_first (y ∷ earlier) later entries x apart h =
+    let rest = taken_first earlier later h.0 x apart.1 h.2 in
+    let both = exchanged y x entries h.0 rest.0 apart.0 h.1 rest.1 in
+    (both.between, both.first, (rest.0, both.second, rest.2))
+
+pub takes_on : (xs ys zs : List Entry) → TakesAll xs ys → TakesAll ys zs → TakesAll xs zs
+takes_on [] ys zs h k = subst (λ (l : List Entry). TakesAll l zs) h k
+takes_on (x ∷ xs) ys zs h k =
+    let t = h.1 in
+    let first = taken_first t.earlier t.later zs t.entry t.apart (subst (λ (l : List Entry). TakesAll l zs) t.stands k) in (
+      first.0,
+      takes-alike x t.entry zs first.0 t.alike first.1,
+      takes_on xs h.0 first.0 h.2 (subst (λ (l : List Entry). TakesAll l first.0) (sym t.leaves) first.2),
+    )
