@@ -164,23 +164,27 @@ reach_the_same w (e ∷ es) fs r q h k same =
           (subst (λ (y : Stepped). IsPermutation (y.entry ∷ (s.before ++ s.behind)) (s.before ++ s.x ∷ s.behind)) one moved)));
     }
 
+-- equivalent lists stay so after one more event
+after_one : (w : World) (e : Event) (es fs : List Event) (s : Stepped) → step w e ≡ Ok s → IsEquivalent s.world es fs → IsEquivalent w (e ∷ es) (e ∷ fs)
+after_one w e es fs s h same = record {
+  earlier = [];
+  later = fs;
+  stands = refl;
+  independent = record { ran = record { world = w; entries = [] }; runs = refl; stepped = s; goes = h; free = refl };
+  stepped = s;
+  goes = h;
+  rest = same;
+}
+
 -- a list that runs is equivalent to itself
 pub reflexive : (w : World) (es : List Event) (r : Ran) → run w es ≡ Ok r → IsEquivalent w es es
 reflexive w [] r h = refl
 reflexive w (e ∷ es) r h =
     let ran = ran_on w e es r h in
-    record {
-      earlier = [];
-      later = es;
-      stands = refl;
-      independent = record { ran = record { world = w; entries = [] }; runs = refl; stepped = ran.one; goes = ran.goes; free = refl };
-      stepped = ran.one;
-      goes = ran.goes;
-      rest = reflexive ran.one.world es ran.rest ran.goes_on;
-    }
+    after_one w e es es ran.one ran.goes (reflexive ran.one.world es ran.rest ran.goes_on)
 
--- two neighbours that do not depend on each other may change places
-pub neighbours_swapped : (w : World) (e f : Event) (es : List Event) (s u : Stepped) (r : Ran) → step w e ≡ Ok s
+-- two neighbours that do not depend on each other may change places at the head of a list
+neighbours_swapped : (w : World) (e f : Event) (es : List Event) (s u : Stepped) (r : Ran) → step w e ≡ Ok s
     → step s.world f ≡ Ok u → depends s.entry u.entry ≡ false → run u.world es ≡ Ok r → IsEquivalent w (e ∷ f ∷ es) (f ∷ e ∷ es)
 neighbours_swapped w e f es s u r h k free l =
     let sw = commutes w e f s u h k free in
@@ -200,3 +204,15 @@ neighbours_swapped w e f es s u r h k free l =
       goes = h;
       rest = reflexive s.world (f ∷ es) (record { world = r.world; entries = u.entry ∷ r.entries }) (run-cons s.world f es u r k l);
     }
+
+-- and anywhere in it
+pub swapped_within : (w : World) (before : List Event) (e f : Event) (later : List Event) (b : Ran) (s u : Stepped) (r : Ran) → run w before ≡ Ok b
+    → step b.world e ≡ Ok s → step s.world f ≡ Ok u → depends s.entry u.entry ≡ false → run u.world later ≡ Ok r
+    → IsEquivalent w (before ++ e ∷ f ∷ later) (before ++ f ∷ e ∷ later)
+swapped_within w [] e f later b s u r g h k free l =
+    let here : record { world = w; entries = [] } ≡ b = as_ran-same _ _ g in
+    neighbours_swapped w e f later s u r (ap (λ (y : Ran). step y.world e) here ∙ h) k free l
+swapped_within w (d ∷ ds) e f later b s u r g h k free l =
+    let ran = ran_on w d ds b g in
+    after_one w d (ds ++ e ∷ f ∷ later) (ds ++ f ∷ e ∷ later) ran.one ran.goes
+    (swapped_within ran.one.world ds e f later ran.rest s u r ran.goes_on (ap (λ (y : Ran). step y.world e) ran.joins ∙ h) k free l)

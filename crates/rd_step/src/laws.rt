@@ -1,7 +1,7 @@
 //! The laws of the machine, for every world of the model: each is the contract of a function that
 //! does nothing.
 
-ghost use Rattle.std.specs.Prelude.{◌≡◌, ◌≤◌, ◌↔◌, ℕ, suc, false, List, ◌∷◌, length, None, Some, Ok, Err};
+ghost use Rattle.std.specs.Prelude.{◌≡◌, ◌≤◌, ◌↔◌, ℕ, suc, false, List, ◌∷◌, ◌++◌, length, None, Some, Ok, Err};
 ghost use Rattle.rd_ring.specs.Prelude.{Place, Operation, At, Refusal};
 ghost use Rattle.rd_actor.specs.declared.actors.Actor.{Actor};
 ghost use Rattle.rd_actor.specs.declared.actors.Act.{Act};
@@ -54,12 +54,12 @@ pub fn equivalence_is_reflexive()
     ensures { (w : Model) (es : List Event) (r : Ran) → run w es ≡ Ok r → IsEquivalent w es es }
 {}
 
-/// Two neighbours that do not depend on each other may change places: the lists are causally
-/// equivalent.
+/// Two neighbours that do not depend on each other may change places, wherever they are in a list:
+/// the lists are causally equivalent.
 pub fn independent_neighbours_swapped_are_equivalent()
-    ensures { (w : Model) (e f : Event) (es : List Event) (v u : Stepped) (r : Ran) → step w e ≡ Ok v
-        → step v.world f ≡ Ok u → depends v.entry u.entry ≡ false → run u.world es ≡ Ok r
-        → IsEquivalent w (e ∷ f ∷ es) (f ∷ e ∷ es) }
+    ensures { (w : Model) (before : List Event) (e f : Event) (later : List Event) (b : Ran) (v u : Stepped) (r : Ran)
+        → run w before ≡ Ok b → step b.world e ≡ Ok v → step v.world f ≡ Ok u → depends v.entry u.entry ≡ false
+        → run u.world later ≡ Ok r → IsEquivalent w (before ++ e ∷ f ∷ later) (before ++ f ∷ e ∷ later) }
 {}
 
 /// A step keeps a world well-formed.
