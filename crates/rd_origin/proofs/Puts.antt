@@ -1,7 +1,7 @@
 -- A put leaves the value of the enqueue that its actor is in, or none.
-use Rattle.std.proofs.Common.{◌≡◌, ◌+◌, ℕ, true, false, sym, ◌∙◌, ap, subst, Option, Some, Ok, IfOk, arith}
+use Rattle.std.proofs.Common.{◌≡◌, ℕ, true, false, sym, ◌∙◌, ap, subst, Option, Some, Ok, IfOk, arith}
 use Rattle.rd_origin.proofs.Prelude.{IfOk-at_ok, Place, Access, Contents, Performed, perform, need, World, Stepped, step, IsWellFormed, no_access, Pc, need_at, value_to_put, Event, took, puts_into}
-use Rattle.rd_step.specs.Prelude.{COUNTER_END, is_there, Actor, Act, after}
+use Rattle.rd_step.specs.Prelude.{is_there, Actor, Act, after}
 use Rattle.rd_actor.specs.Words.{words_fit_at}
 use Rattle.rd_step.specs.WellFormed.{record_fits, actor_fits}
 use Rattle.rd_step.proofs.Fits.{words_of}
@@ -42,7 +42,7 @@ put w e s q formed goes h =
     let puts : puts_by t.a.pc q t.did ≡ true =
     sym (same_puts w e t.a t.did (after w.ring t.a e.act t.did.answer) q t.a.pc) ∙ ap (λ (x : Stepped). puts_into q x.entry) t.ends ∙ h in
     let stands = putter t.a.pc q t.did puts in
-    let fits : record_fits (COUNTER_END + w.ring) (is_there w.at) t.a ≡ true = subst (λ (o : Option Actor). actor_fits (COUNTER_END + w.ring) (is_there w.at) o ≡ true) t.has (formed.actors e.actor) in
+    let fits : record_fits w.ring (is_there w.at) t.a ≡ true = subst (λ (o : Option Actor). actor_fits w.ring (is_there w.at) o ≡ true) t.has (formed.actors e.actor) in
     let by_access : IfOk (perform w.ring e.actor w.at t.access) (PutsOnly (value_to_put t.a.op) w.at t.a.pc q) =
     IfOk-at_ok (λ (x : Access). IfOk (perform w.ring e.actor w.at x) (PutsOnly (value_to_put t.a.op) w.at t.a.pc q)) t.needs (act_puts w.ring e.actor w.at q t.a e.act stands) in
     let holds : PutsOnly (value_to_put t.a.op) w.at t.a.pc q t.did = IfOk-at_ok (PutsOnly (value_to_put t.a.op) w.at t.a.pc q) t.does by_access in

@@ -1,6 +1,6 @@
 -- Parts with a list for each maker, whose world is well-formed, have no flaw.
-use Rattle.std.proofs.Common.{◌≡◌, ℕ, zero, suc, ◌+◌, ◌≤◌, Bool, true, not, ◌&&◌, nat_lt, nat_le, ◌↔◌, if◌then◌else◌, inl, inr, refl, ◌∙◌, ap, subst, arith, List, [], ◌∷◌, length, slice_get, Option, Some, None, option_map, le-leb, ltb-true, eq-eqb}
-use Rattle.rd_step.proofs.Prelude.{list_all, cases_lt, and_parts, and_from, MOST_ACTORS, MOST_SEGMENTS, COUNTER_END, Cell, SegName, Place, SegmentParts, counters_fit, by_number, by_name, count_in, count, ListOf, part_of_parts, each_segment, in_list, numbered_there, Actor, words_fit, Parts, Flaw, numbered, Presence, place_fits, next_fits, names_fit, numbers_within, record_fits, actor_fits, is_actor, IsNumbered, AreMade, IsWellFormed, world_of_parts, has, indexes_fit, first_flaw}
+use Rattle.std.proofs.Common.{◌≡◌, ℕ, zero, suc, ◌≤◌, Bool, true, not, ◌&&◌, nat_lt, nat_le, ◌↔◌, if◌then◌else◌, inl, inr, refl, ◌∙◌, ap, subst, arith, List, [], ◌∷◌, length, slice_get, Option, Some, None, option_map, le-leb, ltb-true, eq-eqb}
+use Rattle.rd_step.proofs.Prelude.{list_all, cases_lt, and_parts, and_from, MOST_ACTORS, MOST_SEGMENTS, COUNTER_END, Cell, SegName, Place, SegmentParts, counters_fit, by_number, by_name, count_in, count, ListOf, part_of_parts, each_segment, in_list, numbered_there, Actor, words_fit, Parts, Flaw, numbered, Presence, place_fits, next_fits, names_fit, numbers_within, record_fits, actor_fits, is_actor, IsNumbered, AreMade, IsWellFormed, world_of_parts, has, indexes_fit, first_flaw, index_end}
 use Rattle.rd_ring.specs.Segments.{part_from}
 use Rattle.rd_ring.specs.Prelude.{Content, can_hold}
 use Rattle.rd_step.specs.WellFormed.{content_fits, segments_named_fit, index_within}
@@ -68,20 +68,20 @@ few_segments {R} p made m list e =
 segments_made : {R : ℕ} (p : Parts R) → IsWellFormed (world_of_parts p) → AreMade (is_actor (numbered p.actors.items)) (has p)
 segments_made p formed = subst (AreMade (is_actor (numbered p.actors.items))) (presence p) formed.made
 
-contents_fit : (R : ℕ) (p : Parts R) → IsWellFormed (world_of_parts p) → (q : Place) → place_fits (COUNTER_END + R) (has p) q ((world_of_parts p).at q) ≡ true
+contents_fit : (R : ℕ) (p : Parts R) → IsWellFormed (world_of_parts p) → (q : Place) → place_fits R (has p) q ((world_of_parts p).at q) ≡ true
 contents_fit R p formed q =
-    subst (λ (there : Presence). place_fits (COUNTER_END + R) there q ((world_of_parts p).at q) ≡ true) (presence p) (formed.contents q)
+    subst (λ (there : Presence). place_fits R there q ((world_of_parts p).at q) ≡ true) (presence p) (formed.contents q)
 
 -- what a segment of the parts has at a place
 part_fits : (R : ℕ) (p : Parts R) (s : SegName) (x : SegmentParts R) (q : Place) → by_name p.segments.items s ≡ Some x
-    → place_fits (COUNTER_END + R) (has p) q (part_of_parts (by_name p.segments.items s) q) ≡ true → place_fits (COUNTER_END + R) (has p) q (part_from x q) ≡ true
-part_fits R p s x q e h = subst (λ (o : Option (SegmentParts R)). place_fits (COUNTER_END + R) (has p) q (part_of_parts o q) ≡ true) e h
+    → place_fits R (has p) q (part_of_parts (by_name p.segments.items s) q) ≡ true → place_fits R (has p) q (part_from x q) ≡ true
+part_fits R p s x q e h = subst (λ (o : Option (SegmentParts R)). place_fits R (has p) q (part_of_parts o q) ≡ true) e h
 
 -- a content that fits its place, by the three parts of that
-content_parts : (R : ℕ) (p : Parts R) (q : Place) (c : Content) → content_fits (COUNTER_END + R) (has p) q c ≡ true
-    → (can_hold q c ≡ true) × (segments_named_fit (has p) c ≡ true) × (index_within (COUNTER_END + R) c ≡ true)
+content_parts : (R : ℕ) (p : Parts R) (q : Place) (c : Content) → content_fits R (has p) q c ≡ true
+    → (can_hold q c ≡ true) × (segments_named_fit (has p) c ≡ true) × (index_within (index_end R) c ≡ true)
 content_parts R p q c fits =
-    let both = and_parts (can_hold q c && segments_named_fit (has p) c) (index_within (COUNTER_END + R) c) fits in
+    let both = and_parts (can_hold q c && segments_named_fit (has p) c) (index_within (index_end R) c) fits in
     let first = and_parts (can_hold q c) (segments_named_fit (has p) c) both.0 in
     (first.0, first.1, both.1)
 
@@ -93,28 +93,28 @@ counters_within R p formed s x e =
     (content_parts R p (place.Tail s) (content.Tail x.closed x.tail) (part_fits R p s x (place.Tail s) e (contents_fit R p formed (place.Tail s)))).0
 
 cell_within : (R : ℕ) (p : Parts R) → IsWellFormed (world_of_parts p) → (s : SegName) (x : SegmentParts R) → by_name p.segments.items s ≡ Some x
-    → (i : ℕ) (c : Cell) → slice_get x.cells i ≡ Some c → nat_le c.idx (COUNTER_END + R) ≡ true
+    → (i : ℕ) (c : Cell) → slice_get x.cells i ≡ Some c → nat_le c.idx (index_end R) ≡ true
 cell_within R p formed s x e i c at =
     (content_parts R p (place.Idx s i) (content.Idx c.safe c.idx)
-    (subst (λ (o : Option Cell). place_fits (COUNTER_END + R) (has p) (place.Idx s i) (option_map (λ x. content.Idx x.safe x.idx) o) ≡ true) at
+    (subst (λ (o : Option Cell). place_fits R (has p) (place.Idx s i) (option_map (λ x. content.Idx x.safe x.idx) o) ≡ true) at
     (part_fits R p s x (place.Idx s i) e (contents_fit R p formed (place.Idx s i))))).2
 
 indexes_within : (R : ℕ) (p : Parts R) → IsWellFormed (world_of_parts p) → (s : SegName) (x : SegmentParts R) → by_name p.segments.items s ≡ Some x
-    → indexes_fit (COUNTER_END + R) x ≡ true
-indexes_within R p formed s x e = all_from (λ c. nat_le c.idx (COUNTER_END + R)) x.cells (cell_within R p formed s x e)
+    → indexes_fit (index_end R) x ≡ true
+indexes_within R p formed s x e = all_from (λ c. nat_le c.idx (index_end R)) x.cells (cell_within R p formed s x e)
 
 -- an actor's record fits
 record ActorFits (R : ℕ) (there : Presence) (a : Actor) : Type 0 where
   pub names : names_fit there a ≡ true
-  pub numbers : numbers_within (COUNTER_END + R) a ≡ true
+  pub numbers : numbers_within (index_end R) a ≡ true
   pub words : words_fit a ≡ true
 
 actor_within : (R : ℕ) (p : Parts R) → IsWellFormed (world_of_parts p) → (n : ℕ) (a : Actor) → slice_get p.actors.items n ≡ Some a → ActorFits R (has p) a
 actor_within R p formed n a e =
-    let here = subst (λ (there : Presence). actor_fits (COUNTER_END + R) there (slice_get p.actors.items n) ≡ true) (presence p) (formed.actors (suc n)) in
-    let fits : record_fits (COUNTER_END + R) (has p) a ≡ true = subst (λ (o : Option Actor). actor_fits (COUNTER_END + R) (has p) o ≡ true) e here in
-    let both = and_parts (names_fit (has p) a && numbers_within (COUNTER_END + R) a) (words_fit a) fits in
-    let first = and_parts (names_fit (has p) a) (numbers_within (COUNTER_END + R) a) both.0 in
+    let here = subst (λ (there : Presence). actor_fits R there (slice_get p.actors.items n) ≡ true) (presence p) (formed.actors (suc n)) in
+    let fits : record_fits R (has p) a ≡ true = subst (λ (o : Option Actor). actor_fits R (has p) o ≡ true) e here in
+    let both = and_parts (names_fit (has p) a && numbers_within (index_end R) a) (words_fit a) fits in
+    let first = and_parts (names_fit (has p) a) (numbers_within (index_end R) a) both.0 in
     record { names = first.0; numbers = first.1; words = both.1 }
 
 pub accepted : (R : ℕ) (p : Parts R) → length p.segments.items ≡ suc (length p.actors.items) → IsWellFormed (world_of_parts p) → first_flaw p ≡ None
@@ -132,10 +132,10 @@ accepted R p lists formed =
       nexts = each_from (λ s. next_fits (has p) s.next) p.segments.items (λ s x e. (content_parts R p (place.Next s) (content.Next x.next) (part_fits R p s x (place.Next s) e (fits (place.Next s)))).1);
       names = all_from (names_fit (has p)) p.actors.items (λ n a e. (actor_within R p formed n a e).names);
       counters = each_from counters_fit p.segments.items (counters_within R p formed);
-      indexes = each_from (indexes_fit (COUNTER_END + R)) p.segments.items (indexes_within R p formed);
+      indexes = each_from (indexes_fit (index_end R)) p.segments.items (indexes_within R p formed);
       array_head = (content_parts R p place.ArrHead (content.Number p.array.head) (fits place.ArrHead)).0;
       array_tail = (content_parts R p place.ArrTail (content.Number p.array.tail) (fits place.ArrTail)).0;
-      numbers = all_from (numbers_within (COUNTER_END + R)) p.actors.items (λ n a e. (actor_within R p formed n a e).numbers);
+      numbers = all_from (numbers_within (index_end R)) p.actors.items (λ n a e. (actor_within R p formed n a e).numbers);
       words = all_from words_fit p.actors.items (λ n a e. (actor_within R p formed n a e).words);
     })
 

@@ -1,6 +1,6 @@
 -- Parts without a flaw are a well-formed world.
-use Rattle.std.proofs.Common.{◌≡◌, ℕ, zero, suc, ◌+◌, ◌<◌, ◌≤◌, Bool, true, false, not, ◌==◌, ◌&&◌, nat_lt, nat_le, if◌then◌else◌, inl, inr, refl, sym, ◌∙◌, ap, subst, arith, List, [], ◌∷◌, length, slice_get, Option, Some, None, is_some, option_map, lt-ltb, le-ltb, leb-true, eqb-true, eq-eqb}
-use Rattle.rd_step.proofs.Prelude.{list_all, cases_lt, and_parts, and_from, both_ways, slice_get_past, fun_ext, MOST_ACTORS, SLOTS, MOST_SEGMENTS, COUNTER_END, Cell, SegName, Place, ArrSlot, is_there, SegmentParts, counters_fit, by_number, by_name, count_in, count, Space, contents, ListOf, part_of_parts, contents_of_parts, each_segment, in_list, numbered_there, Actor, words_fit, Parts, Flaw, world_of_fields, numbered, Presence, belongs, place_fits, next_fits, names_fit, numbers_within, actor_fits, is_actor, IsNumbered, AreMade, IsWellFormed, world_of_parts, has, indexes_fit, first_flaw}
+use Rattle.std.proofs.Common.{◌≡◌, ℕ, zero, suc, ◌<◌, ◌≤◌, Bool, true, false, not, ◌==◌, ◌&&◌, nat_lt, nat_le, if◌then◌else◌, inl, inr, refl, sym, ◌∙◌, ap, subst, arith, List, [], ◌∷◌, length, slice_get, Option, Some, None, is_some, option_map, lt-ltb, le-ltb, leb-true, eqb-true, eq-eqb}
+use Rattle.rd_step.proofs.Prelude.{list_all, cases_lt, and_parts, and_from, both_ways, slice_get_past, fun_ext, MOST_ACTORS, SLOTS, MOST_SEGMENTS, Cell, SegName, Place, ArrSlot, is_there, SegmentParts, counters_fit, by_number, by_name, count_in, count, Space, contents, ListOf, part_of_parts, contents_of_parts, each_segment, in_list, numbered_there, Actor, words_fit, Parts, Flaw, world_of_fields, numbered, Presence, belongs, place_fits, next_fits, names_fit, numbers_within, actor_fits, is_actor, IsNumbered, AreMade, IsWellFormed, world_of_parts, has, indexes_fit, first_flaw, index_end}
 use Rattle.rd_ring.specs.Segments.{part_from}
 use Rattle.rd_segments.proofs.CountLemmas.{numbered_absent}
 use Rattle.rd_cell.specs.declared.places.Place.TheVariants as place
@@ -20,10 +20,10 @@ pub record NoFlaw {R : ℕ} (p : Parts R) : Type 0 where
   pub nexts : each_segment (λ s. next_fits (has p) s.next) p.segments.items ≡ true
   pub names : list_all (names_fit (has p)) p.actors.items ≡ true
   pub counters : each_segment counters_fit p.segments.items ≡ true
-  pub indexes : each_segment (indexes_fit (COUNTER_END + R)) p.segments.items ≡ true
+  pub indexes : each_segment (indexes_fit (index_end R)) p.segments.items ≡ true
   pub array_head : nat_le p.array.head SLOTS ≡ true
   pub array_tail : nat_le p.array.tail SLOTS ≡ true
-  pub numbers : list_all (numbers_within (COUNTER_END + R)) p.actors.items ≡ true
+  pub numbers : list_all (numbers_within (index_end R)) p.actors.items ≡ true
   pub words : list_all words_fit p.actors.items ≡ true
 
 -- if no flaw is named, the first condition holds and none of the rest is flawed
@@ -127,44 +127,44 @@ places_belong p (place.ArrCell i) = some_in content.Slot p.array.cells i SLOTS p
 -- What is there fits
 
 head_fits : {R : ℕ} (p : Parts R) (s : SegName) (o : Option (SegmentParts R)) → NoFlaw p → by_name p.segments.items s ≡ o
-    → place_fits (COUNTER_END + R) (has p) (place.Head s) (part_of_parts o (place.Head s)) ≡ true
+    → place_fits R (has p) (place.Head s) (part_of_parts o (place.Head s)) ≡ true
 head_fits p s o f e = grind (arith, and_parts, nat_le, each_at)
 
 tail_fits : {R : ℕ} (p : Parts R) (s : SegName) (o : Option (SegmentParts R)) → NoFlaw p → by_name p.segments.items s ≡ o
-    → place_fits (COUNTER_END + R) (has p) (place.Tail s) (part_of_parts o (place.Tail s)) ≡ true
+    → place_fits R (has p) (place.Tail s) (part_of_parts o (place.Tail s)) ≡ true
 tail_fits p s o f e = grind (arith, and_parts, nat_le, each_at)
 
 link_fits : {R : ℕ} (p : Parts R) (s : SegName) (o : Option (SegmentParts R)) → NoFlaw p → by_name p.segments.items s ≡ o
-    → place_fits (COUNTER_END + R) (has p) (place.Next s) (part_of_parts o (place.Next s)) ≡ true
+    → place_fits R (has p) (place.Next s) (part_of_parts o (place.Next s)) ≡ true
 link_fits p s o f e = grind (arith, each_at)
 
-value_of_fits : (R : ℕ) (p : Parts R) (s : SegName) (i : ℕ) (o : Option (SegmentParts R)) → place_fits (COUNTER_END + R) (has p) (place.Val s i) (part_of_parts o (place.Val s i)) ≡ true
+value_of_fits : (R : ℕ) (p : Parts R) (s : SegName) (i : ℕ) (o : Option (SegmentParts R)) → place_fits R (has p) (place.Val s i) (part_of_parts o (place.Val s i)) ≡ true
 value_of_fits R p s i o = grind arith
 
-index_fits : (R : ℕ) (there : Presence) (s : SegName) (i : ℕ) (cells : List Cell) (o : Option Cell) → list_all (λ c. nat_le c.idx (COUNTER_END + R)) cells ≡ true
-    → slice_get cells i ≡ o → place_fits (COUNTER_END + R) there (place.Idx s i) (option_map (λ c. content.Idx c.safe c.idx) o) ≡ true
+index_fits : (R : ℕ) (there : Presence) (s : SegName) (i : ℕ) (cells : List Cell) (o : Option Cell) → list_all (λ c. nat_le c.idx (index_end R)) cells ≡ true
+    → slice_get cells i ≡ o → place_fits R there (place.Idx s i) (option_map (λ c. content.Idx c.safe c.idx) o) ≡ true
 index_fits R there s i cells o h e = grind (arith, all_at, nat_le)
 
 index_of_fits : (R : ℕ) (p : Parts R) (s : SegName) (i : ℕ) (o : Option (SegmentParts R)) → NoFlaw p → by_name p.segments.items s ≡ o
-    → place_fits (COUNTER_END + R) (has p) (place.Idx s i) (part_of_parts o (place.Idx s i)) ≡ true
+    → place_fits R (has p) (place.Idx s i) (part_of_parts o (place.Idx s i)) ≡ true
 index_of_fits R p s i None f e = refl
 index_of_fits R p s i (Some x) f e =
-    index_fits R (has p) s i x.cells (slice_get x.cells i) (each_at (indexes_fit (COUNTER_END + R)) p.segments.items s x f.indexes e) refl
+    index_fits R (has p) s i x.cells (slice_get x.cells i) (each_at (indexes_fit (index_end R)) p.segments.items s x f.indexes e) refl
 
-slot_fits : (R : ℕ) (there : Presence) (i : ℕ) (o : Option ArrSlot) → place_fits (COUNTER_END + R) there (place.ArrCell i) (option_map content.Slot o) ≡ true
+slot_fits : (R : ℕ) (there : Presence) (i : ℕ) (o : Option ArrSlot) → place_fits R there (place.ArrCell i) (option_map content.Slot o) ≡ true
 slot_fits R there i o = grind arith
 
-contents_fit : (R : ℕ) (p : Parts R) → NoFlaw p → (q : Place) → place_fits (COUNTER_END + R) (has p) q ((world_of_parts p).at q) ≡ true
+contents_fit : (R : ℕ) (p : Parts R) → NoFlaw p → (q : Place) → place_fits R (has p) q ((world_of_parts p).at q) ≡ true
 contents_fit R p f q = grind (arith, head_fits, tail_fits, link_fits, value_of_fits, index_of_fits, slot_fits, slice_get)
 
-one_fits : (R : ℕ) (p : Parts R) (n : ℕ) (o : Option Actor) → NoFlaw p → slice_get p.actors.items n ≡ o → actor_fits (COUNTER_END + R) (has p) o ≡ true
+one_fits : (R : ℕ) (p : Parts R) (n : ℕ) (o : Option Actor) → NoFlaw p → slice_get p.actors.items n ≡ o → actor_fits R (has p) o ≡ true
 one_fits R p n None f e = refl
 one_fits R p n (Some a) f e =
-    and_from (names_fit (has p) a && numbers_within (COUNTER_END + R) a) (words_fit a)
-    (and_from (names_fit (has p) a) (numbers_within (COUNTER_END + R) a) (all_at (names_fit (has p)) p.actors.items n a f.names e) (all_at (numbers_within (COUNTER_END + R)) p.actors.items n a f.numbers e))
+    and_from (names_fit (has p) a && numbers_within (index_end R) a) (words_fit a)
+    (and_from (names_fit (has p) a) (numbers_within (index_end R) a) (all_at (names_fit (has p)) p.actors.items n a f.names e) (all_at (numbers_within (index_end R)) p.actors.items n a f.numbers e))
     (all_at words_fit p.actors.items n a f.words e)
 
-actors_fit : (R : ℕ) (p : Parts R) → NoFlaw p → (n : ℕ) → actor_fits (COUNTER_END + R) (has p) (numbered p.actors.items n) ≡ true
+actors_fit : (R : ℕ) (p : Parts R) → NoFlaw p → (n : ℕ) → actor_fits R (has p) (numbered p.actors.items n) ≡ true
 actors_fit R p f n = grind (arith, one_fits, slice_get)
 
 pub assembled : (R : ℕ) (p : Parts R) → first_flaw p ≡ None → IsWellFormed (world_of_parts p)
@@ -176,8 +176,8 @@ assembled R p h =
           actors_numbered p.actors.items (leb-true 1 (length p.actors.items) f.some_actors) (leb-true (length p.actors.items) MOST_ACTORS f.few_actors);
       made = subst (AreMade (is_actor (numbered p.actors.items))) same (segments_made p f);
       places = λ q. places_belong p q ∙ ap (λ (there : Presence). belongs R there q) same;
-      contents = λ q. subst (λ (there : Presence). place_fits (COUNTER_END + R) there q ((world_of_parts p).at q) ≡ true) same (contents_fit R p f q);
-      actors = λ n. subst (λ (there : Presence). actor_fits (COUNTER_END + R) there (numbered p.actors.items n) ≡ true) same (actors_fit R p f n);
+      contents = λ q. subst (λ (there : Presence). place_fits R there q ((world_of_parts p).at q) ≡ true) same (contents_fit R p f q);
+      actors = λ n. subst (λ (there : Presence). actor_fits R there (numbered p.actors.items n) ≡ true) same (actors_fit R p f n);
     }
 
 pub lists_right : {R : ℕ} (p : Parts R) → first_flaw p ≡ None → length p.segments.items ≡ suc (length p.actors.items)

@@ -1,7 +1,7 @@
 -- An operation that fits, on a content that fits its place, writes one that fits there, and answers
 -- what fits.
 use Rattle.std.proofs.Common.{◌≡◌, ℕ, ◌+◌, ◌<◌, Bool, true, nat_le, arith, Option, Some, None, IfSome, IfOk, le-leb}
-use Rattle.rd_step.proofs.Prelude.{SLOTS, COUNTER_END, Cell, SegName, Place, ArrSlot, Content, Operation, Effect, effect, Presence, content_fits}
+use Rattle.rd_step.proofs.Prelude.{SLOTS, COUNTER_END, Cell, SegName, Place, ArrSlot, Content, Operation, Effect, effect, Presence, content_fits, index_end}
 use Rattle.rd_step.proofs.Fits.{op_fits, answer_fits, has_slot}
 use Rattle.rd_cell.specs.declared.places.Place.TheVariants as place
 use Rattle.rd_cell.specs.declared.contents.Content.TheVariants as content
@@ -9,7 +9,7 @@ use Rattle.rd_cell.specs.declared.contents.Content.TheVariants as content
 -- what an effect writes fits the place, and what it answers fits
 abbrev pub EffectFits : ℕ → Presence → Place → Operation → Effect → Type 0
 EffectFits R there p op e =
-    IfSome e.writes (λ c. content_fits (COUNTER_END + R) there p c ≡ true) × (answer_fits R there e.answer ≡ true) × (has_slot op e.answer ≡ true)
+    IfSome e.writes (λ c. content_fits R there p c ≡ true) × (answer_fits R there e.answer ≡ true) × (has_slot op e.answer ≡ true)
 
 -- the count after one that is below the end is not past it
 one_more : (n limit : ℕ) → n < limit → nat_le (n + 1) limit ≡ true
@@ -40,13 +40,13 @@ on_next : (R : ℕ) (there : Presence) (op : Operation) (s m : SegName) → op_f
 on_next R there op s m f h = grind arith
 
 on_cell : (R : ℕ) (there : Presence) (op : Operation) (s : SegName) (i : ℕ) (c : Cell) → op_fits R there (place.Cell s i) op ≡ true
-    → nat_le c.idx (COUNTER_END + R) ≡ true → IfOk (effect op (content.Cell c)) (EffectFits R there (place.Cell s i) op)
+    → nat_le c.idx (index_end R) ≡ true → IfOk (effect op (content.Cell c)) (EffectFits R there (place.Cell s i) op)
 on_cell R there op s i c f h = grind arith
 
 on_value : (R : ℕ) (there : Presence) (op : Operation) (s : SegName) (i : ℕ) (val : Option ℕ) → IfOk (effect op (content.Val val)) (EffectFits R there (place.Val s i) op)
 on_value R there op s i val = grind arith
 
-on_index : (R : ℕ) (there : Presence) (op : Operation) (s : SegName) (i : ℕ) (safe : Bool) (idx : ℕ) → nat_le idx (COUNTER_END + R) ≡ true
+on_index : (R : ℕ) (there : Presence) (op : Operation) (s : SegName) (i : ℕ) (safe : Bool) (idx : ℕ) → nat_le idx (index_end R) ≡ true
     → IfOk (effect op (content.Idx safe idx)) (EffectFits R there (place.Idx s i) op)
 on_index R there op s i safe idx h = grind arith
 
@@ -64,5 +64,5 @@ on_slot R there op i slot = grind arith
 
 -- what an operation does to a content that fits its place fits
 pub effect_fits : (R : ℕ) (there : Presence) (p : Place) (op : Operation) (c : Content) → op_fits R there p op ≡ true
-    → content_fits (COUNTER_END + R) there p c ≡ true → IfOk (effect op c) (EffectFits R there p op)
+    → content_fits R there p c ≡ true → IfOk (effect op c) (EffectFits R there p op)
 effect_fits R there p op c f h = grind (arith, on_head, on_tail, on_number, on_count, on_none, on_next, on_cell, on_value, on_index, on_array_head, on_array_tail, on_slot)

@@ -1,6 +1,6 @@
 -- Which accesses and answers fit, and that an actor whose record fits asks for an access that fits.
-use Rattle.std.proofs.Common.{nat_lt, ◌≡◌, ℕ, ◌+◌, Bool, true, not, ◌&&◌, nat_le, arith, Option, Some, IfOk}
-use Rattle.rd_step.proofs.Prelude.{and_parts, SLOTS, COUNTER_END, SegName, Place, Access, NoPlace, At, Make, Answer, Operation, Add, AddArray, CasName, CasNext, CasTail, Cas2, is_array, Act, Actor, Pc, need, need_at, need_call, need_choice, words_fit, Presence, names_fit, numbers_within, record_fits, actor_fits}
+use Rattle.std.proofs.Common.{nat_lt, ◌≡◌, ℕ, Bool, true, not, ◌&&◌, nat_le, arith, Option, Some, IfOk}
+use Rattle.rd_step.proofs.Prelude.{and_parts, SLOTS, COUNTER_END, SegName, Place, Access, NoPlace, At, Make, Answer, Operation, Add, AddArray, CasName, CasNext, CasTail, Cas2, is_array, Act, Actor, Pc, need, need_at, need_call, need_choice, words_fit, Presence, names_fit, numbers_within, record_fits, actor_fits, index_end}
 use Rattle.rd_cell.specs.declared.contents.Content.TheVariants as content
 use Rattle.rd_cell.specs.declared.operations.Answer.TheVariants as answer
 
@@ -13,16 +13,16 @@ pub record PartsFit (R : ℕ) (there : Presence) (a : Actor) : Type 0 where
   pub next : there a.next ≡ true
   pub t : nat_le a.t COUNTER_END ≡ true
   pub h : nat_le a.h COUNTER_END ≡ true
-  pub idx : nat_le a.idx (COUNTER_END + R) ≡ true
+  pub idx : nat_le a.idx (index_end R) ≡ true
 
-pub parts_of : (R : ℕ) (there : Presence) (a : Actor) → record_fits (COUNTER_END + R) there a ≡ true → PartsFit R there a
+pub parts_of : (R : ℕ) (there : Presence) (a : Actor) → record_fits R there a ≡ true → PartsFit R there a
 parts_of R there a fits = grind arith
 
-pub words_of : (R : ℕ) (there : Presence) (a : Actor) → record_fits (COUNTER_END + R) there a ≡ true → words_fit a ≡ true
-words_of R there a fits = (and_parts (names_fit there a && numbers_within (COUNTER_END + R) a) (words_fit a) fits).1
+pub words_of : (R : ℕ) (there : Presence) (a : Actor) → record_fits R there a ≡ true → words_fit a ≡ true
+words_of R there a fits = (and_parts (names_fit there a && numbers_within (index_end R) a) (words_fit a) fits).1
 
 -- and back: these parts and the words make a record that fits
-pub together : (R : ℕ) (there : Presence) (a : Actor) → PartsFit R there a → words_fit a ≡ true → record_fits (COUNTER_END + R) there a ≡ true
+pub together : (R : ℕ) (there : Presence) (a : Actor) → PartsFit R there a → words_fit a ≡ true → record_fits R there a ≡ true
 together R there a f words = grind arith
 
 -- What fits goes on to fit if more segments are there
@@ -31,12 +31,12 @@ together R there a f words = grind arith
 abbrev pub Grows : Presence → Presence → Type 0
 Grows there there' = (s : SegName) → there s ≡ true → there' s ≡ true
 
-pub record_grows : (R : ℕ) (there there' : Presence) (a : Actor) → Grows there there' → record_fits (COUNTER_END + R) there a ≡ true
-    → record_fits (COUNTER_END + R) there' a ≡ true
+pub record_grows : (R : ℕ) (there there' : Presence) (a : Actor) → Grows there there' → record_fits R there a ≡ true
+    → record_fits R there' a ≡ true
 record_grows R there there' a more h = grind arith
 
-pub actor_grows : (R : ℕ) (there there' : Presence) (o : Option Actor) → Grows there there' → actor_fits (COUNTER_END + R) there o ≡ true
-    → actor_fits (COUNTER_END + R) there' o ≡ true
+pub actor_grows : (R : ℕ) (there there' : Presence) (o : Option Actor) → Grows there there' → actor_fits R there o ≡ true
+    → actor_fits R there' o ≡ true
 actor_grows R there there' o more h = grind arith
 
 -- What an actor asks for
@@ -46,7 +46,7 @@ abbrev pub op_fits : ℕ → Presence → Place → Operation → Bool
 op_fits R there p (CasName old new) = there new
 op_fits R there p (CasNext new) = there new
 op_fits R there p (CasTail old new) = nat_le new COUNTER_END
-op_fits R there p (Cas2 old new) = nat_le new.idx (COUNTER_END + R)
+op_fits R there p (Cas2 old new) = nat_le new.idx (index_end R)
 op_fits R there p Add = not (is_array p)
 op_fits R there p AddArray = is_array p
 op_fits R there p _ = true
@@ -64,7 +64,7 @@ answer_fits R there (answer.Found (content.Name s)) = there s
 answer_fits R there (answer.Found (content.Number g)) = nat_le g COUNTER_END
 answer_fits R there (answer.Found (content.Tail closed count)) = nat_le count COUNTER_END
 answer_fits R there (answer.Found (content.Next (Some m))) = there m
-answer_fits R there (answer.SafeAndIndex safe idx) = nat_le idx (COUNTER_END + R)
+answer_fits R there (answer.SafeAndIndex safe idx) = nat_le idx (index_end R)
 answer_fits R there (answer.Made s) = there s
 answer_fits R there _ = true
 
@@ -88,6 +88,6 @@ need_choice_fits : (R : ℕ) (there : Presence) (pc : Pc) → IfOk (need_choice 
 need_choice_fits R there pc = grind arith
 
 -- an actor whose record fits asks for an access that fits
-pub need_fits : (R : ℕ) (there : Presence) (a : Actor) (act : Act) → record_fits (COUNTER_END + R) there a ≡ true
+pub need_fits : (R : ℕ) (there : Presence) (a : Actor) (act : Act) → record_fits R there a ≡ true
     → IfOk (need R a act) (λ x. access_fits R there x ≡ true)
 need_fits R there a act h = grind (arith, need_call_fits, need_at_fits, parts_of, need_choice_fits)

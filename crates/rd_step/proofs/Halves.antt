@@ -1,6 +1,6 @@
 -- A cell, as the name of its two halves, in a well-formed world.
-use Rattle.std.proofs.Common.{◌+◌, ◌≡◌, ℕ, true, false, ◌&&◌, nat_lt, Bool, ◌∙◌, ap₂, Option, Some, None, is_some, IfSome, arith}
-use Rattle.rd_step.proofs.Prelude.{COUNTER_END, Cell, SegName, Place, Content, covers, share, operand, Contents, is_there, is_cell_at, World, Presence, belongs, content_fits, place_fits, IsWellFormed}
+use Rattle.std.proofs.Common.{◌≡◌, ℕ, true, false, ◌&&◌, nat_lt, Bool, ◌∙◌, ap₂, Option, Some, None, is_some, IfSome, arith}
+use Rattle.rd_step.proofs.Prelude.{Cell, SegName, Place, Content, covers, share, operand, Contents, is_there, is_cell_at, World, Presence, belongs, content_fits, place_fits, IsWellFormed}
 use Rattle.rd_ring.specs.Prelude.{half, cell_of_halves}
 use Rattle.rd_cell.specs.declared.places.Place.TheVariants as place
 use Rattle.rd_cell.specs.declared.contents.Content.TheVariants as content
@@ -19,20 +19,20 @@ bare_cell w formed _ h = cc
 -- What fits a place
 
 -- what an operation works on fits its place
-pub operand_fits : (R : ℕ) (there : Presence) (at : Contents) (p : Place) (c : Content) → ((q : Place) → place_fits (COUNTER_END + R) there q (at q) ≡ true)
-    → operand at p ≡ Some c → content_fits (COUNTER_END + R) there p c ≡ true
+pub operand_fits : (R : ℕ) (there : Presence) (at : Contents) (p : Place) (c : Content) → ((q : Place) → place_fits R there q (at q) ≡ true)
+    → operand at p ≡ Some c → content_fits R there p c ≡ true
 operand_fits R there at p c fits h = grind arith
 
 -- each place that is covered gets a share that fits it
-pub share_fits : (R : ℕ) (there : Presence) (p : Place) (c : Content) (q : Place) → content_fits (COUNTER_END + R) there p c ≡ true → covers p q ≡ true
-    → place_fits (COUNTER_END + R) there q (share p (Some c) q) ≡ true
+pub share_fits : (R : ℕ) (there : Presence) (p : Place) (c : Content) (q : Place) → content_fits R there p c ≡ true → covers p q ≡ true
+    → place_fits R there q (share p (Some c) q) ≡ true
 share_fits R there p c q h k = grind arith
 
 halves_kind : (x y : Cell) (q : Place) → is_some (half y q) ≡ is_some (half x q)
 halves_kind x y q = grind arith
 
-pub same_kinds : (R : ℕ) (there : Presence) (p : Place) (c : Content) (o : Option Content) (q : Place) → content_fits (COUNTER_END + R) there p c ≡ true
-    → IfSome o (λ d. content_fits (COUNTER_END + R) there p d ≡ true) → IfSome o (λ d. is_some (share p (Some d) q) ≡ is_some (share p (Some c) q))
+pub same_kinds : (R : ℕ) (there : Presence) (p : Place) (c : Content) (o : Option Content) (q : Place) → content_fits R there p c ≡ true
+    → IfSome o (λ d. content_fits R there p d ≡ true) → IfSome o (λ d. is_some (share p (Some d) q) ≡ is_some (share p (Some c) q))
 same_kinds R there p c o q h k = grind arith
 
 -- What is there to work on
@@ -42,16 +42,16 @@ abbrev pub has_place : ℕ → Presence → Place → Bool
 has_place R there (place.Cell s i) = nat_lt i R && there s
 has_place R there p = belongs R there p
 
-value_there : (R : ℕ) (there : Presence) (s : SegName) (i : ℕ) (o : Option Content) → is_some o ≡ true → place_fits (COUNTER_END + R) there (place.Val s i) o ≡ true
+value_there : (R : ℕ) (there : Presence) (s : SegName) (i : ℕ) (o : Option Content) → is_some o ≡ true → place_fits R there (place.Val s i) o ≡ true
     → (val : Option ℕ) × (o ≡ Some (content.Val val))
 value_there R there s i o h k = grind arith
 
-index_there : (R : ℕ) (there : Presence) (s : SegName) (i : ℕ) (o : Option Content) → is_some o ≡ true → place_fits (COUNTER_END + R) there (place.Idx s i) o ≡ true
+index_there : (R : ℕ) (there : Presence) (s : SegName) (i : ℕ) (o : Option Content) → is_some o ≡ true → place_fits R there (place.Idx s i) o ≡ true
     → (safe : Bool) × (idx : ℕ) × (o ≡ Some (content.Idx safe idx))
 index_there R there s i o h k = grind arith
 
 -- a cell is there if its halves are
-pub cell_there : (R : ℕ) (there : Presence) (at : Contents) (s : SegName) (i : ℕ) → ((q : Place) → place_fits (COUNTER_END + R) there q (at q) ≡ true)
+pub cell_there : (R : ℕ) (there : Presence) (at : Contents) (s : SegName) (i : ℕ) → ((q : Place) → place_fits R there q (at q) ≡ true)
     → is_some (at (place.Val s i)) ≡ true → is_some (at (place.Idx s i)) ≡ true → (c : Content) × (operand at (place.Cell s i) ≡ Some c)
 cell_there R there at s i fits h k =
     let v = value_there R there s i (at (place.Val s i)) h (fits (place.Val s i)) in
@@ -62,7 +62,7 @@ cell_there R there at s i fits h k =
 pub record HasOperand (w : World) (p : Place) : Type 0 where
   pub content : Content
   pub found : operand w.at p ≡ Some content
-  pub fits : content_fits (COUNTER_END + w.ring) (is_there w.at) p content ≡ true
+  pub fits : content_fits w.ring (is_there w.at) p content ≡ true
 
 operand_of : (w : World) (p : Place) → IsWellFormed w → (c : Content) × (operand w.at p ≡ Some c) → HasOperand w p
 operand_of w p formed found = record {

@@ -1,6 +1,6 @@
 -- A step keeps a world well-formed.
-use Rattle.std.proofs.Common.{◌+◌, ◌≡◌, ℕ, Bool, true, ◌==◌, nat_lt, inl, inr, refl, sym, ◌∙◌, ap, subst, subst₂, Option, Some, None, is_some, IfSome, Result, Ok, Err, IfOk, arith}
-use Rattle.rd_step.proofs.Prelude.{COUNTER_END, holding, cases_Bool, cond_both, IfOk-at_ok, fun_ext, SegName, Place, Content, Access, NoPlace, At, Make, Operation, Refusal, MOST_SEGMENTS, root, some_covers, written, share, wrote_by, operand, contents_after, Contents, is_there, Effect, effect, Performed, operate, make, perform, effect_at, result_map, name_eq-refl, written-covers, after_write-outside, Actor, need, after, World, Event, Stepped, with_actor, step_outcome, step, Presence, belongs, content_fits, place_fits, record_fits, actor_fits, is_actor, IsNumbered, AreMade, IsWellFormed}
+use Rattle.std.proofs.Common.{◌≡◌, ℕ, Bool, true, ◌==◌, nat_lt, inl, inr, refl, sym, ◌∙◌, ap, subst, subst₂, Option, Some, None, is_some, IfSome, Result, Ok, Err, IfOk, arith}
+use Rattle.rd_step.proofs.Prelude.{holding, cases_Bool, cond_both, IfOk-at_ok, fun_ext, SegName, Place, Content, Access, NoPlace, At, Make, Operation, Refusal, MOST_SEGMENTS, root, some_covers, written, share, wrote_by, operand, contents_after, Contents, is_there, Effect, effect, Performed, operate, make, perform, effect_at, result_map, name_eq-refl, written-covers, after_write-outside, Actor, need, after, World, Event, Stepped, with_actor, step_outcome, step, Presence, belongs, content_fits, place_fits, record_fits, actor_fits, is_actor, IsNumbered, AreMade, IsWellFormed}
 use Rattle.rd_ring.specs.Prelude.{number_made}
 use Rattle.rd_cell.specs.Contents.{after_write_at}
 use Rattle.rd_cell.proofs.AccessLemmas.{after_write-inside, after-is_some}
@@ -20,50 +20,50 @@ is_actor-same n a b actors has = grind arith
 
 -- what is left at each place by an operation at one that is there fits, if what is written fits
 effect_left_fits : (R : ℕ) (there : Presence) (at : Contents) (p : Place) (c : Content) (f : Effect) (q : Place)
-    → IfSome f.writes (λ d. content_fits (COUNTER_END + R) there p d ≡ true) → place_fits (COUNTER_END + R) there q (at q) ≡ true
-    → place_fits (COUNTER_END + R) there q (contents_after (effect_at p c f) at q) ≡ true
+    → IfSome f.writes (λ d. content_fits R there p d ≡ true) → place_fits R there q (at q) ≡ true
+    → place_fits R there q (contents_after (effect_at p c f) at q) ≡ true
 effect_left_fits R there at p c f q fits was = by f.writes fits
   where
-    by : (o : Option Content) → IfSome o (λ d. content_fits (COUNTER_END + R) there p d ≡ true)
-        → place_fits (COUNTER_END + R) there q (after_write_at (written (Some p) (wrote_by c o)) (share p o) at q) ≡ true
+    by : (o : Option Content) → IfSome o (λ d. content_fits R there p d ≡ true)
+        → place_fits R there q (after_write_at (written (Some p) (wrote_by c o)) (share p o) at q) ≡ true
     by None h = was
     by (Some d) h =
         let place : Option Place = written (Some p) (wrote_by c (Some d)) in
         elim (cases_Bool (some_covers place q)) [
           | inl m ↦
-              subst (λ (o : Option Content). place_fits (COUNTER_END + R) there q o ≡ true) (sym (after_write-inside place (share p (Some d)) at q m))
+              subst (λ (o : Option Content). place_fits R there q o ≡ true) (sym (after_write-inside place (share p (Some d)) at q m))
               (share_fits R there p d q h (written-covers (Some p) (wrote_by c (Some d)) q m))
-          | inr m ↦ subst (λ (o : Option Content). place_fits (COUNTER_END + R) there q o ≡ true) (sym (after_write-outside place (share p (Some d)) at q m)) was
+          | inr m ↦ subst (λ (o : Option Content). place_fits R there q o ≡ true) (sym (after_write-outside place (share p (Some d)) at q m)) was
         ]
 
 -- a step that makes no segment keeps the world well-formed, if what it writes and the actor's next
 -- record fit
 keeps_by : (w : World) (n : ℕ) (a next : Actor) (p : Place) (c : Content) (f : Effect)
     → IsWellFormed w → w.actor n ≡ Some a → operand w.at p ≡ Some c
-    → IfSome f.writes (λ d. content_fits (COUNTER_END + w.ring) (is_there w.at) p d ≡ true) → record_fits (COUNTER_END + w.ring) (is_there w.at) next ≡ true
+    → IfSome f.writes (λ d. content_fits w.ring (is_there w.at) p d ≡ true) → record_fits w.ring (is_there w.at) next ≡ true
     → IsWellFormed (record { ring = w.ring; at = contents_after (effect_at p c f) w.at; actor = with_actor n next w.actor })
 keeps_by w n a next p c f formed has there_is fits next_fits =
     let at' : Contents = contents_after (effect_at p c f) w.at in
-    let here : content_fits (COUNTER_END + w.ring) (is_there w.at) p c ≡ true = operand_fits w.ring (is_there w.at) w.at p c formed.contents there_is in
+    let here : content_fits w.ring (is_there w.at) p c ≡ true = operand_fits w.ring (is_there w.at) w.at p c formed.contents there_is in
     let some : (q : Place) → is_some (at' q) ≡ is_some (w.at q) =
     λ q. after-is_some p c f w.at q there_is (bare_cell w formed q) (same_kinds w.ring (is_there w.at) p c f.writes q here fits) in
     let presence : is_there w.at ≡ is_there at' = sym (fun_ext (λ (s : SegName). some (place.Head s))) in
     let actors : is_actor w.actor ≡ is_actor (with_actor n next w.actor) = sym (is_actor-same n a next w.actor has) in
-    let each_actor : (m : ℕ) → actor_fits (COUNTER_END + w.ring) (is_there w.at) (with_actor n next w.actor m) ≡ true =
-    λ m. cond_both (m == n) (Some next) (w.actor m) (λ (o : Option Actor). actor_fits (COUNTER_END + w.ring) (is_there w.at) o ≡ true) (λ e. next_fits) (λ e. formed.actors m) in
+    let each_actor : (m : ℕ) → actor_fits w.ring (is_there w.at) (with_actor n next w.actor m) ≡ true =
+    λ m. cond_both (m == n) (Some next) (w.actor m) (λ (o : Option Actor). actor_fits w.ring (is_there w.at) o ≡ true) (λ e. next_fits) (λ e. formed.actors m) in
     record {
       numbered = subst IsNumbered actors formed.numbered;
       made = subst₂ AreMade actors presence formed.made;
       places = λ q. some q ∙ formed.places q ∙ ap (λ (there : Presence). belongs w.ring there q) presence;
       contents = λ q.
-          subst (λ (there : Presence). place_fits (COUNTER_END + w.ring) there q (at' q) ≡ true) presence
+          subst (λ (there : Presence). place_fits w.ring there q (at' q) ≡ true) presence
           (effect_left_fits w.ring (is_there w.at) w.at p c f q fits (formed.contents q));
-      actors = λ m. subst (λ (there : Presence). actor_fits (COUNTER_END + w.ring) there (with_actor n next w.actor m) ≡ true) presence (each_actor m);
+      actors = λ m. subst (λ (there : Presence). actor_fits w.ring there (with_actor n next w.actor m) ≡ true) presence (each_actor m);
     }
 
 -- the same if only the actor goes on
 keeps_actor : (w : World) (n : ℕ) (a next : Actor) → IsWellFormed w → w.actor n ≡ Some a
-    → record_fits (COUNTER_END + w.ring) (is_there w.at) next ≡ true → IsWellFormed (record { ring = w.ring; at = w.at; actor = with_actor n next w.actor })
+    → record_fits w.ring (is_there w.at) next ≡ true → IsWellFormed (record { ring = w.ring; at = w.at; actor = with_actor n next w.actor })
 keeps_actor w n a next formed has next_fits =
     let actors : is_actor w.actor ≡ is_actor (with_actor n next w.actor) = sym (is_actor-same n a next w.actor has) in
     record {
@@ -72,13 +72,13 @@ keeps_actor w n a next formed has next_fits =
       places = formed.places;
       contents = formed.contents;
       actors = λ m.
-          cond_both (m == n) (Some next) (w.actor m) (λ (o : Option Actor). actor_fits (COUNTER_END + w.ring) (is_there w.at) o ≡ true)
+          cond_both (m == n) (Some next) (w.actor m) (λ (o : Option Actor). actor_fits w.ring (is_there w.at) o ≡ true)
           (λ e. next_fits) (λ e. formed.actors m);
     }
 
 -- the same if it makes its next segment
 keeps_made : (w : World) (n x : ℕ) (a next : Actor) → IsWellFormed w → w.actor n ≡ Some a → nat_lt (number_made w.at n) MOST_SEGMENTS ≡ true
-    → record_fits (COUNTER_END + w.ring) (is_there (laid w.ring (record { maker = n; n = number_made w.at n }) x w.at)) next ≡ true
+    → record_fits w.ring (is_there (laid w.ring (record { maker = n; n = number_made w.at n }) x w.at)) next ≡ true
     → IsWellFormed (record { ring = w.ring; at = laid w.ring (record { maker = n; n = number_made w.at n }) x w.at; actor = with_actor n next w.actor })
 keeps_made w n x a next formed has below next_fits =
     let s : SegName = record { maker = n; n = number_made w.at n } in
@@ -93,7 +93,7 @@ keeps_made w n x a next formed has below next_fits =
       places = laid_places w.ring s x w.at formed.places;
       contents = laid_fits w.ring s x w.at formed.contents;
       actors = λ m.
-          cond_both (m == n) (Some next) (w.actor m) (λ (o : Option Actor). actor_fits (COUNTER_END + w.ring) (is_there at') o ≡ true) (λ e. next_fits)
+          cond_both (m == n) (Some next) (w.actor m) (λ (o : Option Actor). actor_fits w.ring (is_there at') o ≡ true) (λ e. next_fits)
           (λ e. actor_grows w.ring (is_there w.at) (is_there at') (w.actor m) (laid_grows w.ring s x w.at) (formed.actors m));
     }
 
@@ -104,7 +104,7 @@ abbrev Keeps : World → Event → Actor → Performed → Type 0
 Keeps w e a did = IsWellFormed (step_outcome w e a did (after w.ring a e.act did.answer)).world
 
 keeps_done : (w : World) (e : Event) (a : Actor) (p : Place) (op : Operation) (c : Content) (r : Result Effect Refusal)
-    → IsWellFormed w → w.actor e.actor ≡ Some a → need w.ring a e.act ≡ Ok (At p op) → record_fits (COUNTER_END + w.ring) (is_there w.at) a ≡ true → operand w.at p ≡ Some c
+    → IsWellFormed w → w.actor e.actor ≡ Some a → need w.ring a e.act ≡ Ok (At p op) → record_fits w.ring (is_there w.at) a ≡ true → operand w.at p ≡ Some c
     → IfOk r (EffectFits w.ring (is_there w.at) p op) → IfOk (result_map (effect_at p c) r) (Keeps w e a)
 keeps_done w e a p op c (Err refusal) formed has needs fits found good = tt
 keeps_done w e a p op c (Ok f) formed has needs fits found good =
@@ -112,15 +112,15 @@ keeps_done w e a p op c (Ok f) formed has needs fits found good =
     (after_fits w.ring (is_there w.at) a e.act (At p op) f.answer formed.made.rooted needs good.1 good.2 fits)
 
 keeps_operate : (w : World) (e : Event) (a : Actor) (p : Place) (op : Operation) (o : Option Content)
-    → IsWellFormed w → w.actor e.actor ≡ Some a → need w.ring a e.act ≡ Ok (At p op) → record_fits (COUNTER_END + w.ring) (is_there w.at) a ≡ true → operand w.at p ≡ o
+    → IsWellFormed w → w.actor e.actor ≡ Some a → need w.ring a e.act ≡ Ok (At p op) → record_fits w.ring (is_there w.at) a ≡ true → operand w.at p ≡ o
     → op_fits w.ring (is_there w.at) p op ≡ true → IfOk (operate p op o) (Keeps w e a)
 keeps_operate w e a p op None formed has needs fits found good = tt
 keeps_operate w e a p op (Some c) formed has needs fits found good =
-    let here : content_fits (COUNTER_END + w.ring) (is_there w.at) p c ≡ true = operand_fits w.ring (is_there w.at) w.at p c formed.contents found in
+    let here : content_fits w.ring (is_there w.at) p c ≡ true = operand_fits w.ring (is_there w.at) w.at p c formed.contents found in
     keeps_done w e a p op c (effect op c) formed has needs fits found (effect_fits w.ring (is_there w.at) p op c good here)
 
 keeps_make : (w : World) (e : Event) (a : Actor) (v : ℕ) → IsWellFormed w → w.actor e.actor ≡ Some a
-    → need w.ring a e.act ≡ Ok (Make v) → record_fits (COUNTER_END + w.ring) (is_there w.at) a ≡ true
+    → need w.ring a e.act ≡ Ok (Make v) → record_fits w.ring (is_there w.at) a ≡ true
     → IfOk (make (record { maker = e.actor; n = number_made w.at e.actor }) (holding w.ring v)) (Keeps w e a)
 keeps_make w e a v formed has needs fits =
     let s : SegName = record { maker = e.actor; n = number_made w.at e.actor } in
@@ -134,7 +134,7 @@ keeps_make w e a v formed has needs fits =
     (λ e. tt)
 
 keeps_perform : (w : World) (e : Event) (a : Actor) (x : Access) → IsWellFormed w → w.actor e.actor ≡ Some a
-    → need w.ring a e.act ≡ Ok x → record_fits (COUNTER_END + w.ring) (is_there w.at) a ≡ true → access_fits w.ring (is_there w.at) x ≡ true
+    → need w.ring a e.act ≡ Ok x → record_fits w.ring (is_there w.at) a ≡ true → access_fits w.ring (is_there w.at) x ≡ true
     → IfOk (perform w.ring e.actor w.at x) (Keeps w e a)
 keeps_perform w e a NoPlace formed has needs fits good =
     keeps_actor w e.actor a (after w.ring a e.act answer.Nothing).0 formed has
@@ -147,7 +147,7 @@ pub keeps : (w : World) (e : Event) (s : Stepped) → IsWellFormed w → step w 
 keeps w e s formed h =
     let t = took w e s h in
     let there : Presence = is_there w.at in
-    let fits : record_fits (COUNTER_END + w.ring) there t.a ≡ true = subst (λ (o : Option Actor). actor_fits (COUNTER_END + w.ring) there o ≡ true) t.has (formed.actors e.actor) in
+    let fits : record_fits w.ring there t.a ≡ true = subst (λ (o : Option Actor). actor_fits w.ring there o ≡ true) t.has (formed.actors e.actor) in
     let good : access_fits w.ring there t.access ≡ true = IfOk-at_ok (λ (x : Access). access_fits w.ring there x ≡ true) t.needs (need_fits w.ring there t.a e.act fits) in
     subst (λ (x : Stepped). IsWellFormed x.world) t.ends
     (IfOk-at_ok (Keeps w e t.a) t.does (keeps_perform w e t.a t.access formed t.has t.needs fits good))

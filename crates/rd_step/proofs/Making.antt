@@ -1,7 +1,7 @@
 -- A making keeps a world well-formed: the new segment is its maker's next one, and its places are
 -- just those that belong there.
 use Rattle.std.proofs.Common.{◌≡◌, ℕ, zero, suc, ◌+◌, ◌<◌, ◌≤◌, Bool, true, false, not, ◌==◌, nat_lt, inl, inr, sym, ◌∙◌, ap, subst, arith, Some, is_some, eqb-true}
-use Rattle.rd_step.proofs.Prelude.{COUNTER_END, cases_eq, cases_Bool, cond-true, cond-false, and_parts, MOST_SEGMENTS, SegName, Place, root, name_eq, Contents, is_there, after_write, holding, number_made_from, name_eq-true, belongs, place_fits, maker_fits, AreMade}
+use Rattle.rd_step.proofs.Prelude.{cases_eq, cases_Bool, cond-true, cond-false, and_parts, MOST_SEGMENTS, SegName, Place, root, name_eq, Contents, is_there, after_write, holding, number_made_from, name_eq-true, belongs, place_fits, maker_fits, AreMade}
 use Rattle.rd_cell.specs.Access.{number_made}
 use Rattle.rd_step.proofs.Fits.{Grows}
 use Rattle.rd_cell.specs.declared.places.Place.TheVariants as place
@@ -81,6 +81,6 @@ pub laid_places : (R : ℕ) (s : SegName) (x : ℕ) (at : Contents) → ((p : Pl
     → is_some (laid R s x at p) ≡ belongs R (is_there (laid R s x at)) p
 laid_places R s x at were p = grind arith
 
-pub laid_fits : (R : ℕ) (s : SegName) (x : ℕ) (at : Contents) → ((p : Place) → place_fits (COUNTER_END + R) (is_there at) p (at p) ≡ true) → (p : Place)
-    → place_fits (COUNTER_END + R) (is_there (laid R s x at)) p (laid R s x at p) ≡ true
+pub laid_fits : (R : ℕ) (s : SegName) (x : ℕ) (at : Contents) → ((p : Place) → place_fits R (is_there at) p (at p) ≡ true) → (p : Place)
+    → place_fits R (is_there (laid R s x at)) p (laid R s x at p) ≡ true
 laid_fits R s x at were p = grind arith

@@ -39,7 +39,7 @@ pub use Rattle.rd_step.specs.Parts.{actor_names_fit, array_fits, first_flaw, has
 pub use Rattle.rd_step.specs.Room.{IsRefused, makes, makes_segment}
 pub use Rattle.rd_step.specs.Run.{Ran, events, run}
 pub use Rattle.rd_step.specs.Step.{CanPutBack, Stepped, step, step_outcome, unstep, with_actor}
-pub use Rattle.rd_step.specs.WellFormed.{AreMade, IsNumbered, IsWellFormed, Presence, actor_fits, belongs, content_fits, is_actor, maker_fits, names_fit, next_fits, numbers_within, place_fits, record_fits}
+pub use Rattle.rd_step.specs.WellFormed.{AreMade, IsNumbered, IsWellFormed, Presence, actor_fits, belongs, content_fits, index_end, is_actor, maker_fits, names_fit, next_fits, numbers_within, place_fits, record_fits}
 pub use Rattle.rd_step.specs.World.{World}
 pub use Rattle.rd_step.specs.declared.entries.Entry.{Entry}
 pub use Rattle.rd_step.specs.declared.entries.Event.{Event}

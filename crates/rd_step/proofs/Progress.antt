@@ -1,7 +1,7 @@
 -- Progress: what an actor of a well-formed world asks for suits what is there, and the answer leads
 -- it to another control point.
-use Rattle.std.proofs.Common.{◌+◌, ◌≡◌, ◌≢◌, ℕ, ◌≤◌, Bool, true, false, if◌then◌else◌, nat_lt, nat_le, refl, sym, ◌∙◌, ap, subst, arith, Option, Some, None, is_some, is_none, ok_or, Result, Ok, Err, IfOk}
-use Rattle.rd_step.proofs.Prelude.{COUNTER_END, holding, common_steps, cond_both, and_parts, IfOk-at_ok, fun_ext, MOST_SEGMENTS, Cell, SegName, Place, Wrote, ArrSlot, Content, Operation, Access, NoPlace, At, Make, Refusal, some_covers, is_nothing, written, Contents, is_there, operand, Effect, effect, Performed, operate, make, perform, swaps, adds, effect_at, result_map, after_write-outside, written-covers, ok_or_ok, Act, Actor, Pc, Idle, E4, E11, Q5, A2, B2, need, need_at, need_call, need_choice, after_take, after_at, after, words_fit_at, World, Event, Stepped, step, Presence, content_fits, record_fits, actor_fits, IsWellFormed}
+use Rattle.std.proofs.Common.{◌≡◌, ◌≢◌, ℕ, ◌≤◌, Bool, true, false, if◌then◌else◌, nat_lt, nat_le, refl, sym, ◌∙◌, ap, subst, arith, Option, Some, None, is_some, is_none, ok_or, Result, Ok, Err, IfOk}
+use Rattle.rd_step.proofs.Prelude.{holding, common_steps, cond_both, and_parts, IfOk-at_ok, fun_ext, MOST_SEGMENTS, Cell, SegName, Place, Wrote, ArrSlot, Content, Operation, Access, NoPlace, At, Make, Refusal, some_covers, is_nothing, written, Contents, is_there, operand, Effect, effect, Performed, operate, make, perform, swaps, adds, effect_at, result_map, after_write-outside, written-covers, ok_or_ok, Act, Actor, Pc, Idle, E4, E11, Q5, A2, B2, need, need_at, need_call, need_choice, after_take, after_at, after, words_fit_at, World, Event, Stepped, step, Presence, content_fits, record_fits, actor_fits, IsWellFormed}
 use Rattle.rd_ring.specs.Prelude.{number_made}
 use Rattle.rd_cell.proofs.ResultLemmas.{and_then_err}
 use Rattle.rd_step.specs.Laws.{IsStepRefusal, SuitsContent, MovesOn, ChangesOnly}
@@ -16,42 +16,42 @@ use Rattle.rd_actor.specs.declared.actors.Act.TheVariants as act
 
 -- Contents by the kinds of their places
 
-end_kind : (R : ℕ) (there : Presence) (P : Content → Type 0) → ((s : SegName) → P (content.Name s)) → (c : Content) → content_fits (COUNTER_END + R) there place.QHead c ≡ true → P c
+end_kind : (R : ℕ) (there : Presence) (P : Content → Type 0) → ((s : SegName) → P (content.Name s)) → (c : Content) → content_fits R there place.QHead c ≡ true → P c
 end_kind R there P f c h = grind arith
 
-tail_end_kind : (R : ℕ) (there : Presence) (P : Content → Type 0) → ((s : SegName) → P (content.Name s)) → (c : Content) → content_fits (COUNTER_END + R) there place.QTail c ≡ true → P c
+tail_end_kind : (R : ℕ) (there : Presence) (P : Content → Type 0) → ((s : SegName) → P (content.Name s)) → (c : Content) → content_fits R there place.QTail c ≡ true → P c
 tail_end_kind R there P f c h = grind arith
 
-head_kind : (R : ℕ) (there : Presence) (s : SegName) (P : Content → Type 0) → ((n : ℕ) → P (content.Number n)) → (c : Content) → content_fits (COUNTER_END + R) there (place.Head s) c ≡ true → P c
+head_kind : (R : ℕ) (there : Presence) (s : SegName) (P : Content → Type 0) → ((n : ℕ) → P (content.Number n)) → (c : Content) → content_fits R there (place.Head s) c ≡ true → P c
 head_kind R there s P f c h = grind arith
 
-tail_kind : (R : ℕ) (there : Presence) (s : SegName) (P : Content → Type 0) → ((closed : Bool) (n : ℕ) → P (content.Tail closed n)) → (c : Content) → content_fits (COUNTER_END + R) there (place.Tail s) c ≡ true → P c
+tail_kind : (R : ℕ) (there : Presence) (s : SegName) (P : Content → Type 0) → ((closed : Bool) (n : ℕ) → P (content.Tail closed n)) → (c : Content) → content_fits R there (place.Tail s) c ≡ true → P c
 tail_kind R there s P f c h = grind arith
 
 next_kind : (R : ℕ) (there : Presence) (s : SegName) (P : Content → Type 0) → P (content.Next None) → ((m : SegName) → P (content.Next (Some m))) → (c : Content)
-    → content_fits (COUNTER_END + R) there (place.Next s) c ≡ true → P c
+    → content_fits R there (place.Next s) c ≡ true → P c
 next_kind R there s P none f c h = grind arith
 
 cell_kind : (R : ℕ) (there : Presence) (s : SegName) (i : ℕ) (P : Content → Type 0) → ((x : Cell) → P (content.Cell x)) → (c : Content)
-    → content_fits (COUNTER_END + R) there (place.Cell s i) c ≡ true → P c
+    → content_fits R there (place.Cell s i) c ≡ true → P c
 cell_kind R there s i P f c h = grind arith
 
 value_kind : (R : ℕ) (there : Presence) (s : SegName) (i : ℕ) (P : Content → Type 0) → ((val : Option ℕ) → P (content.Val val)) → (c : Content)
-    → content_fits (COUNTER_END + R) there (place.Val s i) c ≡ true → P c
+    → content_fits R there (place.Val s i) c ≡ true → P c
 value_kind R there s i P f c h = grind arith
 
 index_kind : (R : ℕ) (there : Presence) (s : SegName) (i : ℕ) (P : Content → Type 0) → ((safe : Bool) (idx : ℕ) → P (content.Idx safe idx)) → (c : Content)
-    → content_fits (COUNTER_END + R) there (place.Idx s i) c ≡ true → P c
+    → content_fits R there (place.Idx s i) c ≡ true → P c
 index_kind R there s i P f c h = grind arith
 
-array_head_kind : (R : ℕ) (there : Presence) (P : Content → Type 0) → ((n : ℕ) → P (content.Number n)) → (c : Content) → content_fits (COUNTER_END + R) there place.ArrHead c ≡ true → P c
+array_head_kind : (R : ℕ) (there : Presence) (P : Content → Type 0) → ((n : ℕ) → P (content.Number n)) → (c : Content) → content_fits R there place.ArrHead c ≡ true → P c
 array_head_kind R there P f c h = grind arith
 
-array_tail_kind : (R : ℕ) (there : Presence) (P : Content → Type 0) → ((n : ℕ) → P (content.Number n)) → (c : Content) → content_fits (COUNTER_END + R) there place.ArrTail c ≡ true → P c
+array_tail_kind : (R : ℕ) (there : Presence) (P : Content → Type 0) → ((n : ℕ) → P (content.Number n)) → (c : Content) → content_fits R there place.ArrTail c ≡ true → P c
 array_tail_kind R there P f c h = grind arith
 
 slot_kind : (R : ℕ) (there : Presence) (i : ℕ) (P : Content → Type 0) → ((x : ArrSlot) → P (content.Slot x)) → (c : Content)
-    → content_fits (COUNTER_END + R) there (place.ArrCell i) c ≡ true → P c
+    → content_fits R there (place.ArrCell i) c ≡ true → P c
 slot_kind R there i P f c h = grind arith
 
 -- The rows
@@ -66,7 +66,7 @@ Goes R pc a (Err _) = ⊥
 -- what the access of a row does leads on
 abbrev Leads : ℕ → Presence → Pc → Actor → Access → Type 0
 Leads R there pc a NoPlace = ⊥
-Leads R there pc a (At p op) = (c : Content) → content_fits (COUNTER_END + R) there p c ≡ true → Goes R pc a (effect op c)
+Leads R there pc a (At p op) = (c : Content) → content_fits R there p c ≡ true → Goes R pc a (effect op c)
 Leads R there pc a (Make x) = (s : SegName) → (after_at R pc a (answer.Made s)).0.pc ≢ pc
 
 -- of two control points that are others than this one, each is
@@ -155,7 +155,7 @@ ends_there : (R actor : ℕ) (at : Contents) (a : Actor) (act : Act) (y : Access
     → Ends R a act (perform R actor at y)
 ends_there R actor at a act y e h = subst (λ (x : Access). Ends R a act (perform R actor at x)) (sym e) h
 
-go_ends : (actor : ℕ) (w : World) (a : Actor) (y : Access) → 1 ≤ w.ring → IsWellFormed w → record_fits (COUNTER_END + w.ring) (is_there w.at) a ≡ true
+go_ends : (actor : ℕ) (w : World) (a : Actor) (y : Access) → 1 ≤ w.ring → IsWellFormed w → record_fits w.ring (is_there w.at) a ≡ true
     → need_at w.ring a.pc a ≡ Ok y → Ends w.ring a act.Go (perform w.ring actor w.at y)
 go_ends actor w a NoPlace some formed fits needs = grind arith
 go_ends actor w a (At p op) some formed fits needs =
@@ -167,14 +167,14 @@ go_ends actor w a (Make x) some formed fits needs =
     make_ends w.ring there a (record { maker = actor; n = number_made w.at actor }) x
     (IfOk-at_ok (Leads w.ring there a.pc a) needs (row_leads w.ring there a.pc a (words_of w.ring there a fits)))
 
-access_ends : (actor : ℕ) (w : World) (a : Actor) (act : Act) (y : Access) → 1 ≤ w.ring → IsWellFormed w → record_fits (COUNTER_END + w.ring) (is_there w.at) a ≡ true
+access_ends : (actor : ℕ) (w : World) (a : Actor) (act : Act) (y : Access) → 1 ≤ w.ring → IsWellFormed w → record_fits w.ring (is_there w.at) a ≡ true
     → need w.ring a act ≡ Ok y → Ends w.ring a act (perform w.ring actor w.at y)
 access_ends actor w a act y some formed fits needs = grind (arith, ends_there, call_place, call_ends, go_ends, choice_place, choice_ends)
 
 -- The laws
 
-fits_here : (w : World) (n : ℕ) (a : Actor) → IsWellFormed w → w.actor n ≡ Some a → record_fits (COUNTER_END + w.ring) (is_there w.at) a ≡ true
-fits_here w n a formed has = subst (λ (o : Option Actor). actor_fits (COUNTER_END + w.ring) (is_there w.at) o ≡ true) has (formed.actors n)
+fits_here : (w : World) (n : ℕ) (a : Actor) → IsWellFormed w → w.actor n ≡ Some a → record_fits w.ring (is_there w.at) a ≡ true
+fits_here w n a formed has = subst (λ (o : Option Actor). actor_fits w.ring (is_there w.at) o ≡ true) has (formed.actors n)
 
 need_refused : (R : ℕ) (a : Actor) (act : Act) (refusal : Refusal) → need R a act ≡ Err refusal → IsStepRefusal refusal
 need_refused R a act refusal h = grind arith

@@ -1,7 +1,7 @@
 -- A step takes nothing away, makes no segment of another actor, and what its entry keeps may be put
 -- back after it.
 use Rattle.std.proofs.Common.{◌≡◌, ◌≢◌, ℕ, suc, ◌+◌, ◌<◌, ◌≤◌, Bool, true, false, not, ◌==◌, nat_lt, refl, ◌∙◌, ap, subst, arith, Option, Some, None, is_some, Result, Ok, IfOk, ltb-true}
-use Rattle.rd_step.proofs.Prelude.{COUNTER_END, holding, cond_both, and_right, both_ways, IfOk-at_ok, MOST_SEGMENTS, operand, SegName, Place, Content, Access, NoPlace, At, Make, Operation, Refusal, is_of, Contents, is_there, Effect, effect, Performed, contents_after, operate, make, perform, effect_at, result_map, name_eq-refl, is_cell_at, Actor, World, Event, Stepped, step, CanPutBack, content_fits, place_fits, IsWellFormed}
+use Rattle.rd_step.proofs.Prelude.{holding, cond_both, and_right, both_ways, IfOk-at_ok, MOST_SEGMENTS, operand, SegName, Place, Content, Access, NoPlace, At, Make, Operation, Refusal, is_of, Contents, is_there, Effect, effect, Performed, contents_after, operate, make, perform, effect_at, result_map, name_eq-refl, is_cell_at, Actor, World, Event, Stepped, step, CanPutBack, content_fits, place_fits, IsWellFormed}
 use Rattle.std.proofs.lemmas.Bool.{ne_eqb, false_from_ne_true}
 use Rattle.rd_ring.specs.Prelude.{number_made}
 use Rattle.rd_cell.proofs.AccessLemmas.{keeps-operate}
@@ -51,7 +51,7 @@ others_stay w e s n k h other = grind arith
 -- what is there after an access goes on to be there, what is there fits, and the actor makes no
 -- segment more
 record GoesOn (R n : ℕ) (after at : Contents) : Type 0 where
-  pub fits : (q : Place) → place_fits (COUNTER_END + R) (is_there at) q (at q) ≡ true
+  pub fits : (q : Place) → place_fits R (is_there at) q (at q) ≡ true
   pub stays : (q : Place) → is_some (after q) ≡ true → is_some (at q) ≡ true
   pub made : (k : ℕ) → is_there at (record { maker = n; n = k }) ≡ is_there after (record { maker = n; n = k })
 
@@ -59,7 +59,7 @@ abbrev CanGoBack : ℕ → ℕ → Contents → Contents → Performed → Type 
 CanGoBack R n before at did = GoesOn R n (contents_after did before) at → CanPutBack at did.place did.old
 
 can-effect : (n : ℕ) (w : World) (at : Contents) (p : Place) (c : Content) (r : Result Effect Refusal) → operand w.at p ≡ Some c
-    → content_fits (COUNTER_END + w.ring) (is_there w.at) p c ≡ true → ((q : Place) → IfOk (result_map (effect_at p c) r) (StaysAt w.at q)) → IfOk (result_map (effect_at p c) r) (CanGoBack w.ring n w.at at)
+    → content_fits w.ring (is_there w.at) p c ≡ true → ((q : Place) → IfOk (result_map (effect_at p c) r) (StaysAt w.at q)) → IfOk (result_map (effect_at p c) r) (CanGoBack w.ring n w.at at)
 can-effect n w at p c r found fits stays = grind arith
 
 can-operate : (n : ℕ) (w : World) (at : Contents) (p : Place) (op : Operation) (o : Option Content) → IsWellFormed w → operand w.at p ≡ o
@@ -105,7 +105,7 @@ can-perform w n a at (Make x) formed has = can-make w n a at x formed has
 pub entry_can : (w : World) (e : Event) (s : Stepped) (at : Contents) → IsWellFormed w → step w e ≡ Ok s
     → ((q : Place) → is_some (s.world.at q) ≡ true → is_some (at q) ≡ true)
     → ((k : ℕ) → is_there at (record { maker = s.entry.event.actor; n = k }) ≡ is_there s.world.at (record { maker = s.entry.event.actor; n = k }))
-    → ((q : Place) → place_fits (COUNTER_END + w.ring) (is_there at) q (at q) ≡ true) → CanPutBack at s.entry.place s.entry.old_content
+    → ((q : Place) → place_fits w.ring (is_there at) q (at q) ≡ true) → CanPutBack at s.entry.place s.entry.old_content
 entry_can w e s at formed h stays same fits =
     let t = took w e s h in
     subst (λ (x : Stepped). GoesOn w.ring x.entry.event.actor x.world.at at → CanPutBack at x.entry.place x.entry.old_content) t.ends

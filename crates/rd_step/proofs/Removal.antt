@@ -1,6 +1,6 @@
 -- A step on which no later one depends may be taken out of a run, and go last.
-use Rattle.std.proofs.Common.{◌+◌, ◌≡◌, ℕ, true, ◌==◌, sym, ◌∙◌, ap, subst, List, [], ◌∷◌, is_some, Ok, arith}
-use Rattle.rd_step.proofs.Prelude.{COUNTER_END, or_parts, Place, is_there, interfere, World, Event, Entry, Stepped, step, unstep, CanPutBack, Ran, run, IsFree, CommutingSquare, place_fits, IsWellFormed}
+use Rattle.std.proofs.Common.{◌≡◌, ℕ, true, ◌==◌, sym, ◌∙◌, ap, subst, List, [], ◌∷◌, is_some, Ok, arith}
+use Rattle.rd_step.proofs.Prelude.{or_parts, Place, is_there, interfere, World, Event, Entry, Stepped, step, unstep, CanPutBack, Ran, run, IsFree, CommutingSquare, place_fits, IsWellFormed}
 use Rattle.rd_step.specs.Laws.{IsRemovable, WasStepped, IsTakenOut}
 use Rattle.rd_step.proofs.Steps.{took, with_actor-same}
 use Rattle.rd_step.proofs.Commute.{commutes}
@@ -113,7 +113,7 @@ can_undo_ran w e s es r formed h k free =
       place_there =
           entry_can w e s r.world.at formed h (λ q there. run_stays_at s.world es r q formed' k there)
           (λ n. run_others s.world es r s.entry n k free)
-          (subst (λ (n : ℕ). (q : Place) → place_fits (COUNTER_END + n) (is_there r.world.at) q (r.world.at q) ≡ true)
+          (subst (λ (n : ℕ). (q : Place) → place_fits n (is_there r.world.at) q (r.world.at q) ≡ true)
           (run_ring s.world es r k ∙ step_ring w e s h) (run_keeps s.world es r formed' k).contents);
       formed = (removes w e s es r formed h k free).well_formed;
     }

@@ -1,7 +1,7 @@
 -- An actor whose record fits goes on, with an answer that fits, to a record that fits: one clause a
 -- row of the table.
-use Rattle.std.proofs.Common.{◌≡◌, ℕ, ◌+◌, Bool, true, ◌&&◌, if◌then◌else◌, nat_lt, refl, arith, Option, Some, None, Ok, le-leb}
-use Rattle.rd_step.proofs.Prelude.{and_parts, SLOTS, COUNTER_END, ArrSlot, Access, Answer, root, Act, Actor, Pc, E1, E2, E3, E4, E5, E6, E7, E8, E9, E11, E12, E13, E14, Q1, Q2, Q3, Q4, Q5, Q6, Q7, Q8, Q9, Q10, Q11, Q12, Q13, Q14, A1, A2, B1, B2, B3, idle, need, need_at, after_take, after_at, after, words_fit, words_fit_at, Presence, record_fits}
+use Rattle.std.proofs.Common.{◌≡◌, ℕ, Bool, true, ◌&&◌, if◌then◌else◌, nat_lt, refl, arith, Option, Some, None, Ok, le-leb}
+use Rattle.rd_step.proofs.Prelude.{and_parts, SLOTS, ArrSlot, Access, Answer, root, Act, Actor, Pc, E1, E2, E3, E4, E5, E6, E7, E8, E9, E11, E12, E13, E14, Q1, Q2, Q3, Q4, Q5, Q6, Q7, Q8, Q9, Q10, Q11, Q12, Q13, Q14, A1, A2, B1, B2, B3, idle, need, need_at, after_take, after_at, after, words_fit, words_fit_at, Presence, record_fits, index_end}
 use Rattle.rd_actor.specs.declared.actors.Op.{Op}
 use Rattle.rd_actor.specs.declared.actors.Op.TheVariants as op
 use Rattle.rd_actor.specs.Actors.{calling}
@@ -20,23 +20,23 @@ drawn_words a closed count w = grind arith
 -- If a record names what is there
 
 idle_fits : (R : ℕ) (there : Presence) → there root ≡ true → PartsFit R there idle
-idle_fits R there h = record { crq = h; new = h; next = h; t = refl; h = refl; idx = le-leb 0 (COUNTER_END + R) (omega arith) }
+idle_fits R there h = record { crq = h; new = h; next = h; t = refl; h = refl; idx = le-leb 0 (index_end R) (omega arith) }
 
-idle_record : (R : ℕ) (there : Presence) → there root ≡ true → record_fits (COUNTER_END + R) there idle ≡ true
+idle_record : (R : ℕ) (there : Presence) → there root ≡ true → record_fits R there idle ≡ true
 idle_record R there h = together R there idle (idle_fits R there h) refl
 
 -- a record that begins a call names what the idle one names
 calling_fits : (R : ℕ) (there : Presence) (pc : Pc) (op : Op) → there root ≡ true → words_fit_at pc (calling pc op) ≡ true
-    → record_fits (COUNTER_END + R) there (calling pc op) ≡ true
+    → record_fits R there (calling pc op) ≡ true
 calling_fits R there pc op h w = grind arith
 
 -- the actor's other words stay
 moved : (R : ℕ) (there : Presence) (a : Actor) (pc : Pc) → PartsFit R there a → words_fit_at pc (record a { pc = pc }) ≡ true
-    → record_fits (COUNTER_END + R) there (record a { pc = pc }) ≡ true
+    → record_fits R there (record a { pc = pc }) ≡ true
 moved R there a pc f w = grind arith
 
-taken_fits : (R : ℕ) (there : Presence) (a : Actor) (val : Option ℕ) → there root ≡ true → record_fits (COUNTER_END + R) there a ≡ true
-    → record_fits (COUNTER_END + R) there (after_take val a).0 ≡ true
+taken_fits : (R : ℕ) (there : Presence) (a : Actor) (val : Option ℕ) → there root ≡ true → record_fits R there a ≡ true
+    → record_fits R there (after_take val a).0 ≡ true
 taken_fits R there a val h whole = grind arith
 
 -- the first of the words that fit a place
@@ -44,7 +44,7 @@ left : (x y : Bool) → (x && y) ≡ true → x ≡ true
 left x y h = (and_parts x y h).0
 
 swapped_out_fits : (R : ℕ) (there : Presence) (a : Actor) (slot : ArrSlot) → there root ≡ true → PartsFit R there a → words_fit_at B3 a ≡ true
-    → record_fits (COUNTER_END + R) there (after_at R B2 a (answer.Found (content.Slot slot))).0 ≡ true
+    → record_fits R there (after_at R B2 a (answer.Found (content.Slot slot))).0 ≡ true
 swapped_out_fits R there a slot r f w = grind arith
 
 -- whether the position has a slot that an actor which is here drew on the array
@@ -58,8 +58,8 @@ drew_row R a pc x answer n d = grind arith
 
 -- the rows
 after_at_fits : (R : ℕ) (there : Presence) (a : Actor) (pc : Pc) (answer : Answer) → there root ≡ true
-    → answer_fits R there answer ≡ true → record_fits (COUNTER_END + R) there a ≡ true → PartsFit R there a → words_fit_at pc a ≡ true
-    → drew_at pc answer ≡ true → record_fits (COUNTER_END + R) there (after_at R pc a answer).0 ≡ true
+    → answer_fits R there answer ≡ true → record_fits R there a ≡ true → PartsFit R there a → words_fit_at pc a ≡ true
+    → drew_at pc answer ≡ true → record_fits R there (after_at R pc a answer).0 ≡ true
 after_at_fits R there a E1 (answer.Found (content.Name s)) r h whole f w d = grind arith
 after_at_fits R there a E2 (answer.Found (content.Next (Some m))) r h whole f w d = grind arith
 after_at_fits R there a E2 (answer.Found (content.Next None)) r h whole f w d = moved R there a E4 f w
@@ -104,8 +104,8 @@ after_at_fits R there a _ _ r h whole f w d = whole
 
 -- an actor whose record fits, and that was not refused, goes on to a record that fits
 pub after_fits : (R : ℕ) (there : Presence) (a : Actor) (act : Act) (x : Access) (answer : Answer) → there root ≡ true
-    → need R a act ≡ Ok x → answer_fits R there answer ≡ true → drew_slot x answer ≡ true → record_fits (COUNTER_END + R) there a ≡ true
-    → record_fits (COUNTER_END + R) there (after R a act answer).0 ≡ true
+    → need R a act ≡ Ok x → answer_fits R there answer ≡ true → drew_slot x answer ≡ true → record_fits R there a ≡ true
+    → record_fits R there (after R a act answer).0 ≡ true
 after_fits R there a (act.Enq v) x answer r n h d whole = calling_fits R there E1 (op.Enq v) r refl
 after_fits R there a act.Deq x answer r n h d whole = calling_fits R there Q1 op.Deq r refl
 after_fits R there a (act.AEnq v) x answer r n h d whole = calling_fits R there A1 (op.AEnq v) r refl

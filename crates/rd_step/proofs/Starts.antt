@@ -1,6 +1,6 @@
 -- The worlds that a session may begin with are well-formed.
-use Rattle.std.proofs.Common.{◌≡◌, ◌↔◌, ℕ, suc, ◌+◌, ◌<◌, ◌≤◌, Bool, true, false, if◌then◌else◌, nat_lt, inl, inr, refl, sym, ◌∙◌, ap, arith, List, length, get_or, slice_get, All, IsSome, Option, Some, None, is_some, le-leb, lt-ltb, le-ltb}
-use Rattle.rd_step.proofs.Prelude.{common_steps, cases_lt, cond-true, cond-false, and_from, both_ways, slice_get_past, MOST_ACTORS, COUNTER_END, SegName, Place, root, is_there, Space, contents, Actor, idle, poised, World, world_of_fields, numbered, Presence, belongs, place_fits, record_fits, actor_fits, is_actor, IsNumbered, AreMade, IsWellFormed}
+use Rattle.std.proofs.Common.{◌≡◌, ◌↔◌, ℕ, suc, ◌<◌, ◌≤◌, Bool, true, false, if◌then◌else◌, nat_lt, inl, inr, refl, sym, ◌∙◌, ap, arith, List, length, get_or, slice_get, All, IsSome, Option, Some, None, is_some, le-leb, lt-ltb, le-ltb}
+use Rattle.rd_step.proofs.Prelude.{common_steps, cases_lt, cond-true, cond-false, and_from, both_ways, slice_get_past, MOST_ACTORS, SegName, Place, root, is_there, Space, contents, Actor, idle, poised, World, world_of_fields, numbered, Presence, belongs, place_fits, record_fits, actor_fits, is_actor, IsNumbered, AreMade, IsWellFormed, index_end}
 use Rattle.std.proofs.lemmas.Option.{slice_get-get_or}
 use Rattle.rd_segments.specs.SpaceFields.{fresh_space}
 use Rattle.rd_step.specs.Starts.{actors_by, fresh_world, poised_world}
@@ -23,7 +23,7 @@ made_first R actors = grind arith
 places_first : (R : ℕ) (p : Place) → is_some (fresh_space R p) ≡ belongs R (there_first R) p
 places_first R p = grind arith
 
-contents_first : (R : ℕ) (p : Place) → place_fits (COUNTER_END + R) (there_first R) p (fresh_space R p) ≡ true
+contents_first : (R : ℕ) (p : Place) → place_fits R (there_first R) p (fresh_space R p) ≡ true
 contents_first R p = grind arith
 
 below_count : (each : ℕ → Actor) (count n : ℕ) → is_actor (actors_by each count) (suc n) ≡ true → n < count
@@ -33,20 +33,20 @@ below_count each count n h = grind arith
 numbered_by : (each : ℕ → Actor) (count : ℕ) → 1 ≤ count → count ≤ MOST_ACTORS → IsNumbered (is_actor (actors_by each count))
 numbered_by each count some few = grind arith
 
-fits_by : (R : ℕ) (each : ℕ → Actor) (count : ℕ) → ((n : ℕ) → record_fits (COUNTER_END + R) (there_first R) (each n) ≡ true) → (n : ℕ)
-    → actor_fits (COUNTER_END + R) (there_first R) (actors_by each count n) ≡ true
+fits_by : (R : ℕ) (each : ℕ → Actor) (count : ℕ) → ((n : ℕ) → record_fits R (there_first R) (each n) ≡ true) → (n : ℕ)
+    → actor_fits R (there_first R) (actors_by each count n) ≡ true
 fits_by R each count fits n = grind arith
 
 -- a world with a fresh space and this many actors whose records fit is well-formed
-starts_well : (R : ℕ) (each : ℕ → Actor) (count : ℕ) → 1 ≤ count → count ≤ MOST_ACTORS → ((n : ℕ) → record_fits (COUNTER_END + R) (there_first R) (each n) ≡ true)
+starts_well : (R : ℕ) (each : ℕ → Actor) (count : ℕ) → 1 ≤ count → count ≤ MOST_ACTORS → ((n : ℕ) → record_fits R (there_first R) (each n) ≡ true)
     → IsWellFormed (record { ring = R; at = fresh_space R; actor = actors_by each count })
 starts_well R each count some few fits = grind (arith, common_steps, numbered_by, made_first, places_first, contents_first, fits_by)
 
-idle_fits : (R : ℕ) → record_fits (COUNTER_END + R) (there_first R) idle ≡ true
-idle_fits R = and_from _ _ (and_from _ _ refl (and_from _ _ refl (le-leb 0 (COUNTER_END + R) (omega arith)))) refl
+idle_fits : (R : ℕ) → record_fits R (there_first R) idle ≡ true
+idle_fits R = and_from _ _ (and_from _ _ refl (and_from _ _ refl (le-leb 0 (index_end R) (omega arith)))) refl
 
-poised_fits : (R n : ℕ) → record_fits (COUNTER_END + R) (there_first R) (poised n) ≡ true
-poised_fits R n = and_from _ _ (and_from _ _ refl (and_from _ _ refl (le-leb 0 (COUNTER_END + R) (omega arith)))) refl
+poised_fits : (R n : ℕ) → record_fits R (there_first R) (poised n) ≡ true
+poised_fits R n = and_from _ _ (and_from _ _ refl (and_from _ _ refl (le-leb 0 (index_end R) (omega arith)))) refl
 
 pub fresh_formed : (R count : ℕ) → 1 ≤ count → count ≤ MOST_ACTORS → IsWellFormed (fresh_world R count)
 fresh_formed R count some few = starts_well R (λ n. idle) count some few (λ n. idle_fits R)

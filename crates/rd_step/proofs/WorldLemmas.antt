@@ -1,5 +1,5 @@
 -- The code's world, as the model's.
-use Rattle.std.proofs.Common.{◌+◌, ◌≡◌, ℕ, zero, suc, ◌-◌, ◌<◌, ◌≤◌, true, false, nat_lt, inl, inr, refl, sym, ◌∙◌, ap, subst, arith, List, [], ◌∷◌, length, set, slice_get, Option, Some, None, is_some, IsSome, is_ok, IsOk, IfOk, OnErr, Result, Ok, Err, lt-ltb, le-ltb, leb-true}
+use Rattle.std.proofs.Common.{◌≡◌, ℕ, zero, suc, ◌-◌, ◌<◌, ◌≤◌, true, false, nat_lt, inl, inr, refl, sym, ◌∙◌, ap, subst, arith, List, [], ◌∷◌, length, set, slice_get, Option, Some, None, is_some, IsSome, is_ok, IsOk, IfOk, OnErr, Result, Ok, Err, lt-ltb, le-ltb, leb-true}
 use Rattle.rd_step.proofs.Prelude.{holding, cases_lt, cond-true, cond-false, COUNTER_END, MOST_SEGMENTS, MOST_CELLS, MOST_ACTORS, SegName, Place, Access, Make, Done, Refusal, Contents, is_there, perform, restore, everywhere, HasEffect, Space, contents, room, lists, Actor, OpReply, need, after, World, Event, Entry, with_actor, step, world_of_fields, numbered, makes, makes_segment, IsRefused, Presence, actor_fits, record_fits, maker_fits, is_actor, IsWellFormed, IfOk-at_ok}
 use Rattle.rd_ring.specs.Prelude.{number_made, Makes, RefusesMaking}
 use Rattle.rd_segments.specs.Space.{making_count}
@@ -117,7 +117,7 @@ pub need_suits : (R : ℕ) (space : Space R) (xs : List Actor) (e : Event) (a : 
     → numbered xs e.actor ≡ Some a → need R a e.act ≡ Ok x → access_suits x ≡ true
 need_suits R space xs e a x formed has needs =
     let there = is_there (contents space) in
-    let fits : record_fits (COUNTER_END + R) there a ≡ true = subst (λ (o : Option Actor). actor_fits (COUNTER_END + R) there o ≡ true) has (formed.actors e.actor) in
+    let fits : record_fits R there a ≡ true = subst (λ (o : Option Actor). actor_fits R there o ≡ true) has (formed.actors e.actor) in
     access_suited R there x (IfOk-at_ok (λ (y : Access). access_fits R there y ≡ true) needs (need_fits R there a e.act fits))
 
 -- what an actor of a well-formed world asks for is representable: its head position has room for
@@ -126,7 +126,7 @@ pub representable_here : (R : ℕ) (space : Space R) (xs : List Actor) (e : Even
     → numbered xs e.actor ≡ Some a → IsRepresentable R a e.act
 representable_here R space xs e a formed small has =
     let there = is_there (contents space) in
-    let fits : record_fits (COUNTER_END + R) there a ≡ true = subst (λ (o : Option Actor). actor_fits (COUNTER_END + R) there o ≡ true) has (formed.actors e.actor) in
+    let fits : record_fits R there a ≡ true = subst (λ (o : Option Actor). actor_fits R there o ≡ true) has (formed.actors e.actor) in
     let h = leb-true a.h COUNTER_END (parts_of R there a fits).h in
     representable R a e.act (omega arith) (words_of R there a fits)
 

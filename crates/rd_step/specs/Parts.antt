@@ -1,7 +1,7 @@
 -- A world, as it is put together from parts, and the first of its flaws.
-use Rattle.std.specs.Prelude.{◌≡◌, ℕ, suc, ◌+◌, Bool, not, ◌==◌, ◌&&◌, nat_le, if◌then◌else◌, length, Option, Some, None, is_some}
+use Rattle.std.specs.Prelude.{◌≡◌, ℕ, suc, Bool, not, ◌==◌, ◌&&◌, nat_le, if◌then◌else◌, length, Option, Some, None, is_some}
 use Rattle.std.specs.List.{list_all}
-use Rattle.rd_ring.specs.Prelude.{COUNTER_END, MOST_SEGMENTS, SLOTS, MOST_ACTORS}
+use Rattle.rd_ring.specs.Prelude.{MOST_SEGMENTS, SLOTS, MOST_ACTORS}
 use Rattle.rd_ring.specs.declared.parts.SegmentParts.{SegmentParts}
 use Rattle.rd_ring.specs.Segments.{counters_fit}
 use Rattle.rd_segments.specs.declared.array.ArrayParts.{ArrayParts}
@@ -15,7 +15,7 @@ use Rattle.rd_step.specs.declared.flaws.Flaw.TheVariants.{Makers, PlaceNames, Ac
 use Rattle.rd_step.specs.declared.flaws.Unassembled.{Unassembled}
 use Rattle.rd_step.specs.declared.flaws.Unassembled.TheVariants as unassembled
 use Rattle.rd_step.specs.Lists.{numbered}
-use Rattle.rd_step.specs.WellFormed.{Presence, next_fits, names_fit, numbers_within}
+use Rattle.rd_step.specs.WellFormed.{Presence, index_end, next_fits, names_fit, numbers_within}
 
 -- the world of the model that these parts describe
 abbrev pub world_of_parts : {R : ℕ} → Parts R → World
@@ -57,9 +57,9 @@ first_flaw {R} p =
     else if not (place_names_fit p) then Some PlaceNames
     else if not (actor_names_fit p) then Some ActorNames
     else if not (each_segment counters_fit p.segments.items) then Some Counters
-    else if not (each_segment (indexes_fit (COUNTER_END + R)) p.segments.items) then Some Indexes
+    else if not (each_segment (indexes_fit (index_end R)) p.segments.items) then Some Indexes
     else if not (array_fits p.array) then Some ArrayCounters
-    else if not (list_all (numbers_within (COUNTER_END + R)) p.actors.items) then Some ActorNumbers
+    else if not (list_all (numbers_within (index_end R)) p.actors.items) then Some ActorNumbers
     else if not (list_all words_fit p.actors.items) then Some ActorWords
     else None
 

@@ -38,20 +38,25 @@ segments_named_fit there (content.Name s) = there s
 segments_named_fit there (content.Next m) = next_fits there m
 segments_named_fit there _ = true
 
+-- the greatest index that a cell or an actor may have over rings of R cells: the greatest position,
+-- 2^62, one round on
+abbrev pub index_end : ℕ → ℕ
+index_end R = COUNTER_END + R
+
 -- whether the index in a content, if it has one, is at most `end`
 abbrev pub index_within : ℕ → Content → Bool
 index_within end (content.Cell c) = nat_le c.idx end
 index_within end (content.Idx safe idx) = nat_le idx end
 index_within end _ = true
 
--- whether a content fits its place: the place can hold it, the segments that it names are there,
--- and its index is at most `end`
+-- whether a content fits its place, over rings of R cells: the place can hold it, the segments that
+-- it names are there, and its index is not past the end
 abbrev pub content_fits : ℕ → Presence → Place → Content → Bool
-content_fits end there p c = can_hold p c && segments_named_fit there c && index_within end c
+content_fits R there p c = can_hold p c && segments_named_fit there c && index_within (index_end R) c
 
 -- whether the content of a place, if there is one, fits the place
 abbrev pub place_fits : ℕ → Presence → Place → Option Content → Bool
-place_fits end there p o = option_map_or (content_fits end there p) o true
+place_fits R there p o = option_map_or (content_fits R there p) o true
 
 -- whether the segments that an actor's words name are there
 abbrev pub names_fit : Presence → Actor → Bool
@@ -61,14 +66,14 @@ names_fit there a = there a.crq && there a.new && there a.next
 abbrev pub numbers_within : ℕ → Actor → Bool
 numbers_within end a = nat_le a.t COUNTER_END && nat_le a.h COUNTER_END && nat_le a.idx end
 
--- whether an actor's record fits the world: its names, its numbers, of which the index is at most
--- `end`, and its words at its control point
+-- whether an actor's record fits a world of rings of R cells: its names, its numbers, of which the
+-- index is not past the end, and its words at its control point
 abbrev pub record_fits : ℕ → Presence → Actor → Bool
-record_fits end there a = names_fit there a && numbers_within end a && words_fit a
+record_fits R there a = names_fit there a && numbers_within (index_end R) a && words_fit a
 
 -- whether an actor's record fits, if there is such an actor
 abbrev pub actor_fits : ℕ → Presence → Option Actor → Bool
-actor_fits end there o = option_map_or (record_fits end there) o true
+actor_fits R there o = option_map_or (record_fits R there) o true
 
 -- there are 1 to 16 actors, numbered from 1 without a gap
 pub record IsNumbered (is_actor : ℕ → Bool) : Type 0 where
@@ -94,13 +99,12 @@ pub record AreMade (is_actor : ℕ → Bool) (there : Presence) : Type 0 where
 abbrev pub is_actor : (ℕ → Option Actor) → ℕ → Bool
 is_actor actors n = is_some (actors n)
 
--- a world of rings of R cells is well-formed
+-- a world is well-formed, whatever the size of its rings
 pub record IsWellFormed (w : World) : Type 0 where
   pub numbered : IsNumbered (is_actor w.actor)
   pub made : AreMade (is_actor w.actor) (is_there w.at)
   -- exactly the places that belong to the world are there
   pub places : (p : Place) → is_some (w.at p) ≡ belongs w.ring (is_there w.at) p
-  -- the content of each place and the record of each actor fit, where no index is above 2^62 by
-  -- more than the ring's size
-  pub contents : (p : Place) → IsTrue (place_fits (COUNTER_END + w.ring) (is_there w.at) p (w.at p))
-  pub actors : (n : ℕ) → IsTrue (actor_fits (COUNTER_END + w.ring) (is_there w.at) (w.actor n))
+  -- the content of each place and the record of each actor fit
+  pub contents : (p : Place) → IsTrue (place_fits w.ring (is_there w.at) p (w.at p))
+  pub actors : (n : ℕ) → IsTrue (actor_fits w.ring (is_there w.at) (w.actor n))
