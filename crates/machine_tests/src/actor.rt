@@ -311,12 +311,22 @@ fn a_call_on_the_array_goes_on_by_what_it_found(rt: HostRuntime) {
     }
 }
 
+/// The labels of the table's rows, in its order.
+const LABELS: [&str; 34] = [
+    "Idle", "E1", "E2", "E3", "E4", "E5", "E6", "E7", "E8", "E9", "E10", "E11", "E12", "E13",
+    "E14", "Q1", "Q2", "Q3", "Q4", "Q5", "Q6", "Q7", "Q8", "Q9", "Q10", "Q11", "Q12", "Q13", "Q14",
+    "A1", "A2", "B1", "B2", "B3",
+];
+
+#[test]
+fn the_control_points_are_in_the_order_of_the_table(rt: HostRuntime) {
+    for (i, pc) in Pc::ALL.iter().enumerate() {
+        assert_eq!(rt; pc.label(), LABELS[i], "{i}");
+    }
+}
+
 #[test]
 fn each_control_point_has_a_label_of_its_own(rt: HostRuntime) {
-    assert_eq!(rt; Pc::ALL[0].label(), "Idle");
-    assert_eq!(rt; Pc::ALL[14].label(), "E14");
-    assert_eq!(rt; Pc::ALL[28].label(), "Q14");
-    assert_eq!(rt; Pc::ALL[33].label(), "B3");
     for pc in Pc::ALL {
         assert_eq!(rt; Pc::of_label(pc.label()), Some(pc), "{pc:?}");
     }

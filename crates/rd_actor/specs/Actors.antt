@@ -18,4 +18,4 @@ poised value = record idle { pc = E4; op = Some (op.Enq value) }
 
 -- the record of an actor that begins this call at this control point
 abbrev pub calling : Pc → Op → Actor
-calling pc op = record idle { pc = pc; op = Some op }
+calling pc call = record idle { pc = pc; op = Some call }

@@ -24,11 +24,14 @@ use Rattle.rd_actor.specs.declared.actors.Pc.{Pc}
 use Rattle.rd_actor.specs.declared.actors.Pc.TheVariants.{Idle, E1, E2, E3, E4, E5, E6, E7, E8, E9, E10, E11, E12, E13, E14, Q1, Q2, Q3, Q4, Q5, Q6, Q7, Q8, Q9, Q10, Q11, Q12, Q13, Q14, A1, A2, B1, B2, B3}
 use Rattle.rd_actor.specs.Actors.{idle, calling}
 
--- the value that an enqueue is to put, on either queue
+-- the value that an enqueue is to put, on either queue; a dequeue, or no call, has none to put, so
+-- no row asks for it
 abbrev pub value_to_put : Option Op → ℕ
 value_to_put (Some (op.Enq x)) = x
 value_to_put (Some (op.AEnq x)) = x
-value_to_put _ = 0
+value_to_put (Some op.Deq) = 0
+value_to_put (Some op.ADeq) = 0
+value_to_put None = 0
 
 -- a cell of these words
 abbrev pub cell_with : Bool → ℕ → Option ℕ → Cell
@@ -135,13 +138,14 @@ abbrev pub after_take : Option ℕ → Actor → Actor × Option OpReply
 after_take (Some v) a = (idle, Some (op_reply.Value v))
 after_take None a = (a, None)
 
--- how an actor at this control point goes on with an answer, and what it replies; an answer of a
--- kind that the row's access never gives changes nothing
+-- how an actor at this control point goes on with an answer, and what it replies. An answer of a
+-- kind that the row's access never gives changes nothing: no step comes to that last row, since each
+-- step leads to another control point (`laws::steps_move_their_actors` of rd_step)
 abbrev pub after_at : ℕ → Pc → Actor → Answer → Actor × Option OpReply
 after_at R E1 a (answer.Found (content.Name s)) = (record a { crq = s; pc = E2 }, None)
 after_at R E2 a (answer.Found (content.Next (Some m))) = (record a { next = m; pc = E3 }, None)
 after_at R E2 a (answer.Found (content.Next None)) = (record a { pc = E4 }, None)
-after_at R E3 a answer = (record a { pc = E1 }, None)
+after_at R E3 a _ = (record a { pc = E1 }, None)
 -- on to the cell of the position drawn, or to a segment of its own if the ring is closed
 after_at R E4 a (answer.Found (content.Tail closed count)) = (record a { t = count; pc = if closed then E12 else E5 }, None)
 after_at R E5 a (answer.Value v) = (record a { val = v; pc = E6 }, None)
@@ -152,11 +156,11 @@ after_at R E8 a answer.Won = (idle, Some op_reply.Enqueued)
 after_at R E8 a answer.Lost = (record a { pc = E9 }, None)
 -- closes the ring if it is full, else has to choose whether it starves
 after_at R E9 a (answer.Found (content.Number g)) = (record a { h = g; pc = if nat_le (g + R) a.t then E11 else E10 }, None)
-after_at R E11 a answer = (record a { pc = E12 }, None)
+after_at R E11 a _ = (record a { pc = E12 }, None)
 after_at R E12 a (answer.Made s) = (record a { new = s; pc = E13 }, None)
 after_at R E13 a answer.Won = (record a { pc = E14 }, None)
 after_at R E13 a answer.Lost = (record a { pc = E1 }, None)
-after_at R E14 a answer = (idle, Some op_reply.Enqueued)
+after_at R E14 a _ = (idle, Some op_reply.Enqueued)
 after_at R Q1 a (answer.Found (content.Name s)) = (record a { crq = s; pass = 1; pc = Q2 }, None)
 after_at R Q2 a (answer.Found (content.Number g)) = (record a { h = g; pc = Q3 }, None)
 after_at R Q3 a (answer.Value v) = (record a { val = v; pc = Q4 }, None)
@@ -176,7 +180,7 @@ after_at R Q12 a answer.Won = (record a { pc = pc_after_empty_pass a }, None)
 after_at R Q12 a answer.Lost = (record a { pc = Q9 }, None)
 after_at R Q13 a (answer.Found (content.Next None)) = (idle, Some op_reply.Empty)
 after_at R Q13 a (answer.Found (content.Next (Some m))) = (record a { next = m; pass = 2; pc = Q2 }, None)
-after_at R Q14 a answer = (record a { pc = Q1 }, None)
+after_at R Q14 a _ = (record a { pc = Q1 }, None)
 after_at R A1 a (answer.Found (content.Number u)) = (record a { t = u; pc = A2 }, None)
 -- over if nobody had been at the slot before, else draws the next position
 after_at R A2 a (answer.Found (content.Slot slot.Empty)) = (idle, Some op_reply.Enqueued)
@@ -191,9 +195,9 @@ after_at R _ a _ = (a, None)
 
 -- the actor's next record, and what it replies if its call is over
 abbrev pub after : ℕ → Actor → Act → Answer → Actor × Option OpReply
-after R a (act.Enq x) answer = (calling E1 (op.Enq x), None)
-after R a act.Deq answer = (calling Q1 op.Deq, None)
-after R a (act.AEnq x) answer = (calling A1 (op.AEnq x), None)
-after R a act.ADeq answer = (calling B1 op.ADeq, None)
-after R a act.Go answer = after_at R a.pc a answer
-after R a (act.Starve b) answer = (record a { pc = if b then E11 else E4 }, None)
+after R a (act.Enq x) _ = (calling E1 (op.Enq x), None)
+after R a act.Deq _ = (calling Q1 op.Deq, None)
+after R a (act.AEnq x) _ = (calling A1 (op.AEnq x), None)
+after R a act.ADeq _ = (calling B1 op.ADeq, None)
+after R a act.Go said = after_at R a.pc a said
+after R a (act.Starve b) _ = (record a { pc = if b then E11 else E4 }, None)

@@ -14,8 +14,8 @@ use super::actors::{Act, Actor, Op, OpReply, Pc};
 use rd_cell::{Access, Answer, ArrSlot, Cell, Content, Operation, Place, Refusal, SegName};
 
 /// Returns the one access that the actor's next step makes, over rings of `R` cells. The actors of
-/// a world name only indexes and slots that fit their words; for others two rows may not
-/// (`IsRepresentable`).
+/// a world name only indexes and slots that fit their words; of others the access is not known at
+/// Q5, Q7, A2 and B2 (`IsRepresentable`).
 ///
 /// # Errors
 ///
@@ -59,7 +59,7 @@ fn need_at<const R: usize>(actor: &Actor) -> Result<Access, Refusal>
             Operation::ReadSafeAndIndex,
         )),
         Pc::E7 | Pc::E9 | Pc::Q10 => Ok(Access::At(Place::Head(crq), Operation::Read)),
-        Pc::E8 => Ok(Access::At(cell_at::<R>(actor, actor.t), put_value(actor))),
+        Pc::E8 => Ok(Access::At(cell_at::<R>(actor, actor.t), cas2_to_put(actor))),
         Pc::E10 => Err(Refusal::NeedsChoice),
         Pc::E11 => Ok(Access::At(Place::Tail(crq), Operation::Close)),
         Pc::E12 => Ok(Access::Make(value_to_put(actor.op))),
@@ -432,7 +432,7 @@ fn value_to_put(op: Option<Op>) -> u64
 {
     match op {
         Some(Op::Enq(value) | Op::AEnq(value)) => value,
-        _ => 0,
+        Some(Op::Deq | Op::ADeq) | None => 0,
     }
 }
 
@@ -480,7 +480,7 @@ fn cas_name(actor: &Actor, new: SegName) -> Operation
 
 /// Returns the operation of E8: a compare-and-swap from the empty cell that was read to the value
 /// at the actor's position.
-fn put_value(actor: &Actor) -> Operation
+fn cas2_to_put(actor: &Actor) -> Operation
     ensures { result ≡ Cas2 (cell_with actor.now.safe actor.now.idx None) (cell_with true actor.now.t (Some (value_to_put actor.now.op))) }
 {
     Operation::Cas2 {

@@ -32,8 +32,14 @@ abbrev pub cell_of_halves : Option Content → Option Content → Option Content
 cell_of_halves (Some (content.Val val)) (Some (content.Idx safe idx)) = Some (content.Cell (record { safe = safe; idx = idx; val = val }))
 cell_of_halves _ _ = None
 
+-- whether a content is that of a whole cell
+abbrev pub is_cell : Content → Bool
+is_cell (content.Cell c) = true
+is_cell _ = false
+
 -- what each place that the written place covers gets of a content, or of none: of a cell its half,
--- else all of it
+-- else all of it. A cell is found to have, and is given, no content of another kind
+-- (`laws::the_content_of_a_cell_is_a_cell`)
 abbrev pub share : Place → Option Content → Contents
 share (place.Cell s i) (Some (content.Cell c)) q = half c q
 share p o q = o

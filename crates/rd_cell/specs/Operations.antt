@@ -25,11 +25,11 @@ pub record Effect : Type 0 where
 
 -- the effect of an operation that answers this and writes nothing
 abbrev pub reads : Answer → Result Effect Refusal
-reads answer = Ok (record { answer = answer; writes = None })
+reads said = Ok (record { answer = said; writes = None })
 
 -- the effect of an operation that answers this and writes this content
 abbrev pub writes : Answer → Content → Result Effect Refusal
-writes answer c = Ok (record { answer = answer; writes = Some c })
+writes said c = Ok (record { answer = said; writes = Some c })
 
 -- the effect of a compare-and-swap: if the test holds it wins and writes this content, else it
 -- loses and writes nothing
@@ -39,7 +39,7 @@ swaps won c = if won then writes answer.Won c else reads answer.Lost
 -- the effect of a fetch-and-add on a counter at n: it answers the old content and writes the new
 -- one, or is refused where n is the limit
 abbrev pub adds : ℕ → ℕ → Refusal → Content → Content → Result Effect Refusal
-adds limit n refusal old new = if nat_lt n limit then writes (answer.Found old) new else Err refusal
+adds limit n cause old new = if nat_lt n limit then writes (answer.Found old) new else Err cause
 
 -- the effect of an operation on a content; no well-formed world asks for one on a content of
 -- another kind

@@ -8,6 +8,7 @@
 mod access;
 mod cells;
 mod contents;
+pub mod laws;
 pub mod limits;
 mod operations;
 mod places;

@@ -40,7 +40,7 @@ shares x y h =
       | inl a ↦
           let c = some_common (written x.place x.wrote) y.place a in
           record {
-            place = c.place;
+            common = c.place;
             is_of_the_map = c.of_map;
             first = written-covers x.place x.wrote c.place c.first;
             second = c.second;
@@ -49,7 +49,7 @@ shares x y h =
       | inr b ↦
           let c = some_common x.place (written y.place y.wrote) b in
           record {
-            place = c.place;
+            common = c.place;
             is_of_the_map = c.of_map;
             first = c.first;
             second = written-covers y.place y.wrote c.place c.second;
@@ -59,13 +59,13 @@ shares x y h =
 
 interferes : (x y : Entry) → SharesPlace x y → interfere x.place x.wrote y.place y.wrote ≡ true
 interferes x y s =
-    elim (or_cases (wrote x s.place) (wrote y s.place) s.one_wrote) [
+    elim (or_cases (wrote x s.common) (wrote y s.common) s.one_wrote) [
       | inl a ↦
           or_left (some_overlap (written x.place x.wrote) y.place) (some_overlap x.place (written y.place y.wrote))
-          (both_cover (written x.place x.wrote) y.place s.place a s.second)
+          (both_cover (written x.place x.wrote) y.place s.common a s.second)
       | inr b ↦
           or_right (some_overlap (written x.place x.wrote) y.place) (some_overlap x.place (written y.place y.wrote))
-          (both_cover x.place (written y.place y.wrote) s.place s.first b)
+          (both_cover x.place (written y.place y.wrote) s.common s.first b)
     ]
 
 pub shared : (x y : Entry) → (depends x y ≡ true) ↔ ((x.event.actor ≡ y.event.actor) ⊎ SharesPlace x y)
@@ -84,4 +84,4 @@ nobody_wrote x y = not_so (interfere x.place x.wrote y.place y.wrote) (either_wr
 
 pub apart : (x y : Entry) → some_overlap x.place y.place ≡ false → interfere x.place x.wrote y.place y.wrote ≡ false
 apart x y = not_so (interfere x.place x.wrote y.place y.wrote) (some_overlap x.place y.place)
-    (λ h. let s = shares x y h in both_cover x.place y.place s.place s.first s.second)
+    (λ h. let s = shares x y h in both_cover x.place y.place s.common s.first s.second)

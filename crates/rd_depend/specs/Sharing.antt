@@ -22,11 +22,11 @@ wrote x q = some_covers (written x.place x.wrote) q
 
 -- there is a place of the map that both entries touched and at least one of them wrote
 pub record SharesPlace (x y : Entry) : Type 0 where
-  pub place : Place
-  pub is_of_the_map : is_of_map place ≡ true
-  pub first : touched x place ≡ true
-  pub second : touched y place ≡ true
-  pub one_wrote : (wrote x place || wrote y place) ≡ true
+  pub common : Place
+  pub is_of_the_map : is_of_map common ≡ true
+  pub first : touched x common ≡ true
+  pub second : touched y common ≡ true
+  pub one_wrote : (wrote x common || wrote y common) ≡ true
 
 -- whether at least one of two entries wrote anything
 abbrev pub either_wrote : Entry → Entry → Bool

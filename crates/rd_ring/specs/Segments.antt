@@ -39,18 +39,18 @@ tail_count s = s.tail
 
 -- whatever the segment is named, an operation at this place of it found this content, answered
 -- this, wrote this of it, and left every other place as it was
-pub record OperatesAt {R : ℕ} (place : SegName → Place) (op : Operation) (found : Content) (answer : Answer) (wrote : Wrote) (old new : Segment R) : Type 0 where
+pub record OperatesAt {R : ℕ} (place_of : SegName → Place) (op : Operation) (found : Content) (said : Answer) (written : Wrote) (old new : Segment R) : Type 0 where
   pub named : (s : SegName)
-      → Operates (is_of s) (place s) op (record { place = Some (place s); old = Some found; answer = answer; wrote = wrote }) (part old) (part new)
+      → Operates (is_of s) (place_of s) op (record { place = Some (place_of s); old = Some found; answer = said; wrote = written }) (part old) (part new)
 
 -- whatever the segment is named, the operation is refused at this place of it
 abbrev pub RefusesAt : {R : ℕ} → (SegName → Place) → Operation → Segment R → Refusal → Type 0
-RefusesAt place op old refusal = (s : SegName) → operate (place s) op (operand (part old) (place s)) ≡ Err refusal
+RefusesAt place_of op old cause = (s : SegName) → operate (place_of s) op (operand (part old) (place_of s)) ≡ Err cause
 
 -- whatever the segment is named, this content was put back at this place of it, and every other
 -- place of it is as it was
-pub record RestoresAt {R : ℕ} (place : SegName → Place) (content : Content) (old new : Segment R) : Type 0 where
-  pub named : (s : SegName) → Restores (is_of s) (place s) (Some content) (part old) (part new)
+pub record RestoresAt {R : ℕ} (place_of : SegName → Place) (was : Content) (old new : Segment R) : Type 0 where
+  pub named : (s : SegName) → Restores (is_of s) (place_of s) (Some was) (part old) (part new)
 
 -- the answer of a compare-and-swap that won, or that lost
 abbrev pub swap_answer : Bool → Answer

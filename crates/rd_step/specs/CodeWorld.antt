@@ -5,8 +5,8 @@ use Rattle.rd_step.specs.declared.worlds.World.{World as CodeWorld}
 use Rattle.rd_step.specs.World.{World}
 use Rattle.rd_step.specs.CodeWorldFields.{world_of_fields}
 
--- the world of the model that the code's world is: the content of each place, and the record of
--- each actor
+-- the world of the model that the code's world is: the size of the rings, the content of each
+-- place, and the record of each actor
 abbrev pub model : {R : ℕ} → CodeWorld R → World
 model w = world_of_fields w.space w.actors.items
 

@@ -53,7 +53,7 @@ CanPutBack at _ _ = ⊥
 
 -- the world with this record given to the actor, and this content, or none, put back at the place
 abbrev pub revert : World → ℕ → Actor → Option Place → Option Content → World
-revert w n a place content = record { ring = w.ring; at = restore place content w.at; actor = with_actor n a w.actor }
+revert w n a o was = record { ring = w.ring; at = restore o was w.at; actor = with_actor n a w.actor }
 
 -- the world with the old words of an entry put back: those of its actor and of its place
 abbrev pub unstep : World → Entry → World

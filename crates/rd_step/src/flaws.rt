@@ -206,12 +206,12 @@ fn all_counters_fit<const R: usize>(parts: &Parts<R>) -> bool
     parts.segments.iter().all(
         |list| -> bool
             ensures { result ≡ list_all counters_fit list.now.items }
-        { counters_fit(list) },
+        { list_counters_fit(list) },
     )
 }
 
 /// Whether the counters of each segment of a list are at most 2^62.
-fn counters_fit<const R: usize>(list: &[SegmentParts<R>]) -> bool
+fn list_counters_fit<const R: usize>(list: &[SegmentParts<R>]) -> bool
     ensures { result ≡ list_all counters_fit list.now }
 {
     list.iter().all(
