@@ -24,8 +24,8 @@ use Rattle.rd_actor.specs.declared.actors.Pc.{Pc}
 use Rattle.rd_actor.specs.declared.actors.Pc.TheVariants.{Idle, E1, E2, E3, E4, E5, E6, E7, E8, E9, E10, E11, E12, E13, E14, Q1, Q2, Q3, Q4, Q5, Q6, Q7, Q8, Q9, Q10, Q11, Q12, Q13, Q14, A1, A2, B1, B2, B3}
 use Rattle.rd_actor.specs.Actors.{idle, calling}
 
--- the value that an enqueue is to put, on either queue; a dequeue, or no call, has none to put, so
--- no row asks for it
+-- the value that an enqueue is to put, on either queue. A dequeue puts none: where a row asks for the
+-- value, an actor whose words fit is in an enqueue (`words_fit_at`)
 abbrev pub value_to_put : Option Op → ℕ
 value_to_put (Some (op.Enq x)) = x
 value_to_put (Some (op.AEnq x)) = x
@@ -139,8 +139,8 @@ after_take (Some v) a = (idle, Some (op_reply.Value v))
 after_take None a = (a, None)
 
 -- how an actor at this control point goes on with an answer, and what it replies. An answer of a
--- kind that the row's access never gives changes nothing: no step comes to that last row, since each
--- step leads to another control point (`laws::steps_move_their_actors` of rd_step)
+-- kind that the row's access never gives changes nothing: no step of a well-formed world comes to that
+-- last row, since each leads to another control point (`laws::steps_move_their_actors` of rd_step)
 abbrev pub after_at : ℕ → Pc → Actor → Answer → Actor × Option OpReply
 after_at R E1 a (answer.Found (content.Name s)) = (record a { crq = s; pc = E2 }, None)
 after_at R E2 a (answer.Found (content.Next (Some m))) = (record a { next = m; pc = E3 }, None)
