@@ -21,6 +21,7 @@ pub mod Sharing
 pub mod Exactness
 pub mod RunsAgree
 pub mod Converse
+pub mod Reordering
 pub mod ComparingLemmas
 pub mod ComparedSteps
 pub mod Closures

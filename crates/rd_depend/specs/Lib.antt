@@ -9,6 +9,7 @@ pub mod Probes
 pub mod Changes
 pub mod Writers
 pub mod Sharing
+pub mod Reordering
 pub mod KeyLaws
 pub mod KeepingOrder
 pub mod ComparedSteps

@@ -9,6 +9,7 @@ ghost use Rattle.rd_step.specs.Dependence.{IsInClosure, AreLoneUndos, number_aft
 ghost use Rattle.rd_step.specs.Lists.{numbered};
 ghost use Rattle.rd_step.specs.Equivalence.{IsEquivalent};
 ghost use Rattle.rd_depend.specs.Sharing.{SharesPlace};
+ghost use Rattle.rd_depend.specs.Reordering.{IsReordered};
 
 /// Two entries depend on each other exactly where they have one actor, or there is a place of the
 /// map that both touched and at least one of them wrote.
@@ -46,4 +47,10 @@ pub fn equivalence_is_symmetric()
 pub fn equivalence_is_transitive()
     ensures { (w : World) (es fs gs : List Event) (r q p : Ran) → run w es ≡ Ok r → run w fs ≡ Ok q → run w gs ≡ Ok p
         → IsEquivalent w es fs → IsEquivalent w fs gs → IsEquivalent w es gs }
+{}
+
+/// A list of events is causally equivalent to one that runs exactly where it is made of that one by
+/// changing places of neighbours that do not depend on each other, one pair after another.
+pub fn equivalence_is_reordering()
+    ensures { (w : World) (es fs : List Event) (r : Ran) → run w es ≡ Ok r → IsEquivalent w es fs ↔ IsReordered w es fs }
 {}
