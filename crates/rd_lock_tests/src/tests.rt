@@ -2,6 +2,7 @@
 
 mod calls;
 mod closing;
+mod draws;
 mod rows;
 mod threads;
 
