@@ -1,12 +1,12 @@
 -- What a call under the lock comes to, for the viewer who asked.
 use Rattle.std.proofs.Common.{ℕ, List, [], ◌∷◌, sym, ◌∙◌, Ok, Err, IfErr}
-use Rattle.rd_desk.proofs.Prelude.{Adds, Answer, BookState, Call, Command, Continues, Ghosts, HistoryFull, IsLegal, IsNotBusy, IsRecorded, IsSeen, KnowsWords, NotRecorded, Pass, append-nil, viewer_entry}
+use Rattle.rd_desk.proofs.Prelude.{Adds, Answer, BookState, Call, Command, Continues, Ghosts, HistoryFull, IsLegal, IsNotBusy, LeavesHistory, SeesAfter, KnowsWords, NotRecorded, Pass, append-nil, viewer_entry}
 
 module _ {T O : Type 0} {K : Ghosts T Call O} (opened : BookState) (viewer : ℕ) (old found new : List (ℕ × Call)) (c : Command) (pass : Pass T Call O K) where
   -- what is put back is what was found and then entries of the viewer, no refusal is about the lock,
   -- and the viewer has seen it
-  pub recorded_by : (r : Answer) → IsRecorded viewer found c r new
-      → Adds viewer found new × IfErr r IsNotBusy × KnowsWords pass r × (Continues viewer old found → IsLegal opened new → IsSeen opened viewer old c r new)
+  pub recorded_by : (r : Answer) → LeavesHistory viewer found c r new
+      → Adds viewer found new × IfErr r IsNotBusy × KnowsWords pass r × (Continues viewer old found → IsLegal opened new → SeesAfter opened viewer old c r new)
   recorded_by (Ok answer) is = (((viewer_entry viewer c answer).1 ∷ [], is.1), tt, tt, λ on legal. (found, on, is, legal))
   recorded_by (Err HistoryFull) is = (([], is.1 ∙ sym (append-nil found)), tt, tt, λ on legal. (found, on, is, legal))
   recorded_by (Err NotRecorded) is = (([], is.1 ∙ sym (append-nil found)), tt, tt, λ on legal. (found, on, is, legal))

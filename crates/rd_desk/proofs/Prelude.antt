@@ -1,9 +1,9 @@
 -- The words that several proofs of the crate use: definitions of this crate and of those below,
 -- generated types and their variants, and lemmas of these crates and of std.
 pub use Rattle.rd_cell.specs.declared.refusal.Refusal.{Refusal}
-pub use Rattle.rd_desk.specs.Asking.{IsNotBusy, IsSeen, KnowsWords}
+pub use Rattle.rd_desk.specs.Asking.{IsNotBusy, SeesAfter, KnowsWords}
 pub use Rattle.rd_desk.specs.Desks.{opened_state}
-pub use Rattle.rd_desk.specs.Histories.{Answer, IsLeftBy, IsLegal, IsRecorded, Leaves, entries, viewer_entry}
+pub use Rattle.rd_desk.specs.Histories.{Answer, IsCapacity, IsLeftBy, IsLegal, Leaves, LeavesHistory, entries, viewer_entry}
 pub use Rattle.rd_desk.specs.Rooms.{IsRoomFor}
 pub use Rattle.rd_desk.specs.Threads.{IsJoined, IsStarted}
 pub use Rattle.rd_desk.specs.Viewers.{IsChain, IsRan}

@@ -10,7 +10,7 @@ use Rattle.rd_marks.specs.declared.commands.Command.{Command}
 use Rattle.rd_desk.specs.declared.gates.DeskRefusal.{DeskRefusal}
 use Rattle.rd_desk.specs.declared.gates.DeskRefusal.TheVariants.{TicketsEnded, Busy}
 use Rattle.rd_desk.specs.declared.histories.Call.{Call}
-use Rattle.rd_desk.specs.Histories.{Answer, IsLegal, IsRecorded}
+use Rattle.rd_desk.specs.Histories.{Answer, IsLegal, LeavesHistory}
 
 -- the refusal is not `Busy`, with which only a call that never waits is refused
 abbrev pub IsNotBusy : DeskRefusal → Type 0
@@ -22,11 +22,11 @@ module _ (opened : BookState) where
   -- one. If the lock was not taken, that is the old one. If it was, the history that was found goes
   -- on from the old one by calls of others alone, and what the call made of it is a legal history of
   -- the book that was opened.
-  abbrev pub IsSeen : ℕ → List (ℕ × Call) → Command → Answer → List (ℕ × Call) → Type 0
-  IsSeen viewer old command (Err TicketsEnded) new = new ≡ old
-  IsSeen viewer old command (Err (Busy words)) new = new ≡ old
-  IsSeen viewer old command answer new =
-      (found : List (ℕ × Call)) × Continues viewer old found × IsRecorded viewer found command answer new × IsLegal opened new
+  abbrev pub SeesAfter : ℕ → List (ℕ × Call) → Command → Answer → List (ℕ × Call) → Type 0
+  SeesAfter viewer old command (Err TicketsEnded) new = new ≡ old
+  SeesAfter viewer old command (Err (Busy words)) new = new ≡ old
+  SeesAfter viewer old command answer new =
+      (found : List (ℕ × Call)) × Continues viewer old found × LeavesHistory viewer found command answer new × IsLegal opened new
 
 module _ {T O : Type 0} {K : Ghosts T Call O} where
   -- what a refusal without the lock tells of the two words: at `TicketsEnded` the next ticket is
@@ -40,7 +40,7 @@ module _ {T O : Type 0} {K : Ghosts T Call O} where
     -- what a viewer knows after a call
     pub record KnowsOutcome : Type 0 where
       pub same_number : number new ≡ number old
-      pub has_seen : IsSeen opened (number old) (seen old) command answer (seen new)
+      pub has_seen : SeesAfter opened (number old) (seen old) command answer (seen new)
       pub grown : KnowsMore old new
       pub words : KnowsWords new answer
 

@@ -1,5 +1,5 @@
 -- The history of a desk: what its entries are, which of them are legal, and what they leave.
-use Rattle.std.specs.Prelude.{◌≡◌, ◌<◌, ℕ, List, [], ◌∷◌, ◌++◌, map, length, Result, Ok, Err}
+use Rattle.std.specs.Prelude.{◌≡◌, ◌⊎◌, ◌<◌, ◌*◌, ◌^◌, ℕ, List, [], ◌∷◌, ◌++◌, map, length, Result, Ok, Err}
 use Rattle.rd_cell.specs.declared.refusal.Refusal.{Refusal}
 use Rattle.rd_marks.specs.BookState.{BookState}
 use Rattle.rd_marks.specs.Commands.{AreObeyed}
@@ -37,12 +37,17 @@ IsLegal b es = ∥ ((last : BookState) × Leaves b es last) ∥₁
 abbrev pub IsLeftBy : BookState → List (ℕ × Call) → BookState → Type 0
 IsLeftBy b es last = ∥ Leaves b es last ∥₁
 
--- what a call under the lock makes of the history that it finds: an answered call of this viewer is
--- added to it, and a refused one is not, since the history is full, or is not full and was refused
--- the room for one more
-abbrev pub IsRecorded : ℕ → List (ℕ × Call) → Command → Answer → List (ℕ × Call) → Type 0
-IsRecorded viewer found command (Ok answer) new = (length found < MOST_CALLS) × (new ≡ found ++ viewer_entry viewer command answer ∷ [])
-IsRecorded viewer found command (Err HistoryFull) new = (length found ≡ MOST_CALLS) × (new ≡ found)
-IsRecorded viewer found command (Err NotRecorded) new = (length found < MOST_CALLS) × (new ≡ found)
-IsRecorded viewer found command (Err TicketsEnded) new = ⊥
-IsRecorded viewer found command (Err (Busy words)) new = ⊥
+-- how many calls a desk's list may have room for: none at first, then 4, and then twice as many each
+-- time that it has to grow (the bars mean that there is such a case, but not which)
+abbrev pub IsCapacity : ℕ → Type 0
+IsCapacity n = ∥ (n ≡ 0) ⊎ ((k : ℕ) × (n ≡ 4 * 2 ^ k)) ∥₁
+
+-- what a call under the lock leaves of the history that it finds: an answered call of this viewer is
+-- added to it; a refused one is not, since the history has the most calls, or since it fills its
+-- list, and the room for one more was refused
+abbrev pub LeavesHistory : ℕ → List (ℕ × Call) → Command → Answer → List (ℕ × Call) → Type 0
+LeavesHistory viewer found command (Ok answer) new = (length found < MOST_CALLS) × (new ≡ found ++ viewer_entry viewer command answer ∷ [])
+LeavesHistory viewer found command (Err HistoryFull) new = (length found ≡ MOST_CALLS) × (new ≡ found)
+LeavesHistory viewer found command (Err NotRecorded) new = (length found < MOST_CALLS) × (new ≡ found) × IsCapacity (length found)
+LeavesHistory viewer found command (Err TicketsEnded) new = ⊥
+LeavesHistory viewer found command (Err (Busy words)) new = ⊥

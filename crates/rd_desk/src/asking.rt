@@ -6,7 +6,7 @@
 ghost use Rattle.std.specs.Prelude.{◌≡◌, ◌^◌, Err, IfErr};
 ghost use Rattle.rd_lock.specs.Locks.{next_seen, IsPassOf, IsTaken};
 ghost use Rattle.rd_desk.specs.Desks.{opened_state, viewers, IsViewerOf};
-ghost use Rattle.rd_desk.specs.Asking.{KnowsOutcome, IsNotBusy};
+ghost use Rattle.rd_desk.specs.Asking.{KnowsAfterCall, KnowsOutcome, IsNotBusy};
 
 use super::desks::{Desk, DeskPass};
 use super::gates::{Answer, DeskRefusal};
@@ -23,14 +23,12 @@ impl<const R: usize> Desk<R> {
     /// # Errors
     ///
     /// `TicketsEnded` if this pass saw that all tickets of the lock are drawn. Under the lock, in
-    /// this order: `HistoryFull` if the history has `MOST_CALLS` calls; `NotRecorded` if the room
-    /// for one more was refused. The book is then unchanged.
+    /// this order: `HistoryFull` if the history has `MOST_CALLS` calls; `NotRecorded` if it fills its
+    /// list and the room for more was refused. The book is then unchanged.
     pub fn ask<W: Wait>(&self, rt: &W, pass: &mut DeskPass<R>, command: Command) -> Answer
         requires own { IsViewerOf self.now pass.old }
         ensures own { IsViewerOf self.now pass.new }
-        ensures outcome { KnowsOutcome (opened_state self.now) pass.old pass.new command result }
-        ensures ended { next_seen pass.old ≡ 2 ^ 63 → result ≡ Err TicketsEnded }
-        ensures waits { IfErr result IsNotBusy }
+        ensures outcome { KnowsAfterCall (opened_state self.now) pass.old pass.new command result }
     {
         match self.lock.take(rt, pass) {
             Ok(kept) => self.record_and_put_back(pass, kept, command),

@@ -5,8 +5,10 @@ ghost use Rattle.std.specs.Prelude.{◌≡◌, ◌<◌, ◌≤◌, ◌^◌, map,
 ghost use Rattle.rd_lock.specs.Histories.{AreAll, AreComparable};
 ghost use Rattle.std.specs.List.{AllByRecursion};
 ghost use Rattle.rd_lock.specs.Locks.{number as number_of, seen, served_seen, IsSamePass};
-ghost use Rattle.rd_lock.specs.Opening.{HasSeenUpTo};
-ghost use Rattle.rd_desk.specs.Desks.{IsViewerOf, IsOpened, IsClosedOver, viewers as viewers_of};
+ghost use Rattle.rd_lock.specs.Opening.{IsOpened, IsClosedOver, HasSeenUpTo};
+ghost use Rattle.rd_marks.specs.Book.{book_state};
+ghost use Rattle.rd_desk.specs.Desks.{IsViewerOf, opened_state, viewers as viewers_of};
+ghost use Rattle.rd_desk.specs.Histories.{entries, IsLeftBy};
 
 use super::histories::History;
 use super::recording::BookWithHistory;
@@ -39,7 +41,7 @@ impl<const R: usize> Desk<R> {
         viewers: u64,
     ) -> Result<(Desk<R>, Vec<DeskPass<R>>), (NoMemory, Book<R>)>
         requires viewers { (1 ≤ viewers) × (viewers ≤ MOST_VIEWERS) }
-        ensures ok { IfOk result (λ opened. IsOpened book.entry viewers opened.0 opened.1.items) }
+        ensures ok { IfOk result (λ opened. IsOpened book.entry viewers 0 opened.0.lock opened.1.items) }
         ensures err { IfErr result (λ refused. refused.1 ≡ book.entry) }
     {
         let kept = match BookWithHistory::new(alloc, book) {
@@ -75,11 +77,12 @@ impl<const R: usize> Desk<R> {
     /// # Errors
     ///
     /// `Busy` if the two words of the lock differ, with these words. Neither is below what a pass that
-    /// was handed in has seen. It never happens if all passes are handed in: only of a pass that was
-    /// dropped does no contract say that it put the book back. Book and history are then lost.
+    /// was handed in has seen. Book and history are then lost. It never happens if all passes are
+    /// handed in; a pass that was dropped inside a call may have kept the book.
     pub fn close(self, passes: Vec<DeskPass<R>>) -> Result<(Book<R>, History), Busy>
         requires own { AllByRecursion (IsViewerOf self) passes.items }
-        ensures ok { IfOk result (λ closed. IsClosedOver self.entry passes.entry.items closed.0 closed.1) }
+        ensures ok { IfOk result (λ closed. IsClosedOver self.entry.lock passes.entry.items (entries closed.1)) }
+        ensures leaves { IfOk result (λ closed. IsLeftBy (opened_state self.entry) (entries closed.1) (book_state closed.0)) }
         ensures err { IfErr result (λ words. (words.served < words.next) × (words.next ≤ 2 ^ 63)) }
         ensures newest { IfErr result (λ words. AllByRecursion (HasSeenUpTo words) passes.entry.items) }
         ensures succeeds { AreAll (viewers_of self.entry) (map number_of passes.entry.items) → IsOk result }

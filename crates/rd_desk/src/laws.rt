@@ -8,15 +8,15 @@ ghost use Rattle.rd_marks.specs.declared.commands.Command.{Command};
 ghost use Rattle.rd_marks.specs.declared.replies.Reply.{Reply};
 ghost use Rattle.rd_desk.specs.declared.gates.DeskRefusal.{DeskRefusal};
 ghost use Rattle.rd_desk.specs.declared.histories.Call.{Call};
-ghost use Rattle.rd_desk.specs.Asking.{IsSeen};
+ghost use Rattle.rd_desk.specs.Asking.{SeesAfter};
 ghost use Rattle.rd_desk.specs.Histories.{viewer_entry};
 
 /// A viewer's own calls grow by just the call that was answered, which is last in what it has seen,
 /// and by no call that was refused.
 pub fn own_calls_grow_by_the_answered_one()
     ensures answered { (opened : BookState) (viewer : ℕ) (old new : List (ℕ × Call)) (command : Command) (answer : Result Reply Refusal)
-        → IsSeen opened viewer old command (Ok answer) new
+        → SeesAfter opened viewer old command (Ok answer) new
         → put_by viewer 1 new ≡ put_by viewer 1 old ++ (length new, (viewer_entry viewer command answer).1) ∷ [] }
     ensures refused { (opened : BookState) (viewer : ℕ) (old new : List (ℕ × Call)) (command : Command) (refusal : DeskRefusal)
-        → IsSeen opened viewer old command (Err refusal) new → put_by viewer 1 new ≡ put_by viewer 1 old }
+        → SeesAfter opened viewer old command (Err refusal) new → put_by viewer 1 new ≡ put_by viewer 1 old }
 {}

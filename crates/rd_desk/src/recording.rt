@@ -2,19 +2,20 @@
 //!
 //! That the history is legal from the book that was opened, and leaves the book that is there, is a
 //! fact of the type, so it holds whenever the lock is taken. A command is obeyed only where there
-//! is room to record it. The book is kept in a box, so that a call moves a few words into the lock
+//! is room to record it. For how many calls the list may have room is a fact of the type too, so that
+//! a viewer knows at which lengths a call may be refused for want of it. The book is kept in a box, so that a call moves a few words into the lock
 //! and out of it, and not the book.
 
-ghost use Rattle.std.specs.Prelude.{◌≡◌, ◌≤◌, [], length, vec_len, vec_capacity, IfOk, IfErr};
+ghost use Rattle.std.specs.Prelude.{◌≡◌, ◌<◌, ◌≤◌, [], length, vec_len, vec_capacity, IfOk, OnOk, IfErr, OnErr};
 ghost use Rattle.rd_marks.specs.Book.{book_state};
 ghost use Rattle.rd_desk.specs.declared.gates.DeskRefusal.TheVariants.{NotRecorded};
-ghost use Rattle.rd_desk.specs.Histories.{MOST_CALLS as most_calls, entries, IsLeftBy, IsRecorded};
+ghost use Rattle.rd_desk.specs.Histories.{MOST_CALLS as most_calls, entries, IsCapacity, IsLeftBy, LeavesHistory};
 
 use super::gates::{Answer, DeskRefusal};
 use super::histories::{Call, History, MOST_CALLS};
 use rd_lock::Recorded;
 use rd_marks::{Book, Command};
-use std::alloc::Global;
+use std::alloc::{AllocError, Global};
 use std::snapshot::Snapshot;
 
 /// A book with its history, and, for contracts alone, the book that was opened.
@@ -25,6 +26,7 @@ pub struct BookWithHistory<const R: usize> {
     pub(crate) opened: Snapshot<Book<R>>,
     ghost legal: { IsLeftBy (book_state opened.value) (entries history) (book_state book.value) },
     ghost few: { length (entries history) ≤ most_calls },
+    ghost grown: { IsCapacity (vec_capacity history.entries) },
 }
 
 impl<const R: usize> Recorded for BookWithHistory<R> {
@@ -69,14 +71,14 @@ impl<const R: usize> BookWithHistory<R> {
     /// In this order: `HistoryFull` if there are `MOST_CALLS` calls; `NotRecorded` if the room for
     /// one more was refused. Book and history are then unchanged.
     pub(crate) fn record(&mut self, viewer: u64, command: &Command) -> Answer
-        ensures recorded { IsRecorded viewer (entries self.old.history) command.now result (entries self.new.history) }
+        ensures recorded { LeavesHistory viewer (entries self.old.history) command.now result (entries self.new.history) }
         ensures full { IfErr result (λ refusal. refusal ≡ NotRecorded → vec_capacity self.old.history.entries ≤ vec_len self.old.history.entries) }
         ensures opened { self.new.opened.value ≡ self.old.opened.value }
     {
         if self.history.entries.len() == MOST_CALLS {
             return Err(DeskRefusal::HistoryFull);
         }
-        if self.history.entries.reserve(1).is_err() {
+        if make_room(&mut self.history.entries).is_err() {
             return Err(DeskRefusal::NotRecorded);
         }
         let call = Call {
@@ -87,4 +89,22 @@ impl<const R: usize> BookWithHistory<R> {
         self.history.entries.push_reserved((viewer, call));
         Ok(answer)
     }
+}
+
+/// For how many calls the list of a history has room when it has grown once.
+const FIRST_ROOM: usize = 4;
+
+/// Makes room for one more call. Where there is none, the list grows by as many calls as it has, but
+/// by `FIRST_ROOM` at least.
+fn make_room(calls: &mut Vec<(u64, Call)>) -> Result<(), AllocError>
+    requires grown { IsCapacity (vec_capacity calls.old) }
+    ensures grown { IsCapacity (vec_capacity calls.new) }
+    ensures items { calls.new.items ≡ calls.old.items }
+    ensures ok { OnOk result (vec_len calls.new < vec_capacity calls.new) }
+    ensures err { OnErr result (vec_capacity calls.old ≤ vec_len calls.old) }
+{
+    if calls.len() < calls.capacity() {
+        return Ok(());
+    }
+    calls.reserve_exact(calls.len().max(FIRST_ROOM))
 }

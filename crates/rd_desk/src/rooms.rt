@@ -1,6 +1,6 @@
 //! The room that a run of viewers takes, all of it made before the first command is asked.
 
-ghost use Rattle.std.specs.Prelude.{◌≡◌, ◌≤◌, [], length, vec_capacity, IfOk};
+ghost use Rattle.std.specs.Prelude.{◌≡◌, [], length, vec_capacity, IfOk};
 ghost use Rattle.std.specs.List.{AllZip};
 ghost use Rattle.rd_desk.specs.Rooms.{IsRoomFor};
 
@@ -20,26 +20,28 @@ pub(crate) struct Room<G: Gate> {
     pub(crate) rans: Vec<Ran<G::Pass>>,
 }
 
-/// Returns empty lists with all the room that a run of these viewers takes, or fails if memory was
-/// refused.
-pub(crate) fn make_rooms<G: Gate>(
-    alloc: Global,
-    work: &Vec<(G::Pass, Vec<Command>)>,
-) -> Result<Room<G>, AllocError>
-    ensures answers { IfOk result (λ room. AllZip IsRoomFor work.now.items room.answers.items) }
-    ensures started { IfOk result (λ room. (room.started.items ≡ []) × (length work.now.items ≤ vec_capacity room.started)) }
-    ensures rans { IfOk result (λ room. (room.rans.items ≡ []) × (length work.now.items ≤ vec_capacity room.rans)) }
-{
-    let mut answers = Vec::with_capacity(alloc, work.len())?;
-    let started = Vec::with_capacity(alloc, work.len())?;
-    let rans = Vec::with_capacity(alloc, work.len())?;
-    for i in 0..work.len() {
-        let room = Vec::with_capacity(alloc, work[i].1.len())?;
-        answers.push_reserved(room);
+impl<G: Gate> Room<G> {
+    /// Returns empty lists with just the room that a run of these viewers takes, or fails if memory
+    /// was refused.
+    pub(crate) fn for_viewers(
+        alloc: Global,
+        work: &Vec<(G::Pass, Vec<Command>)>,
+    ) -> Result<Room<G>, AllocError>
+        ensures answers { IfOk result (λ room. AllZip IsRoomFor work.now.items room.answers.items) }
+        ensures started { IfOk result (λ room. (room.started.items ≡ []) × (vec_capacity room.started ≡ length work.now.items)) }
+        ensures rans { IfOk result (λ room. (room.rans.items ≡ []) × (vec_capacity room.rans ≡ length work.now.items)) }
+    {
+        let mut answers = Vec::with_capacity(alloc, work.len())?;
+        let started = Vec::with_capacity(alloc, work.len())?;
+        let rans = Vec::with_capacity(alloc, work.len())?;
+        for i in 0..work.len() {
+            let room = Vec::with_capacity(alloc, work[i].1.len())?;
+            answers.push_reserved(room);
+        }
+        Ok(Room {
+            answers,
+            started,
+            rans,
+        })
     }
-    Ok(Room {
-        answers,
-        started,
-        rans,
-    })
 }

@@ -8,7 +8,7 @@ ghost use Rattle.std.specs.List.{AllByRecursion, AllZip};
 ghost use Rattle.rd_desk.specs.Viewers.{IsRan};
 
 use super::gates::{Answer, Gate};
-use super::rooms::make_rooms;
+use super::rooms::Room;
 use super::threads::run_all;
 use rd_lock::NoMemory;
 use rd_marks::Command;
@@ -46,7 +46,7 @@ pub fn run_viewers<R: Threads + Wait + Sync, G: Gate + Sync>(
     ensures ok { IfOk result (λ rans. AllZip (IsRan (G.takes gate.now) (G.told gate.now)) work.items rans.items) }
     ensures err { IfErr result (λ refused. refused.1 ≡ work) }
 {
-    match make_rooms(alloc, &work) {
+    match Room::for_viewers(alloc, &work) {
         Ok(room) => Ok(run_all(rt, gate, work, room)),
         Err(_) => Err((NoMemory, work)),
     }

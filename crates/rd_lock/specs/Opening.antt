@@ -36,20 +36,19 @@ module _ {T E O : Type 0} {K : Ghosts T E O} where
     pub next : next_seen pass ≡ first
     pub served : served_seen pass ≡ first
 
-  -- the lock was opened: it has the value's origin and this many seats, and its passes are new and
-  -- have the numbers from 1 on
-  pub record IsOpened (value : T) (count first : ℕ) (lock : TicketLock T E O) (passes : List (Pass T E O K)) : Type 0 where
+  -- the lock was opened with both words at `first`: it has this origin and this many seats, and its
+  -- passes are new and have the numbers from 1 on
+  pub record IsOpened (root : O) (count first : ℕ) (lock : TicketLock T E O) (passes : List (Pass T E O K)) : Type 0 where
     pub counted : seats lock ≡ count
-    pub rooted : opened_origin K.origin lock ≡ K.origin value
+    pub rooted : opened_origin K.origin lock ≡ root
     pub are_new : AllByRecursion (IsNewPass lock first) passes
     pub numbered : map number passes ≡ numbers 1 count
 
-  -- the value has the lock's origin, each of its entries names one of the lock's passes, and its
-  -- history goes on from what each pass that was handed in had seen by entries of others alone
-  pub record IsClosedOver (lock : TicketLock T E O) (passes : List (Pass T E O K)) (value : T) : Type 0 where
-    pub rooted : K.origin value ≡ opened_origin K.origin lock
-    pub names : NamesUpTo (seats lock) (K.history value)
-    pub continues : AllByRecursion (λ (pass : Pass T E O K). Continues (number pass) (seen pass) (K.history value)) passes
+  -- the lock was closed, and this history is what it leaves: each entry names one of the lock's
+  -- passes, and it goes on from what each pass that was handed in had seen by entries of others alone
+  pub record IsClosedOver (lock : TicketLock T E O) (passes : List (Pass T E O K)) (history : List (ℕ × E)) : Type 0 where
+    pub names : NamesUpTo (seats lock) history
+    pub continues : AllByRecursion (λ (pass : Pass T E O K). Continues (number pass) (seen pass) history) passes
 
   -- this pass has seen no words greater than these
   abbrev pub HasSeenUpTo : Busy → Pass T E O K → Type 0

@@ -6,7 +6,7 @@
 //! whatever the other passes did in between.
 #![tactic(auto)]
 
-mod laws;
+pub mod laws;
 mod locks;
 mod meeting;
 mod opening;
@@ -17,7 +17,6 @@ mod tables;
 mod tickets;
 mod views;
 
-pub use laws::own_entries_grow_by_what_is_put;
 pub use locks::{NoMemory, TicketLock};
 pub use passes::Pass;
 pub use tickets::{Busy, TICKETS, TicketsEnded, TryTakeError};

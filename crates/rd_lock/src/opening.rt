@@ -3,7 +3,7 @@ ghost use Rattle.std.specs.Prelude.{◌≡◌, ◌<◌, ◌≤◌, ◌^◌, [], 
 ghost use Rattle.rd_lock.specs.Opening.{IsOpened, IsClosedOver, HasSeenUpTo};
 ghost use Rattle.rd_lock.specs.Histories.{AreAll};
 ghost use Rattle.std.specs.List.{AllByRecursion};
-ghost use Rattle.rd_lock.specs.Locks.{number as number_of, seats as seats_of, IsPassOf, IsOut};
+ghost use Rattle.rd_lock.specs.Locks.{number as number_of, opened_origin, seats as seats_of, IsPassOf, IsOut};
 
 use super::locks::{NoMemory, TicketLock};
 use super::passes::Pass;
@@ -28,7 +28,7 @@ impl<T: Recorded> TicketLock<T> {
     ) -> Result<(TicketLock<T>, Vec<Pass<T>>), (NoMemory, T)>
         requires seats { 0 < seats }
         requires empty { T.history value ≡ [] }
-        ensures ok { IfOk result (λ opened. IsOpened value seats 0 opened.0 opened.1.items) }
+        ensures ok { IfOk result (λ opened. IsOpened (T.origin value) seats 0 opened.0 opened.1.items) }
         ensures err { IfErr result (λ refused. refused.1 ≡ value) }
     {
         TicketLock::open_at(alloc, value, seats, 0)
@@ -49,7 +49,7 @@ impl<T: Recorded> TicketLock<T> {
         requires seats { 0 < seats }
         requires first { first ≤ 2 ^ 63 }
         requires empty { T.history value ≡ [] }
-        ensures ok { IfOk result (λ opened. IsOpened value seats first opened.0 opened.1.items) }
+        ensures ok { IfOk result (λ opened. IsOpened (T.origin value) seats first opened.0 opened.1.items) }
         ensures err { IfErr result (λ refused. refused.1 ≡ value) }
     {
         let Ok(mut passes) = Vec::with_capacity(alloc, seats as usize) else {
@@ -86,7 +86,8 @@ impl<T: Recorded> TicketLock<T> {
     pub fn close(self, passes: Vec<Pass<T>>) -> Result<T, Busy>
         requires own { AllByRecursion (IsPassOf self) passes.items }
         requires out { AllByRecursion IsOut passes.items }
-        ensures ok { IfOk result (IsClosedOver self passes.items) }
+        ensures ok { IfOk result (λ value. IsClosedOver self passes.items (T.history value)) }
+        ensures rooted { IfOk result (λ value. T.origin value ≡ opened_origin T.origin self) }
         ensures err { IfErr result (λ words. (words.served < words.next) × (words.next ≤ 2 ^ 63)) }
         ensures newest { IfErr result (λ words. AllByRecursion (HasSeenUpTo words) passes.items) }
         ensures succeeds { AreAll (seats_of self) (map number_of passes.items) → IsOk result }

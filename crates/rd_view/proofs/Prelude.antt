@@ -2,7 +2,7 @@
 -- generated types and their variants, and lemmas of these crates and of std.
 pub use Rattle.rd_desk.proofs.OwnCalls.{own_answered, own_refused}
 pub use Rattle.rd_desk.proofs.Sends.{book_with_history_send, desk_sync, seat_send}
-pub use Rattle.rd_desk.specs.Asking.{IsNotBusy, IsSeen, KnowsAfterCall, KnowsWords}
+pub use Rattle.rd_desk.specs.Asking.{IsNotBusy, SeesAfter, KnowsAfterCall, KnowsWords}
 pub use Rattle.rd_desk.specs.Desks.{IsNewViewer, IsViewerOf, opened_state}
 pub use Rattle.rd_desk.specs.Histories.{Answer, IsLegal, entries}
 pub use Rattle.rd_desk.specs.Viewers.{IsChain, IsRan}
@@ -29,7 +29,7 @@ pub use Rattle.rd_script.specs.Replies.{text_of}
 pub use Rattle.rd_script.specs.declared.faults.LineFault.{LineFault}
 pub use Rattle.rd_script.specs.declared.writing.headings.Heading.TheVariants.{Viewer}
 pub use Rattle.rd_view.specs.Viewing.{AreAnswered, AreRead, IsUnviewed, IsViewed, StaysEnded, Views, ViewsScripts, WasAnswered, answers_of, calls_of, commands_of, passes_of, text_of_views}
-pub use Rattle.rd_view.specs.Views.{replies_text, report_text, view_text, viewer_text}
+pub use Rattle.rd_view.specs.Reports.{replies_text, report_text, view_text, viewer_text}
 pub use Rattle.rd_view.specs.declared.faults.ViewFault.{ViewFault}
 pub use Rattle.std.proofs.Crossing.{crosses}
 pub use Rattle.std.proofs.Math.ListN.{drop_of_length-le}

@@ -1,11 +1,11 @@
 -- What passes know after a chain of calls, and how that stands to the history that leaves the desk.
 use Rattle.std.proofs.Common.{◌≡◌, ◌∙◌, ◌^◌, ℕ, zero, suc, List, [], ◌∷◌, ◌++◌, Result, Ok, Err, IfErr, Vec, map, length, refl, sym, ap, subst, append_assoc}
-use Rattle.rd_view.proofs.Prelude.{AllByRecursion, AllZip, Answer, AreAnswered, Book, BookState, BookWithHistory, Call, Command, Continues, Desk, Ghosts, Global, History, IsChain, IsNewViewer, IsNotBusy, IsRan, IsSeen, IsViewerOf, KnowsAfterCall, KnowsWords, LineFault, Pass, Ran, StaysEnded, TicketsEnded, WasAnswered, answers_of, append-nil, calls_of, commands_of, entries, map-append, put_by, next_seen, number, numbers, opened_state, own_answered, own_refused, own_same, passes_of, seen}
+use Rattle.rd_view.proofs.Prelude.{AllByRecursion, AllZip, Answer, AreAnswered, Book, BookState, BookWithHistory, Call, Command, Continues, Desk, Ghosts, Global, History, IsChain, IsNewViewer, IsNotBusy, IsRan, SeesAfter, IsViewerOf, KnowsAfterCall, KnowsWords, LineFault, Pass, Ran, StaysEnded, TicketsEnded, WasAnswered, answers_of, append-nil, calls_of, commands_of, entries, map-append, put_by, next_seen, number, numbers, opened_state, own_answered, own_refused, own_same, passes_of, seen}
 use Rattle.rd_desk.specs.declared.viewers.Ran.TheVariants as outcome
 
 module _ (opened : BookState) where
   -- after a chain of calls the viewer's own calls grew by those that were recorded
-  chain_grew : (viewer : ℕ) (commands : List Command) (answers : List Answer) (old new : List (ℕ × Call)) → IsChain (IsSeen opened viewer) old commands answers new
+  chain_grew : (viewer : ℕ) (commands : List Command) (answers : List Answer) (old new : List (ℕ × Call)) → IsChain (SeesAfter opened viewer) old commands answers new
       → map (λ e. e.1) (put_by viewer 1 new) ≡ map (λ e. e.1) (put_by viewer 1 old) ++ calls_of commands answers
   chain_grew viewer [] [] old new is = ap (λ es. map (λ e. e.1) (put_by viewer 1 es)) is ∙ sym (append-nil (map (λ e. e.1) (put_by viewer 1 old)))
   chain_grew viewer (c ∷ commands) (Ok answer ∷ answers) old new is =
@@ -37,11 +37,11 @@ module _ (R : ℕ) (K : Ghosts (BookWithHistory R) Call (Book R)) (desk : Desk R
   -- after a chain of calls the pass has its number, and has seen a chain of histories; no answer is
   -- `Busy`, and after the first that the tickets have ended there is no other
   of_chain : (viewer : ℕ) (commands : List Command) (answers : List Answer) (p q : ViewPass) → number p ≡ viewer → IsChain told p commands answers q
-      → (number q ≡ viewer) × IsChain (IsSeen (opened_state desk) viewer) (seen p) commands answers (seen q) × AllByRecursion (λ answer. IfErr answer IsNotBusy) answers × StaysEnded answers
+      → (number q ≡ viewer) × IsChain (SeesAfter (opened_state desk) viewer) (seen p) commands answers (seen q) × AllByRecursion (λ answer. IfErr answer IsNotBusy) answers × StaysEnded answers
   of_chain viewer [] [] p q is chain = (ap number chain ∙ is, ap seen chain, tt, tt)
   of_chain viewer (c ∷ commands) (answer ∷ answers) p q is chain = let now = chain.1 in let more = of_chain viewer commands answers chain.0 q (now.outcome.same_number ∙ is) chain.2 in (
     more.0,
-    (seen chain.0, subst (λ n. IsSeen (opened_state desk) n (seen p) c answer (seen chain.0)) is now.outcome.has_seen, more.1),
+    (seen chain.0, subst (λ n. SeesAfter (opened_state desk) n (seen p) c answer (seen chain.0)) is now.outcome.has_seen, more.1),
     (now.waits, more.2),
     ((λ ended. all_ended commands answers chain.0 q (subst (KnowsWords chain.0) ended now.outcome.words) chain.2), more.3),
   )
@@ -65,7 +65,7 @@ module _ (R : ℕ) (K : Ghosts (BookWithHistory R) Call (Book R)) (desk : Desk R
       → WasAnswered (opened_state desk) (entries history) n commands answers
   was_answered history n first last commands answers new is chain on =
       let all = of_chain n commands answers first last is chain in
-      let histories : IsChain (IsSeen (opened_state desk) n) [] commands answers (seen last) = subst (λ before. IsChain (IsSeen (opened_state desk) n) before commands answers (seen last)) new.has_seen all.1 in
+      let histories : IsChain (SeesAfter (opened_state desk) n) [] commands answers (seen last) = subst (λ before. IsChain (SeesAfter (opened_state desk) n) before commands answers (seen last)) new.has_seen all.1 in
       let continues : Continues n (seen last) (entries history) = subst (λ k. Continues k (seen last) (entries history)) all.0 on in
       record {
         seen = seen last;

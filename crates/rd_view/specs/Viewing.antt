@@ -12,7 +12,7 @@ use Rattle.rd_desk.specs.declared.histories.History.{History}
 use Rattle.rd_desk.specs.declared.viewers.Ran.{Ran}
 use Rattle.rd_desk.specs.declared.viewers.Ran.TheVariants as outcome
 use Rattle.rd_desk.specs.Histories.{Answer, entries, IsLegal}
-use Rattle.rd_desk.specs.Asking.{IsSeen, IsNotBusy}
+use Rattle.rd_desk.specs.Asking.{SeesAfter, IsNotBusy}
 use Rattle.rd_desk.specs.Viewers.{IsChain}
 use Rattle.std.specs.List.{AllByRecursion, AllZip}
 use Rattle.rd_script.specs.declared.faults.LineFault.{LineFault}
@@ -21,7 +21,7 @@ use Rattle.rd_script.specs.Lines.{lines_of}
 use Rattle.rd_script.specs.Spelling.{Says}
 use Rattle.rd_view.specs.declared.faults.ViewFault.{ViewFault}
 use Rattle.rd_view.specs.declared.faults.ViewFault.TheVariants as view
-use Rattle.rd_view.specs.Views.{view_text}
+use Rattle.rd_view.specs.Reports.{view_text}
 
 -- the commands among what lines spell, in their order
 abbrev pub commands_of : List (Result Command LineFault) → List Command
@@ -70,7 +70,7 @@ module _ (opened : BookState) (history : List (ℕ × Call)) where
   -- have ended for each later command.
   pub record WasAnswered (viewer : ℕ) (commands : List Command) (answers : List Answer) : Type 0 where
     pub seen : List (ℕ × Call)
-    pub chain : IsChain (IsSeen opened viewer) [] commands answers seen
+    pub chain : IsChain (SeesAfter opened viewer) [] commands answers seen
     pub continues : Continues viewer seen history
     pub calls : map (λ e. e.1) (put_by viewer 1 history) ≡ calls_of commands answers
     pub waits : AllByRecursion (λ answer. IfErr answer IsNotBusy) answers

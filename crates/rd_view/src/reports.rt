@@ -6,7 +6,7 @@
 
 ghost use Rattle.std.specs.Prelude.{◌≡◌, ◌++◌, length, IfOk, OnOk};
 ghost use Rattle.rd_script.specs.Replies.{text_of};
-ghost use Rattle.rd_view.specs.Views.{desk_answer, report_text, viewer_text, view_text};
+ghost use Rattle.rd_view.specs.Reports.{desk_answer, report_text, viewer_text, view_text};
 
 use rd_cell::Refusal;
 use rd_desk::{Answer, DeskRefusal};

@@ -14,7 +14,7 @@ spawn_with-handle-requires-clause-runs g c κs met =
     let turn = YieldsList-turn (YieldsList-from_zip (YieldsList-from_vec c.args.work.items (cc) (cc)) (YieldsList-from_vec c.args.answers.items (cc) (cc))) c.loop-pass.yielded c.loop-pass.pass-iterator c.loop-pass.yielded_by _ c.next.new.self _ c.in-Some.is c.next.ensures.steps in
     let ready = subst (λ p. g.G.Gate.takes c.args.gate.now p.0.0 × IsRoomFor p.0 p.1) (sym turn.1)
     (pair_at (λ viewer room. g.G.Gate.takes c.args.gate.now viewer.0 × IsRoomFor viewer room) c.args.work.items c.args.answers.items (length c.loop-pass.yielded) ((c.in-Some.pass, c.in-Some.commands), c.in-Some.room) turn.0 (with_each IsRoomFor (λ viewer. g.G.Gate.takes c.args.gate.now viewer.0) c.args.work.items c.args.answers.items c.requires.own c.requires.answers)) in (
-      (ready.0, ready.1.0, ready.1.1),
+      (ready.0, ready.1.0, omega (arith, ready.1.1)),
       ((let s = c.type_bounds.send-G-Pass in search sendable depth 20), (let s = c.type_bounds.sync-R in search sendable depth 20), (let s = c.type_bounds.sync-G in search sendable depth 20)),
     )
 

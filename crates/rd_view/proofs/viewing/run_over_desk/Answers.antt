@@ -1,5 +1,5 @@
-use Rattle.rd_view.proofs.Prelude.{AllByRecursion, AreAnswered, Continues, IsLegal, IsNewViewer, IsViewerOf, NamesUpTo, answers_of, book_state, book_with_history_send, crosses, desk_sync, entries, length-map, number, number_of, seat_send, seen, sendable, ∥∥₁_map}
-use Rattle.std.proofs.Common.{◌∙◌, length, map, ap, sym, subst, arith}
+use Rattle.rd_view.proofs.Prelude.{AllByRecursion, AreAnswered, Continues, IsLegal, IsNewViewer, IsViewerOf, NamesUpTo, answers_of, book_state, book_with_history_send, crosses, desk_sync, entries, length-map, number, number_of, opened_state, seat_send, seen, sendable, ∥∥₁_map}
+use Rattle.std.proofs.Common.{◌≡◌, ◌∙◌, length, map, ap, sym, subst, arith}
 use Rattle.rd_desk.specs.contracts.recording.BookWithHistoryRecorded.TheImpl as Recorded
 use Rattle.rd_view.proofs.ViewingLemmas.{all_answered, new_may_ask, own_passes, length-numbers}
 use Rattle.rd_view.proofs.viewing.run_over_desk.Goals as goal
@@ -38,11 +38,12 @@ returns-in-Ok-close-clause-ok g c =
     let history = c.in-Ok-close.history in
     let closed = c.in-Ok-close.ensures.ok in
     let opened = c.in-Ok.ensures.ok in
+    let state : opened_state desk ≡ book_state c.args.book = ap book_state opened.rooted in
     let passes = c.in_ok-work.ensures.passes in (
-      subst (λ first. IsLegal first (entries history)) opened.state (∥∥₁_map closed.leaves (λ l. (_, l))),
+      subst (λ first. IsLegal first (entries history)) state (∥∥₁_map c.in-Ok-close.ensures.leaves (λ l. (_, l))),
       subst (λ n. NamesUpTo n (entries history)) opened.counted closed.names,
       subst (λ answered. AreAnswered (book_state c.args.book) (entries history) 1 c.args.said.now answered) (sym c.in_ok-passes.ensures.answered)
-          (subst (λ first. AreAnswered first (entries history) 1 c.args.said.now (map answers_of c.in-Ok-run_viewers.rans.items)) opened.state
+          (subst (λ first. AreAnswered first (entries history) 1 c.args.said.now (map answers_of c.in-Ok-run_viewers.rans.items)) state
           (all_answered g.row.N (Recorded.ghosts (number_of g.row.N)) desk history 1 c.in_ok-work.work.items c.in-Ok-run_viewers.rans.items c.args.said.now c.in-Ok-run_viewers.ensures.ok
           (subst (AllByRecursion (IsNewViewer desk)) (sym passes) opened.are_new) (ap (map number) passes ∙ opened.numbered) c.in_ok-work.ensures.commands
           (subst (AllByRecursion (λ pass. Continues (number pass) (seen pass) (entries history))) c.in_ok-passes.ensures.passes closed.continues))),

@@ -24,4 +24,8 @@ unreachable-requires g c = let e = c.close_table-closed.ensures.ended _ _ _ c.wo
 pub returns-clause-ok : goal.returns-clause-ok
 returns-clause-ok g c = let e = c.close_table-closed.ensures.ended _ _ _ c.word-served.ensures c.word-next.ensures c.take-slot.ensures.value in let v = e.value c.if-served-next.false in
     let found = v.1 in let is = c.in-Some.is in let same : v.0 ≡ c.in-Some.value = cc in
-    subst (IsClosedOver c.args.self c.args.passes.items) same (record { rooted = v.2; names = v.3; continues = of_each me _ c.args.passes.items v.4 })
+    subst (λ value. IsClosedOver c.args.self c.args.passes.items (g.T.Recorded.history value)) same (record { names = v.3; continues = of_each me _ c.args.passes.items v.4 })
+
+pub returns-clause-rooted : goal.returns-clause-rooted
+returns-clause-rooted g c = let e = c.close_table-closed.ensures.ended _ _ _ c.word-served.ensures c.word-next.ensures c.take-slot.ensures.value in let v = e.value c.if-served-next.false in
+    let found = v.1 in let is = c.in-Some.is in let same : v.0 ≡ c.in-Some.value = cc in rw (← same) v.2

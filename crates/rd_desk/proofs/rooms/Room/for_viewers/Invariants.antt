@@ -1,6 +1,6 @@
 use Rattle.std.proofs.Common.{◌≡◌, ◌≤◌, take, length, vec_len, vec_capacity}
 use Rattle.rd_desk.proofs.Prelude.{AllZip, IsRoomFor}
-use Rattle.rd_desk.proofs.rooms.make_rooms.Given as goal
+use Rattle.rd_desk.proofs.rooms.Room.for_viewers.Given as goal
 
 abbrev pub invariant-loop-i : goal.invariant-loop-i
 invariant-loop-i g l = record {
