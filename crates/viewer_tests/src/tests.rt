@@ -3,6 +3,7 @@
 
 mod busy;
 mod calls;
+mod commands;
 mod ends;
 mod gate;
 mod reports;

@@ -66,3 +66,14 @@ fn faulty_lines_between_commands_are_answered_in_place_and_not_asked(
         "viewer 1\nrefused 22 BadLine\nok 1\nrefused 17 BadName\nok 2\nrefused 22 BadLine\nviewer 2\nviewer 3\nrefused 1 NoActor\nrefused 22 BadLine\nhistory 3\n",
     )
 }
+
+#[test]
+fn each_of_64_scripts_has_a_viewer(rt: HostRuntime) -> Result<(), Fail> {
+    let scripts = ["len\n"; 64];
+    let mut wanted = String::new(rt.alloc());
+    for viewer in 1..65u64 {
+        write!(wanted, "viewer {viewer}\nat 0 0\n")?;
+    }
+    write!(wanted, "history 64\n")?;
+    view_is(&rt, rt.alloc(), scripts.as_slice(), wanted.as_str())
+}
