@@ -1,6 +1,6 @@
 -- Chains of what a gate told, and pairs of two lists.
-use Rattle.std.proofs.Common.{◌≡◌, ℕ, zero, suc, List, [], ◌∷◌, ◌++◌, length, refl, subst, arith, ◌+◌, ◌<◌, get_or, take, add-one}
-use Rattle.rd_desk.proofs.Prelude.{AllByRecursion, AllZip, Answer, Command, IsChain, take-suc, zip}
+use Rattle.std.proofs.Common.{map, Option, Some, None, Vec, ◌≡◌, ℕ, zero, suc, List, [], ◌∷◌, ◌++◌, length, refl, subst, arith, ◌+◌, ◌<◌, get_or, take, add-one}
+use Rattle.rd_desk.proofs.Prelude.{AllByRecursion, AllZip, Answer, Command, Global, IsChain, IsDone, IsRan, ran_of, take-suc, zip}
 
 module _ {P : Type 0} (told : P → Command → Answer → P → Type 0) where
   -- one more command was asked
@@ -51,3 +51,11 @@ module _ {A B C : Type 0} (R : A → B → Type 0) where
   composed S T f (x ∷ xs) (y ∷ ys) [] h k = absurd k
   composed S T f [] [] (z ∷ zs) h k = absurd k
   composed S T f _ _ zs h k = absurd h
+
+module _ {P : Type 0} (takes : P → Type 0) (told : P → Command → Answer → P → Type 0) where
+  -- what became of viewers, by what they gave back
+  pub all_ran : (work : List (P × Vec Command Global)) (dones : List (P × Option (Vec Answer Global))) → AllZip (λ viewer done. IsDone takes told viewer.0 viewer.1.items done) work dones → AllZip (IsRan takes told) work (map ran_of dones)
+  all_ran [] [] h = tt
+  all_ran (viewer ∷ work) ((pass, Some answers) ∷ dones) h = (h.0, all_ran work dones h.1)
+  all_ran (viewer ∷ work) ((pass, None) ∷ dones) h = (tt, all_ran work dones h.1)
+  all_ran _ _ h = absurd h

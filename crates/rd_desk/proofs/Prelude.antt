@@ -6,7 +6,7 @@ pub use Rattle.rd_desk.specs.Desks.{opened_state}
 pub use Rattle.rd_desk.specs.Histories.{Answer, IsCapacity, IsLeftBy, IsLegal, Leaves, LeavesHistory, entries, viewer_entry}
 pub use Rattle.rd_desk.specs.Rooms.{IsRoomFor}
 pub use Rattle.rd_desk.specs.Threads.{IsJoined, IsStarted}
-pub use Rattle.rd_desk.specs.Viewers.{IsChain, IsRan}
+pub use Rattle.rd_desk.specs.Viewers.{IsChain, IsDone, IsRan, ran_of}
 pub use Rattle.rd_desk.specs.declared.gates.DeskRefusal.{DeskRefusal}
 pub use Rattle.rd_desk.specs.declared.gates.DeskRefusal.TheVariants.{Busy, HistoryFull, NotRecorded, TicketsEnded}
 pub use Rattle.rd_desk.specs.declared.histories.Call.{Call}

@@ -1,5 +1,6 @@
 -- What becomes of viewers that each ask a list of commands.
-use Rattle.std.specs.Prelude.{◌≡◌, List, [], ◌∷◌, Vec}
+use Rattle.std.specs.Prelude.{◌≡◌, List, [], ◌∷◌, Option, Some, None, Vec}
+use Rattle.std.specs.declared.alloc.Global.{Global}
 use Rattle.rd_marks.specs.declared.commands.Command.{Command}
 use Rattle.rd_desk.specs.Histories.{Answer}
 use Rattle.rd_desk.specs.declared.viewers.Ran.{Ran}
@@ -14,8 +15,19 @@ module _ {P : Type 0} where
   IsChain R first (c ∷ cs) [] last = ⊥
   IsChain R first (c ∷ cs) (answer ∷ answers) last = (next : P) × R first c answer next × IsChain R next cs answers last
 
+  -- what a viewer's closure gives back: its pass as it was, which asked nothing, or the pass with the
+  -- answers to its commands, which were asked one after another; the gate takes the pass
+  abbrev pub IsDone : {Z : Type 0} → (P → Type 0) → (P → Command → Answer → P → Type 0) → P → List Command → P × Option (Vec Answer Z) → Type 0
+  IsDone takes told first commands (last, None) = takes last × (last ≡ first)
+  IsDone takes told first commands (last, Some answers) = takes last × IsChain told first commands answers.items last
+
   -- what became of a viewer: its thread was refused, or its commands were asked one after another
   -- with these answers, and the gate takes the pass that it has then
   abbrev pub IsRan : {Z : Type 0} → (P → Type 0) → (P → Command → Answer → P → Type 0) → P × Vec Command Z → Ran P → Type 0
   IsRan takes told viewer outcome.NoMemory = Unit {0}
   IsRan takes told viewer (outcome.Answered pass answers) = takes pass × IsChain told viewer.0 viewer.1.items answers.items pass
+
+  -- what became of a viewer, by what it gave back
+  abbrev pub ran_of : P × Option (Vec Answer Global) → Ran P
+  ran_of (pass, Some answers) = outcome.Answered pass answers
+  ran_of (pass, None) = outcome.NoMemory

@@ -21,4 +21,4 @@ pub use gates::{Answer, DeskRefusal, Gate};
 pub use histories::{Call, History, MOST_CALLS};
 pub use rd_lock::{Busy, NoMemory};
 pub use recording::BookWithHistory;
-pub use viewers::{Ran, run_viewers};
+pub use viewers::{Ran, ask_viewers, run_viewers};

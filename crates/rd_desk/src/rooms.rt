@@ -5,8 +5,7 @@ ghost use Rattle.std.specs.List.{AllZip};
 ghost use Rattle.rd_desk.specs.Rooms.{IsRoomFor};
 
 use super::gates::{Answer, Gate};
-use super::threads::Started;
-use super::viewers::Ran;
+use super::threads::{Done, Started};
 use rd_marks::Command;
 use std::alloc::{AllocError, Global};
 
@@ -16,8 +15,8 @@ pub(crate) struct Room<G: Gate> {
     pub(crate) answers: Vec<Vec<Answer>>,
     /// For the handles of the threads.
     pub(crate) started: Vec<Started<G>>,
-    /// For what became of each viewer.
-    pub(crate) rans: Vec<Ran<G::Pass>>,
+    /// For what each viewer gives back.
+    pub(crate) dones: Vec<Done<G>>,
 }
 
 impl<G: Gate> Room<G> {
@@ -29,11 +28,11 @@ impl<G: Gate> Room<G> {
     ) -> Result<Room<G>, AllocError>
         ensures answers { IfOk result (λ room. AllZip IsRoomFor work.now.items room.answers.items) }
         ensures started { IfOk result (λ room. (room.started.items ≡ []) × (vec_capacity room.started ≡ length work.now.items)) }
-        ensures rans { IfOk result (λ room. (room.rans.items ≡ []) × (vec_capacity room.rans ≡ length work.now.items)) }
+        ensures dones { IfOk result (λ room. (room.dones.items ≡ []) × (vec_capacity room.dones ≡ length work.now.items)) }
     {
         let mut answers = Vec::with_capacity(alloc, work.len())?;
         let started = Vec::with_capacity(alloc, work.len())?;
-        let rans = Vec::with_capacity(alloc, work.len())?;
+        let dones = Vec::with_capacity(alloc, work.len())?;
         for i in 0..work.len() {
             let room = Vec::with_capacity(alloc, work[i].1.len())?;
             answers.push_reserved(room);
@@ -41,7 +40,7 @@ impl<G: Gate> Room<G> {
         Ok(Room {
             answers,
             started,
-            rans,
+            dones,
         })
     }
 }

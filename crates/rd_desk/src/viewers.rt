@@ -3,13 +3,13 @@
 //! All room for answers is made before the first command is asked. Then each viewer gets a thread
 //! in one scope, in the viewers' order, and the threads are waited for in that order.
 
-ghost use Rattle.std.specs.Prelude.{◌≡◌, IfOk, IfErr};
+ghost use Rattle.std.specs.Prelude.{◌≡◌, ◌≤◌, [], length, map, vec_capacity, IfOk, IfErr};
 ghost use Rattle.std.specs.List.{AllByRecursion, AllZip};
-ghost use Rattle.rd_desk.specs.Viewers.{IsRan};
+ghost use Rattle.rd_desk.specs.Viewers.{IsDone, IsRan, ran_of};
 
 use super::gates::{Answer, Gate};
 use super::rooms::Room;
-use super::threads::run_all;
+use super::threads::{Done, run_all};
 use rd_lock::NoMemory;
 use rd_marks::Command;
 use std::alloc::Global;
@@ -31,7 +31,28 @@ pub enum Ran<P> {
 }
 
 /// Asks each viewer's commands in order, each viewer in its own thread, waits for all of them, and
-/// returns what became of each.
+/// returns each one's pass with the answers, or with none if its thread was refused.
+///
+/// # Errors
+///
+/// `NoMemory` with the work if the room for the answers was refused. No command was asked then.
+pub fn ask_viewers<R: Threads + Wait + Sync, G: Gate + Sync>(
+    rt: &R,
+    alloc: Global,
+    gate: &G,
+    work: Vec<(G::Pass, Vec<Command>)>,
+) -> Result<Vec<(G::Pass, Option<Vec<Answer>>)>, (NoMemory, Vec<(G::Pass, Vec<Command>)>)>
+    requires own { AllByRecursion (λ viewer. G.takes gate.now viewer.0) work.items }
+    ensures ok { IfOk result (λ dones. AllZip (λ viewer done. IsDone (G.takes gate.now) (G.told gate.now) viewer.0 viewer.1.items done) work.items dones.items) }
+    ensures err { IfErr result (λ refused. refused.1 ≡ work) }
+{
+    match Room::for_viewers(alloc, &work) {
+        Ok(room) => Ok(run_all(rt, gate, work, room)),
+        Err(_) => Err((NoMemory, work)),
+    }
+}
+
+/// Asks each viewer's commands as `ask_viewers` does, and returns what became of each.
 ///
 /// # Errors
 ///
@@ -46,8 +67,27 @@ pub fn run_viewers<R: Threads + Wait + Sync, G: Gate + Sync>(
     ensures ok { IfOk result (λ rans. AllZip (IsRan (G.takes gate.now) (G.told gate.now)) work.items rans.items) }
     ensures err { IfErr result (λ refused. refused.1 ≡ work) }
 {
-    match Room::for_viewers(alloc, &work) {
-        Ok(room) => Ok(run_all(rt, gate, work, room)),
-        Err(_) => Err((NoMemory, work)),
+    let Ok(rans) = Vec::with_capacity(alloc, work.len()) else {
+        return Err((NoMemory, work));
+    };
+    let dones = ask_viewers(rt, alloc, gate, work)?;
+    Ok(rans_of::<G>(dones, rans))
+}
+
+/// Adds to `rans` what became of each viewer, by what it gave back.
+fn rans_of<G: Gate>(dones: Vec<Done<G>>, mut rans: Vec<Ran<G::Pass>>) -> Vec<Ran<G::Pass>>
+    requires { (rans.items ≡ []) × (length dones.items ≤ vec_capacity rans) }
+    ensures { result.items ≡ map ran_of dones.items }
+{
+    for (pass, answers) in dones {
+        let ran = match answers {
+            Some(answers) => Ran::Answered { pass, answers },
+            None => {
+                drop(pass);
+                Ran::NoMemory
+            }
+        };
+        rans.push_reserved(ran);
     }
+    rans
 }

@@ -5,13 +5,12 @@ pub use Rattle.rd_desk.proofs.Sends.{book_with_history_send, desk_sync, seat_sen
 pub use Rattle.rd_desk.specs.Asking.{IsNotBusy, SeesAfter, KnowsAfterCall, KnowsWords}
 pub use Rattle.rd_desk.specs.Desks.{IsNewViewer, IsViewerOf, opened_state}
 pub use Rattle.rd_desk.specs.Histories.{Answer, IsLegal, entries}
-pub use Rattle.rd_desk.specs.Viewers.{IsChain, IsRan}
+pub use Rattle.rd_desk.specs.Viewers.{IsChain, IsDone}
 pub use Rattle.rd_desk.specs.declared.desks.Desk.{Desk}
 pub use Rattle.rd_desk.specs.declared.gates.DeskRefusal.TheVariants.{TicketsEnded}
 pub use Rattle.rd_desk.specs.declared.histories.Call.{Call}
 pub use Rattle.rd_desk.specs.declared.histories.History.{History}
 pub use Rattle.rd_desk.specs.declared.recording.BookWithHistory.{BookWithHistory}
-pub use Rattle.rd_desk.specs.declared.viewers.Ran.{Ran}
 pub use Rattle.rd_lock.proofs.Lists.{own_same}
 pub use Rattle.rd_lock.specs.Histories.{Continues, NamesUpTo, put_by, numbers}
 pub use Rattle.rd_lock.specs.Locks.{next_seen, number, seen}
@@ -28,7 +27,7 @@ pub use Rattle.rd_script.specs.Spelling.{Says}
 pub use Rattle.rd_script.specs.Replies.{text_of}
 pub use Rattle.rd_script.specs.declared.faults.LineFault.{LineFault}
 pub use Rattle.rd_script.specs.declared.writing.headings.Heading.TheVariants.{Viewer}
-pub use Rattle.rd_view.specs.Viewing.{AreAnswered, AreRead, IsUnviewed, IsViewed, StaysEnded, Views, ViewsScripts, WasAnswered, answers_of, calls_of, commands_of, passes_of, text_of_views}
+pub use Rattle.rd_view.specs.Viewing.{AreAnswered, AreRead, IsUnviewed, IsViewed, StaysEnded, Views, ViewsScripts, WasAnswered, calls_of, commands_of, text_of_views}
 pub use Rattle.rd_view.specs.Reports.{replies_text, report_text, view_text, viewer_text}
 pub use Rattle.rd_view.specs.declared.faults.ViewFault.{ViewFault}
 pub use Rattle.std.proofs.Crossing.{crosses}

@@ -1,7 +1,6 @@
 -- What passes know after a chain of calls, and how that stands to the history that leaves the desk.
-use Rattle.std.proofs.Common.{◌≡◌, ◌∙◌, ◌^◌, ℕ, zero, suc, List, [], ◌∷◌, ◌++◌, Result, Ok, Err, IfErr, Vec, map, length, refl, sym, ap, subst, append_assoc}
-use Rattle.rd_view.proofs.Prelude.{AllByRecursion, AllZip, Answer, AreAnswered, Book, BookState, BookWithHistory, Call, Command, Continues, Desk, Ghosts, Global, History, IsChain, IsNewViewer, IsNotBusy, IsRan, SeesAfter, IsViewerOf, KnowsAfterCall, KnowsWords, LineFault, Pass, Ran, StaysEnded, TicketsEnded, WasAnswered, answers_of, append-nil, calls_of, commands_of, entries, map-append, put_by, next_seen, number, numbers, opened_state, own_answered, own_refused, own_same, passes_of, seen}
-use Rattle.rd_desk.specs.declared.viewers.Ran.TheVariants as outcome
+use Rattle.std.proofs.Common.{◌≡◌, ◌∙◌, ◌^◌, ℕ, zero, suc, List, [], ◌∷◌, ◌++◌, Result, Ok, Err, IfErr, Option, Some, None, Vec, map, length, refl, sym, ap, subst, append_assoc}
+use Rattle.rd_view.proofs.Prelude.{AllByRecursion, AllZip, Answer, AreAnswered, Book, BookState, BookWithHistory, Call, Command, Continues, Desk, Ghosts, Global, History, IsChain, IsNewViewer, IsNotBusy, IsDone, SeesAfter, IsViewerOf, KnowsAfterCall, KnowsWords, LineFault, Pass, StaysEnded, TicketsEnded, WasAnswered, append-nil, calls_of, commands_of, entries, map-append, put_by, next_seen, number, numbers, opened_state, own_answered, own_refused, own_same, seen}
 
 module _ (opened : BookState) where
   -- after a chain of calls the viewer's own calls grew by those that were recorded
@@ -47,11 +46,18 @@ module _ (R : ℕ) (K : Ghosts (BookWithHistory R) Call (Book R)) (desk : Desk R
   )
   of_chain viewer _ _ p q is chain = absurd chain
 
+  -- what a viewer gives back, and how that agrees with what it was given
+  abbrev Done : Type 0
+  Done = ViewPass × Option (Vec Answer Global)
+
+  abbrev Gives : ViewPass × Vec Command Global → Done → Type 0
+  Gives viewer done = IsDone takes told viewer.0 viewer.1.items done
+
   -- the passes that come back are the desk's
-  pub own_passes : (work : List (ViewPass × Vec Command Global)) (rans : List (Ran ViewPass)) → AllZip (IsRan takes told) work rans → AllByRecursion takes (passes_of rans)
+  pub own_passes : (work : List (ViewPass × Vec Command Global)) (dones : List Done) → AllZip Gives work dones → AllByRecursion takes (map (λ done. done.0) dones)
   own_passes [] [] pairs = tt
-  own_passes (viewer ∷ work) (outcome.Answered pass answers ∷ rans) pairs = (pairs.0.0, own_passes work rans pairs.1)
-  own_passes (viewer ∷ work) (outcome.NoMemory ∷ rans) pairs = own_passes work rans pairs.1
+  own_passes (viewer ∷ work) ((pass, Some answers) ∷ dones) pairs = (pairs.0.0, own_passes work dones pairs.1)
+  own_passes (viewer ∷ work) ((pass, None) ∷ dones) pairs = (pairs.0.0, own_passes work dones pairs.1)
   own_passes _ _ pairs = absurd pairs
 
   -- new viewers may ask
@@ -76,27 +82,27 @@ module _ (R : ℕ) (K : Ghosts (BookWithHistory R) Call (Book R)) (desk : Desk R
         ended = all.3;
       }
 
+  -- a viewer that asked nothing has no call in the history
+  asked_nothing : (history : History) (n : ℕ) (first last : ViewPass) → IsNewViewer desk first → number first ≡ n → last ≡ first → Continues (number last) (seen last) (entries history) → put_by n 1 (entries history) ≡ []
+  asked_nothing history n first last new is same on =
+      own_same n [] (entries history) (subst (λ k. Continues k [] (entries history)) (ap number same ∙ is) (subst (λ before. Continues (number last) before (entries history)) (ap seen same ∙ new.has_seen) on))
+
   -- what all viewers were answered, from this number on
-  pub all_answered : (history : History) (n : ℕ) (work : List (ViewPass × Vec Command Global)) (rans : List (Ran ViewPass)) (said : List (Vec (Result Command LineFault) Global))
-      → AllZip (IsRan takes told) work rans → AllByRecursion (IsNewViewer desk) (map (λ viewer. viewer.0) work) → map number (map (λ viewer. viewer.0) work) ≡ numbers n (length said)
-      → map (λ viewer. viewer.1.items) work ≡ map (λ lines. commands_of lines.items) said → AllByRecursion (λ pass. Continues (number pass) (seen pass) (entries history)) (passes_of rans)
-      → AreAnswered (opened_state desk) (entries history) n said (map answers_of rans)
+  pub all_answered : (history : History) (n : ℕ) (work : List (ViewPass × Vec Command Global)) (dones : List Done) (said : List (Vec (Result Command LineFault) Global))
+      → AllZip Gives work dones → AllByRecursion (IsNewViewer desk) (map (λ viewer. viewer.0) work) → map number (map (λ viewer. viewer.0) work) ≡ numbers n (length said)
+      → map (λ viewer. viewer.1.items) work ≡ map (λ lines. commands_of lines.items) said → AllByRecursion (λ pass. Continues (number pass) (seen pass) (entries history)) (map (λ done. done.0) dones)
+      → AreAnswered (opened_state desk) (entries history) n said (map (λ done. done.1) dones)
   all_answered history n [] [] [] pairs new is read knows = tt
   all_answered history n [] [] (lines ∷ said) pairs new is read knows = cc
-  all_answered history n (viewer ∷ work) (ran ∷ rans) [] pairs new is read knows = cc
-  all_answered history n (viewer ∷ work) (outcome.Answered pass answers ∷ rans) (lines ∷ said) pairs new is read knows =
+  all_answered history n (viewer ∷ work) (done ∷ dones) [] pairs new is read knows = cc
+  all_answered history n (viewer ∷ work) ((pass, Some answers) ∷ dones) (lines ∷ said) pairs new is read knows =
       let same : viewer.1.items ≡ commands_of lines.items = cc in (
         subst (λ commands. WasAnswered (opened_state desk) (entries history) n commands answers.items) same (was_answered history n viewer.0 pass viewer.1.items answers.items new.0 (cc) pairs.0.1 knows.0),
-        all_answered history (suc n) work rans said pairs.1 new.1 (cc) (cc) knows.1,
+        all_answered history (suc n) work dones said pairs.1 new.1 (cc) (cc) knows.1,
       )
-  all_answered history n (viewer ∷ work) (outcome.NoMemory ∷ rans) (lines ∷ said) pairs new is read knows = (tt, all_answered history (suc n) work rans said pairs.1 new.1 (cc) (cc) knows)
+  all_answered history n (viewer ∷ work) ((pass, None) ∷ dones) (lines ∷ said) pairs new is read knows =
+      (asked_nothing history n viewer.0 pass new.0 (cc) pairs.0.1 knows.0, all_answered history (suc n) work dones said pairs.1 new.1 (cc) (cc) knows.1)
   all_answered history n _ _ said pairs new is read knows = absurd pairs
-
--- the passes of one viewer more
-pub one_ran_more : {P : Type 0} (rans : List (Ran P)) (ran : Ran P) → passes_of (rans ++ ran ∷ []) ≡ passes_of rans ++ passes_of (ran ∷ [])
-one_ran_more [] ran = refl
-one_ran_more (outcome.Answered pass answers ∷ rans) ran = ap (λ ps. pass ∷ ps) (one_ran_more rans ran)
-one_ran_more (outcome.NoMemory ∷ rans) ran = one_ran_more rans ran
 
 -- this many numbers there are
 pub length-numbers : (k n : ℕ) → length (numbers k n) ≡ n

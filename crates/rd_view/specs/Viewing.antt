@@ -9,8 +9,6 @@ use Rattle.rd_lock.specs.Histories.{put_by, Continues, NamesUpTo}
 use Rattle.rd_desk.specs.declared.gates.DeskRefusal.TheVariants.{TicketsEnded}
 use Rattle.rd_desk.specs.declared.histories.Call.{Call}
 use Rattle.rd_desk.specs.declared.histories.History.{History}
-use Rattle.rd_desk.specs.declared.viewers.Ran.{Ran}
-use Rattle.rd_desk.specs.declared.viewers.Ran.TheVariants as outcome
 use Rattle.rd_desk.specs.Histories.{Answer, entries, IsLegal}
 use Rattle.rd_desk.specs.Asking.{SeesAfter, IsNotBusy}
 use Rattle.rd_desk.specs.Viewers.{IsChain}
@@ -47,17 +45,6 @@ IsUnviewed view.NoMemory = Unit {0}
 IsUnviewed view.Write = ⊥
 IsUnviewed (view.Busy words) = words.served < words.next
 
--- the passes of the viewers whose threads were started
-abbrev pub passes_of : {P : Type 0} → List (Ran P) → List P
-passes_of [] = []
-passes_of (outcome.Answered pass answers ∷ rans) = pass ∷ passes_of rans
-passes_of (outcome.NoMemory ∷ rans) = passes_of rans
-
--- the answers to a viewer, if its thread was started
-abbrev pub answers_of : {P : Type 0} → Ran P → Option (Vec Answer Global)
-answers_of (outcome.Answered pass answers) = Some answers
-answers_of outcome.NoMemory = None
-
 -- after the first answer that the tickets have ended there is no other answer
 abbrev pub StaysEnded : List Answer → Type 0
 StaysEnded [] = Unit {0}
@@ -76,10 +63,11 @@ module _ (opened : BookState) (history : List (ℕ × Call)) where
     pub waits : AllByRecursion (λ answer. IfErr answer IsNotBusy) answers
     pub ended : StaysEnded answers
 
-  -- the viewer of this number got these answers to its commands, or its thread was not started
+  -- the viewer of this number got these answers to its commands, or its thread was not started, and
+  -- it has no call in the history
   abbrev pub IsAnswered : ℕ → List Command → Option (Vec Answer Global) → Type 0
   IsAnswered viewer commands (Some answers) = WasAnswered viewer commands answers.items
-  IsAnswered viewer commands None = Unit {0}
+  IsAnswered viewer commands None = put_by viewer 1 history ≡ []
 
   -- the viewers from this number on got these answers to the commands of their lines
   abbrev pub AreAnswered : ℕ → List (Vec (Result Command LineFault) Global) → List (Option (Vec Answer Global)) → Type 0

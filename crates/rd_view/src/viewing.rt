@@ -9,11 +9,11 @@ ghost use Rattle.std.specs.Prelude.{◌≡◌, ◌≤◌, false, length, map, If
 ghost use Rattle.rd_marks.specs.Book.{book_state};
 ghost use Rattle.rd_desk.specs.declared.desks.TheConstants.{MOST_VIEWERS};
 ghost use Rattle.rd_desk.specs.Histories.{entries};
-ghost use Rattle.rd_view.specs.Viewing.{AreRead, IsUnviewed, IsViewed, ViewsScripts, commands_of, passes_of, answers_of};
+ghost use Rattle.rd_view.specs.Viewing.{AreRead, IsUnviewed, IsViewed, ViewsScripts, commands_of};
 
 use super::faults::ViewFault;
 use super::reports::{ParsedLine, text_of_view};
-use rd_desk::{Answer, Desk, DeskPass, History, Ran, run_viewers};
+use rd_desk::{Answer, Desk, DeskPass, History, ask_viewers};
 use rd_marks::{Book, Command};
 use rd_script::{Sink, lines, write_all};
 use std::alloc::{AllocError, Global};
@@ -81,10 +81,10 @@ fn run_over_desk<R: Threads + Wait + Sync, const N: usize>(
         return Err(ViewFault::NoMemory);
     };
     let work = passes_with_commands(alloc, passes, said)?;
-    let Ok(rans) = run_viewers(rt, alloc, &desk, work) else {
+    let Ok(dones) = ask_viewers(rt, alloc, &desk, work) else {
         return Err(ViewFault::NoMemory);
     };
-    let (passes, answered) = passes_and_answers(alloc, rans)?;
+    let (passes, answered) = passes_and_answers(alloc, dones)?;
     match desk.close(passes) {
         Ok((_, history)) => Ok((answered, history)),
         Err(words) => Err(ViewFault::Busy(words)),
@@ -122,26 +122,19 @@ fn commands_in(alloc: Global, said: &[ParsedLine]) -> Result<Vec<Command>, Alloc
     Ok(commands)
 }
 
-/// Returns the passes of the viewers whose threads were started, and the answers to each viewer.
+/// Returns the passes of the viewers, and the answers to each.
 fn passes_and_answers<const N: usize>(
     alloc: Global,
-    rans: Vec<Ran<DeskPass<N>>>,
+    dones: Vec<(DeskPass<N>, Option<Vec<Answer>>)>,
 ) -> Result<(Vec<DeskPass<N>>, ViewerAnswers), AllocError>
-    ensures passes { IfOk result (λ done. done.0.items ≡ passes_of rans.entry.items) }
-    ensures answered { IfOk result (λ done. done.1.items ≡ map answers_of rans.entry.items) }
+    ensures passes { IfOk result (λ apart. apart.0.items ≡ map (λ done. done.0) dones.entry.items) }
+    ensures answered { IfOk result (λ apart. apart.1.items ≡ map (λ done. done.1) dones.entry.items) }
 {
     let mut passes = Vec::new(alloc);
     let mut answered = Vec::new(alloc);
-    for ran in rans {
-        match ran {
-            Ran::NoMemory => {
-                answered.push(None)?;
-            }
-            Ran::Answered { pass, answers } => {
-                passes.push(pass)?;
-                answered.push(Some(answers))?;
-            }
-        }
+    for (pass, answers) in dones {
+        passes.push(pass)?;
+        answered.push(answers)?;
     }
     Ok((passes, answered))
 }

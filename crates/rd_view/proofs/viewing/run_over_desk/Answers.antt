@@ -1,4 +1,4 @@
-use Rattle.rd_view.proofs.Prelude.{AllByRecursion, AreAnswered, Continues, IsLegal, IsNewViewer, IsViewerOf, NamesUpTo, answers_of, book_state, book_with_history_send, crosses, desk_sync, entries, length-map, number, number_of, opened_state, seat_send, seen, sendable, ∥∥₁_map}
+use Rattle.rd_view.proofs.Prelude.{AllByRecursion, AreAnswered, Continues, IsLegal, IsNewViewer, IsViewerOf, NamesUpTo, book_state, book_with_history_send, crosses, desk_sync, entries, length-map, number, number_of, opened_state, seat_send, seen, sendable, ∥∥₁_map}
 use Rattle.std.proofs.Common.{◌≡◌, ◌∙◌, length, map, ap, sym, subst, arith}
 use Rattle.rd_desk.specs.contracts.recording.BookWithHistoryRecorded.TheImpl as Recorded
 use Rattle.rd_view.proofs.ViewingLemmas.{all_answered, new_may_ask, own_passes, length-numbers}
@@ -10,14 +10,14 @@ passes_with_commands-requires g c = (
   (omega arith, sym (length-map c.in-Ok.passes.items number) ∙ ap length c.in-Ok.ensures.ok.numbered ∙ length-numbers 1 (length c.args.said.now)),
 )
 
-pub run_viewers-requires-send-G-Pass : goal.run_viewers-requires-send-G-Pass
-run_viewers-requires-send-G-Pass g c κs within = search (seat_send, book_with_history_send, sendable, crosses) depth 60 fits 100000
+pub ask_viewers-requires-send-G-Pass : goal.ask_viewers-requires-send-G-Pass
+ask_viewers-requires-send-G-Pass g c κs within = search (seat_send, book_with_history_send, sendable, crosses) depth 60 fits 100000
 
-pub run_viewers-requires-sync-G : goal.run_viewers-requires-sync-G
-run_viewers-requires-sync-G g c κs within = search (desk_sync, sendable, crosses) depth 60 fits 100000
+pub ask_viewers-requires-sync-G : goal.ask_viewers-requires-sync-G
+ask_viewers-requires-sync-G g c κs within = search (desk_sync, sendable, crosses) depth 60 fits 100000
 
-pub run_viewers-requires-clause-own : goal.run_viewers-requires-clause-own
-run_viewers-requires-clause-own g c κs within =
+pub ask_viewers-requires-clause-own : goal.ask_viewers-requires-clause-own
+ask_viewers-requires-clause-own g c κs within =
     new_may_ask _ _ c.in-Ok.desk c.in_ok-work.work.items (subst (AllByRecursion (IsNewViewer c.in-Ok.desk)) (sym c.in_ok-work.ensures.passes) c.in-Ok.ensures.ok.are_new)
 
 pub close-requires : goal.close-requires
@@ -27,7 +27,7 @@ close-requires g c = (
     omega arith,
     (
       omega arith,
-      subst (AllByRecursion (IsViewerOf c.in-Ok.desk)) (sym c.in_ok-passes.ensures.passes) (own_passes _ _ c.in-Ok.desk c.in_ok-work.work.items c.in-Ok-run_viewers.rans.items c.in-Ok-run_viewers.ensures.ok),
+      subst (AllByRecursion (IsViewerOf c.in-Ok.desk)) (sym c.in_ok-passes.ensures.passes) (own_passes _ _ c.in-Ok.desk c.in_ok-work.work.items c.in-Ok-ask_viewers.dones.items c.in-Ok-ask_viewers.ensures.ok),
     ),
   ),
 )
@@ -43,8 +43,8 @@ returns-in-Ok-close-clause-ok g c =
       subst (λ first. IsLegal first (entries history)) state (∥∥₁_map c.in-Ok-close.ensures.leaves (λ l. (_, l))),
       subst (λ n. NamesUpTo n (entries history)) opened.counted closed.names,
       subst (λ answered. AreAnswered (book_state c.args.book) (entries history) 1 c.args.said.now answered) (sym c.in_ok-passes.ensures.answered)
-          (subst (λ first. AreAnswered first (entries history) 1 c.args.said.now (map answers_of c.in-Ok-run_viewers.rans.items)) state
-          (all_answered g.row.N (Recorded.ghosts (number_of g.row.N)) desk history 1 c.in_ok-work.work.items c.in-Ok-run_viewers.rans.items c.args.said.now c.in-Ok-run_viewers.ensures.ok
+          (subst (λ first. AreAnswered first (entries history) 1 c.args.said.now (map (λ done. done.1) c.in-Ok-ask_viewers.dones.items)) state
+          (all_answered g.row.N (Recorded.ghosts (number_of g.row.N)) desk history 1 c.in_ok-work.work.items c.in-Ok-ask_viewers.dones.items c.args.said.now c.in-Ok-ask_viewers.ensures.ok
           (subst (AllByRecursion (IsNewViewer desk)) (sym passes) opened.are_new) (ap (map number) passes ∙ opened.numbered) c.in_ok-work.ensures.commands
           (subst (AllByRecursion (λ pass. Continues (number pass) (seen pass) (entries history))) c.in_ok-passes.ensures.passes closed.continues))),
     )

@@ -1,0 +1,11 @@
+use Rattle.std.proofs.Common.{◌≡◌, ◌≤◌, length, map, vec_len, vec_capacity}
+use Rattle.rd_desk.proofs.Prelude.{ran_of}
+use Rattle.rd_desk.proofs.viewers.rans_of.Given as goal
+
+-- what became of the viewers so far
+abbrev pub invariant-loop-pass : goal.invariant-loop-pass
+invariant-loop-pass g l = record {
+  rans : l.rans.items ≡ map ran_of l.yielded;
+  len : vec_len l.rans ≡ length l.yielded;
+  capacity : length l.fn.dones.items ≤ vec_capacity l.rans;
+}
