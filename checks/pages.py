@@ -6,7 +6,9 @@ the gate compares with the program.
 
 And it looks up what docs/PROVED.md and the READMEs of the crates name in backticks: functions,
 clauses, definitions, types and files. A name that is not in the tree, or not in the file that is
-named for it, is a fault too.
+named for it, is a fault too. So is a number on docs/PROVED.md or docs/ARCHITECTURE.md that is not
+what `tools/definitions.py` gives: how many definitions and lines a guarantee reaches, and in which
+files. Such a fault names the right number.
 
 The gate's programs see the files of their own folders alone. So the session of the README and the
 examples of the manual are in `examples/`, each a script beside its report, and the program
@@ -17,6 +19,7 @@ fault. Each block and each such script prints one line; the status is 1 if any o
 Python's standard library is used.
 """
 
+import collections
 import json
 import re
 import sys
@@ -26,6 +29,7 @@ TOP = Path(__file__).resolve().parent.parent
 sys.path.insert(0, str(TOP / "tools"))
 
 import contracts
+import definitions
 import manual
 from program import CRATES
 
@@ -205,5 +209,81 @@ def check_names():
     return 1 if wrong else 0
 
 
+# ---- Numbers -------------------------------------------------------------------------------------
+
+PROVED = TOP / "docs" / "PROVED.md"
+ARCHITECTURE = TOP / "docs" / "ARCHITECTURE.md"
+# A guarantee: the words for the script; then definitions, lines and lines of comments.
+GUARANTEE = re.compile(r"\| \[.*\| (?:`([^`]*)`|no argument) \| ([\d,]+ \| [\d,]+ \| [\d,]+) \|")
+# A row of what one must read: its files; then lines and lines of comments; then minutes.
+READ = re.compile(r"\| \d+ \| (.*?) \| .* \| ([\d,]+ \| [\d,]+) \| (\d+) \|")
+TOTAL = re.compile(r"([\d,]+) in ([\d,]+) files, with ([\d,]+) lines and ([\d,]+) of comments")
+MINUTES = re.compile(r"(\d+) minutes in all")
+# The clauses that are followed to their last definition, and how many files the page says they take.
+FOLLOWED = ["rd_journal/src/sessions.rt", "undo_at.answer", "undo_at.run"]
+FILES = re.compile(r"the script prints (\d+) files")
+
+
+def in_row(numbers):
+    """Numbers as the cells of a row have them."""
+    return " | ".join(f"{number:,}" for number in numbers)
+
+
+def said_in(pattern, text):
+    """The numbers of a sentence on a page, as the cells of a row."""
+    found = pattern.search(" ".join(text.split()))
+    return " | ".join(found.groups()) if found else "no such sentence"
+
+
+def guarantees():
+    """The rows of the guarantees, each with what the page says, and what the script gives."""
+    text = PROVED.read_text(encoding="utf-8")
+    rows = GUARANTEE.findall(text)
+    yield "rows of guarantees with numbers", str(len(rows)), str(text.count("\n| ["))
+    for words, said in rows:
+        count, _, *lines = definitions.reached_from(words.split() or definitions.HEADLINE).totals()
+        yield words or "the headline", said, in_row([count, *lines])
+
+
+def files_of(cell):
+    """The files that a cell names; one without a folder is in that of the file before it."""
+    found = []
+    for name in QUOTED.findall(cell):
+        found.append(CRATES / name if "/" in name else found[-1].parent / name)
+    return found
+
+
+def only_in(paths, others):
+    """The files that are in the one list and not in the other, or more often."""
+    more = collections.Counter(paths) - collections.Counter(others)
+    return ", ".join(sorted(str(path.relative_to(CRATES)) for path in more.elements())) or "no other file"
+
+
+def reading():
+    """The rows of what one must read to believe the headline, with what they add up to, as above."""
+    text, reached = ARCHITECTURE.read_text(encoding="utf-8"), definitions.reached_from(definitions.HEADLINE)
+    rows = [(files_of(cell), said, int(minutes)) for cell, said, minutes in READ.findall(text)]
+    for number, (files, said, _) in enumerate(rows, 1):
+        counts = [reached.counts(*it) for it in reached.texts if it[0] in files]
+        yield f"row {number} of the files", said, in_row(map(sum, zip(*counts)))
+    named, there = [path for files, _, _ in rows for path in files], {path for path, _ in reached.texts}
+    yield "files of all rows", only_in(named, there), only_in(there, named)
+    yield "the headline's total", said_in(TOTAL, text), in_row(reached.totals())
+    yield "the headline's minutes", said_in(MINUTES, text), str(sum(minutes for _, _, minutes in rows))
+    yield "files of undo_at", said_in(FILES, text), str(definitions.reached_from(FOLLOWED).totals()[1])
+
+
+def check_numbers():
+    """Prints each number of definitions, files and lines on the pages that `definitions.py` doesn't
+    give, with the one that it gives; returns the exit status."""
+    rows = [(PROVED, row) for row in guarantees()] + [(ARCHITECTURE, row) for row in reading()]
+    wrong = [(page, row) for page, row in rows if row[1] != row[2]]
+    for page, (name, said, wanted) in wrong:
+        print(f"WRONG {page.relative_to(TOP)}: {name}: it has {said}, and it should have {wanted}")
+    if not wrong:
+        print(f"ok    {len(rows)} numbers of definitions, files and lines")
+    return 1 if wrong else 0
+
+
 if __name__ == "__main__":
-    sys.exit(max(main(), check_names()))
+    sys.exit(max(main(), check_names(), check_numbers()))

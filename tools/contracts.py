@@ -25,6 +25,7 @@ TYPE = re.compile(r"(?:pub(?:\(\w+\))? )?(?:struct|enum|trait|const|type) (?!fn 
 STRUCT = re.compile(r"(?:pub(?:\(\w+\))? )?struct .*\{$", re.MULTILINE)
 FIELD = re.compile(r" {4}(?:pub(?:\(\w+\))? )?(\w+): (.*)")
 MEMBER = re.compile(r"^ +(?:pub |ghost )?(\w+)(?: ?:|,$|[({]| \{)", re.MULTILINE)  # of a type or a record
+IMPORT = re.compile(r"^ *(?:pub |ghost |unfoldable )*use ([\w.]+?)(?:\.\{([^}]*)\}| as (\w+));?$", re.MULTILINE)
 OTHER = re.compile(r"^pub (\w+) :|\bconst (\w+):|^ *(?:pub |ghost )*use (.*)", re.MULTILINE)
 GHOST_FIELD = re.compile(r"^(?: *//.*\n)* {4}ghost (\w+): \{.*\},\n", re.MULTILINE)
 
@@ -134,6 +135,20 @@ def parts_of(text):
         else:
             found[-1] = (found[-1][0], f"{found[-1][1]} {line.strip()}")
     return lines[0], found
+
+
+@functools.cache
+def imports_of(path):
+    """What each imported name of a file stands for: a module of definitions, and the name there, or
+    none for the module itself."""
+    found = {}
+    for module, names, alias in IMPORT.findall("\n".join(lines_of(path))):
+        if alias:
+            found[alias] = (module, None)
+        for name in filter(None, (name.strip() for name in names.split(","))):
+            original, _, renamed = name.partition(" as ")
+            found[renamed or original] = (module, original)
+    return found
 
 
 # ---- Names ---------------------------------------------------------------------------------------

@@ -1,11 +1,13 @@
 #!/usr/bin/env python3
 """Which definitions and types a contract reaches: what its reader has to believe.
 
-    python3 tools/definitions.py [--text] [FILE FUNCTION[.LABEL]..]..
+    python3 tools/definitions.py [--text] [--start] [FILE FUNCTION[.LABEL]..]..
 
 FILE is a source file, named from `crates/`, and each FUNCTION one of its functions: with a LABEL
 its clause of this label (`Book::obey.answer`), else all that it ensures. What a function requires
-goes with each of its clauses. Without a FILE it is the clause that carries the headline.
+goes with each of its clauses. A type in place of a FUNCTION means what each of its values keeps, as
+`World.well_formed`. Without a FILE it is the clause that carries the headline, and with `--start`
+also what makes a start well-formed.
 
 The words of a clause are followed through `ghost use` into `specs/`, from there through the imports
 of each definition, and from types of the code into `src/`. The type of a field is followed only if
@@ -13,9 +15,11 @@ something that is reached names the field. Ghost fields are left out, since the 
 Names are found by their words, so a few definitions too many may be listed.
 
 Standard output gets a Markdown table from the contract down: a row a file, in the order in which
-the files are reached, with the lines of what is listed that are neither blank nor a comment alone.
-The last row has the names of the toolchain that are reached, its operators left out. With `--text`
-it gets the definitions themselves, in this order. Only Python's standard library is used.
+the files are reached, with the lines of what is listed that are neither blank nor a comment alone,
+and those of the comments above and inside it. The rows after the total are the kit's files with the
+names that are taken from them, operators left out; of a type also the fields that are named. What
+these names reach in turn is not listed. With `--text` standard output gets the definitions
+themselves, in this order. Only Python's standard library is used.
 """
 
 import argparse
@@ -26,16 +30,21 @@ import signal
 import sys
 from pathlib import Path
 
-from contracts import blocks_of, code_of, crate_of, functions_of, lines_of, parts_of, without_ghosts
-from lines import crate_names
+from contracts import (
+    GHOST_FIELD, Clause, Function, blocks_of, code_of, crate_of, functions_of, imports_of, lines_of, parts_of,
+    without_ghosts,
+)
+from kit import fields_of, place_of, shown
+from lines import COMMENT, crate_names
 from program import CRATES, print_head, print_row
 
-# The clause that carries the headline.
+# The clause that carries the headline, as on a command line: this is the one place that names it.
 HEADLINE = ["rd_marks/src/books/obeying.rt", "apply_all.headline"]
+# What makes a start well-formed: each world keeps it.
+START = ["rd_step/src/worlds.rt", "World.well_formed"]
 WORD = re.compile(r"(?<![.\w])[A-Za-z_]\w*")
 TYPE_NAME = re.compile(r"\b[A-Z]\w*")
 NAMED_FIELD = re.compile(r"\.(\w+)|[{;]\s(\w+) = ")
-IMPORT = re.compile(r"^ *(?:pub |ghost )*use ([\w.]+?)(?:\.\{([^}]*)\}| as (\w+));?$", re.MULTILINE)
 FROM_CRATE = re.compile(r"^use (\w+)::([^;]*);", re.MULTILINE)
 
 
@@ -44,20 +53,6 @@ class Unknown(Exception):
 
 
 # ---- What a name means ---------------------------------------------------------------------------
-
-
-@functools.cache
-def imports_of(path):
-    """What each imported name of a file stands for: a module of definitions, and the name there, or
-    none for the module itself."""
-    found = {}
-    for module, names, alias in IMPORT.findall("\n".join(lines_of(path))):
-        if alias:
-            found[alias] = (module, None)
-        for name in filter(None, (name.strip() for name in names.split(","))):
-            original, _, renamed = name.partition(" as ")
-            found[renamed or original] = (module, original)
-    return found
 
 
 @functools.cache
@@ -71,15 +66,30 @@ def types():
     return found
 
 
+@functools.cache
+def crates_of_names(path):
+    """The crates from which a source file imports each name."""
+    found = {}
+    for crate, names in FROM_CRATE.findall("\n".join(lines_of(path))):
+        for name in re.findall(r"\w+", names):
+            found.setdefault(name, []).append(crate)
+    return found
+
+
 def type_named(name, path):
     """The type of this name that a source file means: its own, its crate's, or an imported one."""
-    files = types().get(name, [])
-    uses = FROM_CRATE.findall("\n".join(lines_of(path))) if files else []
-    imported = {crate for crate, names in uses if re.search(rf"\b{name}\b", names)}
+    files, crates = types().get(name, []), crates_of_names(path).get(name, [])
     own = [it for it in files if it == path]
     of_crate = [it for it in files if crate_of(it) == crate_of(path)]
-    of_others = [it for it in files if crate_of(it) in imported]
-    return next(((it, name) for it in own + of_crate + of_others), None)
+    of_others = [it for it in files if crate_of(it) in crates]
+    of_kit = [crate for crate in crates if name[0].isupper() and is_of_kit(crate)]
+    found = [(it, name) for it in own + of_crate + of_others] + [(None, (crate, name)) for crate in of_kit]
+    return next(iter(found), None)
+
+
+def is_of_kit(crate):
+    """Whether the first word of an import names a crate of the kit."""
+    return crate not in ("crate", "self", "super") and not (CRATES / crate).is_dir()
 
 
 def declared(crate, names):
@@ -92,11 +102,11 @@ def declared(crate, names):
 
 
 def imported(module, name):
-    """What an imported name stands for: a file and a name there, without a file where the name is
-    the toolchain's."""
+    """What an imported name stands for: a file and a name there, or no file, with the module and
+    the name there, where it is the kit's."""
     root, crate, *names = module.split(".")
     if root != "Rattle" or not (CRATES / crate).is_dir():
-        return None, name or module.split(".")[-1]
+        return None, (module, name or names[-1])
     if names[1] == "declared":
         return declared(crate, [*names[2:], name or ""])
     path = CRATES / crate / "specs" / Path(*names[1:]).with_suffix(".antt")
@@ -124,10 +134,19 @@ def functions_named(path, name):
     return found
 
 
+def kept_by(path, name):
+    """A type as a function that ensures what each value of the type keeps."""
+    text = blocks_of(path)[name]
+    head = next(line for line in text.splitlines() if not line.startswith(COMMENT[path.suffix]))
+    fields = [Clause("ensures", it[1], it[0].rstrip(",\n")) for it in GHOST_FIELD.finditer(text)]
+    return Function(None, name, True, head.rstrip("{ "), tuple(fields))
+
+
 def clauses_of(path, name, label):
     """What the functions of this name require, and what they ensure, by this label if there is one;
-    each clause with its function."""
-    found = [(function, clause) for function in functions_named(path, name) for clause in function.clauses]
+    each clause with its function. What a type keeps stands for what it ensures."""
+    functions = [kept_by(path, name)] if name in blocks_of(path) else functions_named(path, name)
+    found = [(function, clause) for function in functions for clause in function.clauses]
     ensured = [clause for _, clause in found if clause.kind == "ensures"]
     wanted = [clause for clause in ensured if label in ("", clause.label)]
     if not ensured:
@@ -144,7 +163,7 @@ class Reached:
     def __init__(self):
         self.clauses = {}  # by files, names of functions and functions
         self.texts = {}  # those of definitions and types, by their files and names
-        self.toolchain = set()  # its names
+        self.toolchain = set()  # its names, each after the module that it is imported from
         self.waiting = collections.deque()  # files, and texts there whose words are to be followed
         self.unread = []  # fields that nothing has named so far, each its file, its name and its type
         self.read = set()  # the names of the others
@@ -181,6 +200,34 @@ class Reached:
             self.toolchain.add(found[1])
         elif found and found not in self.texts:
             self.add(*found)
+
+    def counts(self, path, name):
+        """How many lines of code and of comments a definition or a type has."""
+        text = self.texts[path, name]
+        code = len(code_of(text, path.suffix).splitlines())
+        return code, sum(bool(line.strip()) for line in text.splitlines()) - code
+
+    def totals(self):
+        """How many definitions and types there are, in how many files, with how many lines of code
+        and of comments."""
+        counts = [self.counts(*it) for it in self.texts]
+        files = {path for path, _ in self.texts}
+        return len(counts), len(files), sum(code for code, _ in counts), sum(comments for _, comments in counts)
+
+    def from_kit(self):
+        """The kit's files with the names that are taken from them, each with the name that it is
+        given here, if it is another one, and with those fields of a type that something names."""
+        files = {}
+        for module, name in sorted(self.toolchain):
+            place = place_of(module, name)
+            names = files.setdefault(place.file, {})
+            names[place.name if place.name == name else f"{place.name} as {name}"] = ""
+            there, fields = fields_of(place)
+            if self.read.intersection(fields):
+                named = ", ".join(f".{field}" for field in fields if field in self.read)
+                files.setdefault(there.file, {})[there.name] = f" ({named})"
+        for file, names in files.items():
+            yield shown(file), [name + fields for name, fields in sorted(names.items())]
 
 
 def asked_for(words):
@@ -232,15 +279,16 @@ def clause_names(reached):
 
 def print_table(reached):
     """Prints the clauses, and then what is reached, a row a file."""
-    lines = {it: len(code_of(text, it[0].suffix).splitlines()) for it, text in reached.texts.items()}
-    files = by_file(reached.texts)
-    print_head("File", "Lines", "What is read there")
+    print_head("File", "Lines", "Comments", "What is read there")
     for path, names in by_file(clause_names(reached)):
-        print_row(path, "", ", ".join(names))
-    for path, names in files:
-        print_row(path, f"{sum(lines[CRATES / path, name] for name in names):,}", ", ".join(names))
-    print_row("all", f"{sum(lines.values()):,}", f"{len(lines)} definitions and types in {len(files)} files")
-    print_row("the toolchain", "", ", ".join(sorted(reached.toolchain)))
+        print_row(path, "", "", ", ".join(names))
+    for path, names in by_file(reached.texts):
+        code, comments = map(sum, zip(*(reached.counts(CRATES / path, name) for name in names)))
+        print_row(path, f"{code:,}", f"{comments:,}", ", ".join(names))
+    definitions, files, code, comments = reached.totals()
+    print_row("all", f"{code:,}", f"{comments:,}", f"{definitions} definitions and types in {files} files")
+    for file, names in sorted(reached.from_kit()):
+        print_row(f"kit: {file}", "", "", ", ".join(names))
 
 
 def print_texts(reached):
@@ -255,18 +303,21 @@ def print_texts(reached):
             print(f"==== {path.relative_to(CRATES)}\n")
         print(f"{text}\n")
         last = path
-    print(f"==== the toolchain\n\n{', '.join(sorted(reached.toolchain))}")
+    print("==== the kit\n")
+    for file, names in sorted(reached.from_kit()):
+        print(f"{file}: {', '.join(names)}")
 
 
 def main():
     parser = argparse.ArgumentParser(description="Which definitions and types a contract reaches.")
     parser.add_argument("--text", action="store_true", help="print the definitions themselves")
+    parser.add_argument("--start", action="store_true", help="also what makes a start well-formed")
     words = "a source file, from crates/, and functions of it, with or without a label; else the headline's"
     parser.add_argument("words", nargs="*", metavar="FILE FUNCTION[.LABEL]", help=words)
     given = parser.parse_args()
     signal.signal(signal.SIGPIPE, signal.SIG_DFL)  # who reads the output may stop
     try:
-        reached = reached_from(given.words or HEADLINE)
+        reached = reached_from((given.words or HEADLINE) + (START if given.start else []))
     except Unknown as fault:
         print(f"definitions.py: {fault}", file=sys.stderr)
         return 2
