@@ -27,7 +27,7 @@ FIELD = re.compile(r" {4}(?:pub(?:\(\w+\))? )?(\w+): (.*)")
 MEMBER = re.compile(r"^ +(?:pub |ghost )?(\w+)(?: ?:|,$|[({]| \{)", re.MULTILINE)  # of a type or a record
 IMPORT = re.compile(r"^ *(?:pub |ghost |unfoldable )*use ([\w.]+?)(?:\.\{([^}]*)\}| as (\w+));?$", re.MULTILINE)
 OTHER = re.compile(r"^pub (\w+) :|\bconst (\w+):|^ *(?:pub |ghost )*use (.*)", re.MULTILINE)
-GHOST_FIELD = re.compile(r"^(?: *//.*\n)* {4}ghost (\w+): \{.*\},\n", re.MULTILINE)
+GHOST_FIELD = re.compile(r"^(?: *//.*\n)* {4}ghost (\w+): \{.*(?:\n {8}.*)*\},\n", re.MULTILINE)
 
 
 @functools.cache
