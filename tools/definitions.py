@@ -163,7 +163,7 @@ class Reached:
     def __init__(self):
         self.clauses = {}  # by files, names of functions and functions
         self.texts = {}  # those of definitions and types, by their files and names
-        self.toolchain = set()  # its names, each after the module that it is imported from
+        self.taken = set()  # the names from the kit, each after the module that it is imported from
         self.waiting = collections.deque()  # files, and texts there whose words are to be followed
         self.unread = []  # fields that nothing has named so far, each its file, its name and its type
         self.read = set()  # the names of the others
@@ -197,7 +197,7 @@ class Reached:
         """Adds what a word means in a file, if it means anything that isn't there yet."""
         found = meant(word, path)
         if found and found[0] is None:
-            self.toolchain.add(found[1])
+            self.taken.add(found[1])
         elif found and found not in self.texts:
             self.add(*found)
 
@@ -218,7 +218,7 @@ class Reached:
         """The kit's files with the names that are taken from them, each with the name that it is
         given here, if it is another one, and with those fields of a type that something names."""
         files = {}
-        for module, name in sorted(self.toolchain):
+        for module, name in sorted(self.taken):
             place = place_of(module, name)
             names = files.setdefault(place.file, {})
             names[place.name if place.name == name else f"{place.name} as {name}"] = ""
