@@ -1,13 +1,13 @@
 -- Where neither of two lists begins the other.
 use Rattle.std.proofs.Common.{◌≡◌, ℕ, zero, suc, ◌<◌, refl, arith, List, [], ◌∷◌, length, slice_get, Some}
-use Rattle.rd_depend.specs.Beginnings.{IsPrefix, NeitherIsPrefix}
+use Rattle.rd_depend.specs.Beginnings.{Begins, NeitherBegins}
 
 -- a list does not begin one that ends before it, or that goes on with another element
-begins_not : {X : Type 0} (xs ys : List X) (n : ℕ) → ((x : X) → slice_get xs n ≡ Some x → slice_get ys n ≡ Some x → ⊥) → n < length xs → IsPrefix xs ys → ⊥
+begins_not : {X : Type 0} (xs ys : List X) (n : ℕ) → ((x : X) → slice_get xs n ≡ Some x → slice_get ys n ≡ Some x → ⊥) → n < length xs → Begins xs ys → ⊥
 begins_not [] ys n apart within h = omega arith
 begins_not (x ∷ xs) [] n apart within h = cc
 begins_not (x ∷ xs) (y ∷ ys) zero apart within h = apart x refl cc
 begins_not (x ∷ xs) (y ∷ ys) (suc n) apart within h = begins_not xs ys n apart (omega arith) cc
 
-pub neither_begins : {X : Type 0} (xs ys : List X) (n : ℕ) → ((x : X) → slice_get xs n ≡ Some x → slice_get ys n ≡ Some x → ⊥) → n < length xs → n < length ys → NeitherIsPrefix xs ys
+pub neither_begins : {X : Type 0} (xs ys : List X) (n : ℕ) → ((x : X) → slice_get xs n ≡ Some x → slice_get ys n ≡ Some x → ⊥) → n < length xs → n < length ys → NeitherBegins xs ys
 neither_begins xs ys n apart in_xs in_ys = (begins_not xs ys n apart in_xs, begins_not ys xs n (λ x there here. apart x here there) in_ys)

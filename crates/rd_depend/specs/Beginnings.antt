@@ -2,9 +2,9 @@
 use Rattle.std.specs.Prelude.{◌≡◌, List, length, take}
 
 -- the second list begins with the first one
-abbrev pub IsPrefix : {X : Type 0} → List X → List X → Type 0
-IsPrefix xs ys = take (length xs) ys ≡ xs
+abbrev pub Begins : {X : Type 0} → List X → List X → Type 0
+Begins xs ys = take (length xs) ys ≡ xs
 
 -- neither list begins with the other one
-abbrev pub NeitherIsPrefix : {X : Type 0} → List X → List X → Type 0
-NeitherIsPrefix xs ys = (IsPrefix xs ys → ⊥) × (IsPrefix ys xs → ⊥)
+abbrev pub NeitherBegins : {X : Type 0} → List X → List X → Type 0
+NeitherBegins xs ys = (Begins xs ys → ⊥) × (Begins ys xs → ⊥)

@@ -6,7 +6,7 @@
 
 ghost use Rattle.std.specs.Prelude.{◌≡◌, ◌≤◌, length, true, false, IfOk, OnErr};
 ghost use Rattle.rd_step.specs.Run.{events};
-ghost use Rattle.rd_depend.specs.Beginnings.{NeitherIsPrefix};
+ghost use Rattle.rd_depend.specs.Beginnings.{NeitherBegins};
 ghost use Rattle.rd_depend.specs.Equivalence.{DecidesEquivalence};
 ghost use Rattle.rd_depend.specs.ComparedSteps.{GoesOn, IsOutOfOrder, left_of, reached_of};
 
@@ -24,7 +24,7 @@ use std::alloc::{AllocError, Global};
 /// `AllocError` if memory was refused, which is not asked for if one list begins the other.
 pub fn are_equivalent(alloc: Global, a: &[Entry], b: &[Entry]) -> Result<bool, AllocError>
     ensures answer { IfOk result (DecidesEquivalence a.now b.now) }
-    ensures memory { OnErr result (NeitherIsPrefix (events a.now) (events b.now)) }
+    ensures memory { OnErr result (NeitherBegins (events a.now) (events b.now)) }
 {
     let common = common_beginning(&a, &b);
     compare(alloc, &a[common..], &b[common..])

@@ -22,7 +22,7 @@ first_run (suc n) w (x ∷ xs) h =
 
 -- a journal in which no more than the first n of these are undone
 abbrev pub with_undone : ℕ → Journal → Journal
-with_undone n j = record { world = j.world; live = j.live; undone = take n j.undone }
+with_undone n j = record { start = j.start; world = j.world; live = j.live; undone = take n j.undone }
 
 pub run_undone : (n : ℕ) (j : Journal) → IsRun j → IsRun (with_undone n j)
 run_undone n j runs = grind (arith, first_run)

@@ -1,9 +1,10 @@
 -- What the calls of a session answer, over its journal.
 use Rattle.std.proofs.Common.{◌≡◌, ℕ, zero, suc, ◌+◌, ◌-◌, ◌<◌, ◌≤◌, ◌⊎◌, refl, sym, ◌∙◌, ap, subst, List, [], ◌∷◌, ◌++◌, length, take, get_or, slice_get, Option, None, Some, option_map, ok_or, Result, Ok, Err, IsOk, IfErr, inl, inr, arith, ne_eqb, length-append}
-use Rattle.rd_journal.proofs.Prelude.{and_then, result_map, cond-false, map-append, length-map, take-map, slice_get_past, slice_get-get_or, slice_get-map, Refusal, Stepped, step, IsWellFormed, MOST_STEPS, Event, Entry, model, room, live_entries, ahead_entries, kept_entries, IsIndexOf, whole_journal, journal, state, MayLackMemory, Journal, events, IsRun, start_of, entry_of, IsSession, HasRoom, State, state_of, with_event, apply, back, forward, live_event, IsLengthened, IsMovedBack, IsBeforeLast}
-use Rattle.rd_journal.specs.Sessions.{IsUnchanged, MayRefuse, capacity, room as session_room, index}
+use Rattle.rd_journal.proofs.Prelude.{opened_with, and_then, result_map, cond-false, map-append, length-map, take-map, slice_get_past, slice_get-get_or, slice_get-map, Refusal, Stepped, step, IsWellFormed, MOST_STEPS, Event, Entry, model, room, live_entries, ahead_entries, kept_entries, IsIndexOf, whole_journal, journal, state, MayLackMemory, Journal, events, IsRun, entry_of, IsSession, HasRoom, State, state_of, with_event, apply, back, forward, live_event, IsLengthened, IsMovedBack, IsBeforeLast}
+use Rattle.rd_journal.specs.Sessions.{KeepsItsSteps, MayRefuse, capacity, room as session_room, index}
 use Rattle.rd_journal.specs.Room.{IsOutOfMemory}
 use Rattle.rd_journal.specs.declared.entries.Entries.{Entries}
+use Rattle.std.specs.declared.snapshot.Snapshot.{Snapshot}
 use Rattle.rd_step.specs.declared.worlds.World.{World as CodeWorld}
 use Rattle.std.proofs.lemmas.Option.{slice_get_cases}
 use Rattle.rd_journal.proofs.Ahead.{is_session}
@@ -19,6 +20,18 @@ live_len j = length-map j.live (λ x. x.event)
 pub undone_len : (j : Journal) → length (state_of j).undone ≡ length j.undone
 undone_len j = length-map j.undone (λ x. x.event)
 
+-- The start
+
+-- the world that a session was opened with is the one that was kept
+pub opened_is : {R : ℕ} (opened : Snapshot (CodeWorld R)) (world : CodeWorld R) → opened.value ≡ world → opened_with opened ≡ model world
+unfolding opened_with
+opened_is opened world h = ap model h
+
+-- its rings have the session's number of cells
+pub opened_ring : {R : ℕ} (opened : Snapshot (CodeWorld R)) → (opened_with opened).ring ≡ R
+unfolding opened_with
+opened_ring opened = refl
+
 -- Back and forward
 
 -- undoing leaves the start
@@ -30,7 +43,7 @@ pub forward_start : (s : State) (n : ℕ) (t : State) → forward s n ≡ Ok t �
 forward_start s n t h = grind arith
 
 -- what is left is the run of all but the last events
-pub before_last : (n : ℕ) (old new : Journal) → IsMovedBack n old new → IsRun new → start_of new ≡ start_of old → IsBeforeLast n old new
+pub before_last : (n : ℕ) (old new : Journal) → IsMovedBack n old new → IsRun new → new.start ≡ old.start → IsBeforeLast n old new
 before_last n old new moved runs start = grind (arith, take-map)
 
 -- Entries by number
@@ -63,22 +76,22 @@ went_through (Err e) f y h = absurd cc
 -- One more step
 
 pub longer_session : (old new : Journal) (e : Event) (x : Entry) (before after : ℕ → ℕ)
-    → IsSession old before → length old.live < MOST_STEPS → step old.world e ≡ Ok (record { world = new.world; entry = x }) → IsLengthened x old new
+    → IsSession old before → length old.live < MOST_STEPS → step old.world e ≡ Ok (record { world = new.world; entry = x }) → new.start ≡ old.start → IsLengthened x old new
     → IsSession new after
-longer_session old new e x before after session less h longer =
+longer_session old new e x before after session less h start longer =
     let live : length new.live ≡ length old.live + 1 = ap length longer.live ∙ length-append old.live (x ∷ []) in
     let none : length new.undone ≡ 0 = ap length longer.undone in
-    let whole : new ≡ record { world = new.world; live = old.live ++ x ∷ []; undone = [] } =
-    λ i. record { world = new.world; live = longer.live i; undone = longer.undone i } in
+    let whole : new ≡ record { start = old.start; world = new.world; live = old.live ++ x ∷ []; undone = [] } =
+    λ i. record { start = start i; world = new.world; live = longer.live i; undone = longer.undone i } in
     record {
       few = omega arith;
-      runs = subst (λ (j : Journal). IsRun j) (sym whole) (grown old.world new.world old.live old.undone [] x e session.runs h refl).runs;
+      runs = subst (λ (j : Journal). IsRun j) (sym whole) (grown old.start old.world new.world old.live old.undone [] x e session.runs h refl);
       has_room = subst (λ (ys : List Entry). HasRoom ys after) (sym longer.undone) (record { at = λ k. omega arith });
     }
 
 -- a session that opens in a world
-pub opened_session : (j : Journal) (room : ℕ → ℕ) → IsWellFormed j.world → j.live ≡ [] → j.undone ≡ [] → IsSession j room
-opened_session j room formed live undone = grind arith
+pub opened_session : (j : Journal) (room : ℕ → ℕ) → IsWellFormed j.world → j.start ≡ j.world → j.live ≡ [] → j.undone ≡ [] → IsSession j room
+opened_session j room formed start live undone = grind arith
 
 -- a session whose journal is as it was is a session still, with as much room
 same_session : (old new : Journal) (before after : ℕ → ℕ) → IsSession old before → new ≡ old → ((m : ℕ) → before m ≤ after m)
@@ -92,7 +105,7 @@ same_session old new before after session same more =
 
 -- the same of a session whose world and entries are as they were
 pub record IsStill {R : ℕ} (old : Session R) (world : CodeWorld R) (entries : Entries) : Type 0 where
-  pub kept : IsSession (whole_journal (model world) entries) (room world)
+  pub kept : IsSession (whole_journal (opened_with old.opened) (model world) entries) (room world)
   pub within : old.undone ≤ length (ahead_entries entries)
   pub indexed : IsIndexOf old.index (kept_entries entries)
 
@@ -100,17 +113,17 @@ pub still : {R : ℕ} (old : Session R) (world : CodeWorld R) (entries : Entries
     → ahead_entries entries ≡ ahead_entries old.entries → ((m : ℕ) → room old.world m ≤ room world m) → IsStill old world entries
 still old world entries same live ahead more = record {
   kept =
-      same_session (whole_journal (model old.world) old.entries) (whole_journal (model world) entries) (room old.world) (room world) old.kept
-      (λ i. record { world = same i; live = live i; undone = ahead i }) more;
+      same_session (whole_journal (opened_with old.opened) (model old.world) old.entries) (whole_journal (opened_with old.opened) (model world) entries) (room old.world) (room world) old.kept
+      (λ i. record { start = opened_with old.opened; world = same i; live = live i; undone = ahead i }) more;
   within = omega (arith, old.within, ap length ahead);
   indexed = subst (λ (es : List Entry). IsIndexOf old.index es) (λ i. sym live i ++ sym ahead i) old.indexed;
 }
 
 -- a session with the world and the entries from before is unchanged
-pub unchanged : {R : ℕ} (old new : Session R) → model new.world ≡ model old.world → live_entries new.entries ≡ live_entries old.entries
-    → ahead_entries new.entries ≡ ahead_entries old.entries → new.undone ≡ old.undone → IsUnchanged old new
-unchanged old new world live ahead count = record {
-  journal = λ i. record { world = world i; live = live i; undone = take (count i) (ahead i) };
+pub unchanged : {R : ℕ} (old new : Session R) → opened_with new.opened ≡ opened_with old.opened → model new.world ≡ model old.world → live_entries new.entries ≡ live_entries old.entries
+    → ahead_entries new.entries ≡ ahead_entries old.entries → new.undone ≡ old.undone → KeepsItsSteps old new
+unchanged old new start world live ahead count = record {
+  journal = λ i. record { start = start i; world = world i; live = live i; undone = take (count i) (ahead i) };
   track = λ i. events (live i) ++ events (ahead i);
 }
 
@@ -151,14 +164,13 @@ pub apply_refused : (j : Journal) (e : Event) (refusal : Refusal) → IsRun j �
 apply_refused j e refusal runs less h = applied j e (Err refusal) runs less h
 
 pub apply_goes : (old new : Journal) (e : Event) (x : Entry) → IsRun old → length old.live < MOST_STEPS
-    → step old.world e ≡ Ok (record { world = new.world; entry = x }) → IsLengthened x old new → apply (state_of old) e ≡ Ok (state_of new)
-apply_goes old new e x runs less h longer =
-    let start = (grown old.world new.world old.live old.undone [] x e runs h refl).start in
+    → step old.world e ≡ Ok (record { world = new.world; entry = x }) → new.start ≡ old.start → IsLengthened x old new → apply (state_of old) e ≡ Ok (state_of new)
+apply_goes old new e x runs less h start longer =
     let its = step_event old.world e (record { world = new.world; entry = x }) h in
     let all : events (old.live ++ x ∷ []) ≡ events old.live ++ e ∷ [] =
     map-append (λ (y : Entry). y.event) old.live (x ∷ []) ∙ ap (λ (f : Event). events old.live ++ f ∷ []) its in
-    let whole : new ≡ record { world = new.world; live = old.live ++ x ∷ []; undone = [] } =
-    λ i. record { world = new.world; live = longer.live i; undone = longer.undone i } in
+    let whole : new ≡ record { start = old.start; world = new.world; live = old.live ++ x ∷ []; undone = [] } =
+    λ i. record { start = start i; world = new.world; live = longer.live i; undone = longer.undone i } in
     applied old e (Ok (record { world = new.world; entry = x })) runs less h
-    ∙ (λ i. Ok (record { start = sym start i; live = sym all i; undone = [] }))
+    ∙ (λ i. Ok (record { start = old.start; live = sym all i; undone = [] }))
     ∙ ap (λ (j : Journal). Ok (state_of j)) (sym whole)

@@ -1,7 +1,7 @@
 -- What the index of the live entries and those after them finds, and where the entries before a
 -- closure are.
 use Rattle.std.proofs.Common.{◌≡◌, ℕ, zero, suc, ◌+◌, ◌-◌, ◌<◌, ◌≤◌, Bool, true, false, nat_lt, if◌then◌else◌, List, [], ◌∷◌, ◌++◌, length, get_or, take, drop, Option, Some, None, sym, ◌∙◌, ap, arith, length-append, length-drop}
-use Rattle.rd_journal.proofs.Prelude.{lt-ltb, le-ltb, append_assoc, length-take-le, take_at, take-append-le, drop-append-le, slice_get-get_or, position_from, first_dependant, depends, closure_from, numbered, closure_of, without_closure, unmarked, Entry}
+use Rattle.rd_journal.proofs.Prelude.{lt-ltb, le-ltb, append_assoc, length-take-le, take_at, take-append-le, drop-append-le, slice_get-get_or, position_from, first_dependant, depends, closure_from, numbered, closure_of, without_closure, items_where_false, Entry}
 use Rattle.rd_journal.proofs.Gathering.{cut_at}
 use Rattle.rd_journal.proofs.ListLemmas.{nth}
 
@@ -15,7 +15,7 @@ outside_begins l zero some within = absurd (omega arith)
 outside_begins l (suc i) some within =
     let x = nth l i (omega arith) in
     let same : i ≡ suc i - 1 = omega arith in
-    let rest = unmarked (closure_from (x.0 ∷ []) (drop (suc i) l)) (drop (suc i) l) in
+    let rest = items_where_false (closure_from (x.0 ∷ []) (drop (suc i) l)) (drop (suc i) l) in
     (rest, (cut_at l i x.0 (omega arith) x.1).outside ∙ ap (λ (n : ℕ). take n l ++ rest) same)
 
 -- the list cut before the k-th, with its closure after the others and these after it

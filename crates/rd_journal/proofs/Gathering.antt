@@ -1,14 +1,14 @@
 -- The causal closure of a step gathered after the other entries: the list cut in parts, and the run
 -- that it stays.
 use Rattle.std.proofs.Common.{◌≡◌, ℕ, zero, suc, ◌-◌, ◌<◌, ◌≤◌, Bool, true, false, if◌then◌else◌, sym, ◌∙◌, ap, subst, arith, inl, inr, List, [], ◌∷◌, ◌++◌, length, take, drop, get_or, Ok}
-use Rattle.rd_journal.proofs.Prelude.{cases_Bool, or_parts, append-nil, append_assoc, World, run, depends, depends_on_one, items_where_true, unmarked, closure_of, without_closure, closure_from, Entry, run-cons, events, beginning}
+use Rattle.rd_journal.proofs.Prelude.{cases_Bool, or_parts, append-nil, append_assoc, World, run, depends, depends_on_one, items_where_true, items_where_false, closure_of, without_closure, closure_from, Entry, run-cons, events, beginning}
 use Rattle.rd_step.proofs.Commute.{commutes}
 
 -- The closure, cut at its first entry
 
 -- the list around its entry of index i, with the marks of the closure
 pub record CutAt (l : List Entry) (i : ℕ) (x : Entry) : Type 0 where
-  pub outside : without_closure l (suc i) ≡ take i l ++ unmarked (closure_from (x ∷ []) (drop (suc i) l)) (drop (suc i) l)
+  pub outside : without_closure l (suc i) ≡ take i l ++ items_where_false (closure_from (x ∷ []) (drop (suc i) l)) (drop (suc i) l)
   pub inside : closure_of l (suc i) ≡ x ∷ items_where_true (closure_from (x ∷ []) (drop (suc i) l)) (drop (suc i) l)
 
 pub cut_at : (l : List Entry) (i : ℕ) (x : Entry) → i < length l → x ≡ get_or l i x → CutAt l i x
@@ -20,7 +20,7 @@ cut_at (y ∷ l) (suc i) x h here = grind (arith, cut_at l i x (omega arith) her
 
 -- of the live entries those that stay so far, those that go, and those that are still to come
 pub record Gathering (l : List Entry) (k : ℕ) (before block later : List Entry) : Type 0 where
-  pub outside : without_closure l k ≡ before ++ unmarked (closure_from block later) later
+  pub outside : without_closure l k ≡ before ++ items_where_false (closure_from block later) later
   pub inside : closure_of l k ≡ block ++ items_where_true (closure_from block later) later
 
 pub gathering_first : (l : List Entry) (k : ℕ) (x : Entry) → 1 ≤ k → k ≤ length l → x ≡ get_or l (k - 1) x
@@ -29,7 +29,7 @@ gathering_first l zero x some below here = absurd (omega arith)
 gathering_first l (suc i) x some below here =
     let same : suc i - 1 ≡ i = omega arith in
     let c = cut_at l i x (omega arith) (here ∙ ap (λ (n : ℕ). get_or l n x) same) in
-    record { outside = c.outside ∙ ap (λ (n : ℕ). take n l ++ unmarked (closure_from (x ∷ []) (drop (suc i) l)) (drop (suc i) l)) (sym same); inside = c.inside }
+    record { outside = c.outside ∙ ap (λ (n : ℕ). take n l ++ items_where_false (closure_from (x ∷ []) (drop (suc i) l)) (drop (suc i) l)) (sym same); inside = c.inside }
 
 -- where the next entry depends on one that goes it goes
 pub joins : (l before block later : List Entry) (k : ℕ) (x : Entry) → Gathering l k before block (x ∷ later) → depends_on_one block x ≡ true
@@ -62,24 +62,24 @@ moved_before u w (x ∷ b) y zs h free =
 
 -- gathering the closure of a block after the others leaves a run to the same world
 pub gathered_run : (u w : World) (b ys : List Entry) → run u (events (b ++ ys)) ≡ Ok (record { world = w; entries = b ++ ys })
-    → let zs = unmarked (closure_from b ys) ys ++ (b ++ items_where_true (closure_from b ys) ys) in run u (events zs) ≡ Ok (record { world = w; entries = zs })
+    → let zs = items_where_false (closure_from b ys) ys ++ (b ++ items_where_true (closure_from b ys) ys) in run u (events zs) ≡ Ok (record { world = w; entries = zs })
 gathered_run u w b [] h = h
 gathered_run u w b (y ∷ ys) h =
     elim (cases_Bool (depends_on_one b y)) [
       | inl e ↦
           let more : run u (events ((b ++ y ∷ []) ++ ys)) ≡ Ok (record { world = w; entries = (b ++ y ∷ []) ++ ys }) =
           subst (λ (zs : List Entry). run u (events zs) ≡ Ok (record { world = w; entries = zs })) (sym (append_assoc b (y ∷ []) ys)) h in
-          let out = unmarked (closure_from (b ++ y ∷ []) ys) ys in
-          let same : out ++ ((b ++ y ∷ []) ++ items_where_true (closure_from (b ++ y ∷ []) ys) ys) ≡ unmarked (closure_from b (y ∷ ys)) (y ∷ ys) ++ (b ++ items_where_true (closure_from b (y ∷ ys)) (y ∷ ys)) =
+          let out = items_where_false (closure_from (b ++ y ∷ []) ys) ys in
+          let same : out ++ ((b ++ y ∷ []) ++ items_where_true (closure_from (b ++ y ∷ []) ys) ys) ≡ items_where_false (closure_from b (y ∷ ys)) (y ∷ ys) ++ (b ++ items_where_true (closure_from b (y ∷ ys)) (y ∷ ys)) =
           grind (arith, append_assoc) in
           subst (λ (zs : List Entry). run u (events zs) ≡ Ok (record { world = w; entries = zs })) same (gathered_run u w (b ++ y ∷ []) ys more)
       | inr e ↦
           let first = beginning u y (b ++ ys) w (moved_before u w b y ys h e) in
           let ms = closure_from b ys in
           let rest = gathered_run first.after w b ys first.rest in
-          let all = run-cons u y.event (events (unmarked ms ys ++ (b ++ items_where_true ms ys))) (record { world = first.after; entry = y })
-          (record { world = w; entries = unmarked ms ys ++ (b ++ items_where_true ms ys) }) first.goes rest in
-          let same : y ∷ (unmarked ms ys ++ (b ++ items_where_true ms ys)) ≡ unmarked (closure_from b (y ∷ ys)) (y ∷ ys) ++ (b ++ items_where_true (closure_from b (y ∷ ys)) (y ∷ ys)) =
-          ap (λ (d : Bool). let m = d ∷ closure_from (if d then b ++ y ∷ [] else b) ys in unmarked m (y ∷ ys) ++ (b ++ items_where_true m (y ∷ ys))) (sym e) in
+          let all = run-cons u y.event (events (items_where_false ms ys ++ (b ++ items_where_true ms ys))) (record { world = first.after; entry = y })
+          (record { world = w; entries = items_where_false ms ys ++ (b ++ items_where_true ms ys) }) first.goes rest in
+          let same : y ∷ (items_where_false ms ys ++ (b ++ items_where_true ms ys)) ≡ items_where_false (closure_from b (y ∷ ys)) (y ∷ ys) ++ (b ++ items_where_true (closure_from b (y ∷ ys)) (y ∷ ys)) =
+          ap (λ (d : Bool). let m = d ∷ closure_from (if d then b ++ y ∷ [] else b) ys in items_where_false m (y ∷ ys) ++ (b ++ items_where_true m (y ∷ ys))) (sym e) in
           subst (λ (zs : List Entry). run u (events zs) ≡ Ok (record { world = w; entries = zs })) same all
     ]

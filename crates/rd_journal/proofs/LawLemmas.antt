@@ -1,18 +1,62 @@
 -- What the laws state: going back and forward again, steps undone out of their order and redone, and
 -- the old words of an entry.
 use Rattle.std.proofs.Common.{◌≡◌, ℕ, sym, ◌∙◌, Ok, arith, length-append, length-drop, ◌-◌, ◌≤◌, refl, ap, List, [], ◌∷◌, ◌++◌, length, take, drop, Option, Some, None, Result, subst, get_or, ◌+◌, ◌<◌}
-use Rattle.rd_journal.proofs.Prelude.{le-ltb, ltb-false, cond-false, take_at, drop_at, take-append-drop, Journal, IsRun, State, state_of, back, forward, length-map, first_dependant, Ran, step, unstep, Entry, IsTakenOut, taken_out, IsMovedLast, IsUndoneAlone, run_of, live_event, undo_at, and_then, Refusal, result_map, map-append, World, closure, closure_of, without_closure, Event, events, start_of, IsClosureLast, undone_marked, roll, take-map, run, IsWellFormed, run_keeps, IsStepAfter, middle}
+use Rattle.std.specs.Prelude.{nat_lt}
+use Rattle.rd_journal.proofs.Prelude.{append_assoc, drop-drop, drop-take, take-take, take-add, length-take-le, le-ltb, ltb-false, cond-false, take_at, drop_at, take-append-drop, Journal, IsRun, State, state_of, back, forward, length-map, first_dependant, Ran, step, unstep, Entry, IsTakenOut, taken_out, IsMovedLast, IsUndoneAlone, run_of, live_event, undo_at, and_then, Refusal, result_map, map-append, World, closure, closure_of, without_closure, Event, events, IsClosureLast, undone_where_true, roll, take-map, run, IsWellFormed, run_keeps, IsStepAfter, middle}
 use Rattle.rd_journal.proofs.Runs.{as_ok, as_ok-same, step_event, grown}
 use Rattle.rd_journal.proofs.ListLemmas.{nth, drop_one_less}
 use Rattle.rd_journal.proofs.LoneUndo.{IsNumber, from_it, may_undo_at, undo_at_goes}
 use Rattle.rd_journal.proofs.Calls.{is_live, went_through}
 use Rattle.rd_journal.proofs.Walks.{state_forward}
-use Rattle.rd_journal.proofs.RolledBack.{closure_last, reordered, marked-map, unmarked-map}
+use Rattle.rd_journal.proofs.RolledBack.{closure_last, reordered, marked-map, items_where_false-map}
 use Rattle.rd_step.proofs.OldWords.{keeps_old_words}
 
 -- going forward as far gives the state from before
 pub forward_back : (s t : State) (n : ℕ) → back s n ≡ Ok t → forward t n ≡ Ok s
 forward_back s t n h = grind (arith, le-ltb, ltb-false, cond-false, take_at, drop_at, take-append-drop, length-append, length-drop)
+
+-- a walk within the run
+
+back_within : (s : State) (n : ℕ) → n ≤ length s.live
+    → back s n ≡ Ok (record { start = s.start; live = take (length s.live - n) s.live; undone = drop (length s.live - n) s.live ++ s.undone })
+back_within s n within = cond-false (nat_lt (length s.live) n) _ _ (le-ltb (length s.live) n within)
+
+forward_within : (s : State) (n : ℕ) → n ≤ length s.undone → forward s n ≡ Ok (record { start = s.start; live = s.live ++ take n s.undone; undone = drop n s.undone })
+forward_within s n within = cond-false (nat_lt (length s.undone) n) _ _ (le-ltb (length s.undone) n within)
+
+-- a list from one of its elements on
+from_one : {X : Type 0} (m : ℕ) (xs : List X) → drop m (take (m + 1) xs) ++ drop (m + 1) xs ≡ drop m xs
+from_one m xs = (λ i. drop-take m 1 xs i ++ sym (drop-drop 1 m xs) i) ∙ take-append-drop 1 (drop m xs)
+
+-- going back one step more is going back as far, and then one step
+pub back_more : (s : State) (n : ℕ) → n < length s.live → back s (n + 1) ≡ and_then (back s n) (λ u. back u 1)
+back_more s n few =
+    let xs = s.live in
+    let k = length xs - n in
+    let m = length xs - (n + 1) in
+    let u : State = record { start = s.start; live = take k xs; undone = drop k xs ++ s.undone } in
+    let more : k ≡ m + 1 = omega arith in
+    let left : length (take k xs) - 1 ≡ m = omega (arith, length-take-le k xs) in
+    let live : take m xs ≡ take (length (take k xs) - 1) (take k xs) =
+    sym (take-take m (m + 1) xs (omega arith)) ∙ (λ i. take (sym left i) (take (sym more i) xs)) in
+    let gone : drop m xs ≡ drop (length (take k xs) - 1) (take k xs) ++ drop k xs =
+    sym (from_one m xs) ∙ (λ i. drop (sym left i) (take (sym more i) xs) ++ drop (sym more i) xs) in
+    let undone : drop m xs ++ s.undone ≡ drop (length (take k xs) - 1) (take k xs) ++ (drop k xs ++ s.undone) =
+    ap (λ (ys : List Event). ys ++ s.undone) gone ∙ append_assoc (drop (length (take k xs) - 1) (take k xs)) (drop k xs) s.undone in
+    back_within s (n + 1) (omega arith)
+    ∙ (λ i. Ok (record { start = s.start; live = live i; undone = undone i }))
+    ∙ sym (ap (λ (r : Result State Refusal). and_then r (λ v. back v 1)) (back_within s n (omega arith)) ∙ back_within u 1 (omega (arith, length-take-le k xs (omega arith))))
+
+-- and likewise forward
+pub forward_more : (s : State) (n : ℕ) → n < length s.undone → forward s (n + 1) ≡ and_then (forward s n) (λ u. forward u 1)
+forward_more s n few =
+    let xs = s.undone in
+    let u : State = record { start = s.start; live = s.live ++ take n xs; undone = drop n xs } in
+    let live : s.live ++ take (n + 1) xs ≡ (s.live ++ take n xs) ++ take 1 (drop n xs) =
+    ap (λ (ys : List Event). s.live ++ ys) (take-add n 1 xs) ∙ sym (append_assoc s.live (take n xs) (take 1 (drop n xs))) in
+    forward_within s (n + 1) (omega arith)
+    ∙ (λ i. Ok (record { start = s.start; live = live i; undone = sym (drop-drop 1 n xs) i }))
+    ∙ sym (ap (λ (r : Result State Refusal). and_then r (λ v. forward v 1)) (forward_within s n (omega arith)) ∙ forward_within u 1 (omega (arith, length-drop n xs)))
 
 -- a state has one journal
 pub one_journal : (i j : Journal) → IsRun i → IsRun j → state_of i ≡ state_of j → i ≡ j
@@ -42,7 +86,7 @@ went_out s t r n ran h =
 
 -- the journal where the n-th live step, which is x, was undone alone and redone
 abbrev pub again_journal : Journal → ℕ → Entry → Journal
-again_journal old n x = record { world = old.world; live = (take (n - 1) old.live ++ drop n old.live) ++ x ∷ []; undone = old.undone }
+again_journal old n x = record { start = old.start; world = old.world; live = (take (n - 1) old.live ++ drop n old.live) ++ x ∷ []; undone = old.undone }
 
 again : (old : Journal) (n : ℕ) (x : Entry) → IsNumber old.live n x → first_dependant old.live n ≡ None → IsRun old
     → IsRun (again_journal old n x) × (and_then (undo_at (state_of old) n) (λ s. forward s 1) ≡ Ok (state_of (again_journal old n x)))
@@ -51,15 +95,15 @@ again old n x at none runs =
     let v = unstep old.world x in
     let out : IsTakenOut old.world v x may.was = taken_out old.world x may.was in
     let xs = take (n - 1) old.live ++ drop n old.live in
-    let left : Journal = record { world = v; live = xs; undone = x ∷ old.undone } in
+    let left : Journal = record { start = old.start; world = v; live = xs; undone = x ∷ old.undone } in
     let moved : IsUndoneAlone n old left = record { live = refl; undone = sym (ap (λ (ys : List Entry). take 1 ys ++ old.undone) (from_it old.live n x at)) } in
-    let is = may.left left out moved in
+    let is = may.left left refl out moved in
     let its : x.event ≡ may.was.event = step_event v may.was.event (record { world = old.world; entry = x }) out.again in
     let goes : step v x.event ≡ Ok (record { world = old.world; entry = x }) = ap (step v) its ∙ out.again in
-    let back_on = grown v old.world xs (x ∷ old.undone) old.undone x x.event is.runs goes runs.undone_run_on in (
-      back_on.runs,
-      ap (λ (r : Result State Refusal). and_then r (λ s. forward s 1)) (undo_at_goes n old left runs at.some at.within none moved is.start).0
-          ∙ state_forward 1 left (again_journal old n x) (omega arith) back_on.start (record { live = refl; undone = refl }),
+    let back_on = grown old.start v old.world xs (x ∷ old.undone) old.undone x x.event is goes runs.undone_run_on in (
+      back_on,
+      ap (λ (r : Result State Refusal). and_then r (λ s. forward s 1)) (undo_at_goes n old left runs at.some at.within none moved refl).0
+          ∙ state_forward 1 left (again_journal old n x) (omega arith) refl (record { live = refl; undone = refl }),
     )
 
 pub redone_last : (i j k : Journal) (n : ℕ) → IsRun i → IsRun k → undo_at (state_of i) n ≡ Ok (state_of j)
@@ -75,6 +119,7 @@ redone_last i j k n ri rk undone redone =
     as_ok-same _ _ (sym redone ∙ ap (λ (r : Result State Refusal). and_then r (λ s. forward s 1)) (sym undone) ∙ is.1) in
     let one : k ≡ again_journal i n found.0 = one_journal k (again_journal i n found.0) rk is.0 same in
     record {
+      start = ap (λ (l : Journal). l.start) one;
       world = ap (λ (l : Journal). l.world) one;
       live =
           grind (arith, from_it);
@@ -87,9 +132,9 @@ forward_all : (w : World) (n : ℕ) (xs ys zs : List Event) → n ≡ length ys
 forward_all w n xs ys zs len = grind (arith, le-ltb, cond-false, length-append, take_at, drop_at)
 
 -- a rollback that was not refused, where the live steps ran so
-rolled : (s t : State) (r : Ran) (n : ℕ) → run_of s ≡ Ok r → roll s n ≡ Ok t → (1 ≤ n) × (n ≤ length s.live) × (t ≡ undone_marked s (closure r.entries n))
+rolled : (s t : State) (r : Ran) (n : ℕ) → run_of s ≡ Ok r → roll s n ≡ Ok t → (1 ≤ n) × (n ≤ length s.live) × (t ≡ undone_where_true s (closure r.entries n))
 rolled s t r n ran k =
-    let live = went_through (live_event s n) (λ _. result_map (λ (q : Ran). undone_marked s (closure q.entries n)) (run_of s)) t k in
+    let live = went_through (live_event s n) (λ _. result_map (λ (q : Ran). undone_where_true s (closure q.entries n)) (run_of s)) t k in
     let of_live = is_live s n live.0 live.1 in
     (of_live.0, of_live.1, grind arith)
 
@@ -103,14 +148,15 @@ closure_redone i j k n ri rk back on =
     let ms = closure i.live n in
     let xs = without_closure i.live n in
     let ys = closure_of i.live n in
-    let left : state_of j ≡ record { start = start_of i; live = events xs; undone = events ys ++ events i.undone } =
-    grind (arith, went.2, unmarked-map, marked-map) in
-    let there : state_of k ≡ record { start = start_of i; live = events xs ++ events ys; undone = events i.undone } =
-    as_ok-same _ _ (sym on ∙ ap (λ (s : State). forward s (length ys)) left ∙ forward_all (start_of i) (length ys) (events xs) (events ys) (events i.undone) (sym (length-map ys its))) in
+    let left : state_of j ≡ record { start = i.start; live = events xs; undone = events ys ++ events i.undone } =
+    grind (arith, went.2, items_where_false-map, marked-map) in
+    let there : state_of k ≡ record { start = i.start; live = events xs ++ events ys; undone = events i.undone } =
+    as_ok-same _ _ (sym on ∙ ap (λ (s : State). forward s (length ys)) left ∙ forward_all i.start (length ys) (events xs) (events ys) (events i.undone) (sym (length-map ys its))) in
     let same : state_of k ≡ state_of (closure_last i n) =
-    there ∙ (λ t. record { start = sym re.start t; live = sym (map-append its xs ys) t; undone = events i.undone }) in
-    let one : k ≡ closure_last i n = one_journal k (closure_last i n) rk re.runs same in
+    there ∙ (λ t. record { start = i.start; live = sym (map-append its xs ys) t; undone = events i.undone }) in
+    let one : k ≡ closure_last i n = one_journal k (closure_last i n) rk re same in
     record {
+      start = ap (λ (l : Journal). l.start) one;
       world = ap (λ (l : Journal). l.world) one;
       live = ap (λ (l : Journal). l.live) one;
       undone = ap (λ (l : Journal). l.undone) one;
@@ -124,7 +170,7 @@ step_after j k x runs low at =
     let ys = drop (k + 1) j.live in
     let cut : j.live ≡ xs ++ x ∷ ys =
     sym (take-append-drop k j.live) ∙ ap (λ (zs : List Entry). xs ++ zs) (drop_one_less j.live k x low at) in
-    let start = start_of j in
+    let start = j.start in
     let ran : run start (events (xs ++ x ∷ ys)) ≡ Ok (record { world = w; entries = xs ++ x ∷ ys }) =
     subst (λ (zs : List Entry). run start (events zs) ≡ Ok (record { world = w; entries = zs })) cut runs.live_ran in
     let m = middle start xs x ys w ran in

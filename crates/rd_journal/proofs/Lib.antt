@@ -14,3 +14,4 @@ pub mod LawLemmas
 pub mod RoomLemmas
 pub mod RolledBack
 pub mod Runs
+pub mod Sends

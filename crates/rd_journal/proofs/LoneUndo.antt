@@ -1,12 +1,12 @@
 -- Undoing one live step alone, on which no later one depends, over whole journals.
 use Rattle.std.specs.List.{list_any}
 use Rattle.std.proofs.lemmas.Bool.{or_from}
-use Rattle.rd_journal.proofs.Prelude.{common_steps, cases_Bool, cond-true, cond-false, map-append, take-map, drop-map, take-append-drop, depends, IsFree, first_dependant, MOST_STEPS, Entry, position_from, WasStepped, IsTakenOut, Journal, start_of, world_before, IsRun, IsUndoneAlone, IsRunWithout, unless_depended, answer_at, state_of, undo_at, and_then, events, without}
-use Rattle.std.proofs.Common.{◌≡◌, refl, ℕ, ◌+◌, ◌-◌, ◌<◌, ◌≤◌, ◌⊎◌, inl, inr, sym, ◌∙◌, ap, subst, arith, List, [], ◌∷◌, ◌++◌, length, take, drop, get_or, Some, None, Ok, Err, length-append}
+use Rattle.rd_journal.proofs.Prelude.{common_steps, cases_Bool, cond-true, cond-false, map-append, take-map, drop-map, take-append-drop, depends, IsFree, first_dependant, MOST_STEPS, Entry, position_from, WasStepped, IsTakenOut, Journal, IsRun, IsUndoneAlone, IsRunWithout, unless_depended, answer_at, entry_of, state_of, undo_at, and_then, events, numbered, without}
+use Rattle.std.proofs.Common.{◌≡◌, refl, ℕ, ◌+◌, ◌-◌, ◌<◌, ◌≤◌, ◌⊎◌, inl, inr, sym, ◌∙◌, ap, subst, arith, List, [], ◌∷◌, ◌++◌, length, take, drop, get_or, Option, Some, None, Ok, Err, ok_or, length-append}
 use Rattle.rd_journal.proofs.ListLemmas.{nth, drop_one_less}
 use Rattle.rd_journal.proofs.Calls.{entry_missing, entry_found, event_of_entry}
 use Rattle.rd_journal.proofs.Finding.{numbered_in, scan_is}
-use Rattle.rd_journal.proofs.Runs.{IsRunSince, MayTakeOut, may_take_out}
+use Rattle.rd_journal.proofs.Runs.{MayTakeOut, may_take_out}
 use Rattle.rd_cell.specs.declared.refusal.Refusal.TheVariants as refusal
 
 -- Dependence
@@ -53,47 +53,54 @@ taken_out_few k old new x at moved few = grind (arith, common_steps, around_it, 
 -- of the same start
 pub record MayUndoAt (old : Journal) (k : ℕ) (x : Entry) : Type 0 where
   pub was : WasStepped old.world x
-  pub left : (new : Journal) → IsTakenOut old.world new.world x was → IsUndoneAlone k old new → IsRunSince (start_of old) new
+  pub left : (new : Journal) → new.start ≡ old.start → IsTakenOut old.world new.world x was → IsUndoneAlone k old new → IsRun new
 
 may_undo_around : (old : Journal) (k : ℕ) (x : Entry) → IsNumber old.live k x
-    → MayTakeOut old.world (take (k - 1) old.live) (drop k old.live) old.undone x → MayUndoAt old k x
+    → MayTakeOut old.start old.world (take (k - 1) old.live) (drop k old.live) old.undone x → MayUndoAt old k x
 may_undo_around old k x at may = record { was = may.was; left = left }
   where
-    same : (new : Journal) → IsUndoneAlone k old new
-        → new ≡ record { world = new.world; live = take (k - 1) old.live ++ drop k old.live; undone = x ∷ old.undone }
-    same new moved = grind (arith, common_steps, taken_out_front)
+    same : (new : Journal) → new.start ≡ old.start → IsUndoneAlone k old new
+        → new ≡ record { start = old.start; world = new.world; live = take (k - 1) old.live ++ drop k old.live; undone = x ∷ old.undone }
+    same new start moved = grind (arith, common_steps, taken_out_front)
 
-    left : (new : Journal) → IsTakenOut old.world new.world x may.was → IsUndoneAlone k old new → IsRunSince (start_of old) new
-    left new out moved =
-        subst (λ (j : Journal). IsRunSince (start_of old) j) (sym (same new moved))
-        (subst (λ (l : List Entry). IsRunSince (world_before old.world l) (record { world = new.world; live = take (k - 1) old.live ++ drop k old.live; undone = x ∷ old.undone })) (sym (around_it old.live k x at)) (may.left new.world out))
+    left : (new : Journal) → new.start ≡ old.start → IsTakenOut old.world new.world x may.was → IsUndoneAlone k old new → IsRun new
+    left new start out moved = subst (λ (j : Journal). IsRun j) (sym (same new start moved)) (may.left new.world out)
 
 pub may_undo_at : (old : Journal) (k : ℕ) (x : Entry) → IsNumber old.live k x → first_dependant old.live k ≡ None → IsRun old
     → MayUndoAt old k x
 may_undo_at old k x at none runs =
     let free : IsFree x (drop k old.live) = none_is_free x (k + 1) (drop k old.live) (sym (first_behind old.live k x at) ∙ none) in
-    let cut : IsRun (record { world = old.world; live = take (k - 1) old.live ++ x ∷ drop k old.live; undone = old.undone }) =
-    subst (λ (l : List Entry). IsRun (record { world = old.world; live = l; undone = old.undone })) (around_it old.live k x at) runs in
-    may_undo_around old k x at (may_take_out old.world (take (k - 1) old.live) (drop k old.live) old.undone x cut free)
+    let cut : IsRun (record { start = old.start; world = old.world; live = take (k - 1) old.live ++ x ∷ drop k old.live; undone = old.undone }) =
+    subst (λ (l : List Entry). IsRun (record { start = old.start; world = old.world; live = l; undone = old.undone })) (around_it old.live k x at) runs in
+    may_undo_around old k x at (may_take_out old.start old.world (take (k - 1) old.live) (drop k old.live) old.undone x cut free)
 
 -- its events
 without-events : (xs : List Entry) (k : ℕ) → events (without xs k) ≡ without (events xs) k
 without-events xs k = grind (arith, take-map, drop-map, map-append)
 
-pub undone_run : (k : ℕ) (old new : Journal) → IsUndoneAlone k old new → start_of new ≡ start_of old → IsRun new → IsRunWithout k old new
+pub undone_run : (k : ℕ) (old new : Journal) → IsUndoneAlone k old new → new.start ≡ old.start → IsRun new → IsRunWithout k old new
 undone_run k old new moved start runs = let left = without-events old.live k in grind arith
 
 -- The answers
 
 -- the k-th live step is looked up, then its first dependant
+pub undo_at_found : (j : Journal) (k : ℕ) (x : Entry) → IsRun j → numbered j.live k ≡ Some x
+    → undo_at (state_of j) k ≡ and_then (unless_depended (first_dependant j.live k))
+    (λ _. Ok (record { start = j.start; live = without (events j.live) k; undone = x.event ∷ events j.undone }))
+undo_at_found j k x runs here =
+    let found : entry_of j k ≡ Ok x = ap (λ (o : Option Entry). ok_or o (refusal.NoSuchStep (length j.live))) here in
+    grind (arith, event_of_entry)
+
 undo_at_there : (j : Journal) (k : ℕ) (x : Entry) → IsRun j → IsNumber j.live k x
     → (undo_at (state_of j) k ≡ and_then (unless_depended (first_dependant j.live k))
-    (λ _. Ok (record { start = start_of j; live = without (events j.live) k; undone = x.event ∷ events j.undone })))
+    (λ _. Ok (record { start = j.start; live = without (events j.live) k; undone = x.event ∷ events j.undone })))
     × (unless_depended (first_dependant j.live k) ≡ answer_at j k)
-undo_at_there j k x runs at = let found = entry_found j k x at.some at.within at.here in (grind (arith, event_of_entry), grind arith)
+undo_at_there j k x runs at =
+    let found = entry_found j k x at.some at.within at.here in
+    (undo_at_found j k x runs (numbered_in j.live k x at.some at.within at.here), grind arith)
 
 pub undo_at_goes : (k : ℕ) (old new : Journal) → IsRun old → 1 ≤ k → k ≤ length old.live → first_dependant old.live k ≡ None → IsUndoneAlone k old new
-    → start_of new ≡ start_of old → (undo_at (state_of old) k ≡ Ok (state_of new)) × (Ok tt ≡ answer_at old k)
+    → new.start ≡ old.start → (undo_at (state_of old) k ≡ Ok (state_of new)) × (Ok tt ≡ answer_at old k)
 undo_at_goes k old new runs some within free moved start =
     let x = nth old.live (k - 1) (omega arith) in
     let at : IsNumber old.live k x.0 = record { some = some; within = within; here = x.1 } in

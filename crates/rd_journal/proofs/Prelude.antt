@@ -22,13 +22,14 @@ pub use Rattle.rd_step.proofs.Steps.{took, with_actor-other}
 pub use Rattle.rd_step.specs.Dependence.{AreLoneUndos, IsInClosure, closure_from, number_after}
 pub use Rattle.rd_step.specs.Laws.{IsTakenOut, WasStepped}
 pub use Rattle.rd_step.specs.Lists.{numbered, without}
-pub use Rattle.rd_step.specs.Prelude.{and_then, result_map, Content, IsFree, IsWellFormed, MOST_STEPS, Place, Ran, Refusal, SegName, Stepped, World, after, closure, closure_of, depends, depends_on_one, first_dependant, model, room, run, step, unmarked, unstep, without_closure}
+pub use Rattle.rd_step.specs.Prelude.{and_then, result_map, Content, IsFree, IsWellFormed, MOST_STEPS, Place, Ran, Refusal, SegName, Stepped, World, after, closure, closure_of, depends, depends_on_one, first_dependant, model, room, run, step, items_where_false, unstep, without_closure}
 pub use Rattle.rd_step.specs.Room.{makes_segment, room_returned, room_used}
 pub use Rattle.rd_step.specs.Run.{preceded_by}
 pub use Rattle.rd_step.specs.declared.entries.Entry.{Entry}
 pub use Rattle.rd_step.specs.declared.entries.Event.{Event}
-pub use Rattle.rd_journal.specs.Journal.{IsRun, IsRunFrom, Journal, LeadsTo, entry_of, events, start_of, world_before, unless_depended}
+pub use Rattle.rd_journal.specs.Journal.{IsRun, IsRunFrom, Journal, LeadsTo, entry_of, events, unless_depended}
 pub use Rattle.rd_journal.specs.SessionFields.{IsSession, whole_journal}
+unfoldable pub use Rattle.rd_journal.specs.SessionFields.{opened_with}
 pub use Rattle.rd_journal.specs.Laws.{IsClosureLast, IsMovedLast, IsOneRun, IsStepAfter}
 pub use Rattle.rd_journal.specs.Moves.{IsBeforeLast, IsLengthened, IsMovedBack, IsMovedForward, IsRolledBack, IsSwitched, IsUndoneAlone, IsRunWithout, IsWithoutClosure, answer_at, roll_answer}
 pub use Rattle.rd_journal.specs.Numbers.{IsOrder, at_numbers}
@@ -36,4 +37,4 @@ pub use Rattle.rd_journal.specs.Entries.{ahead_entries, kept_entries, live_entri
 unfoldable pub use Rattle.rd_journal.specs.Entries.{all_entries}
 pub use Rattle.rd_journal.specs.Room.{HasRoom, HasRoomForAll, LacksIndexRoom, room_returned_by, room_without}
 pub use Rattle.rd_journal.specs.Sessions.{journal, state}
-pub use Rattle.rd_journal.specs.State.{State, MayLackMemory, apply, back, forward, live_event, roll, run_of, state_of, switch, undo_at, undone_marked, with_event}
+pub use Rattle.rd_journal.specs.State.{State, MayLackMemory, apply, back, forward, live_event, roll, run_of, state_of, switch, undo_at, undone_where_true, with_event}

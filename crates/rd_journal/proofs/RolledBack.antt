@@ -1,11 +1,11 @@
 -- Rolling back a live step with all that depends on it, over whole journals.
 use Rattle.std.proofs.Common.{◌≡◌, ℕ, zero, suc, ◌+◌, ◌-◌, ◌≤◌, ◌||◌, Bool, false, if◌then◌else◌, refl, sym, ◌∙◌, ap, arith, List, [], ◌∷◌, ◌++◌, length, get_or, take, drop, Some, None, ◌<◌, ◌⊎◌, true, subst, Ok, Err}
-use Rattle.rd_journal.proofs.Prelude.{depends, first_dependant, closure_of, without_closure, items_where_true, unmarked, closure_from, position_from, Entry, Journal, IsUndoneAlone, IsRolledBack, append_assoc, map-append, take-append-drop, World, run, closure, Event, run-cons, events, start_of, IsRun, IsWithoutClosure, roll_answer, IsSession, HasRoom, state_of, back, undone_marked, roll, middle}
+use Rattle.rd_journal.proofs.Prelude.{depends, first_dependant, closure_of, without_closure, items_where_true, items_where_false, closure_from, position_from, Entry, Journal, IsUndoneAlone, IsRolledBack, append_assoc, map-append, take-append-drop, World, run, closure, Event, run-cons, events, IsRun, IsWithoutClosure, roll_answer, IsSession, HasRoom, state_of, undone_where_true, roll, middle}
 use Rattle.rd_journal.proofs.Gathering.{cut_at, gathered_run}
 use Rattle.rd_journal.proofs.Finding.{numbered_in, scan_is}
 use Rattle.rd_journal.proofs.ListLemmas.{nth, drop_one_less}
-use Rattle.rd_journal.proofs.Calls.{back_start, entry_missing, entry_found, event_of_entry}
-use Rattle.rd_journal.proofs.Runs.{IsRunSince, run_joined, runs_since}
+use Rattle.rd_journal.proofs.Calls.{entry_missing, entry_found, event_of_entry}
+use Rattle.rd_journal.proofs.Runs.{run_joined}
 use Rattle.rd_cell.specs.declared.refusal.Refusal.TheVariants as refusal
 
 marked_none : (x : Entry) (n : ℕ) (ys : List Entry) → position_from (depends x) n ys ≡ None → items_where_true (closure_from (x ∷ []) ys) ys ≡ []
@@ -16,12 +16,12 @@ marked_none x n (y ∷ ys) h = by (depends x y) (marked_none x (n + 1) ys) h
         → (let e = d || false in items_where_true (e ∷ closure_from (if e then (x ∷ []) ++ y ∷ [] else x ∷ []) ys) (y ∷ ys)) ≡ []
     by d later g = grind arith
 
-unmarked_all : (x : Entry) (n : ℕ) (ys : List Entry) → position_from (depends x) n ys ≡ None → unmarked (closure_from (x ∷ []) ys) ys ≡ ys
+unmarked_all : (x : Entry) (n : ℕ) (ys : List Entry) → position_from (depends x) n ys ≡ None → items_where_false (closure_from (x ∷ []) ys) ys ≡ ys
 unmarked_all x n [] h = refl
 unmarked_all x n (y ∷ ys) h = by (depends x y) (unmarked_all x (n + 1) ys) h
   where
-    by : (d : Bool) → (position_from (depends x) (n + 1) ys ≡ None → unmarked (closure_from (x ∷ []) ys) ys ≡ ys) → (if d then Some n else position_from (depends x) (n + 1) ys) ≡ None
-        → (let e = d || false in unmarked (e ∷ closure_from (if e then (x ∷ []) ++ y ∷ [] else x ∷ []) ys) (y ∷ ys)) ≡ y ∷ ys
+    by : (d : Bool) → (position_from (depends x) (n + 1) ys ≡ None → items_where_false (closure_from (x ∷ []) ys) ys ≡ ys) → (if d then Some n else position_from (depends x) (n + 1) ys) ≡ None
+        → (let e = d || false in items_where_false (e ∷ closure_from (if e then (x ∷ []) ++ y ∷ [] else x ∷ []) ys) (y ∷ ys)) ≡ y ∷ ys
     by d later g = grind arith
 
 -- undone alone, such a step is rolled back
@@ -43,7 +43,7 @@ alone_rolled (suc i) old new some within free out =
 
 -- the journal with the closure of k after the other live entries
 abbrev pub closure_last : Journal → ℕ → Journal
-closure_last j k = record { world = j.world; live = without_closure j.live k ++ closure_of j.live k; undone = j.undone }
+closure_last j k = record { start = j.start; world = j.world; live = without_closure j.live k ++ closure_of j.live k; undone = j.undone }
 
 reordered_run : (s w : World) (l : List Entry) (i : ℕ) → i < length l → run s (events l) ≡ Ok (record { world = w; entries = l })
     → let zs = without_closure l (suc i) ++ closure_of l (suc i) in run s (events zs) ≡ Ok (record { world = w; entries = zs })
@@ -59,32 +59,37 @@ reordered_run s w l i low h =
     let from : run m.before (events (x ∷ ys)) ≡ Ok (record { world = w; entries = x ∷ ys }) =
     run-cons m.before x.event (events ys) (record { world = m.after; entry = x }) (record { world = w; entries = ys }) m.goes m.rest in
     let ms = closure_from (x ∷ []) ys in
-    let zs = unmarked ms ys ++ ((x ∷ []) ++ items_where_true ms ys) in
+    let zs = items_where_false ms ys ++ ((x ∷ []) ++ items_where_true ms ys) in
     let turned = gathered_run m.before w (x ∷ []) ys from in
     let all : run s (events (xs ++ zs)) ≡ Ok (record { world = w; entries = xs ++ zs }) =
     ap (run s) (map-append (λ (y : Entry). y.event) xs zs)
     ∙ run_joined s (events xs) (events zs) (record { world = m.before; entries = xs }) (record { world = w; entries = zs }) m.ran turned in
     let same : xs ++ zs ≡ without_closure l (suc i) ++ closure_of l (suc i) =
-    sym (append_assoc xs (unmarked ms ys) (x ∷ items_where_true ms ys)) ∙ (λ t. sym c.outside t ++ sym c.inside t) in
+    sym (append_assoc xs (items_where_false ms ys) (x ∷ items_where_true ms ys)) ∙ (λ t. sym c.outside t ++ sym c.inside t) in
     subst (λ (qs : List Entry). run s (events qs) ≡ Ok (record { world = w; entries = qs })) same all
 
 -- it is a run of the same start
-pub reordered : (j : Journal) (k : ℕ) → 1 ≤ k → k ≤ length j.live → IsRun j → IsRunSince (start_of j) (closure_last j k)
+pub reordered : (j : Journal) (k : ℕ) → 1 ≤ k → k ≤ length j.live → IsRun j → IsRun (closure_last j k)
 reordered j zero some within runs = absurd (omega arith)
 reordered j (suc i) some within runs =
-    runs_since (start_of j) (closure_last j (suc i)) runs.well_formed (reordered_run (start_of j) j.world j.live i (omega arith) runs.live_ran) runs.undone_run_on
+    record {
+      well_formed = runs.well_formed;
+      live_ran = reordered_run j.start j.world j.live i (omega arith) runs.live_ran;
+      undone_run_on = runs.undone_run_on;
+    }
 
 -- The session with the closure gathered last
 
 -- the closure is after the other live entries, and all else is as it was
 pub record IsGatheredLast (k : ℕ) (old new : Journal) : Type 0 where
+  pub start : new.start ≡ old.start
   pub world : new.world ≡ old.world
   pub live : new.live ≡ without_closure old.live k ++ closure_of old.live k
   pub undone : new.undone ≡ old.undone
   pub len : length new.live ≡ length old.live
 
 gathered_journal : (k : ℕ) (old new : Journal) → IsGatheredLast k old new → new ≡ closure_last old k
-gathered_journal k old new g = λ i. record { world = g.world i; live = g.live i; undone = g.undone i }
+gathered_journal k old new g = λ i. record { start = g.start i; world = g.world i; live = g.live i; undone = g.undone i }
 
 pub gathered_session : (k : ℕ) (old new : Journal) (room : ℕ → ℕ) → IsSession old room → 1 ≤ k → k ≤ length old.live → IsGatheredLast k old new
     → IsSession new room
@@ -92,14 +97,9 @@ gathered_session k old new room session some within g =
     let re = reordered old k some within session.runs in
     record {
       few = omega (arith, g.len, ap length g.undone, session.few);
-      runs = subst (λ (j : Journal). IsRun j) (sym (gathered_journal k old new g)) re.runs;
+      runs = subst (λ (j : Journal). IsRun j) (sym (gathered_journal k old new g)) re;
       has_room = subst (λ (ys : List Entry). HasRoom ys room) (sym g.undone) session.has_room;
     }
-
-pub rolled_start : (k n : ℕ) (old mid new : Journal) → IsRun old → 1 ≤ k → k ≤ length old.live → IsGatheredLast k old mid
-    → back (state_of mid) n ≡ Ok (state_of new) → start_of new ≡ start_of old
-rolled_start k n old mid new runs some within g state =
-    back_start (state_of mid) n (state_of new) state ∙ ap start_of (gathered_journal k old mid g) ∙ (reordered old k some within runs).start
 
 -- The state
 
@@ -109,21 +109,21 @@ marked-map (b ∷ bs) [] = refl
 marked-map (true ∷ bs) (x ∷ xs) = ap (λ (es : List Event). x.event ∷ es) (marked-map bs xs)
 marked-map (false ∷ bs) (x ∷ xs) = marked-map bs xs
 
-pub unmarked-map : (bs : List Bool) (xs : List Entry) → unmarked bs (events xs) ≡ events (unmarked bs xs)
-unmarked-map [] xs = refl
-unmarked-map (b ∷ bs) [] = refl
-unmarked-map (true ∷ bs) (x ∷ xs) = unmarked-map bs xs
-unmarked-map (false ∷ bs) (x ∷ xs) = ap (λ (es : List Event). x.event ∷ es) (unmarked-map bs xs)
+pub items_where_false-map : (bs : List Bool) (xs : List Entry) → items_where_false bs (events xs) ≡ events (items_where_false bs xs)
+items_where_false-map [] xs = refl
+items_where_false-map (b ∷ bs) [] = refl
+items_where_false-map (true ∷ bs) (x ∷ xs) = items_where_false-map bs xs
+items_where_false-map (false ∷ bs) (x ∷ xs) = ap (λ (es : List Event). x.event ∷ es) (items_where_false-map bs xs)
 
-pub rolled_state : (k : ℕ) (old new : Journal) → IsRolledBack k old new → start_of new ≡ start_of old → state_of new ≡ undone_marked (state_of old) (closure old.live k)
-rolled_state k old new is start = grind (arith, unmarked-map, map-append, marked-map)
+pub rolled_state : (k : ℕ) (old new : Journal) → IsRolledBack k old new → new.start ≡ old.start → state_of new ≡ undone_where_true (state_of old) (closure old.live k)
+rolled_state k old new is start = grind (arith, items_where_false-map, map-append, marked-map)
 
-pub rolled_run : (k : ℕ) (old new : Journal) → IsRolledBack k old new → start_of new ≡ start_of old → IsRun new → IsWithoutClosure k old new
-rolled_run k old new is start runs = grind (arith, unmarked-map)
+pub rolled_run : (k : ℕ) (old new : Journal) → IsRolledBack k old new → new.start ≡ old.start → IsRun new → IsWithoutClosure k old new
+rolled_run k old new is start runs = grind (arith, items_where_false-map)
 
 -- The answers
 
-pub roll_goes : (k : ℕ) (old new : Journal) → IsRun old → 1 ≤ k → k ≤ length old.live → IsRolledBack k old new → start_of new ≡ start_of old
+pub roll_goes : (k : ℕ) (old new : Journal) → IsRun old → 1 ≤ k → k ≤ length old.live → IsRolledBack k old new → new.start ≡ old.start
     → (roll (state_of old) k ≡ Ok (state_of new)) × (Ok tt ≡ roll_answer old k)
 roll_goes k old new runs some within is start =
     let x = nth old.live (k - 1) (omega arith) in

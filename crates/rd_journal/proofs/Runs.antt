@@ -1,8 +1,7 @@
 -- Runs and their entries: two runs joined, the first and the last step of a run, and a journal that
 -- gains or loses a step.
 use Rattle.std.proofs.Common.{◌≡◌, refl, sym, ◌∙◌, ap, subst, List, [], ◌∷◌, ◌++◌, Result, Ok, arith, ℕ, ◌-◌, ◌<◌, ◌≤◌, ◌⊎◌, length, take, drop, get_or, slice_get, option_map, Some, None}
-use Rattle.rd_journal.proofs.Prelude.{map-append, Refusal, World, Stepped, step, unstep, Ran, run, IsFree, IsWellFormed, Event, Entry, preceded_by, result_map, WasStepped, IsTakenOut, took, undoes, ran_on, run-cons, run_keeps, beginning, Middle, middle, Journal, events, world_before, start_of, IsRun, IsRunFrom, append-nil, taken_out, take_more, slice_get-map, slice_get_past, slice_get-get_or, LeadsTo, numbered}
-use Rattle.rd_step.proofs.Keeps.{keeps}
+use Rattle.rd_journal.proofs.Prelude.{map-append, Refusal, World, Stepped, step, unstep, Ran, run, IsFree, IsWellFormed, Event, Entry, preceded_by, and_then, result_map, WasStepped, IsTakenOut, took, undoes, ran_on, run-cons, run_keeps, Middle, middle, Journal, events, IsRun, IsRunFrom, append-nil, taken_out, take_more, slice_get-map, slice_get_past, slice_get-get_or, LeadsTo, numbered}
 use Rattle.rd_journal.specs.Journal.{run_entries}
 use Rattle.rd_journal.proofs.ListLemmas.{drop_one_less}
 
@@ -13,11 +12,6 @@ as_ok x = Ok x
 -- equal answers are of equal values
 pub as_ok-same : {X : Type 0} (x y : X) → as_ok x ≡ Ok y → x ≡ y
 as_ok-same x y h = cc
-
--- putting old words back keeps the size of the rings
-pub world_before-ring : (w : World) (xs : List Entry) → (world_before w xs).ring ≡ w.ring
-world_before-ring w [] = refl
-world_before-ring w (x ∷ xs) = world_before-ring w xs
 
 -- a step's entry names its event
 pub step_event : (w : World) (e : Event) (s : Stepped) → step w e ≡ Ok s → s.entry.event ≡ e
@@ -34,35 +28,15 @@ run_joined s (e ∷ es) fs r q h k =
     run-cons s e (es ++ fs) ran.one (record { world = q.world; entries = ran.rest.entries ++ q.entries }) ran.goes joined
     ∙ ap (λ (x : Ran). Ok (record { world = q.world; entries = x.entries ++ q.entries })) ran.joins
 
--- the loop lemma for runs: putting back the old words of a run's entries gives the world that it
--- began in
-pub goes_back : (s w : World) (xs : List Entry) → IsWellFormed s → run s (events xs) ≡ Ok (record { world = w; entries = xs })
-    → world_before w xs ≡ s
-goes_back s w [] formed h = grind (arith, as_ok-same)
-goes_back s w (x ∷ xs) formed h =
-    let first = beginning s x xs w h in
-    let one : Stepped = record { world = first.after; entry = x } in
-    ap (λ (u : World). unstep u x) (goes_back first.after w xs (keeps s x.event one formed first.goes) first.rest)
-    ∙ undoes s x.event one formed first.goes
-
--- a journal is a run, and starts in this world
-pub record IsRunSince (s : World) (j : Journal) : Type 0 where
-  pub runs : IsRun j
-  pub start : start_of j ≡ s
-
--- where its live entries are those of a run from there, and the undone ones run on
-pub runs_since : (s : World) (j : Journal) → IsWellFormed s → run s (events j.live) ≡ Ok (record { world = j.world; entries = j.live }) → IsRunFrom j.world j.undone
-    → IsRunSince s j
-runs_since s j formed ran on =
-    let back = goes_back s j.world j.live formed ran in
-    record {
-      runs = record {
-        well_formed = subst (λ (w : World). IsWellFormed w) (sym back) formed;
-        live_ran = ap (λ (w : World). run w (events j.live)) back ∙ ran;
-        undone_run_on = on;
-      };
-      start = back;
-    }
+-- a journal is a run where its live entries are those of a run from its start, and the undone ones
+-- run on
+pub runs_since : (s : World) (j : Journal) → j.start ≡ s → IsWellFormed s → run s (events j.live) ≡ Ok (record { world = j.world; entries = j.live })
+    → IsRunFrom j.world j.undone → IsRun j
+runs_since s j start formed ran on = record {
+  well_formed = subst (λ (w : World). IsWellFormed w) (sym start) formed;
+  live_ran = ap (λ (w : World). run w (events j.live)) start ∙ ran;
+  undone_run_on = on;
+}
 
 -- a run of entries, and one more step
 pub ran_more : (s w v : World) (xs : List Entry) (x : Entry) → run s (events xs) ≡ Ok (record { world = w; entries = xs })
@@ -74,16 +48,15 @@ ran_more s w v xs x ran goes =
 
 -- a journal's world is well-formed
 pub now_formed : (j : Journal) → IsRun j → IsWellFormed j.world
-now_formed j runs = run_keeps (start_of j) (events j.live) (record { world = j.world; entries = j.live }) runs.well_formed runs.live_ran
+now_formed j runs = run_keeps j.start (events j.live) (record { world = j.world; entries = j.live }) runs.well_formed runs.live_ran
 
--- a step from a journal's world, with its entry put last, makes a journal, whatever runs on from
--- there being undone
-pub grown : (w v : World) (xs zs ys : List Entry) (x : Entry) (e : Event) → IsRun (record { world = w; live = xs; undone = zs })
-    → step w e ≡ Ok (record { world = v; entry = x }) → IsRunFrom v ys → IsRunSince (world_before w xs) (record { world = v; live = xs ++ x ∷ []; undone = ys })
-grown w v xs zs ys x e runs h rest =
+-- a step from a journal's world, with its entry put last, makes a journal of the same start, whatever
+-- runs on from there being undone
+pub grown : (s w v : World) (xs zs ys : List Entry) (x : Entry) (e : Event) → IsRun (record { start = s; world = w; live = xs; undone = zs })
+    → step w e ≡ Ok (record { world = v; entry = x }) → IsRunFrom v ys → IsRun (record { start = s; world = v; live = xs ++ x ∷ []; undone = ys })
+grown s w v xs zs ys x e runs h rest =
     let its : x.event ≡ e = step_event w e (record { world = v; entry = x }) h in
-    runs_since (world_before w xs) (record { world = v; live = xs ++ x ∷ []; undone = ys }) runs.well_formed
-    (ran_more (world_before w xs) w v xs x runs.live_ran (ap (step w) its ∙ h)) rest
+    record { well_formed = runs.well_formed; live_ran = ran_more s w v xs x runs.live_ran (ap (step w) its ∙ h); undone_run_on = rest }
 
 -- entries that run on from a step's world run on, after the step's entry, from the world before it
 pub preceded_entries : (x : Entry) (r : Result Ran Refusal) (ys : List Entry) → run_entries r ≡ Ok ys → run_entries (result_map (preceded_by x) r) ≡ Ok (x ∷ ys)
@@ -91,17 +64,14 @@ preceded_entries x r ys h = grind arith
 
 -- where a live step on which no later one depends is taken out of a run, what is left is a run of
 -- the same start, with the step's entry in front of the undone ones
-pub record MayTakeOut (w : World) (xs ys zs : List Entry) (x : Entry) : Type 0 where
+pub record MayTakeOut (s w : World) (xs ys zs : List Entry) (x : Entry) : Type 0 where
   pub was : WasStepped w x
-  pub left : (v : World) → IsTakenOut w v x was → IsRunSince (world_before w (xs ++ x ∷ ys)) (record { world = v; live = xs ++ ys; undone = x ∷ zs })
+  pub left : (v : World) → IsTakenOut w v x was → IsRun (record { start = s; world = v; live = xs ++ ys; undone = x ∷ zs })
 
-pub may_take_out : (w : World) (xs ys zs : List Entry) (x : Entry) → IsRun (record { world = w; live = xs ++ x ∷ ys; undone = zs })
-    → IsFree x ys → MayTakeOut w xs ys zs x
-may_take_out w xs ys zs x runs free = record { was = was; left = left }
+pub may_take_out : (s w : World) (xs ys zs : List Entry) (x : Entry) → IsRun (record { start = s; world = w; live = xs ++ x ∷ ys; undone = zs })
+    → IsFree x ys → MayTakeOut s w xs ys zs x
+may_take_out s w xs ys zs x runs free = record { was = was; left = left }
   where
-    s : World
-    s = world_before w (xs ++ x ∷ ys)
-
     m : Middle s xs x ys w
     m = middle s xs x ys w runs.live_ran
 
@@ -120,11 +90,16 @@ may_take_out w xs ys zs x runs free = record { was = was; left = left }
       free = free;
     }
 
-    left : (v : World) → IsTakenOut w v x was → IsRunSince s (record { world = v; live = xs ++ ys; undone = x ∷ zs })
+    left : (v : World) → IsTakenOut w v x was → IsRun (record { start = s; world = v; live = xs ++ ys; undone = x ∷ zs })
     left v out =
         let ran = run_joined s (events xs) (events ys) (record { world = m.before; entries = xs }) (record { world = v; entries = ys }) m.ran out.rest in
-        runs_since s (record { world = v; live = xs ++ ys; undone = x ∷ zs }) runs.well_formed (ap (run s) (map-append (λ (y : Entry). y.event) xs ys) ∙ ran)
-        (grind (arith, preceded_entries))
+        record {
+          well_formed = runs.well_formed;
+          live_ran = ap (run s) (map-append (λ (y : Entry). y.event) xs ys) ∙ ran;
+          undone_run_on =
+              ap (λ (r : Result Stepped Refusal). run_entries (and_then r (λ s. result_map (preceded_by s.entry) (run s.world (events zs))))) out.again
+              ∙ preceded_entries x (run w (events zs)) zs runs.undone_run_on;
+        }
 
 -- a step that was just made may be undone, which gives the world before it
 pub record WasJustStepped (w v : World) (x : Entry) : Type 0 where
@@ -158,19 +133,18 @@ pub record MayStepBack (start w : World) (xs : List Entry) (x : Entry) : Type 0 
 pub may_step_back : (start w : World) (xs : List Entry) (x : Entry) → LeadsTo start w (xs ++ x ∷ []) → MayStepBack start w xs x
 may_step_back start w xs x leads =
     let v = unstep w x in
-    let back : world_before w (xs ++ x ∷ []) ≡ start = goes_back start w (xs ++ x ∷ []) leads.well_formed leads.ran in
-    let may = may_take_out w xs [] [] x (grind arith) refl in
-    let out = taken_out w x may.was in
+    let may = may_take_out start w xs [] [] x (record { well_formed = leads.well_formed; live_ran = leads.ran; undone_run_on = refl }) refl in
+    let left = may.left v (taken_out w x may.was) in
     record {
       was = may.was;
       left =
           subst (λ (l : List Entry). LeadsTo start v l) (append-nil xs)
-          (record { well_formed = leads.well_formed; ran = ap (λ (u : World). run u (events (xs ++ []))) (sym ((may.left v out).start ∙ back)) ∙ (may.left v out).runs.live_ran });
+          (record { well_formed = leads.well_formed; ran = left.live_ran });
     }
 
 -- the live steps lead from the start to the world
-pub live_lead : (j : Journal) (steps : List Entry) → IsRun j → steps ≡ j.live → LeadsTo (start_of j) j.world steps
-live_lead j steps runs all = subst (λ (xs : List Entry). LeadsTo (start_of j) j.world xs) (sym all) (record { well_formed = runs.well_formed; ran = runs.live_ran })
+pub live_lead : (j : Journal) (steps : List Entry) → IsRun j → steps ≡ j.live → LeadsTo j.start j.world steps
+live_lead j steps runs all = subst (λ (xs : List Entry). LeadsTo j.start j.world xs) (sym all) (record { well_formed = runs.well_formed; ran = runs.live_ran })
 
 -- no step leads from a world to that world alone
 pub led_nowhere : (start w : World) → LeadsTo start w [] → w ≡ start

@@ -1,8 +1,8 @@
 -- Entries of a run put after the first live ones, and the room that their makings ask for.
-use Rattle.rd_journal.proofs.Prelude.{common_steps, take-suc, cases_Bool, cases_eq, cond-true, cond-false, map-append, take-map, length-take, length-take-le, get_or-set_same, get_or-set_other, SegName, Place, Content, after, World, Stepped, step, run, MOST_STEPS, Event, Entry, makes_segment, room_used, room_returned, took, with_actor-other, room_used_returned, Journal, events, world_before, start_of, IsRun, IsRunFrom, LeadsTo, IsSwitched, IsSession, room_returned_by, room_without, HasRoom, HasRoomForAll, state_of, switch, run_stays_actor, beginning, first_step}
+use Rattle.rd_journal.proofs.Prelude.{common_steps, take-suc, cases_Bool, cases_eq, cond-true, cond-false, map-append, take-map, length-take, length-take-le, get_or-set_same, get_or-set_other, SegName, Place, Content, after, World, Stepped, step, run, MOST_STEPS, Event, Entry, makes_segment, room_used, room_returned, took, with_actor-other, room_used_returned, Journal, events, IsRun, IsRunFrom, LeadsTo, IsSwitched, IsSession, room_returned_by, room_without, HasRoom, HasRoomForAll, state_of, switch, run_stays_actor, beginning, first_step}
 use Rattle.std.proofs.Common.{◌≡◌, ◌≢◌, ℕ, zero, suc, ◌+◌, ◌-◌, ◌<◌, ◌≤◌, ◌==◌, Bool, true, false, refl, sym, ◌∙◌, ap, subst, arith, inl, inr, List, [], ◌∷◌, ◌++◌, length, take, drop, set, get_or, if◌then◌else◌, Option, Some, None, is_some, IsSome, Ok, eq-eqb, ne_eqb, length-append}
 use Rattle.rd_step.specs.Touched.{made, made_at}
-use Rattle.rd_journal.proofs.Runs.{as_ok-same, run_joined, goes_back, live_lead}
+use Rattle.rd_journal.proofs.Runs.{as_ok-same, run_joined, live_lead}
 
 -- Counting makings
 
@@ -70,17 +70,17 @@ runs_on s w (x ∷ xs) ys h k =
 -- The session with these entries after the border
 
 -- there is room for every maker where there is for those that are actors after the live steps
-pub room_for_all : (w : World) (xs ys : List Entry) (room : ℕ → ℕ) → run (world_before w xs) (events xs) ≡ Ok (record { world = w; entries = xs })
-    → (n : ℕ) → IsRunFrom (world_before w xs) (take n xs ++ ys) → HasRoomForAll w ys room → HasRoom ys room
-room_for_all w xs ys room ran n h has = record { at = each }
+pub room_for_all : (s w : World) (xs ys : List Entry) (room : ℕ → ℕ) → run s (events xs) ≡ Ok (record { world = w; entries = xs })
+    → (n : ℕ) → IsRunFrom s (take n xs ++ ys) → HasRoomForAll w ys room → HasRoom ys room
+room_for_all s w xs ys room ran n h has = record { at = each }
   where
     each : (m : ℕ) → room_returned_by ys m ≤ room m
     each m =
-        elim (cases_Bool (is_some ((world_before w xs).actor m))) [
+        elim (cases_Bool (is_some (s.actor m))) [
           | inl e ↦
-              let there : is_some (w.actor m) ≡ true = run_stays_actor (world_before w xs) (events xs) (record { world = w; entries = xs }) m ran e in
+              let there : is_some (w.actor m) ≡ true = run_stays_actor s (events xs) (record { world = w; entries = xs }) m ran e in
               has.at m there
-          | inr e ↦ omega (arith, none_made (world_before w xs) (take n xs ++ ys) m h e, returned_joined (take n xs) ys m)
+          | inr e ↦ omega (arith, none_made s (take n xs ++ ys) m h e, returned_joined (take n xs) ys m)
         ]
 
 -- after the first n live steps these were made, and lead on from the start
@@ -88,11 +88,11 @@ pub record IsExchanged (n : ℕ) (given : List Entry) (old new : Journal) (room 
   pub session : IsSession new room
   pub state : state_of new ≡ switch (state_of old) n (events given)
 
-pub exchanged : (n : ℕ) (old new : Journal) (given again steps : List Entry) (w : World) (room : ℕ → ℕ) → IsRun old → n ≤ length old.live → n + length given ≤ MOST_STEPS
+pub exchanged : (n : ℕ) (old new : Journal) (given again steps : List Entry) (w : World) (room : ℕ → ℕ) → new.start ≡ old.start → IsRun old → n ≤ length old.live → n + length given ≤ MOST_STEPS
     → steps ≡ old.live → ((start : World) → LeadsTo start old.world steps → LeadsTo start w (take n steps)) → again ≡ given
     → run w (events again) ≡ Ok (record { world = new.world; entries = again }) → IsSwitched n given old new → IsExchanged n given old new room
-exchanged n old new given again steps w room runs within few all back_to same goes is =
-    let s = start_of old in
+exchanged n old new given again steps w room start runs within few all back_to same goes is =
+    let s = old.start in
     let kept = take n old.live in
     let l = kept ++ given in
     let leads : LeadsTo s w kept = subst (λ (xs : List Entry). LeadsTo s w (take n xs)) all (back_to s (live_lead old steps runs all)) in
@@ -101,8 +101,6 @@ exchanged n old new given again steps w room runs within few all back_to same go
     let joined : run s (events l) ≡ Ok (record { world = new.world; entries = l }) =
     ap (run s) (map-append (λ (x : Entry). x.event) kept given)
     ∙ run_joined s (events kept) (events given) (record { world = w; entries = kept }) (record { world = new.world; entries = given }) leads.ran ran in
-    let back : world_before new.world l ≡ s = goes_back s new.world l leads.well_formed joined in
-    let start : start_of new ≡ s = ap (λ (xs : List Entry). world_before new.world xs) is.live ∙ back in
     record {
       session = grind (arith, length-append, length-take-le);
       state = grind (arith, map-append, take-map);
@@ -111,13 +109,13 @@ exchanged n old new given again steps w room runs within few all back_to same go
 -- the given entries may be made after the first n live ones
 pub may_exchange : (n : ℕ) (old : Journal) (given again steps : List Entry) (w : World) (before after : ℕ → ℕ) → IsRun old → steps ≡ old.live
     → ((start : World) → LeadsTo start old.world steps → LeadsTo start w (take n steps)) → ((m : ℕ) → before m + room_returned_by (drop n steps) m ≤ after m)
-    → IsRunFrom (start_of old) (take n old.live ++ given) → HasRoomForAll old.world given (room_without (drop n old.live) before) → again ≡ given
+    → IsRunFrom old.start (take n old.live ++ given) → HasRoomForAll old.world given (room_without (drop n old.live) before) → again ≡ given
     → IsRunFrom w again × HasRoom again after
 may_exchange n old given again steps w before after runs all back_to gives run_on makings same =
-    let s = start_of old in
+    let s = old.start in
     let kept = take n old.live in
     let leads : LeadsTo s w kept = subst (λ (xs : List Entry). LeadsTo s w (take n xs)) all (back_to s (live_lead old steps runs all)) in
-    let has = room_for_all old.world old.live given (room_without (drop n old.live) before) runs.live_ran n run_on makings in
+    let has = room_for_all s old.world old.live given (room_without (drop n old.live) before) runs.live_ran n run_on makings in
     let gone = ap (λ (xs : List Entry). drop n xs) all in (
       subst (λ (xs : List Entry). IsRunFrom w xs) (sym same) (runs_on s w kept given leads.ran run_on),
       subst (λ (xs : List Entry). HasRoom xs after) (sym same)

@@ -1,6 +1,6 @@
 -- Undoing a journal's last live steps and redoing its first undone ones, and how the state changes.
 use Rattle.std.proofs.Common.{◌≡◌, ℕ, ◌+◌, ◌-◌, ◌≤◌, sym, ◌∙◌, ap, subst, List, ◌++◌, length, take, drop, Ok, arith, length-append}
-use Rattle.rd_journal.proofs.Prelude.{le-ltb, cond-false, append_assoc, map-append, length-map, take-map, drop-map, take-append-drop, World, run, Entry, runs_to, Journal, events, start_of, IsRun, IsRunFrom, LeadsTo, IsSession, IsMovedBack, IsMovedForward, room_returned_by, HasRoom, state_of, back, forward}
+use Rattle.rd_journal.proofs.Prelude.{le-ltb, cond-false, append_assoc, map-append, length-map, take-map, drop-map, take-append-drop, World, run, Entry, runs_to, Journal, events, IsRun, IsRunFrom, LeadsTo, IsSession, IsMovedBack, IsMovedForward, room_returned_by, HasRoom, state_of, back, forward}
 use Rattle.rd_journal.specs.Journal.{run_entries}
 use Rattle.rd_journal.proofs.Runs.{run_joined, runs_since, live_lead}
 use Rattle.rd_journal.proofs.Switching.{returned_joined, runs_on}
@@ -8,24 +8,19 @@ use Rattle.rd_journal.proofs.Switching.{returned_joined, runs_on}
 -- What is left is a session
 
 -- the live and the undone entries are those of one run from the start
-pub whole_run : (j : Journal) → IsRun j → IsRunFrom (start_of j) (j.live ++ j.undone)
+pub whole_run : (j : Journal) → IsRun j → IsRunFrom j.start (j.live ++ j.undone)
 whole_run j runs =
     let on = runs_to j.world j.undone runs.undone_run_on in
-    ap run_entries (ap (run (start_of j)) (map-append (λ (x : Entry). x.event) j.live j.undone)
-    ∙ run_joined (start_of j) (events j.live) (events j.undone) (record { world = j.world; entries = j.live })
+    ap run_entries (ap (run j.start) (map-append (λ (x : Entry). x.event) j.live j.undone)
+    ∙ run_joined j.start (events j.live) (events j.undone) (record { world = j.world; entries = j.live })
     (record { world = on.last; entries = j.undone }) runs.live_ran on.runs)
 
--- a session from the same start
-pub record IsMoved (old new : Journal) (room : ℕ → ℕ) : Type 0 where
-  pub session : IsSession new room
-  pub start : start_of new ≡ start_of old
-
 -- n steps back, where the others lead from the start to the world
-pub moved_back : (n left : ℕ) (old new : Journal) (steps : List Entry) (before after : ℕ → ℕ) → n ≤ length old.live → IsSession old before → steps ≡ old.live
-    → left ≡ length old.live - n → ((start : World) → LeadsTo start old.world steps → LeadsTo start new.world (take left steps))
-    → ((m : ℕ) → before m + room_returned_by (drop left steps) m ≤ after m) → IsMovedBack n old new → IsMoved old new after
-moved_back n left old new steps before after within session all many leads gives moved =
-    let s = start_of old in
+pub moved_back : (n left : ℕ) (old new : Journal) (steps : List Entry) (before after : ℕ → ℕ) → new.start ≡ old.start → n ≤ length old.live → IsSession old before
+    → steps ≡ old.live → left ≡ length old.live - n → ((start : World) → LeadsTo start old.world steps → LeadsTo start new.world (take left steps))
+    → ((m : ℕ) → before m + room_returned_by (drop left steps) m ≤ after m) → IsMovedBack n old new → IsSession new after
+moved_back n left old new steps before after start within session all many leads gives moved =
+    let s = old.start in
     let k = length old.live - n in
     let l = take k old.live in
     let led : LeadsTo s new.world l =
@@ -33,42 +28,36 @@ moved_back n left old new steps before after within session all many leads gives
     let cut : l ++ new.undone ≡ old.live ++ old.undone =
     ap (λ (xs : List Entry). l ++ xs) moved.undone ∙ sym (append_assoc l (drop k old.live) old.undone)
     ∙ ap (λ (xs : List Entry). xs ++ old.undone) (take-append-drop k old.live) in
-    let since = runs_since s new led.well_formed
-    (subst (λ (xs : List Entry). run s (events xs) ≡ Ok (record { world = new.world; entries = xs })) (sym moved.live) led.ran)
-    (runs_on s new.world l new.undone led.ran (subst (λ (xs : List Entry). IsRunFrom s xs) (sym cut) (whole_run old session.runs))) in
     let gone : drop left steps ≡ drop k old.live = λ i. drop (many i) (all i) in
     record {
-      session = record {
-        few = omega (arith, session.few, ap length moved.live, ap length cut, length-append l new.undone, length-append old.live old.undone);
-        runs = since.runs;
-        has_room =
-            subst (λ (xs : List Entry). HasRoom xs after) (sym moved.undone)
-            (record { at = λ m. omega (arith, session.has_room.at m, gives m, ap (λ (xs : List Entry). room_returned_by xs m) gone, returned_joined (drop k old.live) old.undone m) });
-      };
-      start = since.start;
+      few = omega (arith, session.few, ap length moved.live, ap length cut, length-append l new.undone, length-append old.live old.undone);
+      runs =
+          runs_since s new start led.well_formed
+          (subst (λ (xs : List Entry). run s (events xs) ≡ Ok (record { world = new.world; entries = xs })) (sym moved.live) led.ran)
+          (runs_on s new.world l new.undone led.ran (subst (λ (xs : List Entry). IsRunFrom s xs) (sym cut) (whole_run old session.runs)));
+      has_room =
+          subst (λ (xs : List Entry). HasRoom xs after) (sym moved.undone)
+          (record { at = λ m. omega (arith, session.has_room.at m, gives m, ap (λ (xs : List Entry). room_returned_by xs m) gone, returned_joined (drop k old.live) old.undone m) });
     }
 
 -- n steps forward, where they run to the world
-pub moved_forward : (n : ℕ) (old new : Journal) (steps : List Entry) (before after : ℕ → ℕ) → IsSession old before → steps ≡ take n old.undone
+pub moved_forward : (n : ℕ) (old new : Journal) (steps : List Entry) (before after : ℕ → ℕ) → new.start ≡ old.start → IsSession old before → steps ≡ take n old.undone
     → run old.world (events steps) ≡ Ok (record { world = new.world; entries = steps }) → ((rest : List Entry) → HasRoom (steps ++ rest) before → HasRoom rest after)
-    → IsMovedForward n old new → IsMoved old new after
-moved_forward n old new steps before after session first goes has moved =
-    let s = start_of old in
+    → IsMovedForward n old new → IsSession new after
+moved_forward n old new steps before after start session first goes has moved =
+    let s = old.start in
     let live : new.live ≡ old.live ++ steps = moved.live ∙ ap (λ (xs : List Entry). old.live ++ xs) (sym first) in
     let cut : steps ++ new.undone ≡ old.undone = (λ i. first i ++ moved.undone i) ∙ take-append-drop n old.undone in
     let all : run s (events (old.live ++ steps)) ≡ Ok (record { world = new.world; entries = old.live ++ steps }) =
     ap (run s) (map-append (λ (x : Entry). x.event) old.live steps)
     ∙ run_joined s (events old.live) (events steps) (record { world = old.world; entries = old.live }) (record { world = new.world; entries = steps }) session.runs.live_ran goes in
-    let since = runs_since s new session.runs.well_formed
-    (subst (λ (xs : List Entry). run s (events xs) ≡ Ok (record { world = new.world; entries = xs })) (sym live) all)
-    (runs_on old.world new.world steps new.undone goes (subst (λ (xs : List Entry). IsRunFrom old.world xs) (sym cut) session.runs.undone_run_on)) in
     record {
-      session = record {
-        few = omega (arith, session.few, ap length cut, ap length live, length-append steps new.undone, length-append old.live steps);
-        runs = since.runs;
-        has_room = has new.undone (subst (λ (xs : List Entry). HasRoom xs before) (sym cut) session.has_room);
-      };
-      start = since.start;
+      few = omega (arith, session.few, ap length cut, ap length live, length-append steps new.undone, length-append old.live steps);
+      runs =
+          runs_since s new start session.runs.well_formed
+          (subst (λ (xs : List Entry). run s (events xs) ≡ Ok (record { world = new.world; entries = xs })) (sym live) all)
+          (runs_on old.world new.world steps new.undone goes (subst (λ (xs : List Entry). IsRunFrom old.world xs) (sym cut) session.runs.undone_run_on));
+      has_room = has new.undone (subst (λ (xs : List Entry). HasRoom xs before) (sym cut) session.has_room);
     }
 
 -- there is room for the first of some entries where there is for all
@@ -82,10 +71,10 @@ room_first n xs room has = record {
 
 -- The state
 
-pub state_back : (n : ℕ) (old new : Journal) → n ≤ length old.live → start_of new ≡ start_of old → IsMovedBack n old new
+pub state_back : (n : ℕ) (old new : Journal) → n ≤ length old.live → new.start ≡ old.start → IsMovedBack n old new
     → back (state_of old) n ≡ Ok (state_of new)
 state_back n old new within start moved = grind (arith, length-map, take-map, map-append, drop-map, le-ltb, cond-false)
 
-pub state_forward : (n : ℕ) (old new : Journal) → n ≤ length old.undone → start_of new ≡ start_of old → IsMovedForward n old new
+pub state_forward : (n : ℕ) (old new : Journal) → n ≤ length old.undone → new.start ≡ old.start → IsMovedForward n old new
     → forward (state_of old) n ≡ Ok (state_of new)
 state_forward n old new within start moved = grind (arith, length-map, map-append, take-map, drop-map, le-ltb, cond-false)

@@ -1,37 +1,29 @@
--- What a session keeps: its world and the entries of its steps, and the run that they are of.
-use Rattle.std.specs.Prelude.{◌≡◌, ℕ, List, [], ◌∷◌, length, Option, Some, None, ok_or, Result, Ok, Err}
-use Rattle.rd_step.specs.Prelude.{Refusal, World, unstep, numbered, run, IsWellFormed}
+-- What a session keeps: the world that it was opened with, its world now and the entries of its
+-- steps, and the run that they are of.
+use Rattle.std.specs.Prelude.{◌≡◌, ℕ, List, length, Option, Some, None, ok_or, Result, Ok, Err}
+use Rattle.rd_step.specs.Prelude.{Refusal, World, numbered, run, IsWellFormed}
 pub use Rattle.rd_step.specs.Run.{events, run_entries, IsRunFrom}
 use Rattle.rd_step.specs.declared.entries.Entry.{Entry}
 use Rattle.rd_cell.specs.declared.refusal.Refusal.TheVariants as refusal
 
--- the world, the entries of the live steps in their order, and those of the undone steps, the one
--- undone last in front
+-- the world in which the session was opened, the world now, the entries of the live steps in their
+-- order, and those of the undone steps, the one undone last in front
 pub record Journal : Type 0 where
+  pub start : World
   pub world : World
   pub live : List Entry
   pub undone : List Entry
-
--- the world with the old words of these entries put back, those of the last one first
-abbrev pub world_before : World → List Entry → World
-world_before w [] = w
-world_before w (x ∷ xs) = unstep (world_before w xs) x
-
--- the world in which the live steps began: it is stored nowhere, and is what putting back their old
--- words gives
-abbrev pub start_of : Journal → World
-start_of j = world_before j.world j.live
 
 -- these are the entries of a run from a well-formed world to another
 pub record LeadsTo (start w : World) (xs : List Entry) : Type 0 where
   pub well_formed : IsWellFormed start
   pub ran : run start (events xs) ≡ Ok (record { world = w; entries = xs })
 
--- the journal is a run: the live events run from a well-formed start to its world and leave its
--- live entries, and the undone events run on from there and leave its undone entries
+-- the journal is a run: the live events run from its start, which is well-formed, to its world and
+-- leave its live entries, and the undone events run on from there and leave its undone entries
 pub record IsRun (j : Journal) : Type 0 where
-  pub well_formed : IsWellFormed (start_of j)
-  pub live_ran : run (start_of j) (events j.live) ≡ Ok (record { world = j.world; entries = j.live })
+  pub well_formed : IsWellFormed j.start
+  pub live_ran : run j.start (events j.live) ≡ Ok (record { world = j.world; entries = j.live })
   pub undone_run_on : IsRunFrom j.world j.undone
 
 -- the entry of the live step of this number, from 1; refused if there is none

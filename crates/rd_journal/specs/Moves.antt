@@ -1,9 +1,9 @@
 -- How a call changes the entries of a journal.
 use Rattle.std.specs.Prelude.{◌≡◌, ℕ, ◌-◌, List, [], ◌∷◌, ◌++◌, length, take, drop, Result, Ok}
-use Rattle.rd_step.specs.Prelude.{Refusal, step, first_dependant, without, unmarked, closure, closure_of, without_closure, run, and_then, result_map}
+use Rattle.rd_step.specs.Prelude.{Refusal, step, first_dependant, without, items_where_false, closure, closure_of, without_closure, run, and_then, result_map}
 use Rattle.rd_step.specs.declared.entries.Event.{Event}
 use Rattle.rd_step.specs.declared.entries.Entry.{Entry}
-use Rattle.rd_journal.specs.Journal.{Journal, start_of, events, entry_of, unless_depended}
+use Rattle.rd_journal.specs.Journal.{Journal, events, entry_of, unless_depended}
 use Rattle.rd_journal.specs.Numbers.{just}
 
 -- the journal got one more live entry, the last, and none is undone
@@ -32,7 +32,7 @@ pub record IsMovedForward (n : ℕ) (old new : Journal) : Type 0 where
 -- world and live entries are those of the run of all but the last n live events
 abbrev pub IsBeforeLast : ℕ → Journal → Journal → Type 0
 IsBeforeLast n old new =
-    run (start_of old) (take (length old.live - n) (events old.live)) ≡ Ok (record { world = new.world; entries = new.live })
+    run old.start (take (length old.live - n) (events old.live)) ≡ Ok (record { world = new.world; entries = new.live })
 
 -- the k-th live entry became the front of the undone ones, all others are as they were, and no
 -- entry changed
@@ -42,7 +42,7 @@ pub record IsUndoneAlone (k : ℕ) (old new : Journal) : Type 0 where
 
 -- world and live entries are those of the run of the live events without the k-th
 abbrev pub IsRunWithout : ℕ → Journal → Journal → Type 0
-IsRunWithout k old new = run (start_of old) (without (events old.live) k) ≡ Ok (record { world = new.world; entries = new.live })
+IsRunWithout k old new = run old.start (without (events old.live) k) ≡ Ok (record { world = new.world; entries = new.live })
 
 -- the answer to undoing the k-th live step alone: `NoSuchStep` if there is no such step, `Depended`
 -- with the first live step that depends on it if there is one, else done
@@ -63,7 +63,7 @@ pub record IsRolledBack (k : ℕ) (old new : Journal) : Type 0 where
 -- world and live entries are those of the run of the live events outside the causal closure of k
 abbrev pub IsWithoutClosure : ℕ → Journal → Journal → Type 0
 IsWithoutClosure k old new =
-    run (start_of old) (unmarked (closure old.live k) (events old.live)) ≡ Ok (record { world = new.world; entries = new.live })
+    run old.start (items_where_false (closure old.live k) (events old.live)) ≡ Ok (record { world = new.world; entries = new.live })
 
 -- the answer to rolling back the k-th live step: `NoSuchStep` if there is no such step, else done
 abbrev pub roll_answer : Journal → ℕ → Result Unit Refusal

@@ -1,14 +1,20 @@
 -- The journal that entries are of in a world, and what a session keeps of it.
 use Rattle.std.specs.Prelude.{ℕ, ◌+◌, ◌≤◌, length}
-use Rattle.rd_step.specs.Prelude.{World, MOST_STEPS}
+use Rattle.std.specs.declared.snapshot.Snapshot.{Snapshot}
+use Rattle.rd_step.specs.Prelude.{World, model, MOST_STEPS}
+use Rattle.rd_step.specs.declared.worlds.World.{World as CodeWorld}
 use Rattle.rd_journal.specs.declared.entries.Entries.{Entries}
 use Rattle.rd_journal.specs.Journal.{Journal, IsRun}
 use Rattle.rd_journal.specs.Entries.{live_entries, ahead_entries}
 use Rattle.rd_journal.specs.Room.{HasRoom}
 
--- the journal of a world and its entries, in which all that are ahead are undone
-abbrev pub whole_journal : World → Entries → Journal
-whole_journal w r = record { world = w; live = live_entries r; undone = ahead_entries r }
+-- the world that a session was opened with, which it keeps for contracts alone
+unfoldable pub opened_with : {R : ℕ} → Snapshot (CodeWorld R) → World
+opened_with opened = model opened.value
+
+-- the journal of a start, a world and its entries, in which all that are ahead are undone
+abbrev pub whole_journal : World → World → Entries → Journal
+whole_journal start w r = record { start = start; world = w; live = live_entries r; undone = ahead_entries r }
 
 -- a session's journal is one run that leads through its world, with no more entries than may be
 -- live, and there is room for all that is undone

@@ -3,9 +3,9 @@
 use Rattle.std.specs.Prelude.{◌≡◌, ◌⊎◌, ℕ, Bool, ◌-◌, ◌<◌, ◌==◌, nat_lt, if◌then◌else◌, List, [], ◌∷◌, ◌++◌, length, take, drop, Option, option_and_then, ok_or, Result, Ok, Err, IsOk}
 use Rattle.std.specs.List.{items_where_true}
 use Rattle.std.specs.Result.{result_ok}
-use Rattle.rd_step.specs.Prelude.{Refusal, OpReply, World, Stepped, step, Ran, run, first_dependant, numbered, without, closure, unmarked, MOST_STEPS, and_then, result_map}
+use Rattle.rd_step.specs.Prelude.{Refusal, OpReply, World, Stepped, step, Ran, run, first_dependant, numbered, without, closure, items_where_false, MOST_STEPS, and_then, result_map}
 use Rattle.rd_step.specs.declared.entries.Event.{Event}
-use Rattle.rd_journal.specs.Journal.{Journal, start_of, events, unless_depended}
+use Rattle.rd_journal.specs.Journal.{Journal, events, unless_depended}
 use Rattle.rd_cell.specs.declared.refusal.Refusal.TheVariants as refusal
 
 -- the start, the live events in their order, and the undone events, the one undone last in front
@@ -16,7 +16,7 @@ pub record State : Type 0 where
 
 -- the state of a journal
 abbrev pub state_of : Journal → State
-state_of j = record { start = start_of j; live = events j.live; undone = events j.undone }
+state_of j = record { start = j.start; live = events j.live; undone = events j.undone }
 
 -- the run of the live events from the start; of a session's state it is never refused
 abbrev pub run_of : State → Result Ran Refusal
@@ -75,13 +75,13 @@ undo_at s k =
 
 -- the state where the marked live events became the front of undone, in their order, and all others
 -- stay in their order
-abbrev pub undone_marked : State → List Bool → State
-undone_marked s marks = record { start = s.start; live = unmarked marks s.live; undone = items_where_true marks s.live ++ s.undone }
+abbrev pub undone_where_true : State → List Bool → State
+undone_where_true s marks = record { start = s.start; live = items_where_false marks s.live; undone = items_where_true marks s.live ++ s.undone }
 
 -- the state after rolling back the k-th live step: it and just the later ones that depend on it,
 -- directly or through others, became the front of undone; refused if there is none
 abbrev pub roll : State → ℕ → Result State Refusal
-roll s k = and_then (live_event s k) (λ _. result_map (λ ran. undone_marked s (closure ran.entries k)) (run_of s))
+roll s k = and_then (live_event s k) (λ _. result_map (λ ran. undone_where_true s (closure ran.entries k)) (run_of s))
 
 -- the state whose live events are the first n from before and then these, with nothing undone
 abbrev pub switch : State → ℕ → List Event → State

@@ -1,11 +1,23 @@
 //! The laws of the journal, for every list of steps: each is the contract of a function that does
 //! nothing.
 
-ghost use Rattle.std.specs.Prelude.{◌≡◌, ℕ, length, Ok};
-ghost use Rattle.rd_step.specs.Prelude.{closure_of};
-ghost use Rattle.rd_journal.specs.Journal.{Journal, start_of, IsRun};
+ghost use Rattle.std.specs.Prelude.{◌≡◌, ◌+◌, ◌<◌, ℕ, length, Ok};
+ghost use Rattle.rd_step.specs.Prelude.{and_then, closure_of};
+ghost use Rattle.rd_journal.specs.Journal.{Journal, IsRun};
 ghost use Rattle.rd_journal.specs.Laws.{IsMovedLast, IsClosureLast, IsOneRun};
 ghost use Rattle.rd_journal.specs.State.{State, state_of, undo_at, back, forward, roll};
+
+/// Going back several steps is undoing one step as many times.
+#[tactic(auto, using(crate::proofs::LawLemmas::back_more))]
+pub fn going_back_is_undoing_again_and_again()
+    ensures { (s : State) (n : ℕ) → n < length s.live → back s (n + 1) ≡ and_then (back s n) (λ t. back t 1) }
+{}
+
+/// Going forward several steps is redoing one step as many times.
+#[tactic(auto, using(crate::proofs::LawLemmas::forward_more))]
+pub fn going_forward_is_redoing_again_and_again()
+    ensures { (s : State) (n : ℕ) → n < length s.undone → forward s (n + 1) ≡ and_then (forward s n) (λ t. forward t 1) }
+{}
 
 /// The loop lemma for states: going back and then forward as far gives the start, the live events
 /// and the undone events from before.
@@ -28,11 +40,6 @@ pub fn a_state_has_one_journal()
 pub fn forward_after_back_gives_the_journal_back()
     ensures { (i j k : Journal) (n : ℕ) → IsRun i → IsRun k → back (state_of i) n ≡ Ok (state_of j)
         → forward (state_of j) n ≡ Ok (state_of k) → k ≡ i }
-{}
-
-/// The world in which the live steps began has rings of the same size as the world after them.
-pub fn the_start_has_the_ring_of_the_world()
-    ensures { (j : Journal) → (start_of j).ring ≡ j.world.ring }
 {}
 
 /// The live events followed by the undone ones are one run from the start. So the front of the

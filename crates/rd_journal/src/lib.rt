@@ -4,7 +4,8 @@
 //!
 //! A session is seen as a start world, the live events and the undone events. It keeps each entry
 //! where it was put, orders their numbers, with a border in that order, and undoes from the old
-//! words of the entries; the start is never stored and never replayed from.
+//! words of the entries; the start is kept for contracts alone,
+//! and never replayed from.
 #![tactic(auto)]
 
 mod entries;

@@ -23,8 +23,8 @@ mod switching;
 
 ghost use Rattle.std.specs.Prelude.{◌≡◌, ◌⊎◌, ◌++◌, ◌+◌, ◌≤◌, ℕ, [], length, take, drop, Ok, Err, IsOk, OnOk, OnErr, IfOk, IfErr};
 ghost use Rattle.rd_step.specs.Prelude.{model, room as world_room};
-ghost use Rattle.rd_journal.specs.Journal.{events, start_of, IsRunFrom};
-ghost use Rattle.rd_journal.specs.SessionFields.{whole_journal, IsSession};
+ghost use Rattle.rd_journal.specs.Journal.{events, IsRunFrom};
+ghost use Rattle.rd_journal.specs.SessionFields.{opened_with, whole_journal, IsSession};
 ghost use Rattle.rd_journal.specs.Room.{ComesAfterRoom, LacksRoom};
 ghost use Rattle.rd_depend.specs.Index.{IsIndexOf};
 ghost use Rattle.rd_journal.specs.Entries.{ahead_entries, kept_entries};
@@ -40,6 +40,7 @@ use rd_inverse::unstep;
 use rd_step::{Entry, Event, World};
 use std::alloc::Global;
 use std::slice::from_ref;
+use std::snapshot::Snapshot;
 
 /// A world of rings of `R` cells, with the steps that led to it and those that were undone.
 pub struct Session<const R: usize> {
@@ -51,7 +52,10 @@ pub struct Session<const R: usize> {
     index: DependIndex,
     /// How many of the steps ahead are undone.
     undone: usize,
-    ghost kept: { IsSession (whole_journal (model world) entries) (world_room world) },
+    /// The world that the session was opened with, for contracts alone: it takes no memory.
+    opened: Snapshot<World<R>>,
+    ghost kept: { IsSession (whole_journal (opened_with opened) (model world) entries)
+        (world_room world) },
     ghost within: { undone ≤ length (ahead_entries entries) },
     ghost indexed: { IsIndexOf index (kept_entries entries) },
 }
@@ -66,25 +70,28 @@ impl<const R: usize> Drop for Session<R> {
             entries: _entries,
             index: _index,
             undone: _,
+            opened: _opened,
         } = self;
     }
 }
 
 impl<const R: usize> Session<R> {
-    ghost use Rattle.rd_journal.specs.Sessions.{journal, state, track, room, capacity, index, MayRefuse, AnswersAs, GoesAlong, IsUnchanged};
+    ghost use Rattle.rd_journal.specs.Sessions.{journal, state, track, room, capacity, index, MayRefuse, AnswersAs, GoesAlong, KeepsItsSteps};
 
     /// Opens a session in a world, which is its start and keeps its room. It takes no memory.
     pub fn open(alloc: Global, world: World<R>) -> Session<R>
         ensures state { state result ≡ record { start = model world.entry; live = []; undone = [] } }
-        ensures journal { journal result ≡ record { world = model world.entry; live = []; undone = [] } }
+        ensures journal { journal result ≡ record { start = model world.entry; world = model world.entry; live = []; undone = [] } }
         ensures capacity { capacity result ≡ 0 }
         ensures room { (m : ℕ) → room result m ≡ world_room world.entry m }
     {
+        let opened = Snapshot::of(&world);
         Session {
             world,
             entries: Entries::new(alloc),
             index: DependIndex::new(alloc),
             undone: 0,
+            opened,
         }
     }
 
@@ -109,7 +116,7 @@ impl<const R: usize> Session<R> {
             ⊎ ((refusal ≡ Refusal.NoMemory) × MayLackMemory (state self.old) event)) }
         ensures memory { IfErr result (MayRefuse self.old event) }
         ensures order { IfErr result (λ refusal. ComesAfterRoom (length (journal self.new).live) (capacity self.new) refusal) }
-        ensures unchanged { OnErr result (IsUnchanged self.old self.new) }
+        ensures unchanged { OnErr result (KeepsItsSteps self.old self.new) }
     {
         if self.entries.live_len() == MOST_STEPS {
             return Err(Refusal::TooLong);
@@ -268,12 +275,12 @@ impl<const R: usize> Session<R> {
     pub fn switch(&mut self, n: u64, entries: &[Entry]) -> Result<(), Refusal>
         requires within { n ≤ length (journal self.old).live }
         requires few { n + length entries.now ≤ MOST_STEPS }
-        requires run { IsRunFrom (start_of (journal self.old)) (take n (journal self.old).live ++ entries.now) }
+        requires run { IsRunFrom (journal self.old).start (take n (journal self.old).live ++ entries.now) }
         ensures ok { OnOk result (state self.new ≡ switch (state self.old) n (events entries.now)) }
         ensures entries { OnOk result (IsSwitched n entries.now (journal self.old) (journal self.new)) }
         ensures err { IfErr result (λ refusal. (refusal ≡ Refusal.NoMemory)
             × LacksRoom n (journal self.old) entries.now (capacity self.old) (room self.old) (index self.old)) }
-        ensures unchanged { OnErr result (IsUnchanged self.old self.new) }
+        ensures unchanged { OnErr result (KeepsItsSteps self.old self.new) }
         ensures succeeds { entries.now ≡ [] → IsOk result }
         ensures capacity { n + length entries.now ≤ capacity self.old → capacity self.new ≡ capacity self.old }
     {

@@ -1,7 +1,7 @@
 -- What moves, events and marks are answered, from what the calls say of their results.
 use Rattle.std.proofs.Common.{◌≡◌, ◌⊎◌, ℕ, inl, inr, refl, sym, ap, ◌∙◌, subst, List, length, Option, Result, Ok, Err, OnOk, IfErr}
 use Rattle.std.specs.Result.{IsErrAnd}
-use Rattle.rd_marks.proofs.Prelude.{Refusal, OpReply, World, Event, Entry, IsPrefix, Session, state, track, Journal, State, MayLackMemory, state_of, apply, reply_to, lists_in, here_in, AreRuns, events, Mark, BookState, with_session, Answered, answer_with, move_answer, Happened, length-map, result_map}
+use Rattle.rd_marks.proofs.Prelude.{Refusal, OpReply, World, Event, Entry, Begins, Session, state, track, Journal, State, MayLackMemory, state_of, apply, reply_to, lists_in, here_in, AreRuns, events, Mark, BookState, with_session, Answered, answer_with, move_answer, Happened, length-map, result_map}
 use Rattle.rd_journal.specs.Sessions.{AnswersAs, GoesAlong}
 use Rattle.rd_marks.specs.Commands.{step_counts}
 use Rattle.rd_marks.specs.Events.{as_reply}
@@ -15,10 +15,10 @@ use Rattle.rd_cell.specs.declared.refusal.Refusal.TheVariants as refusal
 -- what a move along the track leaves of the bookmarks
 pub kept_along : {R : ℕ} (book : Book R) (new : Session R) (done : Result (Unit {0}) Refusal) (moved : Result State Refusal)
     → ((t : State) → moved ≡ Ok t → t.start ≡ (state book.session).start) → AnswersAs moved done book.session new → GoesAlong book.session new
-    → AreRuns (state new).start (lists_in book.bookmarks) × IsPrefix (events (here_in book.bookmarks)) (track new)
+    → AreRuns (state new).start (lists_in book.bookmarks) × Begins (events (here_in book.bookmarks)) (track new)
 kept_along book new done moved starts answers along = (
   subst (λ (w : World). AreRuns w (lists_in book.bookmarks)) (sym (answers_start moved done book.session new starts answers)) book.runs,
-  subst (λ (es : List Event). IsPrefix (events (here_in book.bookmarks)) es) (sym along.track) book.stands,
+  subst (λ (es : List Event). Begins (events (here_in book.bookmarks)) es) (sym along.track) book.stands,
 )
 
 -- the answer to a move, and what it leaves

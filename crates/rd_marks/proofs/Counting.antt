@@ -1,7 +1,7 @@
 -- The entries of the stretches are as many as the lists that begin the events of a bookmark, the
 -- empty one apart.
 use Rattle.std.proofs.Common.{◌≡◌, ℕ, zero, suc, ◌+◌, ◌-◌, ◌<◌, ◌≤◌, inl, inr, refl, sym, ap, ◌∙◌, subst, List, [], ◌∷◌, ◌++◌, length, take, map, sum_by, Contains, length-append, length-take, arith}
-use Rattle.rd_marks.proofs.Prelude.{range_with_len, take-length, cases_lt, cases_eq, nat_tests, get_or-map, length-map, length-take-le, take-map, take-take, sum_by-cons, Contains-append_left, Contains-append_right, Contains-append_cases, Event, Entry, IsPrefix, MarkName, Stretch, Node, marks_of, named_lists, stretch_list, shared_at, entries_at, AreNested, AreFresh, number_if_in, greatest_in, AreNeeded, IsAlong, IsDeepest, count_of, events}
+use Rattle.rd_marks.proofs.Prelude.{range_with_len, take-length, cases_lt, cases_eq, nat_tests, get_or-map, length-map, length-take-le, take-map, take-take, sum_by-cons, Contains-append_left, Contains-append_right, Contains-append_cases, Event, Entry, Begins, MarkName, Stretch, Node, marks_of, named_lists, stretch_list, shared_at, entries_at, AreNested, AreFresh, number_if_in, greatest_in, AreNeeded, IsAlong, IsDeepest, count_of, events}
 use Rattle.std.proofs.lemmas.List.FromFn.{length-map-range_with_len, get_or-map-range_with_len}
 use Rattle.rd_marks.specs.Beginnings.{IsBeginning, AreDistinct, CountsBeginnings, NeedsNoEntry}
 use Rattle.rd_marks.proofs.MarkLemmas.{mark_of}
@@ -35,10 +35,10 @@ distinct_joined (x ∷ xs) ys h k apart = (
 abbrev levels : List Event → ℕ → ℕ → List (List Event)
 levels fs a n = map (λ (m : ℕ). take m fs) (range_with_len a n)
 
-level_of : (fs : List Event) (a n : ℕ) (es : List Event) → a + n ≤ suc (length fs) → Contains (levels fs a n) es → (a ≤ length es) × IsPrefix es fs
+level_of : (fs : List Event) (a n : ℕ) (es : List Event) → a + n ≤ suc (length fs) → Contains (levels fs a n) es → (a ≤ length es) × Begins es fs
 level_of fs a n es h c = grind (arith, length-map-range_with_len, get_or-map-range_with_len, length-take-le)
 
-of_level : (fs : List Event) (a n : ℕ) (es : List Event) → a ≤ length es → length es < a + n → IsPrefix es fs → Contains (levels fs a n) es
+of_level : (fs : List Event) (a n : ℕ) (es : List Event) → a ≤ length es → length es < a + n → Begins es fs → Contains (levels fs a n) es
 of_level fs a n es more within b =
     (length es - a, grind (arith, more, within, length-map-range_with_len), grind (arith, more, within, b, get_or-map-range_with_len (λ (m : ℕ). take m fs) a n (length es - a) (length es) es))
 
@@ -71,25 +71,25 @@ lists_counted (s ∷ ss) = omega (arith, lists_more s ss (length ss), lists_coun
 
 -- the list is one of those
 abbrev IsListed : List Stretch → ℕ → List Event → Type 0
-IsListed ss n es = (at : ℕ) × (at < n) × (shared_at ss at < length es) × IsPrefix es (events (stretch_list ss at))
+IsListed ss n es = (at : ℕ) × (at < n) × (shared_at ss at < length es) × Begins es (events (stretch_list ss at))
 
-along_begun : (ss : List Stretch) (i : ℕ) (es : List Event) → IsPrefix es (events (stretch_list ss i)) → IsAlong ss i (length es) es
+along_begun : (ss : List Stretch) (i : ℕ) (es : List Event) → Begins es (events (stretch_list ss i)) → IsAlong ss i (length es) es
 along_begun ss i es b = record { enough = omega arith; alike = b ∙ sym (take-length es) }
 
-begun_within : (ss : List Stretch) (i : ℕ) (es : List Event) → IsPrefix es (events (stretch_list ss i)) → length es ≤ length (stretch_list ss i)
+begun_within : (ss : List Stretch) (i : ℕ) (es : List Event) → Begins es (events (stretch_list ss i)) → length es ≤ length (stretch_list ss i)
 begun_within ss i es b = along_within ss i (length es) es (along_begun ss i es b)
 
 -- lists that begin alike are begun by the same
-begun_taken : (es : List Event) (xs ys : List Entry) → take (length es) xs ≡ take (length es) ys → IsPrefix es (events xs) → IsPrefix es (events ys)
+begun_taken : (es : List Event) (xs ys : List Entry) → take (length es) xs ≡ take (length es) ys → Begins es (events xs) → Begins es (events ys)
 begun_taken es xs ys same b = grind (arith, take-map)
 
 -- what begins the events of a bookmark begins those of a stretch's list
-begins_list : (ss : List Stretch) (ms : List (MarkName × Node)) (es : List Event) → IsBeginning (marks_of (named_lists ss ms)) es → (i : ℕ) × IsPrefix es (events (stretch_list ss i))
+begins_list : (ss : List Stretch) (ms : List (MarkName × Node)) (es : List Event) → IsBeginning (marks_of (named_lists ss ms)) es → (i : ℕ) × Begins es (events (stretch_list ss i))
 begins_list ss ms es h =
     let found = mapped_contains (λ (x : MarkName × List Entry). mark_of x) (named_lists ss ms) h.mark h.kept in
     let named = mapped_contains (λ (x : MarkName × Node). (x.0, entries_at ss x.1)) ms found.0 found.1 in
     let p = named.0.1 in
-    let b : IsPrefix es (events (entries_at ss p)) =
+    let b : Begins es (events (entries_at ss p)) =
     grind arith in
     let its = length-map (entries_at ss p) (λ (x : Entry). x.event) ∙ length-take p.number (stretch_list ss p.stretch) in
     let short : length es ≤ p.number = omega (arith, length-take (length es) (events (entries_at ss p)), ap length b, its) in
@@ -129,7 +129,7 @@ module _ (ss : List Stretch) (rule : AreNested ss) where
             (n, omega arith, l.0, l.1)
       ]
 
-  is_listed : (n at : ℕ) (es : List Event) → at < n → shared_at ss at < length es → IsPrefix es (events (stretch_list ss at)) → Contains (lists_to ss n) es
+  is_listed : (n at : ℕ) (es : List Event) → at < n → shared_at ss at < length es → Begins es (events (stretch_list ss at)) → Contains (lists_to ss n) es
   is_listed zero at es h more b = absurd (omega (arith, h))
   is_listed (suc n) at es h more b =
       elim (cases_eq at n) [
@@ -148,7 +148,7 @@ module _ (ss : List Stretch) (rule : AreNested ss) where
       (λ es first second. grind (arith, h, fits n, listed n es first, level_of (events (stretch_list ss n)) (suc (shared_at ss n)) (length (own_at ss n)) es, second, not_both ss rule fresh n, along_begun))
 
   -- a list that begins that of a stretch is one stretch's own
-  owner : (i : ℕ) (es : List Event) → 0 < length es → IsPrefix es (events (stretch_list ss i)) → IsListed ss (suc i) es
+  owner : (i : ℕ) (es : List Event) → 0 < length es → Begins es (events (stretch_list ss i)) → IsListed ss (suc i) es
   owner zero es some b = (0, omega arith, omega (arith, shared_within ss rule 0, some), b)
   owner (suc i) es some b =
       elim (cases_lt (shared_at ss (suc i)) (length es)) [

@@ -2,7 +2,7 @@
 use Rattle.std.proofs.Common.{◌≡◌, ℕ, zero, suc, drop, ◌+◌, ◌≤◌, refl, sym, ap, ◌∙◌, List, [], ◌∷◌, ◌++◌, length, take, ◌-◌, ◌⊎◌, inl, Result, Ok, Err, OnOk, IfErr, length-drop, arith}
 use Rattle.rd_journal.specs.Room.{LacksRoom}
 use Rattle.rd_journal.specs.Sessions.{capacity, room, index, LacksRoomFor}
-use Rattle.rd_marks.proofs.Prelude.{take-length, Session, state, journal, Refusal, MOST_STEPS, World, Stepped, step, run, and_then, result_map, preceded_by, Event, take-append-drop, drop-map, Entry, State, state_of, switch, Journal, start_of, AreEntriesOfRun, events, run_entries, IsRunFrom}
+use Rattle.rd_marks.proofs.Prelude.{take-length, Session, state, journal, Refusal, MOST_STEPS, World, Stepped, step, run, and_then, result_map, preceded_by, Event, take-append-drop, drop-map, Entry, State, state_of, switch, Journal, AreEntriesOfRun, events, run_entries, IsRunFrom}
 use Rattle.rd_cell.specs.declared.refusal.Refusal.TheVariants as refusal
 
 -- A start and its events determine the entries of a run
@@ -46,15 +46,17 @@ pub switched : {X : Type 0} (r : Result X Refusal) (s t : State) (n : ℕ) (zs y
 switched r s t n zs ys given h k = grind (arith, joined_events)
 
 -- what a switch to entries of a run asks for
-pub may_switch : (j : Journal) (n : ℕ) (zs ys : List Entry) → zs ≡ drop n ys → IsRunFrom (start_of j) j.live → AreEntriesOfRun (start_of j) ys
-    → take n (state_of j).live ≡ take n (events ys) → IsRunFrom (start_of j) (take n j.live ++ zs)
-may_switch j n zs ys given ran kept h = grind (arith, kept.ran, take-append-drop, begin_alike n (start_of j) j.live ys ran kept.ran)
+pub may_switch : (j : Journal) (n : ℕ) (zs ys : List Entry) → zs ≡ drop n ys → IsRunFrom j.start j.live → AreEntriesOfRun j.start ys
+    → take n (state_of j).live ≡ take n (events ys) → IsRunFrom j.start (take n j.live ++ zs)
+may_switch j n zs ys given ran kept h = grind (arith, kept.ran, take-append-drop, begin_alike n j.start j.live ys ran kept.ran)
 
 pub few_enough : (n : ℕ) (zs ys : List Entry) → zs ≡ drop n ys → n ≤ length ys → length ys ≤ MOST_STEPS → n + length zs ≤ MOST_STEPS
 few_enough n zs ys given h k = omega (arith, ap length given, length-drop n ys)
 
 -- a session that lacked room for a switch lacks it for going to the events after it
 pub lacked : {R : ℕ} {X : Type 0} (r : Result X Refusal) (s : Session R) (n : ℕ) (given : List Entry) (es : List Event) (P : Type 0) → take n (state s).live ++ events given ≡ es
+    → n ≤ length (journal s).live → IsRunFrom (journal s).start (take n (journal s).live ++ given)
     → IfErr r (λ e. (e ≡ refusal.NoMemory) × LacksRoom n (journal s) given (capacity s) (room s) (index s)) → IfErr r (λ e. (e ≡ refusal.NoMemory) × (LacksRoomFor s es ⊎ P))
-lacked (Ok x) s n given es P all h = tt
-lacked (Err e) s n given es P all h = (h.0, inl (record { kept = n; given = given; all = all; lacks = h.1 }))
+lacked (Ok x) s n given es P all within ran h = tt
+lacked (Err e) s n given es P all within ran h =
+    (h.0, inl (record { kept = n; given = given; within = within; ran = ran; all = all; lacks = h.1 }))

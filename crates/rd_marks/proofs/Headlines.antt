@@ -1,16 +1,26 @@
--- A session's run as the headline has it.
-use Rattle.std.proofs.Common.{◌≡◌, ◌↔◌, ℕ, refl, Option, Some, None, Ok, Err, arith}
-use Rattle.rd_marks.proofs.Prelude.{Entry, state_of, undo_at, Journal, BookState}
+-- What a book keeps, as the headline has it.
+use Rattle.std.proofs.Common.{◌≡◌, ◌↔◌, ◌-◌, ◌≤◌, ℕ, refl, length, sym, subst, Option, Some, None, Result, Ok, Err, IsOk, arith}
+use Rattle.rd_marks.proofs.Prelude.{Refusal, Entry, State, state_of, undo_at, Journal, BookState, journal}
 use Rattle.rd_step.specs.Prelude.{numbered, first_dependant, and_then}
 use Rattle.rd_journal.specs.Journal.{IsRun, unless_depended}
+use Rattle.rd_journal.proofs.Ahead.{is_session}
 use Rattle.rd_journal.proofs.Calls.{event_of_entry}
+use Rattle.rd_journal.proofs.Finding.{numbered_in}
+use Rattle.rd_journal.proofs.ListLemmas.{nth}
+use Rattle.rd_journal.proofs.LoneUndo.{undo_at_found, undo_at_missing}
+use Rattle.rd_marks.specs.Book.{book_state, session_of}
 use Rattle.rd_marks.specs.Headline.{IsRunOfLive}
+use Rattle.rd_marks.specs.declared.books.Book.{Book}
 use Rattle.rd_cell.specs.declared.refusal.Refusal.TheVariants as refusal
 
--- undoing a step alone names just the dependant that is found
+-- undoing a step alone names just the dependant that is found, and is done where none is found
 names : {X : Type 0} (x : X) (n : ℕ) (found : Option ℕ) → (and_then (unless_depended found) (λ _. Ok x) ≡ Err (refusal.Depended n)) ↔ (found ≡ Some n)
 names x n None = grind arith
 names x n (Some j) = grind arith
+
+frees : {X : Type 0} (x : X) (found : Option ℕ) → IsOk (and_then (unless_depended found) (λ _. Ok x)) ↔ (found ≡ None)
+frees x None = grind arith
+frees x (Some j) = grind arith
 
 -- a lone undo is refused exactly where there is a dependant, and names the first
 refused : (j : Journal) → IsRun j → (k n : ℕ) → (undo_at (state_of j) k ≡ Err (refusal.Depended n)) ↔ (first_dependant j.live k ≡ Some n)
@@ -18,8 +28,28 @@ refused j runs k n = by (numbered j.live k) refl
   where
     by : (o : Option Entry) → numbered j.live k ≡ o → (undo_at (state_of j) k ≡ Err (refusal.Depended n)) ↔ (first_dependant j.live k ≡ Some n)
     by None none = grind (arith, event_of_entry)
-    by (Some x) here = grind (arith, event_of_entry, names)
+    by (Some x) here =
+        subst (λ (r : Result State Refusal). (r ≡ Err (refusal.Depended n)) ↔ (first_dependant j.live k ≡ Some n)) (sym (undo_at_found j k x runs here))
+        (names _ n (first_dependant j.live k))
+
+-- and is done exactly where there is none
+free : (j : Journal) → IsRun j → (k : ℕ) → 1 ≤ k → k ≤ length j.live → IsOk (undo_at (state_of j) k) ↔ (first_dependant j.live k ≡ None)
+free j runs k some within =
+    let x = nth j.live (k - 1) (omega arith) in
+    let here : numbered j.live k ≡ Some x.0 = numbered_in j.live k x.0 some within x.1 in
+    subst (λ (r : Result State Refusal). IsOk r ↔ (first_dependant j.live k ≡ None)) (sym (undo_at_found j k x.0 runs here))
+    (frees _ (first_dependant j.live k))
 
 -- a book over this journal, whatever its marks
 pub run_of_live : (j : Journal) (b : BookState) → b.session ≡ state_of j → IsRun j → IsRunOfLive b j
-run_of_live j b is runs = rw is (record { ran = runs.live_ran; refused = refused j runs })
+run_of_live j b is runs = record {
+  is_run = runs;
+  state = is;
+  free = rw is (free j runs);
+  refused = rw is (refused j runs);
+  missing = rw is (λ k none. (undo_at_missing j (length j.live) k refl none).0);
+}
+
+-- each book is the run of its live events
+pub book_runs : {R : ℕ} (b : Book R) → IsRunOfLive (book_state b) (journal (session_of b))
+book_runs b = run_of_live (journal b.session) (book_state b) refl (is_session b.session).runs

@@ -1,6 +1,6 @@
 -- Where the session's track lies among the bookmarks' entries, and what each call leaves of that.
 use Rattle.std.proofs.Common.{◌≡◌, ℕ, zero, suc, ◌-◌, ◌≤◌, refl, ap, List, [], ◌∷◌, ◌++◌, length, take, drop, Ok, arith}
-use Rattle.rd_marks.proofs.Prelude.{take-append_seam, take-length, take-map, take-take, take-append-le, length-map, length-take, closure, unmarked, Event, Entry, IsPrefix, Session, Journal, ahead_entries, state, track, State, undo_at, roll, Node, Stretch, stretch_list, entries_at, IsWithin, IsAlong, events}
+use Rattle.rd_marks.proofs.Prelude.{take-append_seam, take-length, take-map, take-take, take-append-le, length-map, length-take, closure, items_where_false, Event, Entry, Begins, Session, Journal, ahead_entries, state, track, State, undo_at, roll, Node, Stretch, stretch_list, entries_at, IsWithin, IsAlong, events}
 use Rattle.rd_journal.specs.State.{live_event}
 use Rattle.rd_journal.proofs.Calls.{is_live, went_through}
 use Rattle.rd_journal.specs.Moves.{IsLengthened, IsUndoneAlone, IsRolledBack}
@@ -17,7 +17,7 @@ without_leaves {X} (suc m) (suc k) (x ∷ xs) h = ap (λ (ys : List X). x ∷ ys
 pub undone_alone_leaves : (k n : ℕ) (old new : Journal) → n ≡ k - 1 → IsUndoneAlone k old new → take n new.live ≡ take n old.live
 undone_alone_leaves k n old new its taken = grind (arith, without_leaves)
 
-closure_leaves : (n : ℕ) (xs : List Entry) → take n (unmarked (closure xs (suc n)) xs) ≡ take n xs
+closure_leaves : (n : ℕ) (xs : List Entry) → take n (items_where_false (closure xs (suc n)) xs) ≡ take n xs
 closure_leaves zero xs = refl
 closure_leaves (suc n) [] = refl
 closure_leaves (suc n) (x ∷ xs) = ap (λ (ys : List Entry). x ∷ ys) (closure_leaves n xs)
@@ -36,14 +36,14 @@ undone_within s k t h = let live = went_through (live_event s k) _ t h in (is_li
 pub rolled_within : (s : State) (k : ℕ) (t : State) → roll s k ≡ Ok t → k ≤ length s.live
 rolled_within s k t h = let live = went_through (live_event s k) _ t h in (is_live s k live.0 live.1).1
 
-module _ (here there : List Entry) (begins : IsPrefix there here) where
+module _ (here there : List Entry) (begins : Begins there here) where
   -- what begins it begins the same track
-  pub still_begins : (steps : List Event) → IsPrefix (events here) steps → IsPrefix (events there) steps
+  pub still_begins : (steps : List Event) → Begins (events here) steps → Begins (events there) steps
   still_begins steps stands = begins_trans (events there) (events here) steps (begins_events there here begins) stands
 
   -- where the first n live steps stayed, whatever is ahead
-  pub track_cut : (n : ℕ) (old new : Journal) (old_ahead new_ahead : List Event) → IsPrefix (events here) (events old.live ++ old_ahead)
-      → length there ≤ n → n ≤ length old.live → take n new.live ≡ take n old.live → IsPrefix (events there) (events new.live ++ new_ahead)
+  pub track_cut : (n : ℕ) (old new : Journal) (old_ahead new_ahead : List Event) → Begins (events here) (events old.live ++ old_ahead)
+      → length there ≤ n → n ≤ length old.live → take n new.live ≡ take n old.live → Begins (events there) (events new.live ++ new_ahead)
   track_cut n old new old_ahead new_ahead stands short within same =
       let fact = take-take (length (events there)) n (events new.live ++ new_ahead) in
       let fact_2 = take-take (length (events there)) n (events old.live ++ old_ahead) in
@@ -54,7 +54,7 @@ module _ (here there : List Entry) (begins : IsPrefix there here) where
       grind (arith, stands, short, within, same, length-map, length-take, fact_3, fact_4, fact_5, fact_6, fact, fact_2, still_begins (events old.live ++ old_ahead))
 
 -- entries with the events of the live steps begin the track
-pub live_begin : {R : ℕ} (session : Session R) (xs : List Entry) → events xs ≡ (state session).live → IsPrefix (events xs) (track session)
+pub live_begin : {R : ℕ} (session : Session R) (xs : List Entry) → events xs ≡ (state session).live → Begins (events xs) (track session)
 live_begin session xs its = grind (arith, take-append_seam)
 
 -- The node of the entries of a list with which the live steps begin
@@ -62,7 +62,7 @@ live_begin session xs its = grind (arith, take-append_seam)
 module _ (ss : List Stretch) where
   -- where they are: no further than they are, at the node where their track lies
   pub live_along : {R : ℕ} (session : Session R) (here at : Node) (xs : List Entry) → events xs ≡ (state session).live → IsWithin ss here
-      → IsPrefix (events (entries_at ss here)) (track session) → at.stretch ≡ here.stretch → at.number ≤ here.number → at.number ≤ length xs
+      → Begins (events (entries_at ss here)) (track session) → at.stretch ≡ here.stretch → at.number ≤ here.number → at.number ≤ length xs
       → IsWithin ss at × IsAlong ss at.stretch at.number (events xs)
   live_along session here at xs its within stands same fewer few =
       let first = fewer_begin ss here at within same fewer in
@@ -72,7 +72,7 @@ module _ (ss : List Stretch) where
       (first.0, grind (arith, its, few, all, seam, still, events_length ss at first.0, events_of_first at.number (stretch_list ss at.stretch)))
 
   -- so its steps are the first ones of the track
-  pub along_to : (at here : Node) (steps : List Event) → IsWithin ss at → IsWithin ss here → IsPrefix (events (entries_at ss here)) steps → (n : ℕ) → n ≡ at.number → n ≤ here.number
+  pub along_to : (at here : Node) (steps : List Event) → IsWithin ss at → IsWithin ss here → Begins (events (entries_at ss here)) steps → (n : ℕ) → n ≡ at.number → n ≤ here.number
       → take n (entries_at ss here) ≡ take n (entries_at ss at) → (n ≤ length steps) × (take n steps ≡ events (entries_at ss at))
   along_to at here steps is within stands n all fewer alike =
       let long = events_length ss here within in

@@ -19,3 +19,4 @@ pub mod RulesLemmas
 pub mod Reading
 pub mod Putting
 pub mod Moving
+pub mod Sends

@@ -1,7 +1,7 @@
 -- The marks that a list of names with entries is: looking one up, putting one last, taking one
 -- away.
 use Rattle.std.proofs.Common.{inr, is_ok, ◌⊎◌, ◌≢◌, suc, Result, Ok, Err, IsOk, IfErr, ne_eqb, ◌≡◌, ℕ, Bool, true, false, cond, map, refl, sym, ap, ◌∙◌, subst, List, [], ◌∷◌, ◌++◌, length, is_some, option_map, ok_or, Option, Some, All, slice_get, arith}
-use Rattle.rd_marks.proofs.Prelude.{lookup, remove_entry, remove_key, All-cons, All-head, All-tail, Entry, Event, MarkName, mark_name_eq, eq-eqb, false≢true, length-map, get_or_from_slice_get, slice_get-map, slice_get_within, Refusal, World, MOST_MARKS, IsPrefix, Mark, BookState, marked_events, mark, drop_mark, goto_mark, mark_at, mark_events, result_map, MakesSteps, AnswersSame, marks_of, events, Node, book_state, entries_in}
+use Rattle.rd_marks.proofs.Prelude.{lookup, remove_entry, remove_key, All-cons, All-head, All-tail, Entry, Event, MarkName, mark_name_eq, eq-eqb, false≢true, length-map, get_or_from_slice_get, slice_get-map, slice_get_within, Refusal, World, MOST_MARKS, Begins, Mark, BookState, marked_events, mark, drop_mark, goto_mark, mark_at, mark_events, result_map, MakesSteps, AnswersSame, marks_of, events, Node, book_state, entries_in}
 use Rattle.rd_journal.specs.Sessions.{LacksRoomFor}
 use Rattle.rd_marks.specs.Book.{MayRefuseToGo}
 use Rattle.rd_marks.specs.Bookmarks.{IsInPieces}
@@ -82,7 +82,7 @@ none_removed test (m ∷ ms) h = grind (arith, cond, none_removed test ms)
 
 -- which only memory for its steps can refuse
 pub goto_not_done : {X : Type 0} (P : Type 0) (r : Result X Refusal) (b : BookState) (name : MarkName) (es : List Event) → marked_events b.marks name ≡ Some es
-    → IfErr r (λ cause. (cause ≡ refusal.NoMemory) × P) → (IsPrefix es b.session.live → IsOk r)
+    → IfErr r (λ cause. (cause ≡ refusal.NoMemory) × P) → (Begins es b.session.live → IsOk r)
     → IfErr r (λ cause. (goto_mark b name ≡ Err cause) ⊎ ((cause ≡ refusal.NoMemory) × MakesSteps b name))
 goto_not_done P r b name es there h goes = grind arith
 

@@ -12,22 +12,22 @@ pub use Rattle.std.specs.List.{IsDistinct, list_all, range_with_len}
 pub use Rattle.std.specs.Map.{lookup, remove_entry, values_of}
 pub use Rattle.std.specs.Set.{remove_key}
 pub use Rattle.indexmap.specs.IndexMap.{set_value_at, spare}
-pub use Rattle.rd_depend.specs.Beginnings.{IsPrefix, NeitherIsPrefix}
+pub use Rattle.rd_depend.specs.Beginnings.{Begins, NeitherBegins}
 pub use Rattle.rd_depend.specs.Equivalence.{DecidesEquivalence}
-pub use Rattle.rd_journal.specs.Journal.{Journal, start_of}
+pub use Rattle.rd_journal.specs.Journal.{Journal}
 pub use Rattle.rd_journal.specs.Entries.{ahead_entries}
 pub use Rattle.rd_journal.specs.Sessions.{journal, state, track}
 pub use Rattle.rd_journal.specs.State.{State, MayLackMemory, apply, back, forward, reply_to, roll, run_of, state_of, switch, undo_at, with_event}
 pub use Rattle.rd_journal.specs.declared.sessions.Session.{Session}
 pub use Rattle.rd_step.proofs.PassedUp.{fact_passed_up}
 pub use Rattle.rd_step.specs.Equivalence.{IsEquivalent}
-pub use Rattle.rd_step.specs.Prelude.{and_then, result_map, MOST_STEPS, OpReply, Refusal, Stepped, World, closure, run, step, unmarked}
+pub use Rattle.rd_step.specs.Prelude.{and_then, result_map, MOST_STEPS, OpReply, Refusal, Stepped, World, closure, run, step, items_where_false}
 pub use Rattle.rd_step.specs.Run.{events, IsRunFrom, Ran, preceded_by, run_entries}
 pub use Rattle.rd_step.specs.declared.entries.Entry.{Entry}
 pub use Rattle.rd_step.specs.declared.entries.Event.{Event}
 pub use Rattle.rd_marks.specs.Book.{book_state}
 pub use Rattle.rd_marks.specs.BookState.{AnswersEvents, AnswersSame, BookState, MakesSteps, Mark, at_events, drop_mark, goto_mark, mark, mark_at, mark_events, marked_events, with_session}
-pub use Rattle.rd_marks.specs.Changes.{IsGrown, IsLow, IsShrunk, IsUnchanged, Stays, shifted}
+pub use Rattle.rd_marks.specs.Changes.{IsGrown, IsLow, IsShrunk, KeepsItsSteps, Stays, shifted}
 pub use Rattle.rd_marks.specs.Commands.{Answered, AreObeyed, Happened, IsAsDefined, IsObeyed, NeedsNoMemory, answer_with, move_answer}
 pub use Rattle.rd_marks.specs.Bookmarks.{IsNodeIn, here_in, lists_in, entries_in, marks_of}
 pub use Rattle.rd_marks.specs.BookmarksFields.{AreRuns, IsKept, IsPruned, AreEntriesOfRun, named_lists, nodes_of}

@@ -1,6 +1,6 @@
 -- What the bookmarks are after one was put, and after stretches were shrunk.
 use Rattle.std.proofs.Common.{◌≡◌, ℕ, zero, suc, ◌^◌, ◌<◌, ◌≤◌, inl, inr, refl, sym, ap, ◌∙◌, subst, List, [], ◌∷◌, ◌++◌, map, length, take, drop, length-append, option_map, Option, None, All, arith}
-use Rattle.rd_marks.proofs.Prelude.{cases_lt, sum_by-le, length-map, map-append, take-append-drop, All-push, All-contains, All-head, All-map, All-nil, All-tail, World, MOST_STEPS, Event, Entry, IsPrefix, MarkName, Node, Stretch, Shift, shifted, Stays, IsGrown, IsShrunk, IsUnchanged, MOST_MARKS, AreEntriesOfRun, AreRuns, IsKept, IsPruned, named_lists, nodes_of, count_of, stretch_list, entries_at, greatest_in, needed_at, IsWithin, IsAlong, AreNested, AreNeeded, AreNeededFrom, nat_tests, events, IsRunFrom, run}
+use Rattle.rd_marks.proofs.Prelude.{cases_lt, sum_by-le, length-map, map-append, take-append-drop, All-push, All-contains, All-head, All-map, All-nil, All-tail, World, MOST_STEPS, Event, Entry, Begins, MarkName, Node, Stretch, Shift, shifted, Stays, IsGrown, IsShrunk, KeepsItsSteps, MOST_MARKS, AreEntriesOfRun, AreRuns, IsKept, IsPruned, named_lists, nodes_of, count_of, stretch_list, entries_at, greatest_in, needed_at, IsWithin, IsAlong, AreNested, AreNeeded, AreNeededFrom, nat_tests, events, IsRunFrom, run}
 use Rattle.rd_marks.specs.declared.stretches.changes.Grown.{Grown}
 use Rattle.rd_marks.proofs.Counting.{begins_one, contains_mapped, count_bounded}
 use Rattle.rd_marks.proofs.EntryLemmas.{begin_alike}
@@ -67,8 +67,8 @@ module _ (old new : List Stretch) (at : Node) (live : List Entry) (grown : Grown
       })
 
   -- and the track begins with the entries of where it lies
-  here_put : (here there : Node) (n : ℕ) (steps : List Event) → IsWithin old here → IsPrefix (events (entries_at old here)) steps → IsPrefix (events (entries_at new grown.node)) steps
-      → (here.number ≤ n → there ≡ grown.node) → (n < here.number → there ≡ shifted grown.shift here) → IsWithin new there × IsPrefix (events (entries_at new there)) steps
+  here_put : (here there : Node) (n : ℕ) (steps : List Event) → IsWithin old here → Begins (events (entries_at old here)) steps → Begins (events (entries_at new grown.node)) steps
+      → (here.number ≤ n → there ≡ grown.node) → (n < here.number → there ≡ shifted grown.shift here) → IsWithin new there × Begins (events (entries_at new there)) steps
   here_put here there n steps lies stands begins near far =
       elim (cases_lt n here.number) [
         | inl over ↦ let stays = grows.stays here lies in rw (far over) (stays.within, rw stays.same stands)
@@ -77,7 +77,7 @@ module _ (old new : List Stretch) (at : Node) (live : List Entry) (grown : Grown
 
 -- Nothing was put
 
-module _ (old new : List Stretch) (unchanged : IsUnchanged old new) where
+module _ (old new : List Stretch) (unchanged : KeepsItsSteps old new) where
   lists_same : (ms : List (MarkName × Node)) → All (λ (m : MarkName × Node). IsWithin old m.1) ms → named_lists new ms ≡ named_lists old ms
   lists_same [] h = refl
   lists_same (m ∷ ms) h = λ i. (m.0, (unchanged.stays m.1 (All-head (λ (n : MarkName × Node). IsWithin old n.1) m ms h)).same i)
@@ -123,7 +123,7 @@ module _ (old new : List Stretch) (i n : ℕ) (shift : Shift) (shrunk : IsShrunk
         within = within_shifted old new shift ms stay_left;
         needed = subst (λ (ps : List Node). AreNeededFrom i new ps) (sym (nodes_shifted shift ms)) (shrunk.needed (nodes_of ms) needed its);
         lies = stays.within;
-        begins = subst (λ (xs : List Entry). IsPrefix xs (entries_at old here)) (sym stays.same) first.1;
+        begins = subst (λ (xs : List Entry). Begins xs (entries_at old here)) (sym stays.same) first.1;
       }
 
 -- nothing pruned yet, and once more
@@ -163,11 +163,11 @@ pub record IsSet (w : World) (old new : List Stretch) (ms es : List (MarkName ×
   pub kept : IsKept new es there
   pub lists : named_lists new es ≡ named_lists old ms ++ (name, live) ∷ []
   pub runs : AreRuns w (named_lists new es)
-  pub stands : IsPrefix (events (entries_at new there)) steps
+  pub stands : Begins (events (entries_at new there)) steps
 
 module _ (w : World) (old : List Stretch) (rule : AreNested old) (ms : List (MarkName × Node)) (here : Node) (kept : IsKept old ms here) (fewer : length (named_lists old ms) < MOST_MARKS)
-    (runs : AreRuns w (named_lists old ms)) (live : List Entry) (run : AreEntriesOfRun w live) (steps : List Event) (stands : IsPrefix (events (entries_at old here)) steps)
-    (began : IsPrefix (events live) steps) (at : Node) (within : IsWithin old at) (along : IsAlong old at.stretch at.number (events live)) where
+    (runs : AreRuns w (named_lists old ms)) (live : List Entry) (run : AreEntriesOfRun w live) (steps : List Event) (stands : Begins (events (entries_at old here)) steps)
+    (began : Begins (events live) steps) (at : Node) (within : IsWithin old at) (along : IsAlong old at.stretch at.number (events live)) where
   pub is_set : (new : List Stretch) (grown : Grown) → IsGrown old new at live grown → (name : MarkName) (mid es : List (MarkName × Node)) → mid ≡ ms
       → es ≡ names_shifted grown.shift mid ++ (name, grown.node) ∷ [] → (there : Node) (n : ℕ) → (here.number ≤ n → there ≡ grown.node) → (n < here.number → there ≡ shifted grown.shift here)
       → IsSet w old new ms es name live steps there
@@ -178,7 +178,7 @@ module _ (w : World) (old : List Stretch) (rule : AreNested old) (ms : List (Mar
       let lists : named_lists new es ≡ named_lists old ms ++ (name, live) ∷ [] =
       ap (named_lists new) put_now ∙ lists_put old new at live grown grows name ms kept.within ∙ ap (λ (xs : List Entry). named_lists old ms ++ (name, xs) ∷ []) all in
       let lies =
-      here_put old new at live grown grows name ms kept.within here there n steps kept.lies stands (subst (λ (xs : List Entry). IsPrefix (events xs) steps) (sym all) began) near far in
+      here_put old new at live grown grows name ms kept.within here there n steps kept.lies stands (subst (λ (xs : List Entry). Begins (events xs) steps) (sym all) began) near far in
       record {
         kept = kept_put old new at live grown grows name ms kept.within here there kept (omega (arith, fewer, length-map {B = MarkName × List Entry} ms (λ m. (m.0, entries_at old m.1)))) es put_now lies.0;
         lists = lists;

@@ -1,6 +1,6 @@
 -- Lists of which one begins the other are equivalent only if they are one.
 use Rattle.std.proofs.Common.{◌≡◌, ℕ, ◌⊎◌, Bool, ◌==◌, refl, sym, ap, List, [], ◌∷◌, ◌++◌, length, take, drop, ◌≤◌, length-append, arith, eqb-true}
-use Rattle.rd_marks.proofs.Prelude.{eq-eqb, take_all, World, IsEquivalent, Event, Entry, IsPrefix, DecidesEquivalence, events, IsRunFrom}
+use Rattle.rd_marks.proofs.Prelude.{eq-eqb, take_all, World, IsEquivalent, Event, Entry, Begins, DecidesEquivalence, events, IsRunFrom}
 use Rattle.rd_depend.proofs.Exactness.{right_behind}
 use Rattle.rd_marks.proofs.EntryLemmas.{began, to_the_end}
 use Rattle.rd_marks.proofs.Starting.{begins_shorter, event_length}
@@ -38,5 +38,5 @@ module _ (ones others : List Entry) (m n c : ℕ) (long : length ones ≡ m) (lo
 -- a list that begins the other has all of its events in common with it
 pub not_begun : (xs ys : List Entry) (c : ℕ)
     → ((n : ℕ) → n ≤ length xs → n ≤ length ys → take n (events xs) ≡ take n (events ys) → n ≤ c) → c ≤ length xs → (c ≡ length xs → ⊥)
-    → IsPrefix (events xs) (events ys) → ⊥
+    → Begins (events xs) (events ys) → ⊥
 not_begun xs ys c most within apart h = grind (arith, event_length, begins_shorter, take_all)

@@ -1,22 +1,22 @@
 -- Lists that begin others, and the entries up to a node.
 use Rattle.std.proofs.Common.{◌≡◌, ℕ, ◌<◌, ◌≤◌, sym, ap, ◌∙◌, List, length, take, length-take, arith}
-use Rattle.rd_marks.proofs.Prelude.{take-length, length-map, length-take-le, take-map, take-take, Entry, IsPrefix, Node, Stretch, stretch_list, entries_at, IsWithin, events}
+use Rattle.rd_marks.proofs.Prelude.{take-length, length-map, length-take-le, take-map, take-take, Entry, Begins, Node, Stretch, stretch_list, entries_at, IsWithin, events}
 use Rattle.rd_marks.proofs.StretchLists.{list_past}
 
-pub begins_itself : {X : Type 0} (xs : List X) → IsPrefix xs xs
+pub begins_itself : {X : Type 0} (xs : List X) → Begins xs xs
 begins_itself xs = take-length xs
 
-pub begins_shorter : {X : Type 0} (xs ys : List X) → IsPrefix xs ys → length xs ≤ length ys
+pub begins_shorter : {X : Type 0} (xs ys : List X) → Begins xs ys → length xs ≤ length ys
 begins_shorter xs ys h = omega (arith, ap length h, length-take (length xs) ys)
 
-pub begins_trans : {X : Type 0} (xs ys zs : List X) → IsPrefix xs ys → IsPrefix ys zs → IsPrefix xs zs
+pub begins_trans : {X : Type 0} (xs ys zs : List X) → Begins xs ys → Begins ys zs → Begins xs zs
 begins_trans xs ys zs h k = sym (take-take (length xs) (length ys) zs (begins_shorter xs ys h)) ∙ ap (take (length xs)) k ∙ h
 
 pub event_length : (xs : List Entry) → length (events xs) ≡ length xs
 event_length xs = length-map xs (λ (x : Entry). x.event)
 
 -- the events of entries that begin others begin theirs
-pub begins_events : (xs ys : List Entry) → IsPrefix xs ys → IsPrefix (events xs) (events ys)
+pub begins_events : (xs ys : List Entry) → Begins xs ys → Begins (events xs) (events ys)
 begins_events xs ys h = ap (λ (n : ℕ). take n (events ys)) (event_length xs) ∙ take-map (λ (x : Entry). x.event) (length xs) ys ∙ ap events h
 
 -- the first events are those of the first entries
@@ -43,7 +43,7 @@ module _ (ss : List Stretch) where
   first_events p n h = events_of_first n (entries_at ss p) ∙ ap events (first_entries p n h) ∙ sym (events_of_first n (stretch_list ss p.stretch))
 
   -- those up to a node of the same list with no greater number begin them
-  pub fewer_begin : (p q : Node) → IsWithin ss p → q.stretch ≡ p.stretch → q.number ≤ p.number → IsWithin ss q × IsPrefix (entries_at ss q) (entries_at ss p)
+  pub fewer_begin : (p q : Node) → IsWithin ss p → q.stretch ≡ p.stretch → q.number ≤ p.number → IsWithin ss q × Begins (entries_at ss q) (entries_at ss p)
   fewer_begin p q within same fewer =
       let is : IsWithin ss q = omega (arith, within, fewer, ap (λ (i : ℕ). length (stretch_list ss i)) same) in (
         is,

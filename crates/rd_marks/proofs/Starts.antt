@@ -2,7 +2,7 @@
 use Rattle.std.proofs.Common.{◌≡◌, ℕ, ap, List, [], Result, Ok, Err, OnOk, OnErr, arith}
 pub use Rattle.rd_journal.proofs.Calls.{back_start, forward_start}
 use Rattle.rd_journal.specs.Sessions.{AnswersAs}
-use Rattle.rd_marks.proofs.Prelude.{Refusal, World, Event, Entry, Session, state, Journal, start_of, State, state_of, apply, undo_at, roll, MarkName, AreRuns}
+use Rattle.rd_marks.proofs.Prelude.{Refusal, World, Event, Entry, Session, state, Journal, State, state_of, apply, undo_at, roll, MarkName, AreRuns}
 
 pub apply_start : (s : State) (e : Event) (t : State) → apply s e ≡ Ok t → t.start ≡ s.start
 apply_start s e t h = grind arith
@@ -15,7 +15,7 @@ roll_start s k t l = grind arith
 
 -- the start stays, whatever a call answered
 pub start_stays : {X : Type 0} (r : Result X Refusal) (i j : Journal) (moved : Result State Refusal)
-    → ((u : State) → moved ≡ Ok u → u.start ≡ start_of i) → OnOk r (moved ≡ Ok (state_of j)) → OnErr r (j ≡ i) → start_of j ≡ start_of i
+    → ((u : State) → moved ≡ Ok u → u.start ≡ i.start) → OnOk r (moved ≡ Ok (state_of j)) → OnErr r (j ≡ i) → j.start ≡ i.start
 start_stays r i j moved starts h g = grind arith
 
 pub answers_start : {R : ℕ} (moved : Result State Refusal) (done : Result (Unit {0}) Refusal) (old new : Session R)
@@ -24,7 +24,7 @@ answers_start {R} moved (Ok tt) old new starts answers = starts (state new) answ
 answers_start {R} moved (Err e) old new starts answers = ap (λ (s : Session R). (state s).start) answers.1
 
 -- going somewhere leaves it as well
-pub start_kept : {X : Type 0} (r : Result X Refusal) (i j : Journal) (es : List Event) → OnOk r (state_of j ≡ record { start = start_of i; live = es; undone = [] }) → OnErr r (j ≡ i) → start_of j ≡ start_of i
+pub start_kept : {X : Type 0} (r : Result X Refusal) (i j : Journal) (es : List Event) → OnOk r (state_of j ≡ record { start = i.start; live = es; undone = [] }) → OnErr r (j ≡ i) → j.start ≡ i.start
 start_kept r i j es h g = grind arith
 
 -- so the bookmarks' entries stay runs from it

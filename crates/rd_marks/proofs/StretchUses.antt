@@ -1,6 +1,6 @@
 -- What growing a list and shrinking a stretch leave, in the words of their contracts.
 use Rattle.std.proofs.Common.{◌≡◌, ℕ, zero, suc, ◌-◌, ◌<◌, ◌≤◌, ◌^◌, refl, sym, ap, ◌∙◌, subst, List, [], ◌∷◌, ◌++◌, length, take, drop, set, insert, remove, length-take, arith}
-use Rattle.rd_marks.proofs.Prelude.{drop-length, nat_tests, append-nil, length-map, map-append, map-id, take-append-drop, take-map, take_all, MOST_STEPS, Entry, Node, Stretch, Shift, greatest_in, stretch_list, list_before, shared_at, entries_at, IsWithin, IsEnd, IsAlong, IsDeepest, AreNested, AreFresh, IsLow, IsGrown, IsShrunk, IsUnchanged, events, cases_order}
+use Rattle.rd_marks.proofs.Prelude.{drop-length, nat_tests, append-nil, length-map, map-append, map-id, take-append-drop, take-map, take_all, MOST_STEPS, Entry, Node, Stretch, Shift, greatest_in, stretch_list, list_before, shared_at, entries_at, IsWithin, IsEnd, IsAlong, IsDeepest, AreNested, AreFresh, IsLow, IsGrown, IsShrunk, KeepsItsSteps, events, cases_order}
 use Rattle.rd_marks.specs.declared.stretches.changes.Shift.TheVariants.{Same, Up, Down}
 use Rattle.rd_marks.proofs.StretchLists.{own_at, shared_within, inserted_at, removed_at, appended_at, cut_at}
 use Rattle.rd_marks.proofs.Fresh.{along_taken}
@@ -129,7 +129,7 @@ module _ (ss : List Stretch) (few : length ss < 2 ^ 64) (rule : AreNested ss) (f
       }
 
   -- one whose entries stay
-  pub same_left : (t : Stretch) → t.shared ≡ shared_at ss j → t.entries.items ≡ own_at ss j → AreNested (set ss j t) × AreFresh (set ss j t) × IsUnchanged ss (set ss j t)
+  pub same_left : (t : Stretch) → t.shared ≡ shared_at ss j → t.entries.items ≡ own_at ss j → AreNested (set ss j t) × AreFresh (set ss j t) × KeepsItsSteps ss (set ss j t)
   same_left t shared its =
       let new = set ss j t in
       let both = appended_at ss rule j inside t shared [] (its ∙ sym (append-nil (own_at ss j))) in

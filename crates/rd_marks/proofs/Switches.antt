@@ -1,6 +1,6 @@
 -- Going to a node: what its entries have in common with the live steps.
 use Rattle.std.proofs.Common.{◌≡◌, ℕ, suc, ◌≤◌, sym, ap, ◌∙◌, List, [], length, take, drop, arith}
-use Rattle.rd_marks.proofs.Prelude.{take-length, drop-length, take-take, Event, Entry, IsPrefix, Node, Stretch, stretch_list, entries_at, IsWithin, IsAlong, IsDeepest, events}
+use Rattle.rd_marks.proofs.Prelude.{take-length, drop-length, take-take, Event, Entry, Begins, Node, Stretch, stretch_list, entries_at, IsWithin, IsAlong, IsDeepest, events}
 use Rattle.rd_marks.proofs.Starting.{begins_shorter, stretch_within, entries_length, events_length, events_of_first, first_events}
 
 module _ (ss : List Stretch) where
@@ -18,14 +18,14 @@ module _ (ss : List Stretch) where
       given ∙ ap (λ (m : ℕ). drop m (entries_at ss node)) (sym all ∙ sym (entries_length ss node is)) ∙ drop-length (entries_at ss node)
 
   -- a node whose entries the live steps begin with has no more than any list has of them
-  no_deeper : (node : Node) (n : ℕ) (es : List Event) → IsWithin ss node → IsDeepest ss n es → IsPrefix (events (entries_at ss node)) es → node.number ≤ n
+  no_deeper : (node : Node) (n : ℕ) (es : List Event) → IsWithin ss node → IsDeepest ss n es → Begins (events (entries_at ss node)) es → node.number ≤ n
   no_deeper node n es is deepest h =
       let fact = take-take (suc n) (length (events (entries_at ss node))) es in
       grind (arith, h, deepest node.stretch, stretch_within ss node is, events_length ss node is, begins_shorter, first_events ss node (suc n), fact)
 
   -- so entries with which the live steps begin have all in common with them
   pub whole_common : (b node : Node) (n : ℕ) (es : List Event) → IsWithin ss node → IsAlong ss b.stretch b.number es → IsDeepest ss b.number es
-      → IsPrefix (events (entries_at ss node)) es → n ≤ node.number
+      → Begins (events (entries_at ss node)) es → n ≤ node.number
       → ((m : ℕ) → m ≤ b.number → m ≤ node.number → take m (events (entries_at ss b)) ≡ take m (events (entries_at ss node)) → m ≤ n) → node.number ≡ n
   whole_common b node n es is along deepest h within most =
       let fact = take-take node.number b.number (events (stretch_list ss b.stretch)) in

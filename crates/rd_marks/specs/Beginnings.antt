@@ -3,7 +3,7 @@
 use Rattle.std.specs.Prelude.{◌≡◌, ◌↔◌, ℕ, ◌<◌, List, [], ◌∷◌, length}
 use Rattle.std.specs.List.{Contains}
 use Rattle.rd_step.specs.declared.entries.Event.{Event}
-use Rattle.rd_depend.specs.Beginnings.{IsPrefix}
+use Rattle.rd_depend.specs.Beginnings.{Begins}
 use Rattle.rd_marks.specs.BookState.{Mark}
 
 -- the list is not empty and begins the events of some mark
@@ -11,7 +11,7 @@ pub record IsBeginning (marks : List Mark) (es : List Event) : Type 0 where
   pub some : 0 < length es
   pub mark : Mark
   pub kept : Contains marks mark
-  pub begins : IsPrefix es mark.events
+  pub begins : Begins es mark.events
 
 -- no element comes twice
 abbrev pub AreDistinct : {X : Type 0} → List X → Type 0

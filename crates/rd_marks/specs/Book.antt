@@ -44,5 +44,5 @@ MayRefuseToGo b name cause = (goto_mark (book_state b) name ≡ Err cause) ⊎ (
 
 -- a book may refuse a command so, if it is to go to a mark
 abbrev pub MayRefuseAsGoing : {R : ℕ} → Book R → Command → Refusal → Type 0
-MayRefuseAsGoing b (GotoMark name) refusal = MayRefuseToGo b name refusal
-MayRefuseAsGoing b _ refusal = Unit {0}
+MayRefuseAsGoing b (GotoMark name) cause = MayRefuseToGo b name cause
+MayRefuseAsGoing b _ _ = Unit {0}

@@ -5,7 +5,7 @@ use Rattle.std.specs.Set.{remove_key}
 use Rattle.rd_step.specs.Prelude.{World, Refusal, result_map}
 use Rattle.rd_step.specs.Equivalence.{IsEquivalent}
 use Rattle.rd_step.specs.declared.entries.Event.{Event}
-use Rattle.rd_depend.specs.Beginnings.{IsPrefix, NeitherIsPrefix}
+use Rattle.rd_depend.specs.Beginnings.{Begins, NeitherBegins}
 use Rattle.rd_journal.specs.State.{State}
 use Rattle.rd_step.specs.Lists.{numbered}
 use Rattle.rd_marks.specs.declared.names.MarkName.{MarkName}
@@ -58,14 +58,14 @@ goto_mark b name = result_map (at_events b) (ok_or (marked_events b.marks name) 
 
 -- going to the mark of this name makes steps, as its events do not begin the live ones
 abbrev pub MakesSteps : BookState → MarkName → Type 0
-MakesSteps b name = (es : List Event) × (marked_events b.marks name ≡ Some es) × (IsPrefix es b.session.live → ⊥)
+MakesSteps b name = (es : List Event) × (marked_events b.marks name ≡ Some es) × (Begins es b.session.live → ⊥)
 
 -- this may be answered to comparing the events of two marks: whether they are causally equivalent
 -- from the start; that a mark is missing; or, if neither list begins the other, that memory was
 -- refused
 abbrev pub AnswersSame : World → Option (List Event) → Option (List Event) → Result Bool Refusal → Type 0
 AnswersSame start (Some es) (Some fs) (Ok same) = IsTrue same ↔ IsEquivalent start es fs
-AnswersSame start (Some es) (Some fs) (Err cause) = (cause ≡ refusal.NoMemory) × NeitherIsPrefix es fs
+AnswersSame start (Some es) (Some fs) (Err cause) = (cause ≡ refusal.NoMemory) × NeitherBegins es fs
 AnswersSame start _ _ said = said ≡ Err refusal.NoMark
 
 -- the events of the mark of this number, from 1, if there is one

@@ -4,7 +4,7 @@ use Rattle.std.specs.Prelude.{◌≡◌, ℕ, ◌≤◌, List, map, length}
 use Rattle.std.specs.List.{All}
 use Rattle.rd_step.specs.Prelude.{World, MOST_STEPS}
 use Rattle.rd_step.specs.declared.entries.Entry.{Entry}
-use Rattle.rd_depend.specs.Beginnings.{IsPrefix}
+use Rattle.rd_depend.specs.Beginnings.{Begins}
 use Rattle.rd_journal.specs.Journal.{IsRunFrom}
 use Rattle.rd_marks.specs.declared.names.MarkName.{MarkName}
 use Rattle.rd_marks.specs.declared.stretches.Node.{Node}
@@ -44,4 +44,4 @@ pub record IsPruned (from : ℕ) (old new : List Stretch) (names left : List (Ma
   pub within : All (λ m. IsWithin new m.1) left
   pub needed : AreNeededFrom from new (nodes_of left)
   pub lies : IsWithin new there
-  pub begins : IsPrefix (entries_at new there) (entries_at old here)
+  pub begins : Begins (entries_at new there) (entries_at old here)

@@ -24,7 +24,7 @@ pub record Stays (old new : List Stretch) (shift : Shift) (p : Node) : Type 0 wh
   pub same : entries_at new (shifted shift p) ≡ entries_at old p
 
 -- all nodes have the entries that they had, and stretches that were needed are still needed
-pub record IsUnchanged (old new : List Stretch) : Type 0 where
+pub record KeepsItsSteps (old new : List Stretch) : Type 0 where
   pub stays : (p : Node) → IsWithin old p → Stays old new Same p
   pub needed : (nodes : List Node) → AreNeeded old nodes → AreNeeded new nodes
 

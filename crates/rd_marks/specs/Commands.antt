@@ -22,7 +22,7 @@ pub record Answered : Type 0 where
 
 -- what a refused command leaves: the state as it is
 abbrev pub refused : BookState → Refusal → Answered
-refused b refusal = record { answer = Err refusal; state = b }
+refused b cause = record { answer = Err cause; state = b }
 
 -- the reply with the numbers of live and of undone steps
 abbrev pub step_counts : State → Reply
@@ -31,7 +31,7 @@ step_counts s = reply.At (length s.live) (length s.undone)
 -- the answer to a command that makes something, from which its reply and the state after it follow,
 -- or that is refused and changes nothing
 abbrev pub answer_with : {X : Type 0} → BookState → (X → Reply) → (X → BookState) → Result X Refusal → Answered
-answer_with b reply_of after (Err refusal) = refused b refusal
+answer_with b reply_of after (Err cause) = refused b cause
 answer_with b reply_of after (Ok x) = record { answer = Ok (reply_of x); state = after x }
 
 -- the answer to a move through the run: the numbers of live and undone steps after it, or its

@@ -5,7 +5,7 @@ ghost use Rattle.std.specs.Prelude.{◌≡◌, ◌<◌, ◌≤◌, ◌++◌, [],
 ghost use Rattle.std.specs.List.{IsDistinct};
 ghost use Rattle.std.specs.Map.{lookup, remove_entry};
 ghost use Rattle.indexmap.specs.IndexMap.{spare};
-ghost use Rattle.rd_depend.specs.Beginnings.{IsPrefix, NeitherIsPrefix};
+ghost use Rattle.rd_depend.specs.Beginnings.{Begins, NeitherBegins};
 ghost use Rattle.rd_depend.specs.Equivalence.{DecidesEquivalence};
 ghost use Rattle.rd_journal.specs.Journal.{events};
 ghost use Rattle.rd_journal.specs.Sessions.{state, track, journal};
@@ -137,10 +137,10 @@ impl Bookmarks {
         requires new { lookup (mark_name_eq name) (lists_in self.old) ≡ None }
         requires few { length (lists_in self.old) < MOST_MARKS }
         requires runs { AreRuns (state session.now).start (lists_in self.old) }
-        requires stands { IsPrefix (events (here_in self.old)) (track session.now) }
+        requires stands { Begins (events (here_in self.old)) (track session.now) }
         ensures ok { OnOk result (lists_in self.new ≡ lists_in self.old ++ (name, (journal session.now).live) ∷ []) }
         ensures runs { AreRuns (state session.now).start (lists_in self.new) }
-        ensures stands { IsPrefix (events (here_in self.new)) (track session.now) }
+        ensures stands { Begins (events (here_in self.new)) (track session.now) }
         ensures succeeds { 0 < spare self.old.names → NeedsNoEntry (marks_of (lists_in self.old)) (state session.now).live → IsOk result }
         ensures unchanged { OnErr result (lists_in self.new ≡ lists_in self.old) }
     {
@@ -158,7 +158,7 @@ impl Bookmarks {
     pub(crate) fn drop(&mut self, name: &MarkName) -> bool
         ensures found { result ≡ is_some (lookup (mark_name_eq name.now) (lists_in self.old)) }
         ensures lists { lists_in self.new ≡ remove_entry (mark_name_eq name.now) (lists_in self.old) }
-        ensures here { IsPrefix (here_in self.new) (here_in self.old) }
+        ensures here { Begins (here_in self.new) (here_in self.old) }
         ensures room { spare self.old.names ≤ spare self.new.names }
     {
         match self.names.shift_remove(name) {
@@ -181,7 +181,7 @@ impl Bookmarks {
         requires one { IsNodeIn self.now one }
         requires other { IsNodeIn self.now other }
         ensures answer { IfOk result (DecidesEquivalence (entries_in self.now one) (entries_in self.now other)) }
-        ensures memory { OnErr result (NeitherIsPrefix (events (entries_in self.now one)) (events (entries_in self.now other))) }
+        ensures memory { OnErr result (NeitherBegins (events (entries_in self.now one)) (events (entries_in self.now other))) }
     {
         let shared = self.stretches.common(one, other);
         if shared == one.number || shared == other.number {
@@ -195,7 +195,7 @@ impl Bookmarks {
     /// Notes that all steps of the track after the first `n` may have changed.
     pub(crate) fn cut_here(&mut self, n: usize)
         ensures lists { lists_in self.new ≡ lists_in self.old }
-        ensures begins { IsPrefix (here_in self.new) (here_in self.old) }
+        ensures begins { Begins (here_in self.new) (here_in self.old) }
         ensures short { length (here_in self.new) ≤ n }
     {
         self.here = self.here.cut(n);

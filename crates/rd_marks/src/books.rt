@@ -15,7 +15,7 @@ mod saving;
 ghost use Rattle.std.specs.Prelude.{◌≡◌, ◌<◌, ◌≤◌, ◌⊎◌, [], length, Ok, Err, OnOk, OnErr, IfErr, IsOk};
 ghost use Rattle.rd_step.specs.Prelude.{result_map};
 ghost use Rattle.rd_step.specs.Run.{events};
-ghost use Rattle.rd_depend.specs.Beginnings.{IsPrefix};
+ghost use Rattle.rd_depend.specs.Beginnings.{Begins};
 ghost use Rattle.rd_journal.specs.Sessions.{state, track, MayRefuse};
 ghost use Rattle.rd_marks.specs.BookmarksFields.{AreRuns};
 ghost use Rattle.rd_marks.specs.Bookmarks.{lists_in, here_in};
@@ -35,7 +35,7 @@ pub struct Book<const R: usize> {
     bookmarks: Bookmarks,
     alloc: Global,
     ghost runs: { AreRuns (state session).start (lists_in bookmarks) },
-    ghost stands: { IsPrefix (events (here_in bookmarks)) (track session) },
+    ghost stands: { Begins (events (here_in bookmarks)) (track session) },
 }
 
 /// Written out and not derived, so that a proof of a function in which a book ends has one step for

@@ -27,7 +27,7 @@ is_call _ = true
 
 -- whether the place of an access, if it has one, is this cell
 abbrev pub is_at : Option Place → Place → Bool
-is_at place cell = option_map_or (λ p. place_eq p cell) place false
+is_at touched cell = option_map_or (λ p. place_eq p cell) touched false
 
 -- whether the place is the whole of a segment, and the cell is cell 0 of that segment
 abbrev pub is_first_cell : Option Place → Place → Bool
@@ -54,7 +54,7 @@ calls_by actor x = (actor == x.event.actor) && is_call x.event.act
 -- the position of the last put into the cell before position k; none if there is no such put, or no
 -- cell
 abbrev pub put_of : List Entry → ℕ → Option Place → Option ℕ
-put_of entries k place = option_and_then (λ cell. last_position (puts_into cell) (take (k - 1) entries)) place
+put_of entries k taken = option_and_then (λ cell. last_position (puts_into cell) (take (k - 1) entries)) taken
 
 -- the position of the call in which the put at this position was made: the last one before it by the
 -- actor of that step; none if there is no such position, step or call

@@ -45,11 +45,11 @@ closure (x ∷ xs) (suc zero) = true ∷ closure_from (x ∷ []) xs
 closure (x ∷ xs) (suc (suc k)) = false ∷ closure xs (suc k)
 
 -- the elements of a list whose position does not have the mark `true`, in their order
-abbrev pub unmarked : {X : Type 0} → List Bool → List X → List X
-unmarked [] xs = xs
-unmarked (b ∷ bs) [] = []
-unmarked (true ∷ bs) (x ∷ xs) = unmarked bs xs
-unmarked (false ∷ bs) (x ∷ xs) = x ∷ unmarked bs xs
+abbrev pub items_where_false : {X : Type 0} → List Bool → List X → List X
+items_where_false [] xs = xs
+items_where_false (b ∷ bs) [] = []
+items_where_false (true ∷ bs) (x ∷ xs) = items_where_false bs xs
+items_where_false (false ∷ bs) (x ∷ xs) = x ∷ items_where_false bs xs
 
 -- the entries in the causal closure of position k, in their order
 abbrev pub closure_of : List Entry → ℕ → List Entry
@@ -57,7 +57,7 @@ closure_of entries k = items_where_true (closure entries k) entries
 
 -- the entries outside the causal closure of position k, in their order
 abbrev pub without_closure : List Entry → ℕ → List Entry
-without_closure entries k = unmarked (closure entries k) entries
+without_closure entries k = items_where_false (closure entries k) entries
 
 -- the entries of these numbers can be undone one after another, each by itself: each is there, and
 -- none of the later ones that are left depends on it

@@ -3,7 +3,6 @@
 
 ghost use Rattle.std.specs.Prelude.{◌≡◌, ◌≤◌, length, None};
 ghost use Rattle.rd_step.specs.Prelude.{first_dependant};
-ghost use Rattle.rd_journal.specs.Journal.{start_of};
 ghost use Rattle.rd_journal.specs.Moves.{IsUndoneAlone, IsRolledBack};
 
 use super::super::indexing::{cut_index, fill_index};
@@ -20,7 +19,7 @@ impl<const R: usize> Session<R> {
         requires position { k ≤ length (journal self.old).live }
         requires free { first_dependant (journal self.old).live k ≡ None }
         ensures entries { IsUndoneAlone k (journal self.old) (journal self.new) }
-        ensures start { start_of (journal self.new) ≡ start_of (journal self.old) }
+        ensures start { (journal self.new).start ≡ (journal self.old).start }
         ensures capacity { capacity self.new ≡ capacity self.old }
     {
         unstep(&mut self.world, self.entries.live_at(k as usize - 1));
@@ -35,7 +34,7 @@ impl<const R: usize> Session<R> {
         requires some { 1 ≤ k }
         requires position { k ≤ length (journal self.old).live }
         ensures entries { IsRolledBack k (journal self.old) (journal self.new) }
-        ensures start { start_of (journal self.new) ≡ start_of (journal self.old) }
+        ensures start { (journal self.new).start ≡ (journal self.old).start }
         ensures capacity { capacity self.new ≡ capacity self.old }
     {
         match self.first_dependant(k) {
@@ -53,7 +52,7 @@ impl<const R: usize> Session<R> {
         requires some { 1 ≤ k }
         requires position { k ≤ length (journal self.old).live }
         ensures entries { IsRolledBack k (journal self.old) (journal self.new) }
-        ensures start { start_of (journal self.new) ≡ start_of (journal self.old) }
+        ensures start { (journal self.new).start ≡ (journal self.old).start }
         ensures capacity { capacity self.new ≡ capacity self.old }
     {
         let before = k as usize - 1;

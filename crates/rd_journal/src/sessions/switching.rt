@@ -3,7 +3,7 @@
 
 ghost use Rattle.std.specs.Prelude.{◌≡◌, ◌++◌, ◌+◌, ◌-◌, ◌<◌, ◌≤◌, [], ℕ, length, take, drop, get_or, IsOk, OnOk, OnErr, IfErr};
 ghost use Rattle.rd_step.specs.Prelude.{model, room as world_room};
-ghost use Rattle.rd_journal.specs.Journal.{events, start_of, IsRunFrom};
+ghost use Rattle.rd_journal.specs.Journal.{events, IsRunFrom};
 ghost use Rattle.rd_journal.specs.Moves.{IsSwitched};
 ghost use Rattle.rd_journal.specs.Entries.{ahead_entries};
 ghost use Rattle.rd_journal.specs.Room.{room_returned_by, room_without, HasRoomForAll, LacksRoom, LacksRoomForMakings, LacksIndexRoom};
@@ -21,7 +21,7 @@ use rd_step::{Entry, World};
 const ACTOR_NUMBERS: usize = 256;
 
 impl<const R: usize> Session<R> {
-    ghost use Rattle.rd_journal.specs.Sessions.{journal, state, room, capacity, index, GoesAlong, IsUnchanged};
+    ghost use Rattle.rd_journal.specs.Sessions.{journal, state, room, capacity, index, GoesAlong, KeepsItsSteps};
 
     /// Makes room for the given entries after the first `kept` ones, and for the makings among
     /// them. Memory is asked for only if room is missing.
@@ -39,7 +39,7 @@ impl<const R: usize> Session<R> {
             × LacksRoom kept (journal self.old) given.now (capacity self.old) (room self.old) (index self.old)) }
         ensures succeeds { given.now ≡ [] → IsOk result }
         ensures capacity { kept + length given.now ≤ capacity self.old → capacity self.new ≡ capacity self.old }
-        ensures unchanged { IsUnchanged self.old self.new }
+        ensures unchanged { KeepsItsSteps self.old self.new }
         ensures index { index self.new ≡ index self.old }
     {
         self.entries.make_room_for(kept as usize + given.len())?;
@@ -60,13 +60,13 @@ impl<const R: usize> Session<R> {
     pub(super) fn exchange(&mut self, n: usize, given: &[Entry]) -> Result<(), Refusal>
         requires within { n ≤ length (journal self.old).live }
         requires few { n + length given.now ≤ MOST_STEPS }
-        requires run { IsRunFrom (start_of (journal self.old)) (take n (journal self.old).live ++ given.now) }
+        requires run { IsRunFrom (journal self.old).start (take n (journal self.old).live ++ given.now) }
         requires capacity { n + length given.now ≤ capacity self.old }
         requires makings { HasRoomForAll (journal self.old).world given.now (room_without (drop n (journal self.old).live) (room self.old)) }
         ensures entries { OnOk result (IsSwitched n given.now (journal self.old) (journal self.new)) }
         ensures state { OnOk result (state self.new ≡ switch (state self.old) n (events given.now)) }
         ensures err { IfErr result (λ refusal. (refusal ≡ Refusal.NoMemory) × LacksIndexRoom (index self.old) (drop n (journal self.old).live ++ (journal self.old).undone) given.now) }
-        ensures unchanged { OnErr result (IsUnchanged self.old self.new) }
+        ensures unchanged { OnErr result (KeepsItsSteps self.old self.new) }
         ensures capacity { capacity self.new ≡ capacity self.old }
     {
         index_instead(&mut self.index, &self.entries, n, given)?;
@@ -81,7 +81,7 @@ impl<const R: usize> Session<R> {
     pub(super) fn redo_ahead(&mut self, n: usize)
         requires within { n ≤ length (ahead_entries self.old.entries) }
         ensures entries { IsSwitched (length (journal self.old).live) (take n (ahead_entries self.old.entries)) (journal self.old) (journal self.new) }
-        ensures start { start_of (journal self.new) ≡ start_of (journal self.old) }
+        ensures start { (journal self.new).start ≡ (journal self.old).start }
         ensures along { GoesAlong self.old self.new }
     {
         self.undone = n;

@@ -1,7 +1,7 @@
 //! Going to a bookmark.
 
 ghost use Rattle.std.specs.Prelude.{◌≡◌, ◌⊎◌, [], IsOk, OnOk, IfErr, OnErr};
-ghost use Rattle.rd_depend.specs.Beginnings.{IsPrefix};
+ghost use Rattle.rd_depend.specs.Beginnings.{Begins};
 ghost use Rattle.rd_journal.specs.Journal.{events};
 ghost use Rattle.rd_journal.specs.Sessions.{state, track, journal, LacksRoomFor};
 ghost use Rattle.rd_marks.specs.BookmarksFields.{AreEntriesOfRun};
@@ -33,15 +33,15 @@ impl Bookmarks {
     ) -> Result<(), Refusal>
         requires within { IsNodeIn self.old node }
         requires run { AreEntriesOfRun (state session.old).start (entries_in self.old node) }
-        requires stands { IsPrefix (events (here_in self.old)) (track session.old) }
+        requires stands { Begins (events (here_in self.old)) (track session.old) }
         ensures ok { OnOk result (state session.new
             ≡ record { start = (state session.old).start; live = events (entries_in self.old node); undone = [] }) }
         ensures lists { lists_in self.new ≡ lists_in self.old }
-        ensures stands { IsPrefix (events (here_in self.new)) (track session.new) }
+        ensures stands { Begins (events (here_in self.new)) (track session.new) }
         ensures err { IfErr result (λ refusal. (refusal ≡ Refusal.NoMemory)
             × (LacksRoomFor session.old (events (entries_in self.old node)) ⊎ IsInPieces self.old node)) }
-        ensures succeeds { IsPrefix (events (entries_in self.old node)) (state session.old).live → IsOk result }
-        ensures along { IsPrefix (events (entries_in self.old node)) (events (here_in self.old)) → IsOk result }
+        ensures succeeds { Begins (events (entries_in self.old node)) (state session.old).live → IsOk result }
+        ensures along { Begins (events (entries_in self.old node)) (events (here_in self.old)) → IsOk result }
         ensures unchanged { OnErr result (journal session.new ≡ journal session.old) }
     {
         if self.stretches.common(self.here, node) == node.number {
@@ -72,12 +72,12 @@ fn switch_to<const R: usize>(
     requires here { IsWithin stretches.now.list.items here }
     requires within { IsWithin stretches.now.list.items node }
     requires run { AreEntriesOfRun (state session.old).start (entries_at stretches.now.list.items node) }
-    requires stands { IsPrefix (events (entries_at stretches.now.list.items here)) (track session.old) }
+    requires stands { Begins (events (entries_at stretches.now.list.items here)) (track session.old) }
     ensures ok { OnOk result (state session.new
         ≡ record { start = (state session.old).start; live = events (entries_at stretches.now.list.items node); undone = [] }) }
     ensures err { IfErr result (λ refusal. (refusal ≡ Refusal.NoMemory)
         × (LacksRoomFor session.old (events (entries_at stretches.now.list.items node)) ⊎ AreInPieces stretches.now.list.items node)) }
-    ensures succeeds { IsPrefix (events (entries_at stretches.now.list.items node)) (state session.old).live → IsOk result }
+    ensures succeeds { Begins (events (entries_at stretches.now.list.items node)) (state session.old).live → IsOk result }
     ensures unchanged { OnErr result (journal session.new ≡ journal session.old) }
     ensures track { OnErr result (track session.new ≡ track session.old) }
 {

@@ -75,7 +75,7 @@ pub(crate) struct Grown {
 
 impl Stretches {
     ghost use Rattle.rd_marks.specs.Stretches.{list_before, shared_at, entries_at, IsWithin, IsEnd, IsAlong, IsDeepest};
-    ghost use Rattle.rd_marks.specs.Changes.{IsGrown, IsShrunk, IsUnchanged};
+    ghost use Rattle.rd_marks.specs.Changes.{IsGrown, IsShrunk, KeepsItsSteps};
 
     /// Adds to the entries of a node, with which the live steps begin, those of the other live
     /// steps, where no list has the next of these: at the end of the node's stretch, or in a new
@@ -96,7 +96,7 @@ impl Stretches {
         requires along { IsAlong self.old.list.items at.stretch at.number (events live.now) }
         requires deepest { IsDeepest self.old.list.items at.number (events live.now) }
         ensures ok { IfOk result (λ grown. IsGrown self.old.list.items self.new.list.items at live.now grown) }
-        ensures err { OnErr result (IsUnchanged self.old.list.items self.new.list.items) }
+        ensures err { OnErr result (KeepsItsSteps self.old.list.items self.new.list.items) }
         ensures succeeds { at.number ≡ length live.now → IsOk result }
     {
         if at.number == live.len() {
@@ -136,7 +136,7 @@ impl Stretches {
         requires along { IsAlong self.old.list.items at.stretch at.number (events live.now) }
         requires deepest { IsDeepest self.old.list.items at.number (events live.now) }
         ensures ok { IfOk result (λ grown. IsGrown self.old.list.items self.new.list.items at live.now grown) }
-        ensures err { OnErr result (IsUnchanged self.old.list.items self.new.list.items) }
+        ensures err { OnErr result (KeepsItsSteps self.old.list.items self.new.list.items) }
     {
         let rest = live.after(at.number);
         append(&mut self.list[at.stretch].entries, &rest)?;
@@ -161,7 +161,7 @@ impl Stretches {
         requires along { IsAlong self.old.list.items at.stretch at.number (events live.now) }
         requires deepest { IsDeepest self.old.list.items at.number (events live.now) }
         ensures ok { IfOk result (λ grown. IsGrown self.old.list.items self.new.list.items at live.now grown) }
-        ensures err { OnErr result (IsUnchanged self.old.list.items self.new.list.items) }
+        ensures err { OnErr result (KeepsItsSteps self.old.list.items self.new.list.items) }
     {
         let i = self.next_off(at);
         self.list.reserve(1)?;

@@ -1,5 +1,5 @@
 use Rattle.std.proofs.Common.{ℕ, Err, ◌≡◌, ◌∙◌, ◌<◌, List, [], ◌∷◌, ◌++◌, length, take, drop, inl, inr, refl, sym, ap, subst, arith}
-use Rattle.rd_journal.proofs.Prelude.{append-nil, take_all, take-append-le, drop-append_seam, Entry, HasRoomInstead, kept_entries, model, room, MOST_STEPS, error_passed_up, fact_passed_up, ok_then, IsLengthened, whole_journal, live_entries, ahead_entries, journal}
+use Rattle.rd_journal.proofs.Prelude.{opened_with, append-nil, take_all, take-append-le, drop-append_seam, Entry, HasRoomInstead, kept_entries, model, room, MOST_STEPS, error_passed_up, fact_passed_up, ok_then, IsLengthened, whole_journal, live_entries, ahead_entries, journal}
 use Rattle.rd_journal.proofs.Ahead.{with_undone, is_session, none_taken}
 use Rattle.rd_journal.proofs.Calls.{apply_refused, apply_goes, longer_session, still, unchanged, said_of_state}
 use Rattle.rd_journal.proofs.RoomLemmas.{err_then, lacks_fewer, stepped_back}
@@ -26,7 +26,7 @@ returns-in_err-make_room_for-clause-err g c = said_of_state c.args.self.now c.ar
 
 pub returns-in_err-make_room_for-clause-unchanged : goal.returns-in_err-make_room_for-clause-unchanged
 returns-in_err-make_room_for-clause-unchanged g c =
-    fact_passed_up c.from_residual.result (unchanged c.args.self.now _ refl c.make_room_for.ensures.live c.make_room_for.ensures.ahead refl)
+    fact_passed_up c.from_residual.result (unchanged c.args.self.now _ refl refl c.make_room_for.ensures.live c.make_room_for.ensures.ahead refl)
 
 pub invariant_of-self-in-Break-branch-2 : goal.invariant_of-self-in-Break-branch-2
 invariant_of-self-in-Break-branch-2 g c =
@@ -51,7 +51,7 @@ returns-in_err-entry-clause-err g c = said_of_state c.args.self.now c.args.event
 pub returns-in_err-entry-clause-unchanged : goal.returns-in_err-entry-clause-unchanged
 returns-in_err-entry-clause-unchanged g c =
     fact_passed_up c.from_residual-in_err-entry.result
-    (unchanged c.args.self.now _ c.in_err-entry.ensures.unchanged c.make_room_for.ensures.live c.make_room_for.ensures.ahead refl)
+    (unchanged c.args.self.now _ refl c.in_err-entry.ensures.unchanged c.make_room_for.ensures.live c.make_room_for.ensures.ahead refl)
 
 pub unstep-requires : goal.unstep-requires
 unstep-requires g c =
@@ -104,13 +104,13 @@ returns-then-is_err-clause-unchanged g c =
     let self = c.args.self.now in
     let back = (just_stepped (model self.world) (model c.step.new.self) c.args.event c.in_ok-entry.entry (now_formed (journal self) (is_session self).runs)
     c.in_ok-entry.ensures.ok).back in
-    unchanged self _ (c.unstep.ensures.back ∙ back) c.make_room_for.ensures.live c.make_room_for.ensures.ahead refl
+    unchanged self _ refl (c.unstep.ensures.back ∙ back) c.make_room_for.ensures.live c.make_room_for.ensures.ahead refl
 
 pub invariant_of-self-2 : goal.invariant_of-self-2
 invariant_of-self-2 g c =
     let self = c.args.self.now in
-    let old = whole_journal (model self.world) self.entries in
-    let new = whole_journal (model c.step.new.self) c.exchange.new.self in
+    let old = whole_journal (opened_with self.opened) (model self.world) self.entries in
+    let new = whole_journal (opened_with self.opened) (model c.step.new.self) c.exchange.new.self in
     let less : length old.live < MOST_STEPS = omega (arith, c.live_len.ensures, self.kept.few) in
     let whole : take c.live_len-live.result (live_entries c.make_room_for.new.self) ≡ old.live =
     ap (take c.live_len-live.result) c.make_room_for.ensures.live ∙ take_all c.live_len-live.result old.live (omega (arith, c.live_len-live.ensures)) in
@@ -120,7 +120,7 @@ invariant_of-self-2 g c =
     record {
       kept =
           longer_session old new c.args.event c.in_ok-entry.entry (room self.world) (room c.step.new.self) self.kept less
-          c.in_ok-entry.ensures.ok longer;
+          c.in_ok-entry.ensures.ok refl longer;
       within = omega arith;
       indexed =
           grind (arith, append-nil, ok_then);
@@ -130,9 +130,9 @@ pub returns-clause-ok : goal.returns-clause-ok
 returns-clause-ok g c =
     let self = c.args.self.now in
     let old = journal self in
-    let new = with_undone 0 (whole_journal (model c.step.new.self) c.exchange.new.self) in
+    let new = with_undone 0 (whole_journal (opened_with self.opened) (model c.step.new.self) c.exchange.new.self) in
     let less : length old.live < MOST_STEPS = omega (arith, c.live_len.ensures, self.kept.few) in
     let whole : take c.live_len-live.result (live_entries c.make_room_for.new.self) ≡ old.live =
     ap (take c.live_len-live.result) c.make_room_for.ensures.live ∙ take_all c.live_len-live.result old.live (omega (arith, c.live_len-live.ensures)) in
     let longer : IsLengthened c.in_ok-entry.entry old new = grind arith in
-    apply_goes old new c.args.event c.in_ok-entry.entry (is_session self).runs less c.in_ok-entry.ensures.ok longer
+    apply_goes old new c.args.event c.in_ok-entry.entry (is_session self).runs less c.in_ok-entry.ensures.ok refl longer

@@ -1,5 +1,5 @@
 use Rattle.std.proofs.Common.{◌≡◌, ◌∙◌, ◌≤◌, ℕ, List, ◌++◌, length, take, drop, refl, ap, subst, arith}
-use Rattle.rd_journal.proofs.Prelude.{append-nil, length-take-le, take-append-le, drop_at, drop-append-le, error_passed_up, HasRoomInstead, model, room, Entry, IsIndexOf, start_of, whole_journal, live_entries, ahead_entries, journal}
+use Rattle.rd_journal.proofs.Prelude.{opened_with, append-nil, length-take-le, take-append-le, drop_at, drop-append-le, error_passed_up, HasRoomInstead, model, room, Entry, IsIndexOf, whole_journal, live_entries, ahead_entries, journal}
 use Rattle.rd_journal.proofs.Ahead.{with_undone, is_session}
 use Rattle.rd_journal.proofs.RoomLemmas.{lacks_fewer}
 use Rattle.rd_journal.proofs.Runs.{live_lead}
@@ -28,7 +28,7 @@ undo_after-requires g c =
       omega (arith, self.world.small),
       (
         omega (arith, c.requires.within, ap length c.live.ensures),
-        (start_of j, live_lead j c.live.result (is_session self).runs c.live.ensures),
+        (j.start, live_lead j c.live.result (is_session self).runs c.live.ensures),
       ),
     )
 
@@ -52,8 +52,8 @@ invariant_of-self-2 g c =
     grind (arith, take-append-le, append-nil) in
     record {
       kept =
-          (exchanged n j (whole_journal (model c.step_all.new.world) c.exchange.new.self) given c.after.result c.live.result (model c.undo_after.new.world) (room c.step_all.new.world)
-          (is_session self).runs c.requires.within c.requires.few c.live.ensures c.undo_after.ensures.leads
+          (exchanged n j (whole_journal (opened_with self.opened) (model c.step_all.new.world) c.exchange.new.self) given c.after.result c.live.result (model c.undo_after.new.world) (room c.step_all.new.world)
+          refl (is_session self).runs c.requires.within c.requires.few c.live.ensures c.undo_after.ensures.leads
           (given_again j.live given _ _ _ n c.requires.within c.after.ensures c.live-2.ensures c.exchange.ensures.live) c.step_all.ensures.ran
           (record { live = c.exchange.ensures.live; undone = c.exchange.ensures.ahead })).session;
       within = omega arith;
@@ -66,7 +66,7 @@ returns-clause-state g c =
     let j = journal self in
     let n = c.args.n in
     let given = c.args.given.now in
-    (exchanged n j (with_undone 0 (whole_journal (model c.step_all.new.world) c.exchange.new.self)) given c.after.result c.live.result (model c.undo_after.new.world) (room c.step_all.new.world)
-    (is_session self).runs c.requires.within c.requires.few c.live.ensures c.undo_after.ensures.leads
+    (exchanged n j (with_undone 0 (whole_journal (opened_with self.opened) (model c.step_all.new.world) c.exchange.new.self)) given c.after.result c.live.result (model c.undo_after.new.world) (room c.step_all.new.world)
+    refl (is_session self).runs c.requires.within c.requires.few c.live.ensures c.undo_after.ensures.leads
     (given_again j.live given _ _ _ n c.requires.within c.after.ensures c.live-2.ensures c.exchange.ensures.live) c.step_all.ensures.ran
     (record { live = c.exchange.ensures.live; undone = refl })).state

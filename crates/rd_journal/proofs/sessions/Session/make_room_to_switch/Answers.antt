@@ -15,10 +15,10 @@ invariant_of-self-2 g c =
     record { kept = is.kept; within = is.within; indexed = is.indexed }
 
 pub returns-in_err-make_room_for-clause-unchanged : goal.returns-in_err-make_room_for-clause-unchanged
-returns-in_err-make_room_for-clause-unchanged g c = unchanged _ _ refl c.make_room_for.ensures.live c.make_room_for.ensures.ahead refl
+returns-in_err-make_room_for-clause-unchanged g c = unchanged _ _ refl refl c.make_room_for.ensures.live c.make_room_for.ensures.ahead refl
 
 pub returns-clause-unchanged : goal.returns-clause-unchanged
-returns-clause-unchanged g c = unchanged _ _ c.make_room_for_makings.ensures.unchanged c.make_room_for.ensures.live c.make_room_for.ensures.ahead refl
+returns-clause-unchanged g c = unchanged _ _ refl c.make_room_for_makings.ensures.unchanged c.make_room_for.ensures.live c.make_room_for.ensures.ahead refl
 
 pub returns-clause-makings : goal.returns-clause-makings
 returns-clause-makings g c =

@@ -1,5 +1,5 @@
-use Rattle.rd_journal.proofs.Prelude.{common_steps, length-take, model, room, Entry, IsIndexOf, whole_journal, IsMovedForward, journal}
-use Rattle.std.proofs.Common.{List, length, sym, ap, subst, arith, length-drop}
+use Rattle.rd_journal.proofs.Prelude.{opened_with, common_steps, length-take, model, room, Entry, IsIndexOf, whole_journal, IsMovedForward, journal}
+use Rattle.std.proofs.Common.{List, refl, length, sym, ap, subst, arith, length-drop}
 use Rattle.rd_journal.proofs.Ahead.{first_run, forward_undone}
 use Rattle.rd_journal.proofs.Walks.{moved_forward, room_first, state_forward}
 use Rattle.rd_journal.proofs.sessions.Session.redo_many.Goals as goal
@@ -16,14 +16,14 @@ step_forward-requires g c = grind (arith, length-take)
 pub invariant_of-self : goal.invariant_of-self
 invariant_of-self g c =
     let self = c.args.self.now in
-    let old = whole_journal (model self.world) self.entries in
-    let new = whole_journal (model c.step_all.new.world) c.step_forward.new.self in
+    let old = whole_journal (opened_with self.opened) (model self.world) self.entries in
+    let new = whole_journal (opened_with self.opened) (model c.step_all.new.world) c.step_forward.new.self in
     let n = c.args.n in
     let moved : IsMovedForward n old new = record { live = c.step_forward.ensures.live; undone = c.step_forward.ensures.ahead } in
     record {
       kept =
-          (moved_forward n old new c.ahead.result (room self.world) (room c.step_all.new.world) self.kept c.ahead.ensures c.step_all.ensures.ran
-          c.step_all.ensures.room moved).session;
+          moved_forward n old new c.ahead.result (room self.world) (room c.step_all.new.world) refl self.kept c.ahead.ensures c.step_all.ensures.ran
+          c.step_all.ensures.room moved;
       within = omega (arith, self.within, ap length moved.undone, length-drop n old.undone);
       indexed = subst (λ (es : List Entry). IsIndexOf self.index es) (sym c.step_forward.ensures.kept) self.indexed;
     }
@@ -31,19 +31,12 @@ invariant_of-self g c =
 pub returns-clause-entries : goal.returns-clause-entries
 returns-clause-entries g c =
     let self = c.args.self.now in
-    let old = whole_journal (model self.world) self.entries in
-    forward_undone self.undone c.args.n old (whole_journal (model c.step_all.new.world) c.step_forward.new.self)
+    let old = whole_journal (opened_with self.opened) (model self.world) self.entries in
+    forward_undone self.undone c.args.n old (whole_journal (opened_with self.opened) (model c.step_all.new.world) c.step_forward.new.self)
     (omega (arith, c.requires.enough, length-take self.undone old.undone)) (record { live = c.step_forward.ensures.live; undone = c.step_forward.ensures.ahead })
 
 pub returns-clause-state : goal.returns-clause-state
-returns-clause-state g c =
-    let self = c.args.self.now in
-    let old = whole_journal (model self.world) self.entries in
-    let new = whole_journal (model c.step_all.new.world) c.step_forward.new.self in
-    let moved : IsMovedForward c.args.n old new = record { live = c.step_forward.ensures.live; undone = c.step_forward.ensures.ahead } in
-    let start = (moved_forward c.args.n old new c.ahead.result (room self.world) (room c.step_all.new.world) self.kept c.ahead.ensures c.step_all.ensures.ran
-    c.step_all.ensures.room moved).start in
-    state_forward c.args.n (journal self) _ c.requires.enough start (returns-clause-entries g c)
+returns-clause-state g c = state_forward c.args.n (journal c.args.self.now) _ c.requires.enough refl (returns-clause-entries g c)
 
 pub returns-clause-along : goal.returns-clause-along
 returns-clause-along g c = grind (arith, common_steps)

@@ -1,5 +1,5 @@
 use Rattle.std.proofs.Common.{sym, subst, arith}
-use Rattle.rd_journal.proofs.Prelude.{World, model, start_of, LeadsTo, journal}
+use Rattle.rd_journal.proofs.Prelude.{World, model, LeadsTo, journal}
 use Rattle.rd_journal.proofs.Ahead.{is_session}
 use Rattle.rd_journal.proofs.Runs.{live_lead, led_nowhere}
 use Rattle.rd_journal.proofs.sessions.Session.start_world.Goals as goal
@@ -11,8 +11,8 @@ undo_after-requires g c =
       (
         omega arith,
         (
-          start_of j,
-          subst (λ (w : World). LeadsTo (start_of j) w c.live.result) (sym c.in_ok-world.ensures.ok)
+          j.start,
+          subst (λ (w : World). LeadsTo j.start w c.live.result) (sym c.in_ok-world.ensures.ok)
               (live_lead j c.live.result (is_session c.args.self.now).runs c.live.ensures.entries),
         ),
       ),
@@ -21,6 +21,6 @@ undo_after-requires g c =
 pub returns-clause-ok : goal.returns-clause-ok
 returns-clause-ok g c =
     let j = journal c.args.self.now in
-    led_nowhere (start_of j) (model c.undo_after.new.world) (c.undo_after.ensures.leads (start_of j)
-    (subst (λ (w : World). LeadsTo (start_of j) w c.live.result) (sym c.in_ok-world.ensures.ok)
+    led_nowhere j.start (model c.undo_after.new.world) (c.undo_after.ensures.leads j.start
+    (subst (λ (w : World). LeadsTo j.start w c.live.result) (sym c.in_ok-world.ensures.ok)
     (live_lead j c.live.result (is_session c.args.self.now).runs c.live.ensures.entries)))

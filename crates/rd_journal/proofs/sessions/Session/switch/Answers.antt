@@ -1,5 +1,5 @@
 use Rattle.std.proofs.Common.{◌++◌, ◌≤◌, length, take, sym, ◌∙◌, ap, subst, arith}
-use Rattle.rd_journal.proofs.Prelude.{fact_passed_up, Journal, events, start_of, IsRunFrom, state_of, switch}
+use Rattle.rd_journal.proofs.Prelude.{fact_passed_up, Journal, events, IsRunFrom, state_of, switch}
 use Rattle.std.proofs.lemmas.Result.{on_ok_weaker, on_err_weaker}
 use Rattle.rd_journal.proofs.sessions.Session.switch.Goals as goal
 
@@ -10,7 +10,7 @@ pub exchange-requires : goal.exchange-requires
 exchange-requires g c =
     let same = sym c.make_room_to_switch.ensures.unchanged.journal in
     let within = subst (λ (j : Journal). c.args.n ≤ length j.live) same c.requires.within in
-    let run = subst (λ (j : Journal). IsRunFrom (start_of j) (take c.args.n j.live ++ c.args.entries.now)) same c.requires.run in
+    let run = subst (λ (j : Journal). IsRunFrom j.start (take c.args.n j.live ++ c.args.entries.now)) same c.requires.run in
     (omega arith, (within, (c.requires.few, (run, (c.in_ok-make_room_to_switch.ensures.ok, c.in_ok-make_room_to_switch.ensures.makings)))))
 
 pub returns-clause-ok : goal.returns-clause-ok

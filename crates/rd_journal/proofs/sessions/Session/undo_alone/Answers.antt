@@ -1,5 +1,5 @@
-use Rattle.std.proofs.Common.{ℕ, ◌∙◌, List, ap, sym, subst, arith, length}
-use Rattle.rd_journal.proofs.Prelude.{model, room, Entry, IsIndexOf, moved_to, kept_entries, IsUndoneAlone, whole_journal}
+use Rattle.std.proofs.Common.{ℕ, refl, ◌∙◌, List, ap, sym, subst, arith, length}
+use Rattle.rd_journal.proofs.Prelude.{opened_with, model, room, Entry, IsIndexOf, moved_to, kept_entries, IsUndoneAlone, whole_journal}
 use Rattle.rd_journal.proofs.Ahead.{out_undone}
 use Rattle.rd_journal.proofs.LoneUndo.{IsNumber, may_undo_at, taken_out_front, taken_out_few}
 use Rattle.rd_journal.proofs.RoomLemmas.{given_back}
@@ -8,7 +8,7 @@ use Rattle.rd_journal.proofs.sessions.Session.undo_alone.Goals as goal
 pub unstep-requires : goal.unstep-requires
 unstep-requires g c =
     let self = c.args.self.now in
-    let old = whole_journal (model self.world) self.entries in
+    let old = whole_journal (opened_with self.opened) (model self.world) self.entries in
     let x = c.live_at.result.now in
     let at : IsNumber old.live c.args.k x = record { some = c.requires.some; within = c.requires.position; here = c.live_at.ensures } in
     (omega (arith, self.world.small), (may_undo_at old c.args.k x at c.requires.free self.kept.runs).was)
@@ -16,8 +16,8 @@ unstep-requires g c =
 pub invariant_of-self : goal.invariant_of-self
 invariant_of-self g c =
     let self = c.args.self.now in
-    let old = whole_journal (model self.world) self.entries in
-    let new = whole_journal (model c.unstep.new.world) c.undo_alone.new.self in
+    let old = whole_journal (opened_with self.opened) (model self.world) self.entries in
+    let new = whole_journal (opened_with self.opened) (model c.unstep.new.world) c.undo_alone.new.self in
     let x = c.live_at.result.now in
     let at : IsNumber old.live c.args.k x = record { some = c.requires.some; within = c.requires.position; here = c.live_at.ensures } in
     let moved : IsUndoneAlone c.args.k old new = record { live = c.undo_alone.ensures.live; undone = c.undo_alone.ensures.ahead } in
@@ -26,7 +26,7 @@ invariant_of-self g c =
     record {
       kept = record {
         few = taken_out_few c.args.k old new x at moved self.kept.few;
-        runs = (may.left new (c.unstep.ensures.taken_out may.was) moved).runs;
+        runs = may.left new refl (c.unstep.ensures.taken_out may.was) moved;
         has_room = given_back old.undone new.undone x (room self.world) (room c.unstep.new.world) front self.kept.has_room c.unstep.ensures.room;
       };
       within = omega (arith, self.within, ap length front);
@@ -39,14 +39,11 @@ invariant_of-self g c =
 pub returns : goal.returns
 returns g c =
     let self = c.args.self.now in
-    let old = whole_journal (model self.world) self.entries in
-    let new = whole_journal (model c.unstep.new.world) c.undo_alone.new.self in
-    let x = c.live_at.result.now in
-    let at : IsNumber old.live c.args.k x = record { some = c.requires.some; within = c.requires.position; here = c.live_at.ensures } in
+    let old = whole_journal (opened_with self.opened) (model self.world) self.entries in
+    let new = whole_journal (opened_with self.opened) (model c.unstep.new.world) c.undo_alone.new.self in
     let moved : IsUndoneAlone c.args.k old new = record { live = c.undo_alone.ensures.live; undone = c.undo_alone.ensures.ahead } in
-    let may = may_undo_at old c.args.k x at c.requires.free self.kept.runs in
     record {
       entries = out_undone self.undone c.args.k old new c.requires.some c.requires.position moved;
-      start = (may.left new (c.unstep.ensures.taken_out may.was) moved).start;
+      start = refl;
       capacity = c.undo_alone.ensures.capacity;
     }

@@ -1,9 +1,9 @@
-use Rattle.rd_journal.proofs.Prelude.{common_steps, append-nil, length-take-le, take_at, drop_at, take-append-le, drop-append-le, model, room, closure_of, without_closure, Entry, IsIndexOf, HasRoomFor, live_entries, ahead_entries, kept_entries, whole_journal, journal}
+use Rattle.rd_journal.proofs.Prelude.{opened_with, common_steps, append-nil, length-take-le, take_at, drop_at, take-append-le, drop-append-le, model, room, closure_of, without_closure, Entry, IsIndexOf, HasRoomFor, live_entries, ahead_entries, kept_entries, whole_journal}
 use Rattle.std.proofs.Common.{◌≡◌, ◌∙◌, ◌-◌, List, [], ◌++◌, refl, ap, subst, arith, take, drop, length}
-use Rattle.rd_journal.proofs.Ahead.{with_undone, is_session}
+use Rattle.rd_journal.proofs.Calls.{back_start}
 use Rattle.rd_journal.proofs.Finding.{cut_before}
 use Rattle.rd_journal.proofs.RoomLemmas.{fits_none, fits_back, fits_turned}
-use Rattle.rd_journal.proofs.RolledBack.{IsGatheredLast, gathered_session, rolled_start}
+use Rattle.rd_journal.proofs.RolledBack.{IsGatheredLast, gathered_session}
 use Rattle.rd_journal.proofs.sessions.Session.undo_block.Goals as goal
 
 pub gather_closure-count-requires-clause-before : goal.gather_closure-count-requires-clause-before
@@ -46,10 +46,10 @@ fill_index-requires g c =
 pub invariant_of-self : goal.invariant_of-self
 invariant_of-self g c =
     let self = c.args.self.now in
-    let old = whole_journal (model self.world) self.entries in
-    let mid = whole_journal (model self.world) c.gather_closure-count.new.self in
+    let old = whole_journal (opened_with self.opened) (model self.world) self.entries in
+    let mid = whole_journal (opened_with self.opened) (model self.world) c.gather_closure-count.new.self in
     let said = c.gather_closure-count.ensures in
-    let gathered : IsGatheredLast c.args.k old mid = record { world = refl; live = said.live; undone = said.ahead; len = said.len } in
+    let gathered : IsGatheredLast c.args.k old mid = record { start = refl; world = refl; live = said.live; undone = said.ahead; len = said.len } in
     record {
       kept = gathered_session c.args.k old mid (room self.world) self.kept c.requires.some c.requires.position gathered;
       within = omega (arith, self.within, ap length said.ahead);
@@ -60,10 +60,4 @@ pub returns-clause-entries : goal.returns-clause-entries
 returns-clause-entries g c = grind (arith, common_steps)
 
 pub returns-clause-start : goal.returns-clause-start
-returns-clause-start g c =
-    let self = c.args.self.now in
-    let mid = with_undone self.undone (whole_journal (model self.world) c.gather_closure-count.new.self) in
-    let said = c.gather_closure-count.ensures in
-    let gathered : IsGatheredLast c.args.k (journal self) mid = record { world = refl; live = said.live; undone = ap (take self.undone) said.ahead; len = said.len } in
-    rolled_start c.args.k c.gather_closure-count.result (journal self) mid (journal c.undo_many.new.self) (is_session self).runs c.requires.some
-    c.requires.position gathered c.undo_many.ensures.state
+returns-clause-start g c = back_start _ c.gather_closure-count.result _ c.undo_many.ensures.state

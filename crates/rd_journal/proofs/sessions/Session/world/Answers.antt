@@ -1,10 +1,9 @@
-use Rattle.rd_journal.proofs.Prelude.{model, journal}
 use Rattle.rd_journal.proofs.Ahead.{is_session}
-use Rattle.rd_journal.proofs.Runs.{world_before-ring}
+use Rattle.rd_journal.proofs.Calls.{opened_ring}
 use Rattle.rd_journal.proofs.sessions.Session.world.Goals as goal
 
 pub returns-clause-ring : goal.returns-clause-ring
-returns-clause-ring g c = world_before-ring (model c.args.self.now.world) (journal c.args.self.now).live
+returns-clause-ring g c = opened_ring c.args.self.now.opened
 
 pub returns-clause-runs : goal.returns-clause-runs
 returns-clause-runs g c = (is_session c.args.self.now).runs

@@ -1,5 +1,5 @@
 use Rattle.std.proofs.Common.{◌≡◌, ◌∙◌, ℕ, ◌≤◌, take, arith}
-use Rattle.rd_marks.proofs.Prelude.{fact_passed_up, NeitherIsPrefix, DecidesEquivalence, Bookmarks, Node, entries_in, IsNodeIn, events}
+use Rattle.rd_marks.proofs.Prelude.{fact_passed_up, NeitherBegins, DecidesEquivalence, Bookmarks, Node, entries_in, IsNodeIn, events}
 use Rattle.std.proofs.lemmas.Result.{IfOk-weaker}
 use Rattle.rd_marks.proofs.Starting.{entries_length}
 use Rattle.rd_marks.proofs.SameLemmas.{decided_by_length, decided_behind, not_begun}
@@ -9,7 +9,7 @@ use Rattle.rd_marks.proofs.bookmarks.Bookmarks.are_same.Goals as goal
 -- where what two lists have in common is neither of them, neither begins the other
 apart : (b : Bookmarks) (one other : Node) (c : ℕ) → IsNodeIn b one → IsNodeIn b other → c ≤ one.number → c ≤ other.number
     → ((n : ℕ) → n ≤ one.number → n ≤ other.number → take n (events (entries_in b one)) ≡ take n (events (entries_in b other)) → n ≤ c)
-    → (c ≡ one.number → ⊥) → (c ≡ other.number → ⊥) → NeitherIsPrefix (events (entries_in b one)) (events (entries_in b other))
+    → (c ≡ one.number → ⊥) → (c ≡ other.number → ⊥) → NeitherBegins (events (entries_in b one)) (events (entries_in b other))
 apart b one other c one_in other_in first second most not_one not_other =
     let fact = not_begun (entries_in b one) (entries_in b other) c in
     grind (arith, entries_length, fact, not_begun (entries_in b other) (entries_in b one) c, most)

@@ -1,12 +1,12 @@
 use Rattle.std.proofs.Common.{sym, ◌≡◌, ◌≤◌, [], ℕ, List, length, take, lit<, refl, subst, ap, ◌∙◌, arith}
-use Rattle.rd_marks.proofs.Prelude.{fact_passed_up, Event, IsPrefix, state, track, Bookmarks, Node, here_in, entries_in, IsNodeIn, events}
+use Rattle.rd_marks.proofs.Prelude.{fact_passed_up, Event, Begins, state, track, Bookmarks, Node, here_in, entries_in, IsNodeIn, events}
 use Rattle.rd_marks.proofs.Prelude.{entries_at, length-take, take-length}
 use Rattle.rd_marks.proofs.Here.{along_to}
 use Rattle.rd_marks.proofs.Starting.{events_length}
 use Rattle.rd_marks.proofs.bookmarks.Bookmarks.go_to.Goals as goal
 
 -- the entries of the node begin the track
-on_track : (b : Bookmarks) (node : Node) (steps : List Event) (c : ℕ) → IsNodeIn b node → IsPrefix (events (here_in b)) steps → c ≤ b.here.number
+on_track : (b : Bookmarks) (node : Node) (steps : List Event) (c : ℕ) → IsNodeIn b node → Begins (events (here_in b)) steps → c ≤ b.here.number
     → take c (here_in b) ≡ take c (entries_in b node) → c ≡ node.number → (node.number ≤ length steps) × (take node.number steps ≡ events (entries_in b node))
 on_track b node steps c is stands first alike all =
     along_to b.stretches.list.items node b.here steps is b.kept.lies stands node.number refl (omega (arith, first, all))

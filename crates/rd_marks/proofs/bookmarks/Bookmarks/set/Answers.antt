@@ -1,5 +1,5 @@
 use Rattle.std.proofs.Common.{◌≡◌, ◌++◌, ◌∙◌, [], ◌∷◌, List, sym, ap, subst, arith}
-use Rattle.rd_marks.proofs.Prelude.{length-map, lookup-map_values, fact_passed_up, Entry, IsPrefix, state, track, MarkName, IsLow, lists_in, here_in, AreRuns, IsKept, named_lists, mark_name_eq, entries_at, IsWithin, events}
+use Rattle.rd_marks.proofs.Prelude.{length-map, lookup-map_values, fact_passed_up, Entry, Begins, state, track, MarkName, IsLow, lists_in, here_in, AreRuns, IsKept, named_lists, mark_name_eq, entries_at, IsWithin, events}
 use Rattle.rd_marks.proofs.Counting.{all_along}
 use Rattle.rd_marks.proofs.Here.{live_along, live_begin}
 use Rattle.rd_marks.proofs.Putting.{IsSet, each, is_set, kept_same, none_named}
@@ -41,7 +41,7 @@ returns-in_err-grown-clause-runs g c =
 
 pub returns-in_err-grown-clause-stands : goal.returns-in_err-grown-clause-stands
 returns-in_err-grown-clause-stands g c =
-    subst (λ (xs : List Entry). IsPrefix (events xs) (track c.args.session.now)) (sym (stay g (goal.at.returns-in_err-grown-clause-stands g c).In_err-grown).2) c.requires.stands
+    subst (λ (xs : List Entry). Begins (events xs) (track c.args.session.now)) (sym (stay g (goal.at.returns-in_err-grown-clause-stands g c).In_err-grown).2) c.requires.stands
 
 pub returns-in_err-grown-clause-succeeds : goal.returns-in_err-grown-clause-succeeds
 returns-in_err-grown-clause-succeeds g c =

@@ -1,4 +1,4 @@
-use Rattle.std.proofs.Common.{List, ◌++◌, take, lit<, ap, subst, length, ◌∙◌, arith}
+use Rattle.std.proofs.Common.{List, ◌++◌, ◌≤◌, take, lit<, ap, subst, length, ◌∙◌, arith}
 use Rattle.std.proofs.lemmas.Result.{on_err_weaker}
 use Rattle.rd_marks.proofs.Prelude.{length-map, Entry, journal, state, entries_at, events, IsRunFrom}
 use Rattle.rd_marks.specs.Stretches.{AreInPieces}
@@ -60,4 +60,8 @@ returns-in-Ok-clause-err g c =
     let same = common_live ss c.follow-beginning.result c.args.node n (events c.live-live.result) (state c.args.session.now).live c.live-live.ensures.events said.first
     c.follow-beginning.ensures.along said.alike in
     let all = ap (λ (xs : List Entry). take n (state c.args.session.now).live ++ events xs) given ∙ joined_events n (state c.args.session.now).live ys same in
-    lacked c.switch.result c.args.session.now n c.deref.result.now (events ys) (AreInPieces ss c.args.node) all c.switch.ensures.err
+    let run = subst (λ (xs : List Entry). IsRunFrom (state c.args.session.now).start xs) c.live-live.ensures.entries c.live-live.ensures.run in
+    let live = length-map c.live-live.result (λ (x : Entry). x.event) in
+    let within : n ≤ length (journal c.args.session.now).live = omega (arith, said.first, c.follow-beginning.ensures.along.enough, ap length c.live-live.ensures.entries, live) in
+    let may = may_switch (journal c.args.session.now) n c.deref.result.now ys given run c.requires.run same in
+    lacked c.switch.result c.args.session.now n c.deref.result.now (events ys) (AreInPieces ss c.args.node) all within may c.switch.ensures.err

@@ -1,11 +1,14 @@
-use Rattle.std.proofs.Common.{◌≡◌, Err, sym, subst, arith}
+use Rattle.std.proofs.Common.{◌≡◌, Err, IsOk, sym, subst}
 use Rattle.rd_marks.proofs.Prelude.{Command, Refusal}
-use Rattle.rd_marks.specs.Book.{MayRefuseAsGoing, MayRefuseToGo}
+use Rattle.rd_marks.specs.Book.{MayRefuseAsGoing, MayRefuseToGo, book_state, name_room}
+use Rattle.rd_marks.specs.Commands.{NeedsNoMemory}
 use Rattle.rd_marks.proofs.MarkLemmas.{if_then_for}
 use Rattle.rd_marks.proofs.books.Book.answer_to.Goals as goal
 
 pub returns-in-Mark-clause-succeeds : goal.returns-in-Mark-clause-succeeds
-returns-in-Mark-clause-succeeds g c = grind arith
+returns-in-Mark-clause-succeeds g c =
+    let self = c.args.self.now in
+    subst (λ (x : Command). NeedsNoMemory (book_state self) (name_room self) x → IsOk c.answer_mark.result) (sym c.in-Mark.is) c.answer_mark.ensures.succeeds
 
 pub returns-in-GotoMark-clause-room : goal.returns-in-GotoMark-clause-room
 returns-in-GotoMark-clause-room g c =

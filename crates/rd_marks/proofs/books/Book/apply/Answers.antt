@@ -1,5 +1,5 @@
 use Rattle.std.proofs.Common.{[], ◌∷◌, length, length-append, refl, ap, arith}
-use Rattle.rd_marks.proofs.Prelude.{fact_passed_up, ahead_entries, Journal, journal, start_of, state, state_of, events, marks_of, lists_in}
+use Rattle.rd_marks.proofs.Prelude.{fact_passed_up, ahead_entries, Journal, journal, state, state_of, events, marks_of, lists_in}
 use Rattle.rd_marks.proofs.Here.{track_cut, added_leaves}
 use Rattle.rd_marks.proofs.AnswerLemmas.{event_made, event_refused}
 use Rattle.rd_marks.proofs.Starts.{apply_start, start_stays, runs_stay}
@@ -44,7 +44,7 @@ returns-clause-start g c =
     start_stays c.apply.result (journal c.args.self.now.session) (journal c.apply.new.self) _ (apply_start (state c.args.self.now.session) c.args.event) c.apply.ensures.ok (on_err_weaker c.apply.result (λ is. is.journal) c.apply.ensures.unchanged)
 
 pub returns-in_err-step-clause-start : goal.returns-in_err-step-clause-start
-returns-in_err-step-clause-start g c = ap start_of c.in_err-step.ensures.unchanged.journal
+returns-in_err-step-clause-start g c = ap (λ (j : Journal). j.start) c.in_err-step.ensures.unchanged.journal
 
 pub returns-in_err-step-clause-unchanged : goal.returns-in_err-step-clause-unchanged
 returns-in_err-step-clause-unchanged g c =
