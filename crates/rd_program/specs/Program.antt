@@ -1,6 +1,7 @@
 -- What the program does: a script's run over a book, with the trace of it after the report if one
 -- is asked for, and a script's run over the run of a trace.
 use Rattle.std.specs.Prelude.{◌≡◌, ◌⊎◌, ℕ, Bool, true, false, List, Option, Result, Ok, Err}
+use Rattle.rd_journal.specs.Journal.{Journal}
 use Rattle.rd_marks.specs.BookState.{BookState}
 use Rattle.rd_script.specs.declared.faults.ScriptFault.{ScriptFault}
 use Rattle.rd_script.specs.Streams.{Devices, IsUnused, Stream}
@@ -20,9 +21,10 @@ IsUnread fault = (fault ≡ NoMemory) ⊎ (fault ≡ Read)
 abbrev pub TouchesNothing : Devices → Type 0
 TouchesNothing d = IsUnused d.input × IsUnused d.output
 
--- what a script's run over a book in this state did, whatever state it left
+-- what a script's run over a book in this state did, whatever state it left and whatever the book
+-- keeps then
 abbrev pub RunsOver : BookState → Devices → Result ℕ ScriptFault → Type 0
-RunsOver before d result = (after : BookState) × RunsScript before after d result
+RunsOver before d result = (after : BookState) × (kept : Journal) × RunsScript before after kept d result
 
 -- what became of the trace of a book in this state, if it was asked for: it was written, as far as
 -- the result states; else nothing was written
@@ -34,9 +36,10 @@ WritesIf false b output result = (result ≡ Ok tt) × (output.after ≡ output.
 -- became of the trace of its run
 pub record RanToTrace (before : BookState) (traced : Bool) (d : Devices) (n : ℕ) (written : Result (Unit {0}) WriteTraceFault) : Type 0 where
   pub after : BookState
+  pub kept : Journal
   -- what the writer had when the report was whole
   pub reported : Option (List ℕ)
-  pub ran : RanToEnd before after (record d { output = record d.output { after = reported; failed = false } }) n
+  pub ran : RanToEnd before after kept (record d { output = record d.output { after = reported; failed = false } }) n
   pub trace : WritesIf traced after (record d.output { before = reported }) written
 
 -- what `run` did over a book in this state, by its result: it ran a script, and, if that came to

@@ -1,12 +1,25 @@
 -- A script that runs: the bytes that were given so far, their lines, and their report.
-use Rattle.std.proofs.Common.{◌≡◌, ◌≢◌, ℕ, ◌+◌, ◌-◌, ◌^◌, ◌≤◌, Bool, true, false, List, [], ◌∷◌, ◌++◌, length, Option, refl, sym, ◌∙◌, ap, subst, arith, inl, inr, append_assoc, length-append, Result, Err}
-use Rattle.rd_script.proofs.Prelude.{ne_eqb, append-nil, Consumes, Appends, IsAtEnd, Line, IsErrAnd, TakesBeginning, with_first_byte, lines_of, ended_lines_of, IsOneLine, ReadsLine, ReadsLast, ReadsPart}
+use Rattle.std.proofs.Common.{◌≡◌, ◌≢◌, ◌⊎◌, ℕ, suc, map, ◌+◌, ◌-◌, ◌^◌, ◌≤◌, Bool, true, false, List, [], ◌∷◌, ◌++◌, length, Option, refl, sym, ◌∙◌, ap, subst, arith, inl, inr, append_assoc, length-append, Result, Ok, Err}
+use Rattle.std.proofs.lemmas.Grind.{flat_map-append}
+use Rattle.std.proofs.lemmas.List.{length-map}
+use Rattle.std.specs.List.{AllZip}
+use Rattle.rd_cell.specs.declared.refusal.Refusal.{Refusal}
+use Rattle.rd_journal.specs.Journal.{Journal}
+use Rattle.rd_journal.specs.Sessions.{journal}
+use Rattle.rd_marks.specs.Book.{session_of}
+use Rattle.rd_marks.specs.Commands.{AreObeyed}
+use Rattle.rd_marks.specs.declared.books.Book.{Book}
+use Rattle.rd_marks.specs.declared.replies.Reply.{Reply}
+use Rattle.rd_marks.proofs.Headlines.{book_runs}
+use Rattle.rd_marks.proofs.ObeyLemmas.{one_more_obeyed}
+use Rattle.rd_script.specs.declared.answers.AnyRefusal.TheVariants.{Unread}
+use Rattle.rd_script.proofs.Prelude.{map-append, book_state, Command, LineFault, Says, ne_eqb, append-nil, Consumes, Appends, IsAtEnd, IsErrAnd, TakesBeginning, with_first_byte, lines_of, ended_lines_of, IsOneLine, ReadsPart}
 use Rattle.rd_marks.specs.BookState.{BookState}
 use Rattle.rd_script.specs.declared.faults.ScriptFault.{ScriptFault}
-use Rattle.rd_script.specs.Replies.{text_of}
-use Rattle.rd_script.specs.Answers.{LineAnswered, AnswersLine}
+use Rattle.rd_script.specs.Replies.{LineAnswer, text_of}
+use Rattle.rd_script.specs.Answers.{AnswersSaid, AreObeyedLines, commands_of, line_answer, line_answers, report_of}
 use Rattle.rd_script.specs.Streams.{Devices}
-use Rattle.rd_script.specs.Script.{HasReport, RanToEnd, StoppedAtRead, StoppedAtWrite, RunsScript}
+use Rattle.rd_script.specs.Script.{RanToEnd, StoppedAtRead, StoppedAtWrite, RunsScript}
 use Rattle.rd_script.proofs.ResultLemmas.{Err-from_error}
 use Rattle.rd_script.proofs.KnownLemmas.{Consumes-nil, Consumes-join, Appends-nil, Appends-join}
 
@@ -50,10 +63,88 @@ lines-whole given lines s = ap lines_of (sym (append-nil given)) ∙ (s.all [] �
 ended-whole : (given : List ℕ) (lines : List (List ℕ)) → Splits given lines → ended_lines_of given ≡ lines
 ended-whole given lines s = ap ended_lines_of (sym (append-nil given)) ∙ (s.ended [] ∙ append-nil lines)
 
+-- these lines were obeyed one after another from the one state to the other, with these answers:
+-- what `AreObeyedLines` says, but for what the book keeps
+pub record HaveBeenObeyed (before : BookState) (lines : List (List ℕ)) (answers : List LineAnswer) (now : BookState) : Type 0 where
+  pub said : List (Result Command LineFault)
+  pub says : AllZip Says lines said
+  pub given : List (Result Reply Refusal)
+  pub obeyed : AreObeyed before (commands_of said) given now
+  pub each : answers ≡ line_answers said (map line_answer given)
+
+says_more : (lines : List (List ℕ)) (said : List (Result Command LineFault)) (line : List ℕ) (x : Result Command LineFault) → AllZip Says lines said → Says line x
+    → AllZip Says (lines ++ line ∷ []) (said ++ x ∷ [])
+says_more [] [] line x h k = (k, tt)
+says_more [] (y ∷ ys) line x h k = absurd h
+says_more (l ∷ ls) [] line x h k = absurd h
+says_more (l ∷ ls) (y ∷ ys) line x h k = (h.0, says_more ls ys line x h.1 k)
+
+commands_more : (said : List (Result Command LineFault)) (x : Result Command LineFault) → commands_of (said ++ x ∷ []) ≡ commands_of said ++ commands_of (x ∷ [])
+commands_more [] x = refl
+commands_more (Ok c ∷ said) x = ap (λ (cs : List Command). c ∷ cs) (commands_more said x)
+commands_more (Err f ∷ said) x = commands_more said x
+
+answered_each : (b : BookState) (cs : List Command) (given : List (Result Reply Refusal)) (last : BookState) → AreObeyed b cs given last → length given ≡ length cs
+answered_each b [] [] last h = refl
+answered_each b [] (y ∷ ys) last h = absurd h
+answered_each b (c ∷ cs) [] last h = absurd h
+answered_each b (c ∷ cs) (y ∷ ys) last h = ap suc (answered_each h.0 cs ys last h.2)
+
+answers_more : (said : List (Result Command LineFault)) (xs : List LineAnswer) (c : Command) (x : LineAnswer) → length xs ≡ length (commands_of said)
+    → line_answers (said ++ Ok c ∷ []) (xs ++ x ∷ []) ≡ line_answers said xs ++ x ∷ []
+answers_more [] [] c x h = refl
+answers_more [] (y ∷ ys) c x h = absurd (omega arith)
+answers_more (Err f ∷ said) xs c x h = ap (λ (rest : List LineAnswer). Err (Unread f) ∷ rest) (answers_more said xs c x h)
+answers_more (Ok d ∷ said) [] c x h = absurd (omega arith)
+answers_more (Ok d ∷ said) (y ∷ ys) c x h = ap (λ (rest : List LineAnswer). y ∷ rest) (answers_more said ys c x (omega arith))
+
+faults_more : (said : List (Result Command LineFault)) (xs : List LineAnswer) (f : LineFault) → line_answers (said ++ Err f ∷ []) xs ≡ line_answers said xs ++ Err (Unread f) ∷ []
+faults_more [] xs f = refl
+faults_more (Err e ∷ said) xs f = ap (λ (rest : List LineAnswer). Err (Unread e) ∷ rest) (faults_more said xs f)
+faults_more (Ok d ∷ said) [] f = faults_more said [] f
+faults_more (Ok d ∷ said) (y ∷ ys) f = ap (λ (rest : List LineAnswer). y ∷ rest) (faults_more said ys f)
+
 -- one line more, with its answer
-HasReport-more : (s : BookState) (lines : List (List ℕ)) (report : List ℕ) (mid : BookState) (line : List ℕ) (a : LineAnswered) → HasReport s lines report mid → AnswersLine mid line a → HasReport s (lines ++ line ∷ []) (report ++ text_of a.answer) a.state
-HasReport-more s [] report mid line a h k = grind (arith, append-nil)
-HasReport-more s (x ∷ xs) report mid line a h k = grind (arith, append_assoc, HasReport-more h.0.state xs h.1 mid line a h.4 k)
+module _ (before : BookState) (lines : List (List ℕ)) (answers : List LineAnswer) (mid : BookState) (h : HaveBeenObeyed before lines answers mid) (line : List ℕ) (answer : LineAnswer) (after : BookState) where
+  pub one_more_line : (said : Result Command LineFault) → Says line said → AnswersSaid mid said answer after → HaveBeenObeyed before (lines ++ line ∷ []) (answers ++ answer ∷ []) after
+  one_more_line (Err fault) says is = record {
+    said = h.said ++ Err fault ∷ [];
+    says = says_more lines h.said line (Err fault) h.says says;
+    given = h.given;
+    obeyed =
+        subst (λ (cs : List Command). AreObeyed before cs h.given after) (sym (commands_more h.said (Err fault) ∙ append-nil (commands_of h.said)))
+        (subst (λ (s : BookState). AreObeyed before (commands_of h.said) h.given s) (sym is.1) h.obeyed);
+    each = (λ i. h.each i ++ is.0 i ∷ []) ∙ sym (faults_more h.said (map line_answer h.given) fault);
+  }
+  one_more_line (Ok command) says is =
+      let given = is.0 in
+      let len = answered_each before (commands_of h.said) h.given mid h.obeyed in
+      record {
+        said = h.said ++ Ok command ∷ [];
+        says = says_more lines h.said line (Ok command) h.says says;
+        given = h.given ++ given ∷ [];
+        obeyed =
+            subst (λ (cs : List Command). AreObeyed before cs (h.given ++ given ∷ []) after) (sym (commands_more h.said (Ok command)))
+            (one_more_obeyed before mid after (commands_of h.said) h.given command given h.obeyed is.1);
+        each =
+            (λ i. h.each i ++ is.2 i ∷ []) ∙ sym (answers_more h.said (map line_answer h.given) command (line_answer given) (length-map h.given line_answer ∙ len))
+            ∙ ap (line_answers (h.said ++ Ok command ∷ [])) (sym (map-append line_answer h.given (given ∷ [])));
+      }
+
+-- with what the book keeps, the headline holds of them
+pub with_headline : {R : ℕ} (before : BookState) (lines : List (List ℕ)) (answers : List LineAnswer) (book : Book R) → HaveBeenObeyed before lines answers (book_state book)
+    → (book_state book).session.start ≡ before.session.start → AreObeyedLines before lines answers (book_state book) (journal (session_of book))
+with_headline before lines answers book h start = record {
+  said = h.said;
+  says = h.says;
+  given = h.given;
+  headline = record { answered = h.obeyed; start = start; is_run = book_runs book };
+  each = h.each;
+}
+
+-- the report of one line more
+report_more : (answers : List LineAnswer) (answer : LineAnswer) → report_of (answers ++ answer ∷ []) ≡ report_of answers ++ text_of answer
+report_more answers answer = flat_map-append text_of answers (answer ∷ []) ∙ ap (λ (t : List ℕ). report_of answers ++ t) (append-nil (text_of answer))
 
 -- this many lines were read, obeyed and reported, and both devices work
 pub record IsGoingOn (before now : BookState) (d : Devices) (n : ℕ) : Type 0 where
@@ -65,9 +156,9 @@ pub record IsGoingOn (before now : BookState) (d : Devices) (n : ℕ) : Type 0 w
   pub splits : Splits given lines
   pub counted : length lines ≡ n
   pub enough : n ≤ length given
-  pub report : List ℕ
-  pub wrote : Appends d.output.before d.output.after report
-  pub reports : HasReport before lines report now
+  pub answers : List LineAnswer
+  pub obeyed : HaveBeenObeyed before lines answers now
+  pub wrote : Appends d.output.before d.output.after (report_of answers)
   pub start : now.session.start ≡ before.session.start
 
 -- the devices before the first line
@@ -88,13 +179,17 @@ starts s in_now in_failed out_now out_failed in_works out_works = record {
   splits = Splits-nil;
   counted = refl;
   enough = omega arith;
-  report = [];
+  answers = [];
+  obeyed = record { said = []; says = tt; given = []; obeyed = refl; each = refl };
   wrote = Appends-nil out_now;
-  reports = (refl, refl);
   start = refl;
 }
 
-module _ (before now : BookState) (d : Devices) (n : ℕ) (g : IsGoingOn before now d n) where
+module _ {R : ℕ} (before : BookState) (book : Book R) (d : Devices) (n : ℕ) (g : IsGoingOn before (book_state book) d n) where
+  -- what the book keeps now
+  abbrev kept : Journal
+  kept = journal (session_of book)
+
   -- the devices after more calls
   abbrev now_at : Option (List ℕ) → Bool → Option (List ℕ) → Bool → Devices
   now_at in_new in_failed' out_new out_failed' = record {
@@ -102,12 +197,28 @@ module _ (before now : BookState) (d : Devices) (n : ℕ) (g : IsGoingOn before 
     output = record d.output { after = out_new; failed = out_failed' };
   }
 
+  -- the lines so far, with the headline
+  so_far : AreObeyedLines before g.lines g.answers (book_state book) kept
+  so_far = with_headline before g.lines g.answers book g.obeyed g.start
+
   -- the end
-  pub ran_to_end : (in_new : Option (List ℕ)) (in_failed' : Bool) → Consumes d.input.after in_new [] → IsAtEnd in_new → in_failed' ≡ false → RanToEnd before now (now_at in_new in_failed' d.output.after d.output.failed) n
-  ran_to_end in_new in_failed' keeps ended in_works = grind (arith, append-nil, lines-whole)
+  pub ran_to_end : (in_new : Option (List ℕ)) (in_failed' : Bool) → Consumes d.input.after in_new [] → IsAtEnd in_new → in_failed' ≡ false → RanToEnd before (book_state book) kept (now_at in_new in_failed' d.output.after d.output.failed) n
+  ran_to_end in_new in_failed' keeps ended in_works =
+      let all = lines-whole g.given g.lines g.splits in
+      record {
+        in_works = in_works;
+        out_works = g.out_works;
+        given = g.given;
+        took = subst (λ (bs : List ℕ). Consumes d.input.before in_new bs) (append-nil g.given) (Consumes-join d.input.before d.input.after in_new g.given [] g.took keeps);
+        ended = ended;
+        counted = ap length all ∙ g.counted;
+        answers = g.answers;
+        obeyed = subst (λ ls. AreObeyedLines before ls g.answers (book_state book) kept) (sym all) so_far;
+        wrote = g.wrote;
+      }
 
   -- the reader failed
-  pub stopped_at_read : (in_new : Option (List ℕ)) (in_failed' : Bool) → ReadsPart d.input.after in_new in_failed' → StoppedAtRead before now (now_at in_new in_failed' d.output.after d.output.failed)
+  pub stopped_at_read : (in_new : Option (List ℕ)) (in_failed' : Bool) → ReadsPart d.input.after in_new in_failed' → StoppedAtRead before (book_state book) kept (now_at in_new in_failed' d.output.after d.output.failed)
   stopped_at_read in_new in_failed' part =
       let whole : ended_lines_of (g.given ++ part.text) ≡ g.lines = g.splits.ended part.text ∙ (ap (λ ls. g.lines ++ ls) (ended-none part.text part.is_one) ∙ append-nil g.lines) in
       record {
@@ -115,101 +226,114 @@ module _ (before now : BookState) (d : Devices) (n : ℕ) (g : IsGoingOn before 
         given = g.given ++ part.text;
         took = Consumes-join d.input.before d.input.after in_new g.given part.text g.took part.took;
         cause = elim part.cause [ inl failed ↦ inl failed | inr many ↦ inr (omega (arith, many, length-append g.given part.text)) ];
-        report = g.report;
+        answers = g.answers;
+        obeyed = subst (λ ls. AreObeyedLines before ls g.answers (book_state book) kept) (sym whole) so_far;
         wrote = g.wrote;
-        reports = subst (λ ls. HasReport before ls g.report now) (sym whole) g.reports;
       }
 
   -- 2^64 - 1 lines without an end
-  pub stopped_endless : n ≡ 2 ^ 64 - 1 → StoppedAtRead before now (now_at d.input.after d.input.failed d.output.after d.output.failed)
-  stopped_endless most = grind (arith, ended-whole)
-
-  -- one more line, ended by a line feed, was obeyed and reported
-  pub goes_on : (in_new out_new : Option (List ℕ)) (in_failed' out_failed' : Bool) (line : Line) (read : ReadsLine d.input.after in_new line (10 ∷ [])) (a : LineAnswered) → AnswersLine now read.text a → (after : BookState) → a.state ≡ after → Appends d.output.after out_new (text_of a.answer) → in_failed' ≡ false → out_failed' ≡ false → after.session.start ≡ now.session.start → IsGoingOn before after (now_at in_new in_failed' out_new out_failed') (n + 1)
-  goes_on in_new out_new in_failed' out_failed' line read a answers after leaves wrote in_works out_works start = record {
-    in_works = in_works;
-    out_works = out_works;
-    given = g.given ++ (read.text ++ 10 ∷ []);
-    took = Consumes-join d.input.before d.input.after in_new g.given (read.text ++ 10 ∷ []) g.took read.took;
-    lines = g.lines ++ read.text ∷ [];
-    splits = Splits-line g.given g.lines read.text g.splits read.is_one;
-    counted = length-append g.lines (read.text ∷ []) ∙ ap (λ k. k + 1) g.counted;
-    enough = omega (arith, g.enough, length-append g.given (read.text ++ 10 ∷ []), length-append read.text (10 ∷ []));
-    report = g.report ++ text_of a.answer;
-    wrote = Appends-join d.output.before d.output.after out_new g.report (text_of a.answer) g.wrote wrote;
-    reports = subst (λ x. HasReport before (g.lines ++ read.text ∷ []) (g.report ++ text_of a.answer) x) leaves (HasReport-more before g.lines g.report now read.text a g.reports answers);
-    start = start ∙ g.start;
+  pub stopped_endless : n ≡ 2 ^ 64 - 1 → StoppedAtRead before (book_state book) kept (now_at d.input.after d.input.failed d.output.after d.output.failed)
+  stopped_endless most = record {
+    out_works = g.out_works;
+    given = g.given;
+    took = g.took;
+    cause = inr (omega (arith, g.enough));
+    answers = g.answers;
+    obeyed = subst (λ ls. AreObeyedLines before ls g.answers (book_state book) kept) (sym (ended-whole g.given g.lines g.splits)) so_far;
+    wrote = g.wrote;
   }
 
-  -- the last line was obeyed and reported
-  pub ran_to_last : (in_new out_new : Option (List ℕ)) (in_failed' out_failed' : Bool) (line : Line) (r : ReadsLast d.input.after in_new line) (a : LineAnswered) → AnswersLine now r.read.text a → (after : BookState) → a.state ≡ after → Appends d.output.after out_new (text_of a.answer) → in_failed' ≡ false → out_failed' ≡ false → RanToEnd before after (now_at in_new in_failed' out_new out_failed') (n + 1)
-  ran_to_last in_new out_new in_failed' out_failed' line r a answers after leaves wrote in_works out_works =
-      let text = r.read.text in
-      let all : lines_of (g.given ++ (text ++ [])) ≡ g.lines ++ text ∷ [] = ap (λ t. lines_of (g.given ++ t)) (append-nil text) ∙ (g.splits.all text ∙ ap (λ ls. g.lines ++ ls) (lines-last text r.read.is_one r.some)) in
-      record {
-        in_works = in_works;
-        out_works = out_works;
-        given = g.given ++ (text ++ []);
-        took = Consumes-join d.input.before d.input.after in_new g.given (text ++ []) g.took r.read.took;
-        ended = r.ended;
-        counted = ap length all ∙ (length-append g.lines (text ∷ []) ∙ ap (λ k. k + 1) g.counted);
-        report = g.report ++ text_of a.answer;
-        wrote = Appends-join d.output.before d.output.after out_new g.report (text_of a.answer) g.wrote wrote;
-        reports =
-            subst (λ ls. HasReport before ls (g.report ++ text_of a.answer) after) (sym all)
-            (subst (λ x. HasReport before (g.lines ++ text ∷ []) (g.report ++ text_of a.answer) x) leaves (HasReport-more before g.lines g.report now text a g.reports answers));
-      }
+  -- one more line was obeyed
+  module _ (line : List ℕ) (said : Result Command LineFault) (answer : LineAnswer) (says : Says line said) (after : Book R) (is : AnswersSaid (book_state book) said answer (book_state after)) (start : (book_state after).session.start ≡ (book_state book).session.start) where
+    more : HaveBeenObeyed before (g.lines ++ line ∷ []) (g.answers ++ answer ∷ []) (book_state after)
+    more = one_more_line before g.lines g.answers (book_state book) g.obeyed line answer (book_state after) said says is
 
-  -- the writer failed at the answer to a line that a line feed ended
-  pub stopped_at_write : (in_new out_new : Option (List ℕ)) (in_failed' out_failed' : Bool) (line : Line) (read : ReadsLine d.input.after in_new line (10 ∷ [])) (a : LineAnswered) → AnswersLine now read.text a → (after : BookState) → a.state ≡ after → TakesBeginning d.output.after out_new (text_of a.answer) → in_failed' ≡ false → out_failed' ≡ true → StoppedAtWrite before after (now_at in_new in_failed' out_new out_failed')
-  stopped_at_write in_new out_new in_failed' out_failed' line read a answers after leaves wrote in_works fails =
-      let given = g.given ++ (read.text ++ 10 ∷ []) in
-      let lines = g.lines ++ read.text ∷ [] in
-      let splits = Splits-line g.given g.lines read.text g.splits read.is_one in
-      record {
-        in_works = in_works;
-        out_failed = fails;
-        given = given;
-        took = Consumes-join d.input.before d.input.after in_new g.given (read.text ++ 10 ∷ []) g.took read.took;
-        lines = g.lines;
-        last = read.text;
-        all = lines-whole given lines splits;
-        whole = inl (ended-whole given lines splits ∙ sym (lines-whole given lines splits));
-        report = g.report;
-        reached = now;
-        reports = g.reports;
-        answered = a;
-        answers = answers;
-        leaves = leaves;
-        part = wrote.part;
-        begins = wrote.begins;
-        wrote = Appends-join d.output.before d.output.after out_new g.report wrote.part g.wrote wrote.took;
-      }
+    with_line : AreObeyedLines before (g.lines ++ line ∷ []) (g.answers ++ answer ∷ []) (book_state after) (journal (session_of after))
+    with_line = with_headline before (g.lines ++ line ∷ []) (g.answers ++ answer ∷ []) after more (start ∙ g.start)
 
-  -- the writer failed at the answer to the last line
-  pub stopped_at_last_write : (in_new out_new : Option (List ℕ)) (in_failed' out_failed' : Bool) (line : Line) (r : ReadsLast d.input.after in_new line) (a : LineAnswered) → AnswersLine now r.read.text a → (after : BookState) → a.state ≡ after → TakesBeginning d.output.after out_new (text_of a.answer) → in_failed' ≡ false → out_failed' ≡ true → StoppedAtWrite before after (now_at in_new in_failed' out_new out_failed')
-  stopped_at_last_write in_new out_new in_failed' out_failed' line r a answers after leaves wrote in_works fails =
-      let text = r.read.text in
-      record {
-        in_works = in_works;
-        out_failed = fails;
-        given = g.given ++ (text ++ []);
-        took = Consumes-join d.input.before d.input.after in_new g.given (text ++ []) g.took r.read.took;
-        lines = g.lines;
-        last = text;
-        all = ap (λ t. lines_of (g.given ++ t)) (append-nil text) ∙ (g.splits.all text ∙ ap (λ ls. g.lines ++ ls) (lines-last text r.read.is_one r.some));
-        whole = inr r.ended;
-        report = g.report;
-        reached = now;
-        reports = g.reports;
-        answered = a;
-        answers = answers;
-        leaves = leaves;
-        part = wrote.part;
-        begins = wrote.begins;
-        wrote = Appends-join d.output.before d.output.after out_new g.report wrote.part g.wrote wrote.took;
-      }
+    wrote_more : (out_new : Option (List ℕ)) → Appends d.output.after out_new (text_of answer) → Appends d.output.before out_new (report_of (g.answers ++ answer ∷ []))
+    wrote_more out_new wrote =
+        subst (λ (t : List ℕ). Appends d.output.before out_new t) (sym (report_more g.answers answer))
+        (Appends-join d.output.before d.output.after out_new (report_of g.answers) (text_of answer) g.wrote wrote)
+
+    -- a line feed ended it, and it was reported
+    pub goes_on : (in_new out_new : Option (List ℕ)) (in_failed' out_failed' : Bool) → IsOneLine line → Consumes d.input.after in_new (line ++ 10 ∷ []) → Appends d.output.after out_new (text_of answer)
+        → in_failed' ≡ false → out_failed' ≡ false → IsGoingOn before (book_state after) (now_at in_new in_failed' out_new out_failed') (n + 1)
+    goes_on in_new out_new in_failed' out_failed' is_one took wrote in_works out_works = record {
+      in_works = in_works;
+      out_works = out_works;
+      given = g.given ++ (line ++ 10 ∷ []);
+      took = Consumes-join d.input.before d.input.after in_new g.given (line ++ 10 ∷ []) g.took took;
+      lines = g.lines ++ line ∷ [];
+      splits = Splits-line g.given g.lines line g.splits is_one;
+      counted = length-append g.lines (line ∷ []) ∙ ap (λ k. k + 1) g.counted;
+      enough = omega (arith, g.enough, length-append g.given (line ++ 10 ∷ []), length-append line (10 ∷ []));
+      answers = g.answers ++ answer ∷ [];
+      obeyed = more;
+      wrote = wrote_more out_new wrote;
+      start = start ∙ g.start;
+    }
+
+    -- the lines with it, where it is the last one and no line feed ended it
+    all_lines : IsOneLine line → line ≢ [] → lines_of (g.given ++ (line ++ [])) ≡ g.lines ++ line ∷ []
+    all_lines is_one some =
+        ap (λ t. lines_of (g.given ++ t)) (append-nil line) ∙ (g.splits.all line ∙ ap (λ ls. g.lines ++ ls) (lines-last line is_one some))
+
+    -- the last line was reported
+    pub ran_to_last : (in_new out_new : Option (List ℕ)) (in_failed' out_failed' : Bool) → IsOneLine line → line ≢ [] → IsAtEnd in_new → Consumes d.input.after in_new (line ++ [])
+        → Appends d.output.after out_new (text_of answer) → in_failed' ≡ false → out_failed' ≡ false
+        → RanToEnd before (book_state after) (journal (session_of after)) (now_at in_new in_failed' out_new out_failed') (n + 1)
+    ran_to_last in_new out_new in_failed' out_failed' is_one some ended took wrote in_works out_works =
+        let all = all_lines is_one some in
+        record {
+          in_works = in_works;
+          out_works = out_works;
+          given = g.given ++ (line ++ []);
+          took = Consumes-join d.input.before d.input.after in_new g.given (line ++ []) g.took took;
+          ended = ended;
+          counted = ap length all ∙ (length-append g.lines (line ∷ []) ∙ ap (λ k. k + 1) g.counted);
+          answers = g.answers ++ answer ∷ [];
+          obeyed = subst (λ ls. AreObeyedLines before ls (g.answers ++ answer ∷ []) (book_state after) (journal (session_of after))) (sym all) with_line;
+          wrote = wrote_more out_new wrote;
+        }
+
+    -- the writer failed at its answer
+    stopped : (given : List ℕ) (in_new out_new : Option (List ℕ)) (in_failed' out_failed' : Bool) → Consumes d.input.before in_new given → lines_of given ≡ g.lines ++ line ∷ []
+        → (ended_lines_of given ≡ lines_of given) ⊎ IsAtEnd in_new → TakesBeginning d.output.after out_new (text_of answer) → in_failed' ≡ false → out_failed' ≡ true
+        → StoppedAtWrite before (book_state after) (journal (session_of after)) (now_at in_new in_failed' out_new out_failed')
+    stopped given in_new out_new in_failed' out_failed' took all whole wrote in_works fails = record {
+      in_works = in_works;
+      out_failed = fails;
+      given = given;
+      took = took;
+      whole = whole;
+      answers = g.answers;
+      last = answer;
+      obeyed = subst (λ ls. AreObeyedLines before ls (g.answers ++ answer ∷ []) (book_state after) (journal (session_of after))) (sym all) with_line;
+      part = wrote.part;
+      begins = wrote.begins;
+      wrote = Appends-join d.output.before d.output.after out_new (report_of g.answers) wrote.part g.wrote wrote.took;
+    }
+
+    -- where a line feed ended the line
+    pub stopped_at_write : (in_new out_new : Option (List ℕ)) (in_failed' out_failed' : Bool) → IsOneLine line → Consumes d.input.after in_new (line ++ 10 ∷ [])
+        → TakesBeginning d.output.after out_new (text_of answer) → in_failed' ≡ false → out_failed' ≡ true
+        → StoppedAtWrite before (book_state after) (journal (session_of after)) (now_at in_new in_failed' out_new out_failed')
+    stopped_at_write in_new out_new in_failed' out_failed' is_one took wrote in_works fails =
+        let given = g.given ++ (line ++ 10 ∷ []) in
+        let splits = Splits-line g.given g.lines line g.splits is_one in
+        let all = lines-whole given (g.lines ++ line ∷ []) splits in
+        stopped given in_new out_new in_failed' out_failed' (Consumes-join d.input.before d.input.after in_new g.given (line ++ 10 ∷ []) g.took took) all
+        (inl (ended-whole given (g.lines ++ line ∷ []) splits ∙ sym all)) wrote in_works fails
+
+    -- where it is the last one
+    pub stopped_at_last_write : (in_new out_new : Option (List ℕ)) (in_failed' out_failed' : Bool) → IsOneLine line → line ≢ [] → IsAtEnd in_new → Consumes d.input.after in_new (line ++ [])
+        → TakesBeginning d.output.after out_new (text_of answer) → in_failed' ≡ false → out_failed' ≡ true
+        → StoppedAtWrite before (book_state after) (journal (session_of after)) (now_at in_new in_failed' out_new out_failed')
+    stopped_at_last_write in_new out_new in_failed' out_failed' is_one some ended took wrote in_works fails =
+        stopped (g.given ++ (line ++ [])) in_new out_new in_failed' out_failed' (Consumes-join d.input.before d.input.after in_new g.given (line ++ []) g.took took)
+        (all_lines is_one some) (inr ended) wrote in_works fails
 
 -- a script that ended by a fault, of which the result tells
-pub RunsScript-at_fault : (before after : BookState) (d : Devices) (fault : ScriptFault) (r : Result ℕ ScriptFault) → IsErrAnd r (λ e. e ≡ fault) → RunsScript before after d (Err fault) → RunsScript before after d r
-RunsScript-at_fault before after d fault r is runs = subst (λ x. RunsScript before after d x) (sym (Err-from_error fault r is)) runs
+pub RunsScript-at_fault : (before after : BookState) (kept : Journal) (d : Devices) (fault : ScriptFault) (r : Result ℕ ScriptFault) → IsErrAnd r (λ e. e ≡ fault) → RunsScript before after kept d (Err fault) → RunsScript before after kept d r
+RunsScript-at_fault before after kept d fault r is runs = subst (λ x. RunsScript before after kept d x) (sym (Err-from_error fault r is)) runs

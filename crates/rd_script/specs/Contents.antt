@@ -48,4 +48,4 @@ content_words (content.Cell c) = cell_words c
 content_words (content.Val val) = value_words val
 content_words (content.Idx safe idx) = index_words safe idx
 content_words content.Whole = codes "exists"
-content_words (content.Slot slot) = slot_words slot
+content_words (content.Slot held) = slot_words held

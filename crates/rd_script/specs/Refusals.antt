@@ -44,7 +44,7 @@ refusal_data _ = []
 
 -- the words of a refusal: its number, its name, and its data
 abbrev pub refusal_words : Refusal → List ℕ
-refusal_words refusal = refusal_name refusal ++ refusal_data refusal
+refusal_words cause = refusal_name cause ++ refusal_data cause
 
 -- the number and the name of the fault of a line
 abbrev pub fault_name : LineFault → List ℕ
@@ -72,9 +72,9 @@ busy_words next served = codes " next" ++ spaced_number next ++ codes " served" 
 
 -- the words of any refusal: its number, its name and its data
 abbrev pub any_words : AnyRefusal → List ℕ
-any_words (Refused refusal) = refusal_words refusal
-any_words (Unread fault) = fault_name fault
-any_words (Stopped fault) = stop_name fault
+any_words (Refused cause) = refusal_words cause
+any_words (Unread cause) = fault_name cause
+any_words (Stopped cause) = stop_name cause
 any_words (Flawed flaw) = codes "26 Flaw" ++ spaced_number (flaw_number flaw)
 any_words HistoryFull = codes "21 HistoryFull"
 any_words BadTrace = codes "27 BadTrace"

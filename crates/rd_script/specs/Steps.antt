@@ -18,7 +18,7 @@ step_place o = option_map_or place_words o (codes "-")
 
 -- the word for how a step touched its place, if it has one
 abbrev pub access_word : Option Place → Wrote → List ℕ
-access_word None written = codes "none"
+access_word None _ = codes "none"
 access_word (Some place) wrote.Nothing = codes "read"
 access_word (Some place) wrote.Place = codes "wrote"
 access_word (Some place) wrote.Index = codes "wrote index"

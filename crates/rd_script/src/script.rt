@@ -1,16 +1,21 @@
 //! A script: each line is read, obeyed and answered before the next one is read.
 
-ghost use Rattle.std.specs.Prelude.{◌≡◌, ℕ, List, Result, true, false, OnOk, OnErr};
+ghost use Rattle.std.specs.Prelude.{◌≡◌, ℕ, List, Result, true, false, OnOk, OnErr, IfErr};
+ghost use Rattle.std.specs.Result.{ForErr};
 ghost use Rattle.std.specs.Io.KnownBytes.{Appends};
 ghost use Rattle.rd_cell.specs.declared.refusal.Refusal.{Refusal};
+ghost use Rattle.rd_journal.specs.Sessions.{journal, MayRefuse};
+ghost use Rattle.rd_marks.specs.declared.commands.Command.{Command as SomeCommand};
 ghost use Rattle.rd_marks.specs.declared.replies.Reply.{Reply};
-ghost use Rattle.rd_marks.specs.Book.{book_state};
+ghost use Rattle.rd_marks.specs.Book.{book_state, session_of, MayRefuseAsGoing};
 ghost use Rattle.rd_marks.specs.Commands.{Happened, IsObeyed};
 ghost use Rattle.rd_script.specs.Device.{TakesBeginning};
 ghost use Rattle.rd_script.specs.Streams.{devices};
 ghost use Rattle.rd_script.specs.Lines.{Holds};
-ghost use Rattle.rd_script.specs.Replies.{text_of};
-ghost use Rattle.rd_script.specs.Answers.{LineAnswered, AnswersLine, line_answer};
+ghost use Rattle.rd_script.specs.declared.faults.LineFault.{LineFault};
+ghost use Rattle.rd_script.specs.Spelling.{Says};
+ghost use Rattle.rd_script.specs.Replies.{LineAnswer as SomeAnswer, text_of};
+ghost use Rattle.rd_script.specs.Answers.{AnswersSaid, line_answer};
 ghost use Rattle.rd_script.specs.Script.{WritesAnswer, RunsScript};
 
 use super::answers::{AnyRefusal, LineAnswer};
@@ -26,6 +31,9 @@ use rd_step::Event;
 /// Runs a script over a book: reads its lines to the end, obeys each when it is complete and writes
 /// its answer at once. Returns the number of lines.
 ///
+/// This is where the headline is promised of the program: the clause `runs` has it, at the end and
+/// at each fault, of the commands that the lines spell and of their answers.
+///
 /// # Errors
 ///
 /// `Read` if the reader failed, or gave 2^64 - 1 bytes without an end; the whole lines that it gave
@@ -38,7 +46,7 @@ pub fn run<S: Source, K: Sink, const R: usize>(
 ) -> Result<u64, ScriptFault>
     requires reader_works { S.has_failed reader.old ≡ false }
     requires writer_works { K.has_failed writer.old ≡ false }
-    ensures runs { RunsScript (book_state book.old) (book_state book.new)
+    ensures runs { RunsScript (book_state book.old) (book_state book.new) (journal (session_of book.new))
         (devices S.Source K.Sink reader.old reader.new writer.old writer.new) result }
     ensures start { (book_state book.new).session.start ≡ (book_state book.old).session.start }
 {
@@ -65,9 +73,10 @@ fn do_line<K: Sink, const R: usize>(
     writer: &mut K,
 ) -> Result<(), WriteFault>
     requires { K.has_failed writer.old ≡ false }
-    ensures does { (text : List ℕ) → Holds line.now text → (answered : LineAnswered)
-        × AnswersLine (book_state book.old) text answered × (answered.state ≡ book_state book.new)
-        × WritesAnswer (K.contents writer.old) (K.contents writer.new) answered.answer result }
+    ensures does { (text : List ℕ) → Holds line.now text
+        → (said : Result SomeCommand LineFault) × (answer : SomeAnswer) × Says text said
+        × AnswersSaid (book_state book.old) said answer (book_state book.new)
+        × WritesAnswer (K.contents writer.old) (K.contents writer.new) answer result }
     ensures start { (book_state book.new).session.start ≡ (book_state book.old).session.start }
     ensures works { OnOk result (K.has_failed writer.new ≡ false) }
     ensures fails { OnErr result (K.has_failed writer.new ≡ true) }
@@ -78,9 +87,10 @@ fn do_line<K: Sink, const R: usize>(
 
 /// Obeys a line, and makes the text the line of its answer.
 fn answer_line<const R: usize>(book: &mut Book<R>, line: &Line, text: &mut Text)
-    ensures answers { (said : List ℕ) → Holds line.now said → (answered : LineAnswered)
-        × AnswersLine (book_state book.old) said answered × (answered.state ≡ book_state book.new)
-        × (text.new.items ≡ text_of answered.answer) }
+    ensures answers { (bytes : List ℕ) → Holds line.now bytes
+        → (said : Result SomeCommand LineFault) × (answer : SomeAnswer) × Says bytes said
+        × AnswersSaid (book_state book.old) said answer (book_state book.new)
+        × (text.new.items ≡ text_of answer) }
     ensures start { (book_state book.new).session.start ≡ (book_state book.old).session.start }
 {
     match line.command() {
@@ -95,6 +105,7 @@ fn answer_line<const R: usize>(book: &mut Book<R>, line: &Line, text: &mut Text)
 /// Makes an event happen, and makes the text the line of its answer.
 fn answer_event<const R: usize>(book: &mut Book<R>, event: Event, text: &mut Text)
     ensures answers { (answer : Result Reply Refusal) × Happened (book_state book.old) event (record { answer = answer; state = book_state book.new })
+        × IfErr answer (MayRefuse (session_of book.old) event)
         × (text.new.items ≡ text_of (line_answer answer)) }
     ensures start { (book_state book.new).session.start ≡ (book_state book.old).session.start }
 {
@@ -107,6 +118,7 @@ fn answer_event<const R: usize>(book: &mut Book<R>, event: Event, text: &mut Tex
 /// Obeys a command, and makes the text the line of its answer.
 fn answer_command<const R: usize>(book: &mut Book<R>, command: Command, text: &mut Text)
     ensures answers { (answer : Result Reply Refusal) × IsObeyed (book_state book.old) command (record { answer = answer; state = book_state book.new })
+        × ForErr answer (MayRefuseAsGoing book.old command)
         × (text.new.items ≡ text_of (line_answer answer)) }
     ensures start { (book_state book.new).session.start ≡ (book_state book.old).session.start }
 {

@@ -1,7 +1,7 @@
 -- Whole sessions as values.
 use Rattle.std.proofs.Common.{◌≡◌, ℕ, suc, ◌+◌, ◌<◌, ◌≤◌, List, [], ◌∷◌, ◌++◌, length, take, get_or, Some, None, Result, Ok, Err, IsOk, inl, inr, refl, sym, ap, ◌∙◌, subst, arith, length-append}
 use Rattle.rd_trace.proofs.Prelude.{length-map, map-append, take_more, get_or-map, same_Some, Data, Refusal, run, MOST_STEPS, Ran, run_entries, Entry, Event, state_of, numbered, BookState, GoThrough, Reads, Gives, SpellEach, items_by, event_of, event_data, SpellsWorld, AreMarks, mark_data, member_count, Trace, IsFirstTrace, IsSecondTrace, IsEither, loaded_state, saved_trace, book_data, FormFault, start_flaw}
-use Rattle.rd_journal.specs.Journal.{Journal, IsRun, start_of, events}
+use Rattle.rd_journal.specs.Journal.{Journal, IsRun, events}
 use Rattle.rd_journal.proofs.Walks.{whole_run}
 use Rattle.rd_trace.proofs.SpellLemmas.{take_got, some_got}
 use Rattle.rd_trace.specs.declared.saved.SavedSession.{SavedSession}
@@ -42,8 +42,8 @@ goes_through j runs few =
     record {
       few = omega (arith, few, length-append (events j.live) (events j.undone), length-map j.live (λ (x : Entry). x.event), length-map j.undone (λ (x : Entry). x.event));
       runs =
-          subst (λ (es : List Event). IsOk (run (start_of j) es)) joined
-          (went (run (start_of j) (events (j.live ++ j.undone))) (j.live ++ j.undone) (whole_run j runs));
+          subst (λ (es : List Event). IsOk (run j.start es)) joined
+          (went (run j.start (events (j.live ++ j.undone))) (j.live ++ j.undone) (whole_run j runs));
     }
 
 -- a value is a trace of version 2 of this state, whose start has no flaw

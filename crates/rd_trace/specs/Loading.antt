@@ -3,7 +3,9 @@ use Rattle.std.specs.Prelude.{◌≡◌, ◌⊎◌, ◌+◌, ℕ, List, [], ◌�
 use Rattle.std.specs.Option.{option_or}
 use Rattle.rd_step.specs.Prelude.{World}
 use Rattle.rd_marks.specs.BookState.{Mark, BookState}
-use Rattle.rd_marks.specs.Book.{book_state}
+use Rattle.rd_journal.specs.Journal.{Journal}
+use Rattle.rd_journal.specs.Sessions.{journal}
+use Rattle.rd_marks.specs.Book.{book_state, session_of}
 use Rattle.rd_trace.specs.declared.any_book.AnyBook.{AnyBook}
 use Rattle.rd_trace.specs.declared.any_book.AnyBook.TheVariants.{Two, Four, Eight}
 use Rattle.rd_trace.specs.declared.faults.LoadTraceFault.{LoadTraceFault}
@@ -20,6 +22,12 @@ abbrev pub any_state : AnyBook → BookState
 any_state (Two book) = book_state book
 any_state (Four book) = book_state book
 any_state (Eight book) = book_state book
+
+-- what a book keeps
+abbrev pub any_journal : AnyBook → Journal
+any_journal (Two book) = journal (session_of book)
+any_journal (Four book) = journal (session_of book)
+any_journal (Eight book) = journal (session_of book)
 
 -- the fault of loading where a value is not read
 abbrev pub form_fault : FormFault → LoadTraceFault

@@ -5,7 +5,7 @@ ghost use Rattle.rd_step.specs.Prelude.{MOST_ACTORS, MOST_CELLS};
 ghost use Rattle.rd_script.specs.Script.{RunsScript};
 ghost use Rattle.rd_marks.specs.Book.{book_state};
 ghost use Rattle.rd_trace.specs.Traces.{ring_length};
-ghost use Rattle.rd_trace.specs.Loading.{any_state, fresh_state, IsBookIn};
+ghost use Rattle.rd_trace.specs.Loading.{any_journal, any_state, fresh_state, IsBookIn};
 ghost use Rattle.rd_trace.specs.Writing.{WritesTrace, is_write_fault};
 ghost use Rattle.rd_script.specs.Streams.{devices};
 
@@ -56,7 +56,7 @@ impl AnyBook {
     ) -> Result<u64, ScriptFault>
         requires reader_works { S.has_failed reader.old ≡ false }
         requires writer_works { K.has_failed writer.old ≡ false }
-        ensures runs { RunsScript (any_state self.old) (any_state self.new)
+        ensures runs { RunsScript (any_state self.old) (any_state self.new) (any_journal self.new)
             (devices S.Source K.Sink reader.old reader.new writer.old writer.new) result }
         ensures start { (any_state self.new).session.start ≡ (any_state self.old).session.start }
     {

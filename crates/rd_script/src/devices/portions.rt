@@ -1,12 +1,13 @@
 //! Bytes that were read from a reader in one call and are given one at a time.
 
-ghost use Rattle.std.specs.Prelude.{◌≡◌, ◌≤◌, ◌<◌, ◌↔◌, [], Some, IsTrue, length, take, IfOk, OnOk, OnErr};
+ghost use Rattle.std.specs.Prelude.{◌≡◌, ◌≢◌, ◌≤◌, ◌<◌, ◌↔◌, [], Some, IsTrue, length, take, IfOk, IfErr, OnOk, OnErr};
+ghost use Rattle.std.specs.IoError.{error_kind};
 ghost use Rattle.std.specs.Io.KnownBytes.{Keeps, Consumes, IsAtEnd};
 ghost use Rattle.rd_script.specs.Device.{GivesByte};
 ghost use Rattle.rd_script.specs.declared.devices.portions.TheConstants.{MOST_PORTION_BYTES};
 
 use super::sources::ReadFault;
-use std::io::{ErrorKind, Read};
+use std::io::{self, ErrorKind, Read};
 
 /// How many bytes a reader is asked for at once.
 pub const MOST_PORTION_BYTES: usize = 4096;
@@ -64,27 +65,33 @@ impl Portion {
     {
         self.given = 0;
         self.filled = 0;
-        self.filled = read_some(reader, &mut self.bytes)?;
-        Ok(())
+        match read_some(reader, &mut self.bytes) {
+            Ok(count) => {
+                self.filled = count;
+                Ok(())
+            }
+            Err(_) => Err(ReadFault),
+        }
     }
 }
 
 /// Reads the next bytes of a reader, none only at its end, and returns how many they are. A read
-/// that a signal interrupts is made again, up to 2^64 - 1 times.
-fn read_some<R: Read>(reader: &mut R, bytes: &mut [u8]) -> Result<usize, ReadFault>
+/// that a signal interrupts is made again, up to 2^64 - 1 times, and is no fault.
+fn read_some<R: Read>(reader: &mut R, bytes: &mut [u8]) -> io::Result<usize>
     requires room { 0 < length bytes.old }
     ensures len { length bytes.new ≡ length bytes.old }
     ensures count { IfOk result (λ n. n ≤ length bytes.new) }
     ensures ok { IfOk result (λ n. Consumes (R.remaining reader.old) (R.remaining reader.new) (take n bytes.new)) }
     ensures end { IfOk result (λ n. n ≡ 0 → IsAtEnd (R.remaining reader.new)) }
     ensures err { OnErr result (Keeps (R.remaining reader.old) (R.remaining reader.new)) }
+    ensures retried { IfErr result (λ error. error_kind error ≢ ErrorKind.Interrupted) }
 {
     for _ in 0..u64::MAX {
         match reader.read(bytes) {
             Ok(count) => return Ok(count),
             Err(error) if error.kind() == ErrorKind::Interrupted => {}
-            Err(_) => return Err(ReadFault),
+            Err(error) => return Err(error),
         }
     }
-    Err(ReadFault)
+    Err(io::Error::from(ErrorKind::Other))
 }

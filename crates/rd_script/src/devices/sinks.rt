@@ -1,10 +1,11 @@
 //! Sinks: what takes the bytes of a report.
 
-ghost use Rattle.std.specs.Prelude.{◌≡◌, ◌<◌, ◌≤◌, ℕ, Bool, true, false, List, Option, IfOk, OnOk, OnErr, length, take};
+ghost use Rattle.std.specs.Prelude.{◌≡◌, ◌≢◌, ◌<◌, ◌≤◌, ℕ, Bool, true, false, List, Option, IfOk, IfErr, OnOk, OnErr, length, take};
+ghost use Rattle.std.specs.IoError.{error_kind};
 ghost use Rattle.std.specs.Io.KnownBytes.{Keeps, Appends};
 ghost use Rattle.rd_script.specs.Device.{TakesBeginning};
 
-use std::io::{ErrorKind, Write};
+use std::io::{self, ErrorKind, Write};
 
 /// A sink failed, or took nothing.
 #[derive(Clone, Copy, Debug, PartialEq, Eq)]
@@ -75,25 +76,30 @@ impl<W: Write> Sink for WriteSink<W> {
     fn take(&mut self, given: &[u8]) -> Result<usize, WriteFault> {
         let taken = write_some(&mut self.inner, given);
         self.failed = taken.is_err();
-        taken
+        match taken {
+            Ok(count) => Ok(count),
+            Err(_) => Err(WriteFault),
+        }
     }
 }
 
 /// Calls the writer once with the bytes, and returns how many of the first ones it took. To take
-/// none is a fault. A write that a signal interrupts is made again, up to 2^64 - 1 times.
-fn write_some<W: Write>(writer: &mut W, given: &[u8]) -> Result<usize, WriteFault>
+/// none is a fault. A write that a signal interrupts is made again, up to 2^64 - 1 times, and is no
+/// fault.
+fn write_some<W: Write>(writer: &mut W, given: &[u8]) -> io::Result<usize>
     requires some { 0 < length given.now }
     ensures count { IfOk result (λ n. (0 < n) × (n ≤ length given.now)) }
     ensures ok { IfOk result (λ n. Appends (W.contents writer.old) (W.contents writer.new) (take n given.now)) }
     ensures err { OnErr result (Keeps (W.contents writer.old) (W.contents writer.new)) }
+    ensures retried { IfErr result (λ error. error_kind error ≢ ErrorKind.Interrupted) }
 {
     for _ in 0..u64::MAX {
         match writer.write(given) {
-            Ok(0) => return Err(WriteFault),
+            Ok(0) => return Err(io::Error::from(ErrorKind::WriteZero)),
             Ok(count) => return Ok(count),
             Err(error) if error.kind() == ErrorKind::Interrupted => {}
-            Err(_) => return Err(WriteFault),
+            Err(error) => return Err(error),
         }
     }
-    Err(WriteFault)
+    Err(io::Error::from(ErrorKind::Other))
 }

@@ -1,6 +1,6 @@
 use Rattle.std.proofs.KnownBytes.{Keeps-refl}
 use Rattle.rd_script.specs.Streams.{devices}
-use Rattle.rd_trace.specs.Loading.{any_state}
+use Rattle.rd_trace.specs.Loading.{any_journal, any_state}
 use Rattle.rd_program.specs.declared.faults.ProgramFault.TheVariants.{Script, Load}
 use Rattle.rd_program.specs.Program.{ResumesTrace}
 use Rattle.rd_program.proofs.ProgramLemmas.{fault_passed_up}
@@ -21,8 +21,8 @@ returns-in_err-lines g c =
     let d = devices g.S.Source g.K.Sink c.args.reader.now c.run.new.reader c.args.writer.now c.run.new.writer in
     record {
       resumes = fault_passed_up (λ r. ResumesTrace c.args.text.now d r) (Script c.in_err-lines.field-0.0) c.from_residual-in_err-lines.result c.from_residual-in_err-lines.ensures.1
-          (record { book = c.in_ok-book.book; loads = c.in_ok-book.ensures.loads; runs = (any_state c.run.new.self, c.in_err-lines.ensures.runs) });
+          (record { book = c.in_ok-book.book; loads = c.in_ok-book.ensures.loads; runs = (any_state c.run.new.self, any_journal c.run.new.self, c.in_err-lines.ensures.runs) });
     }
 
 pub returns : goal.returns
-returns g c = record { resumes = record { book = c.in_ok-book.book; loads = c.in_ok-book.ensures.loads; runs = (any_state c.run.new.self, c.in_ok-lines.ensures.runs) } }
+returns g c = record { resumes = record { book = c.in_ok-book.book; loads = c.in_ok-book.ensures.loads; runs = (any_state c.run.new.self, any_journal c.run.new.self, c.in_ok-lines.ensures.runs) } }

@@ -1,5 +1,5 @@
 use Rattle.std.proofs.Common.{Ok, subst, arith, ◌∙◌}
-use Rattle.rd_script.proofs.Prelude.{book_state, ReadsNext}
+use Rattle.rd_script.proofs.Prelude.{ReadsNext}
 use Rattle.rd_script.specs.declared.faults.ScriptFault.TheVariants.{Read, Write}
 use Rattle.rd_script.proofs.ScriptLemmas.{starts, ran_to_end, stopped_at_read, stopped_endless, goes_on, ran_to_last, RunsScript-at_fault, stopped_at_write, stopped_at_last_write}
 use Rattle.rd_script.proofs.script.run.Goals as goal
@@ -10,9 +10,9 @@ loop-done-init g c = grind (arith, starts)
 pub returns-in_err-next_line : goal.returns-in_err-next_line
 returns-in_err-next_line g c =
     let stopped =
-    stopped_at_read _ _ _ _ c.loop-done.invariant
+    stopped_at_read _ c.loop-done.book _ _ c.loop-done.invariant
     (g.S.Source.bytes c.next_line.new.reader) (g.S.Source.has_failed c.next_line.new.reader) c.in_err-next_line.ensures.reads in
-    record { runs = RunsScript-at_fault _ _ _ Read c.from_residual.result c.from_residual.ensures.1 stopped; start = c.loop-done.invariant.start }
+    record { runs = RunsScript-at_fault _ _ _ _ Read c.from_residual.result c.from_residual.ensures.1 stopped; start = c.loop-done.invariant.start }
 
 pub returns-in-End : goal.returns-in-End
 returns-in-End g c =
@@ -20,10 +20,10 @@ returns-in-End g c =
     let old = g.S.Source.bytes c.loop-done.reader in
     let new = g.S.Source.bytes c.next_line.new.reader in
     let read = subst (λ r. ReadsNext old new failed c.next_line.new.line (Ok r)) c.in-End.is c.in_ok-next_line.ensures.reads in
-    record { runs = ran_to_end _ _ _ _ c.loop-done.invariant new failed read.0 read.1 c.in_ok-next_line.ensures.works; start = c.loop-done.invariant.start }
+    record { runs = ran_to_end _ c.loop-done.book _ _ c.loop-done.invariant new failed read.0 read.1 c.in_ok-next_line.ensures.works; start = c.loop-done.invariant.start }
 
 pub returns : goal.returns
-returns g c = record { runs = stopped_endless _ _ _ _ c.loop-done.invariant (omega arith); start = c.loop-done.invariant.start }
+returns g c = record { runs = stopped_endless _ c.loop-done.book _ _ c.loop-done.invariant (omega arith); start = c.loop-done.invariant.start }
 
 pub loop-done-preserved : goal.loop-done-preserved
 loop-done-preserved g c =
@@ -32,10 +32,9 @@ loop-done-preserved g c =
     let new = g.S.Source.bytes c.next_line.new.reader in
     let read = subst (λ r. ReadsNext old new failed c.next_line.new.line (Ok r)) c.in-Ended.is c.in_ok-next_line.ensures.reads in
     let did = c.in_ok-do_line-in-Ended.ensures.does read.text read.held in
-    goes_on _ _ _ _ c.loop-done.invariant new (g.K.Sink.contents c.do_line-in-Ended.new.writer)
-    failed (g.K.Sink.has_failed c.do_line-in-Ended.new.writer) c.next_line.new.line read did.0 did.1
-    (book_state c.do_line-in-Ended.new.book)
-    did.2 did.3 c.in_ok-next_line.ensures.works c.in_ok-do_line-in-Ended.ensures.works c.in_ok-do_line-in-Ended.ensures.start
+    goes_on _ c.loop-done.book _ _ c.loop-done.invariant read.text did.0 did.1 did.2 c.do_line-in-Ended.new.book did.3 c.in_ok-do_line-in-Ended.ensures.start
+    new (g.K.Sink.contents c.do_line-in-Ended.new.writer) failed (g.K.Sink.has_failed c.do_line-in-Ended.new.writer) read.is_one read.took did.4
+    c.in_ok-next_line.ensures.works c.in_ok-do_line-in-Ended.ensures.works
 
 pub returns-in-Last : goal.returns-in-Last
 returns-in-Last g c =
@@ -45,9 +44,10 @@ returns-in-Last g c =
     let last = subst (λ r. ReadsNext old new failed c.next_line.new.line (Ok r)) c.in-Last.is c.in_ok-next_line.ensures.reads in
     let did = c.in_ok-do_line-in-Last.ensures.does last.read.text last.read.held in
     record {
-      runs = ran_to_last _ _ _ _ c.loop-done.invariant new (g.K.Sink.contents c.do_line.new.writer)
-          failed (g.K.Sink.has_failed c.do_line.new.writer) c.next_line.new.line last did.0 did.1
-          (book_state c.do_line.new.book) did.2 did.3 c.in_ok-next_line.ensures.works c.in_ok-do_line-in-Last.ensures.works;
+      runs =
+          ran_to_last _ c.loop-done.book _ _ c.loop-done.invariant last.read.text did.0 did.1 did.2 c.do_line.new.book did.3 c.in_ok-do_line-in-Last.ensures.start
+          new (g.K.Sink.contents c.do_line.new.writer) failed (g.K.Sink.has_failed c.do_line.new.writer) last.read.is_one last.some last.ended last.read.took did.4
+          c.in_ok-next_line.ensures.works c.in_ok-do_line-in-Last.ensures.works;
       start = c.in_ok-do_line-in-Last.ensures.start ∙ c.loop-done.invariant.start;
     }
 
@@ -59,10 +59,10 @@ returns-in_err-do_line-in-Last g c =
     let last = subst (λ r. ReadsNext old new failed c.next_line.new.line (Ok r)) c.in-Last.is c.in_ok-next_line.ensures.reads in
     let did = c.in_err-do_line-in-Last.ensures.does last.read.text last.read.held in
     let stopped =
-    stopped_at_last_write _ _ _ _ c.loop-done.invariant new (g.K.Sink.contents c.do_line.new.writer)
-    failed (g.K.Sink.has_failed c.do_line.new.writer) c.next_line.new.line last did.0 did.1
-    (book_state c.do_line.new.book) did.2 did.3 c.in_ok-next_line.ensures.works c.in_err-do_line-in-Last.ensures.fails in
-    record { runs = RunsScript-at_fault _ _ _ Write c.from_residual-in_err-do_line-in-Last.result c.from_residual-in_err-do_line-in-Last.ensures.1 stopped; start = c.in_err-do_line-in-Last.ensures.start ∙ c.loop-done.invariant.start }
+    stopped_at_last_write _ c.loop-done.book _ _ c.loop-done.invariant last.read.text did.0 did.1 did.2 c.do_line.new.book did.3 c.in_err-do_line-in-Last.ensures.start
+    new (g.K.Sink.contents c.do_line.new.writer) failed (g.K.Sink.has_failed c.do_line.new.writer) last.read.is_one last.some last.ended last.read.took did.4
+    c.in_ok-next_line.ensures.works c.in_err-do_line-in-Last.ensures.fails in
+    record { runs = RunsScript-at_fault _ _ _ _ Write c.from_residual-in_err-do_line-in-Last.result c.from_residual-in_err-do_line-in-Last.ensures.1 stopped; start = c.in_err-do_line-in-Last.ensures.start ∙ c.loop-done.invariant.start }
 
 pub returns-in_err-do_line-in-Ended : goal.returns-in_err-do_line-in-Ended
 returns-in_err-do_line-in-Ended g c =
@@ -72,7 +72,7 @@ returns-in_err-do_line-in-Ended g c =
     let read = subst (λ r. ReadsNext old new failed c.next_line.new.line (Ok r)) c.in-Ended.is c.in_ok-next_line.ensures.reads in
     let did = c.in_err-do_line-in-Ended.ensures.does read.text read.held in
     let stopped =
-    stopped_at_write _ _ _ _ c.loop-done.invariant new (g.K.Sink.contents c.do_line-in-Ended.new.writer)
-    failed (g.K.Sink.has_failed c.do_line-in-Ended.new.writer) c.next_line.new.line read did.0 did.1
-    (book_state c.do_line-in-Ended.new.book) did.2 did.3 c.in_ok-next_line.ensures.works c.in_err-do_line-in-Ended.ensures.fails in
-    record { runs = RunsScript-at_fault _ _ _ Write c.from_residual-in_err-do_line-in-Ended.result c.from_residual-in_err-do_line-in-Ended.ensures.1 stopped; start = c.in_err-do_line-in-Ended.ensures.start ∙ c.loop-done.invariant.start }
+    stopped_at_write _ c.loop-done.book _ _ c.loop-done.invariant read.text did.0 did.1 did.2 c.do_line-in-Ended.new.book did.3 c.in_err-do_line-in-Ended.ensures.start
+    new (g.K.Sink.contents c.do_line-in-Ended.new.writer) failed (g.K.Sink.has_failed c.do_line-in-Ended.new.writer) read.is_one read.took did.4
+    c.in_ok-next_line.ensures.works c.in_err-do_line-in-Ended.ensures.fails in
+    record { runs = RunsScript-at_fault _ _ _ _ Write c.from_residual-in_err-do_line-in-Ended.result c.from_residual-in_err-do_line-in-Ended.ensures.1 stopped; start = c.in_err-do_line-in-Ended.ensures.start ∙ c.loop-done.invariant.start }

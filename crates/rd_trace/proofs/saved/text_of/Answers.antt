@@ -1,8 +1,6 @@
 use Rattle.std.proofs.Common.{decimal, string_bytes, sym, ap, ◌∙◌, ◌++◌, ◌<◌, ◌^◌, subst, arith}
 use Rattle.rd_trace.proofs.Prelude.{state, State, book_state, BookState, KeepsRules, items_by, event_data, mark_data, IsTextOf}
-use Rattle.rd_step.specs.CodeWorld.{model}
-use Rattle.rd_journal.specs.Sessions.{journal}
-use Rattle.rd_journal.proofs.Runs.{world_before-ring}
+use Rattle.rd_journal.proofs.Calls.{opened_ring}
 use Rattle.rd_trace.proofs.TextLemmas.{whole_text, put_together}
 use Rattle.rd_trace.proofs.WriteLemmas.{text_of_book}
 use Rattle.rd_trace.proofs.saved.text_of.Goals as goal
@@ -12,7 +10,7 @@ returns g c = λ utf8.
     let ms = (book_state c.args.book.now).marks in
     let session = c.session-session.result.now in
     let s = state session in
-    let ring = world_before-ring (model session.world) (journal session).live in
+    let ring = opened_ring session.opened in
     let of : State → BookState = λ x. record { session = x; marks = ms } in
     let same = c.session-session.ensures.state in
     let start = c.in_ok-put_start.ensures in
