@@ -1,24 +1,44 @@
 -- One more call of a history.
-use Rattle.rd_desk.proofs.Prelude.{BookState, Call, Command, IsCapacity, IsLeftBy, IsLegal, IsObeyed, Leaves, Refusal, Reply, viewer_entry, ∥∥₁_map}
+use Rattle.rd_desk.proofs.Prelude.{BookState, Call, Command, IsCapacity, IsLeftBy, IsLegal, IsObeyed, Refusal, book_state, Reply, viewer_entry, ∥∥₁_map}
+use Rattle.rd_journal.specs.Sessions.{journal}
+use Rattle.rd_marks.specs.Book.{session_of}
+use Rattle.rd_marks.specs.Commands.{AreObeyed}
+use Rattle.rd_marks.specs.declared.books.Book.{Book}
+use Rattle.rd_marks.proofs.Headlines.{book_runs}
 use Rattle.std.proofs.lemmas.Nat.{pow_pos}
-use Rattle.std.proofs.Common.{◌≡◌, ◌+◌, ◌*◌, ◌^◌, ◌⊎◌, inl, inr, max, suc, arith, Ok, Err, OnOk, OnErr, ℕ, List, [], ◌∷◌, ◌++◌, refl, sym, subst, Result}
+use Rattle.std.proofs.Common.{◌≡◌, ◌+◌, ◌*◌, ◌^◌, ◌⊎◌, inl, inr, max, suc, arith, Ok, Err, OnOk, OnErr, ℕ, List, [], ◌∷◌, ◌++◌, refl, sym, ap, map, ◌∙◌, subst, Result}
 
-pub one_more : (viewer : ℕ) (b m t : BookState) (es : List (ℕ × Call)) (c : Command) (answer : Result Reply Refusal)
-    → Leaves b es m → IsObeyed m c (record { answer = answer; state = t }) → Leaves b (es ++ viewer_entry viewer c answer ∷ []) t
+-- the commands of these entries are answered as they record, one after another
+abbrev Obeys : BookState → List (ℕ × Call) → BookState → Type 0
+Obeys b es last = AreObeyed b (map (λ e. e.1.command) es) (map (λ e. e.1.answer) es) last
+
+one_more : (viewer : ℕ) (b m t : BookState) (es : List (ℕ × Call)) (c : Command) (answer : Result Reply Refusal)
+    → Obeys b es m → IsObeyed m c (record { answer = answer; state = t }) → Obeys b (es ++ viewer_entry viewer c answer ∷ []) t
 one_more viewer b m t [] c answer h k = (t, subst (λ (s : BookState). IsObeyed s c (record { answer = answer; state = t })) h k, refl)
 one_more viewer b m t (e ∷ es) c answer h k = (h.0, h.1, one_more viewer h.0 m t es c answer h.2 k)
 
-pub nothing_yet : (b last : BookState) (es : List (ℕ × Call)) → es ≡ [] → last ≡ b → IsLeftBy b es last
-nothing_yet b last es none same = ∣ subst (λ (xs : List (ℕ × Call)). Leaves b xs last) (sym none) same ∣₁
+pub nothing_yet : {R : ℕ} (b : BookState) (book : Book R) (es : List (ℕ × Call)) → es ≡ [] → book_state book ≡ b → IsLeftBy b es book
+nothing_yet b book es none same = ∣ record {
+  answered = subst (λ (xs : List (ℕ × Call)). Obeys b xs (book_state book)) (sym none) same;
+  start = ap (λ (s : BookState). s.session.start) same;
+  is_run = book_runs book;
+} ∣₁
 
 -- one more call is recorded
-pub one_recorded : (viewer : ℕ) (b m t : BookState) (old new : List (ℕ × Call)) (c : Command) (answer : Result Reply Refusal)
-    → IsLeftBy b old m → IsObeyed m c (record { answer = answer; state = t }) → new ≡ old ++ viewer_entry viewer c answer ∷ [] → IsLeftBy b new t
-one_recorded viewer b m t old new c answer h k is =
-    ∥∥₁_map h (λ l. subst (λ (xs : List (ℕ × Call)). Leaves b xs t) (sym is) (one_more viewer b m t old c answer l k))
+pub one_recorded : {R : ℕ} (viewer : ℕ) (b : BookState) (before after : Book R) (old new : List (ℕ × Call)) (c : Command) (answer : Result Reply Refusal)
+    → IsLeftBy b old before → IsObeyed (book_state before) c (record { answer = answer; state = book_state after })
+    → (book_state after).session.start ≡ (book_state before).session.start → new ≡ old ++ viewer_entry viewer c answer ∷ [] → IsLeftBy b new after
+one_recorded viewer b before after old new c answer h k start is =
+    ∥∥₁_map h (λ l. record {
+      answered =
+          subst (λ (xs : List (ℕ × Call)). Obeys b xs (book_state after)) (sym is)
+          (one_more viewer b (book_state before) (book_state after) old c answer l.answered k);
+      start = start ∙ l.start;
+      is_run = book_runs after;
+    })
 
-pub is_legal : (b last : BookState) (es : List (ℕ × Call)) → IsLeftBy b es last → IsLegal b es
-is_legal b last es h = ∥∥₁_map h (λ l. (last, l))
+pub is_legal : {R : ℕ} (b : BookState) (book : Book R) (es : List (ℕ × Call)) → IsLeftBy b es book → IsLegal b es
+is_legal b book es h = ∥∥₁_map h (λ l. (book_state book, journal (session_of book), l))
 
 -- a list that is full at one of its capacities has the next of them once it has grown
 next_capacity : (n : ℕ) → (n ≡ 0) ⊎ ((k : ℕ) × (n ≡ 4 * 2 ^ k)) → (n + max n 4 ≡ 0) ⊎ ((k : ℕ) × (n + max n 4 ≡ 4 * 2 ^ k))

@@ -3,7 +3,7 @@
 pub use Rattle.rd_cell.specs.declared.refusal.Refusal.{Refusal}
 pub use Rattle.rd_desk.specs.Asking.{IsNotBusy, SeesAfter, KnowsWords}
 pub use Rattle.rd_desk.specs.Desks.{opened_state}
-pub use Rattle.rd_desk.specs.Histories.{Answer, IsCapacity, IsLeftBy, IsLegal, Leaves, LeavesHistory, entries, viewer_entry}
+pub use Rattle.rd_desk.specs.Histories.{Answer, IsCapacity, IsLeftBy, IsLegal, LeavesHistory, entries, viewer_entry}
 pub use Rattle.rd_desk.specs.Rooms.{IsRoomFor}
 pub use Rattle.rd_desk.specs.Threads.{IsJoined, IsStarted}
 pub use Rattle.rd_desk.specs.Viewers.{IsChain, IsDone, IsRan, ran_of}

@@ -21,7 +21,7 @@ use Rattle.rd_lock.specs.contracts.locks.TicketLock as TicketLock
 use Rattle.rd_desk.specs.contracts.desks.Desk as Desk
 use Rattle.rd_desk.specs.contracts.histories.Call as Call
 use Rattle.rd_desk.specs.contracts.recording.BookWithHistory as BookWithHistory
-use Rattle.rd_marks.proofs.books.Book.TheSendSync as book
+use Rattle.rd_marks.proofs.Sends.{book_send}
 use Rattle.rd_desk.proofs.histories.History.TheSendSync as history
 use Rattle.rd_desk.specs.contracts.recording.BookWithHistoryRecorded.TheImpl as Recorded
 
@@ -34,9 +34,6 @@ pub shared_sync : (S V K P : RattleType) (g : Ghosts P.Denot S.Denot V.Denot K.D
 shared_sync S V K P g s =
     let fields : IsSync (Struct (owning_shape (Shared.the_type S V K P g))) = search sendable depth 20 in
     record { shared = λ d b o ν. (fields.shared (d.words, (d.slots, (tt, tt))) b o ν, shares_keyless S s V.coded.code d.table_id (g.holds d.key) d.words d.slots ν) }
-
-pub book_send : (R : RattleType) → IsSend (Book.the_row R)
-book_send R = book.the_send R
 
 -- a book with its history crosses
 pub book_with_history_send : (R : RattleType) → IsSend (BookWithHistory.the_row R)

@@ -1,8 +1,12 @@
 -- The history of a desk: what its entries are, which of them are legal, and what they leave.
 use Rattle.std.specs.Prelude.{◌≡◌, ◌⊎◌, ◌<◌, ◌*◌, ◌^◌, ℕ, List, [], ◌∷◌, ◌++◌, map, length, Result, Ok, Err}
 use Rattle.rd_cell.specs.declared.refusal.Refusal.{Refusal}
+use Rattle.rd_journal.specs.Journal.{Journal}
+use Rattle.rd_journal.specs.Sessions.{journal}
+use Rattle.rd_marks.specs.Book.{book_state, session_of}
 use Rattle.rd_marks.specs.BookState.{BookState}
-use Rattle.rd_marks.specs.Commands.{AreObeyed}
+use Rattle.rd_marks.specs.Headline.{Headline}
+use Rattle.rd_marks.specs.declared.books.Book.{Book}
 use Rattle.rd_marks.specs.declared.commands.Command.{Command}
 use Rattle.rd_marks.specs.declared.replies.Reply.{Reply}
 use Rattle.rd_desk.specs.declared.gates.DeskRefusal.{DeskRefusal}
@@ -23,19 +27,19 @@ entries history = history.entries.items
 abbrev pub viewer_entry : ℕ → Command → Result Reply Refusal → ℕ × Call
 viewer_entry viewer command answer = (viewer, record { command = command; answer = answer })
 
--- the entries lead from a book in this state to one in the last: each command in turn may be
--- answered as its entry records
-abbrev pub Leaves : BookState → List (ℕ × Call) → BookState → Type 0
-Leaves b es last = AreObeyed b (map (λ e. e.1.command) es) (map (λ e. e.1.answer) es) last
+-- the entries lead from a book in this state to one in the last, which keeps this: the headline
+-- holds of their commands, with the answers that they record
+abbrev pub Leaves : BookState → List (ℕ × Call) → BookState → Journal → Type 0
+Leaves b es last kept = Headline b (map (λ e. e.1.command) es) (map (λ e. e.1.answer) es) last kept
 
 -- the entries are a legal history of a book in this state: they lead to some last state (the bars
 -- mean that there are states between the commands, but not which)
 abbrev pub IsLegal : BookState → List (ℕ × Call) → Type 0
-IsLegal b es = ∥ ((last : BookState) × Leaves b es last) ∥₁
+IsLegal b es = ∥ ((last : BookState) × (kept : Journal) × Leaves b es last kept) ∥₁
 
--- the entries are a legal history of a book in this state, and lead to this last state
-abbrev pub IsLeftBy : BookState → List (ℕ × Call) → BookState → Type 0
-IsLeftBy b es last = ∥ Leaves b es last ∥₁
+-- the entries are a legal history of a book in this state, and lead to this book
+abbrev pub IsLeftBy : {R : ℕ} → BookState → List (ℕ × Call) → Book R → Type 0
+IsLeftBy b es book = ∥ Leaves b es (book_state book) (journal (session_of book)) ∥₁
 
 -- how many calls a desk's list may have room for: none at first, then 4, and then twice as many each
 -- time that it has to grow (the bars mean that there is such a case, but not which)

@@ -82,7 +82,7 @@ impl<const R: usize> Desk<R> {
     pub fn close(self, passes: Vec<DeskPass<R>>) -> Result<(Book<R>, History), Busy>
         requires own { AllByRecursion (IsViewerOf self) passes.items }
         ensures ok { IfOk result (λ closed. IsClosedOver self.entry.lock passes.entry.items (entries closed.1)) }
-        ensures leaves { IfOk result (λ closed. IsLeftBy (opened_state self.entry) (entries closed.1) (book_state closed.0)) }
+        ensures leaves { IfOk result (λ closed. IsLeftBy (opened_state self.entry) (entries closed.1) closed.0) }
         ensures err { IfErr result (λ words. (words.served < words.next) × (words.next ≤ 2 ^ 63)) }
         ensures newest { IfErr result (λ words. AllByRecursion (HasSeenUpTo words) passes.entry.items) }
         ensures succeeds { AreAll (viewers_of self.entry) (map number_of passes.entry.items) → IsOk result }

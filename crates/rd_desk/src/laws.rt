@@ -1,4 +1,5 @@
-//! What a viewer's own calls are: a law, which is the contract of a function that does nothing.
+//! What a viewer's own calls are, and that the headline holds of each history: laws, each of which
+//! is the contract of a function that does nothing.
 
 ghost use Rattle.std.specs.Prelude.{◌≡◌, ℕ, List, [], ◌∷◌, ◌++◌, length, Result, Ok, Err};
 ghost use Rattle.rd_cell.specs.declared.refusal.Refusal.{Refusal};
@@ -9,7 +10,10 @@ ghost use Rattle.rd_marks.specs.declared.replies.Reply.{Reply};
 ghost use Rattle.rd_desk.specs.declared.gates.DeskRefusal.{DeskRefusal};
 ghost use Rattle.rd_desk.specs.declared.histories.Call.{Call};
 ghost use Rattle.rd_desk.specs.Asking.{SeesAfter};
-ghost use Rattle.rd_desk.specs.Histories.{viewer_entry};
+ghost use Rattle.rd_marks.specs.Book.{book_state};
+ghost use Rattle.rd_desk.specs.Histories.{entries, viewer_entry, IsLeftBy};
+
+use super::recording::BookWithHistory;
 
 /// A viewer's own calls grow by just the call that was answered, which is last in what it has seen,
 /// and by no call that was refused.
@@ -20,3 +24,11 @@ pub fn own_calls_grow_by_the_answered_one()
     ensures refused { (opened : BookState) (viewer : ℕ) (old new : List (ℕ × Call)) (command : Command) (refusal : DeskRefusal)
         → SeesAfter opened viewer old command (Err refusal) new → put_by viewer 1 new ≡ put_by viewer 1 old }
 {}
+
+/// Whenever the lock is taken, the headline holds from the book that was opened to the book that is
+/// there, over the commands of the history and the answers that it records.
+pub fn the_headline_holds_of_a_history<const R: usize>(kept: &BookWithHistory<R>)
+    ensures { IsLeftBy (book_state kept.now.opened.value) (entries kept.now.history) kept.now.book.value }
+{
+    let _kept = kept;
+}

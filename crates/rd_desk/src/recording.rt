@@ -1,10 +1,10 @@
 //! What the lock guards: a book, and the history that led to it.
 //!
-//! That the history is legal from the book that was opened, and leaves the book that is there, is a
-//! fact of the type, so it holds whenever the lock is taken. A command is obeyed only where there
-//! is room to record it. For how many calls the list may have room is a fact of the type too, so that
-//! a viewer knows at which lengths a call may be refused for want of it. The book is kept in a box, so that a call moves a few words into the lock
-//! and out of it, and not the book.
+//! That the headline holds of the history, from the book that was opened to the book that is there,
+//! is a fact of the type, so it holds whenever the lock is taken. A command is obeyed only where
+//! there is room to record it. For how many calls the list may have room is a fact of the type too,
+//! so that a viewer knows at which lengths a call may be refused for want of it. The book is kept in
+//! a box, so that a call moves a few words into the lock and out of it, and not the book.
 
 ghost use Rattle.std.specs.Prelude.{◌≡◌, ◌<◌, ◌≤◌, [], length, vec_len, vec_capacity, IfOk, OnOk, IfErr, OnErr};
 ghost use Rattle.rd_marks.specs.Book.{book_state};
@@ -24,7 +24,7 @@ pub struct BookWithHistory<const R: usize> {
     pub(crate) book: Box<Book<R>>,
     pub(crate) history: History,
     pub(crate) opened: Snapshot<Book<R>>,
-    ghost legal: { IsLeftBy (book_state opened.value) (entries history) (book_state book.value) },
+    ghost legal: { IsLeftBy (book_state opened.value) (entries history) book.value },
     ghost few: { length (entries history) ≤ most_calls },
     ghost grown: { IsCapacity (vec_capacity history.entries) },
 }

@@ -27,7 +27,8 @@ pub use Rattle.rd_script.specs.Spelling.{Says}
 pub use Rattle.rd_script.specs.Replies.{text_of}
 pub use Rattle.rd_script.specs.declared.faults.LineFault.{LineFault}
 pub use Rattle.rd_script.specs.declared.writing.headings.Heading.TheVariants.{Viewer}
-pub use Rattle.rd_view.specs.Viewing.{AreAnswered, AreRead, IsUnviewed, IsViewed, StaysEnded, Views, ViewsScripts, WasAnswered, calls_of, commands_of, text_of_views}
+pub use Rattle.rd_script.specs.Answers.{commands_of}
+pub use Rattle.rd_view.specs.Viewing.{AreAnswered, AreRead, IsUnviewed, IsViewed, StaysEnded, Views, ViewsScripts, WasAnswered, calls_of, text_of_views}
 pub use Rattle.rd_view.specs.Reports.{replies_text, report_text, view_text, viewer_text}
 pub use Rattle.rd_view.specs.declared.faults.ViewFault.{ViewFault}
 pub use Rattle.std.proofs.Crossing.{crosses}

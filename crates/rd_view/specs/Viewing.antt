@@ -15,17 +15,12 @@ use Rattle.rd_desk.specs.Viewers.{IsChain}
 use Rattle.std.specs.List.{AllByRecursion, AllZip}
 use Rattle.rd_script.specs.declared.faults.LineFault.{LineFault}
 use Rattle.rd_script.specs.Device.{TakesBeginning}
+use Rattle.rd_script.specs.Answers.{commands_of}
 use Rattle.rd_script.specs.Lines.{lines_of}
 use Rattle.rd_script.specs.Spelling.{Says}
 use Rattle.rd_view.specs.declared.faults.ViewFault.{ViewFault}
 use Rattle.rd_view.specs.declared.faults.ViewFault.TheVariants as view
 use Rattle.rd_view.specs.Reports.{view_text}
-
--- the commands among what lines spell, in their order
-abbrev pub commands_of : List (Result Command LineFault) → List Command
-commands_of [] = []
-commands_of (Ok command ∷ said) = command ∷ commands_of said
-commands_of (Err fault ∷ said) = commands_of said
 
 -- for each script, these are the commands and the faults of its lines
 abbrev pub AreRead : List (Vec ℕ Global) → List (Vec (Result Command LineFault) Global) → Type 0

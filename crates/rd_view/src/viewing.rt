@@ -9,7 +9,8 @@ ghost use Rattle.std.specs.Prelude.{◌≡◌, ◌≤◌, false, length, map, If
 ghost use Rattle.rd_marks.specs.Book.{book_state};
 ghost use Rattle.rd_desk.specs.declared.desks.TheConstants.{MOST_VIEWERS};
 ghost use Rattle.rd_desk.specs.Histories.{entries};
-ghost use Rattle.rd_view.specs.Viewing.{AreRead, IsUnviewed, IsViewed, ViewsScripts, commands_of};
+ghost use Rattle.rd_script.specs.Answers.{commands_of};
+ghost use Rattle.rd_view.specs.Viewing.{AreRead, IsUnviewed, IsViewed, ViewsScripts};
 
 use super::faults::ViewFault;
 use super::reports::{ParsedLine, text_of_view};

@@ -40,7 +40,7 @@ returns-in-Ok-close-clause-ok g c =
     let opened = c.in-Ok.ensures.ok in
     let state : opened_state desk ≡ book_state c.args.book = ap book_state opened.rooted in
     let passes = c.in_ok-work.ensures.passes in (
-      subst (λ first. IsLegal first (entries history)) state (∥∥₁_map c.in-Ok-close.ensures.leaves (λ l. (_, l))),
+      subst (λ first. IsLegal first (entries history)) state (∥∥₁_map c.in-Ok-close.ensures.leaves (λ l. (_, _, l))),
       subst (λ n. NamesUpTo n (entries history)) opened.counted closed.names,
       subst (λ answered. AreAnswered (book_state c.args.book) (entries history) 1 c.args.said.now answered) (sym c.in_ok-passes.ensures.answered)
           (subst (λ first. AreAnswered first (entries history) 1 c.args.said.now (map (λ done. done.1) c.in-Ok-ask_viewers.dones.items)) state

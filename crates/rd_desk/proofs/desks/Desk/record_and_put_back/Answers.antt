@@ -19,7 +19,7 @@ pub returns-clause-outcome : goal.returns-clause-outcome
 returns-clause-outcome g c = let found = entries c.args.kept.history in let new = entries c.record-answer.new.self.history in let pass = c.args.pass.now in
     let by = recorded_by (opened_state c.args.self.now) (number pass) (seen pass) found new c.args.command c.put_back.new.pass c.record-answer.result (rw c.number.ensures at c.record-answer.ensures.recorded) in record {
       same_number = c.put_back.ensures.ok.same_number;
-      has_seen = rw c.put_back.ensures.ok.has_seen (by.3 c.requires.taken.continues (subst (λ b. IsLegal (book_state b) new) (c.record-answer.ensures.opened ∙ c.requires.taken.rooted) (is_legal _ _ _ c.record-answer.new.self.legal)));
+      has_seen = rw c.put_back.ensures.ok.has_seen (by.3 c.requires.taken.continues (subst (λ b. IsLegal (book_state b) new) (c.record-answer.ensures.opened ∙ c.requires.taken.rooted) (is_legal _ c.record-answer.new.self.book.value _ c.record-answer.new.self.legal)));
       grown = c.put_back.ensures.ok.words;
       words = by.2;
     }
