@@ -1,13 +1,13 @@
 #!/usr/bin/env python3
 """Which definitions and types a contract reaches: what its reader has to believe.
 
-    python3 tools/definitions.py [--text] [--start] [FILE FUNCTION[.LABEL]..]..
+    python3 tools/definitions.py [--text] [FILE FUNCTION[.LABEL]..]..
 
 FILE is a source file, named from `crates/`, and each FUNCTION one of its functions: with a LABEL
 its clause of this label (`Book::obey.answer`), else all that it ensures. What a function requires
 goes with each of its clauses. A type in place of a FUNCTION means what each of its values keeps, as
-`World.well_formed`. Without a FILE it is the clause that carries the headline, and with `--start`
-also what makes a start well-formed.
+`World.well_formed`. Without a FILE it is the clause that carries the headline over a list of
+commands, from which the record `Headline` is reached.
 
 The words of a clause are followed through `ghost use` into `specs/`, from there through the imports
 of each definition, and from types of the code into `src/`. The type of a field is followed only if
@@ -40,8 +40,6 @@ from program import CRATES, print_head, print_row
 
 # The clause that carries the headline, as on a command line: this is the one place that names it.
 HEADLINE = ["rd_marks/src/books/obeying.rt", "apply_all.headline"]
-# What makes a start well-formed: each world keeps it.
-START = ["rd_step/src/worlds.rt", "World.well_formed"]
 WORD = re.compile(r"(?<![.\w])[A-Za-z_]\w*")
 TYPE_NAME = re.compile(r"\b[A-Z]\w*")
 NAMED_FIELD = re.compile(r"\.(\w+)|[{;]\s(\w+) = ")
@@ -311,13 +309,12 @@ def print_texts(reached):
 def main():
     parser = argparse.ArgumentParser(description="Which definitions and types a contract reaches.")
     parser.add_argument("--text", action="store_true", help="print the definitions themselves")
-    parser.add_argument("--start", action="store_true", help="also what makes a start well-formed")
     words = "a source file, from crates/, and functions of it, with or without a label; else the headline's"
     parser.add_argument("words", nargs="*", metavar="FILE FUNCTION[.LABEL]", help=words)
     given = parser.parse_args()
     signal.signal(signal.SIGPIPE, signal.SIG_DFL)  # who reads the output may stop
     try:
-        reached = reached_from((given.words or HEADLINE) + (START if given.start else []))
+        reached = reached_from(given.words or HEADLINE)
     except Unknown as fault:
         print(f"definitions.py: {fault}", file=sys.stderr)
         return 2
