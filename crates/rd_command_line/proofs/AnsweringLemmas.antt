@@ -1,20 +1,36 @@
 -- What was done with the scripts in files, and for words.
-use Rattle.std.proofs.Common.{◌≡◌, Bool, ℕ, List, map, Result, Ok, Vec, inr, subst, sym}
+use Rattle.std.proofs.Common.{◌≡◌, Bool, ℕ, List, [], ◌∷◌, ◌++◌, length, map, Option, Result, Ok, Vec, inr, subst, sym}
 use Rattle.std.specs.Global.{Global}
 use Rattle.clap.specs.Walk.{Text}
 use Rattle.rd_marks.specs.BookState.{BookState}
-use Rattle.rd_script.specs.Streams.{Devices}
+use Rattle.rd_script.specs.Streams.{Devices, Stream}
 use Rattle.rd_program.specs.declared.faults.ProgramFault.{ProgramFault}
 use Rattle.rd_program.specs.Program.{PlaysScript}
+use Rattle.rd_program.specs.Viewers.{ViewsOver}
 use Rattle.rd_command_line.specs.declared.outcomes.Outcome.{Outcome}
-use Rattle.rd_command_line.specs.Answering.{ComesTo, HasOutcome, PlaysFile}
+use Rattle.rd_command_line.specs.Answering.{AreWholeTexts, ComesTo, HasOutcome, IsWholeText, PlaysFile, ViewsFiles}
 
--- the script in a file was played
-pub plays_file : (before : BookState) (traced : Bool) (d : Devices) (r : Result ℕ ProgramFault) → PlaysScript before traced d r → PlaysFile before traced d.output r
-plays_file before traced d r plays = inr (d.input, plays)
+-- the script in an opened file was played
+pub plays_file : {F : Type 0} (remaining : F → Option (List ℕ)) (opened : F) (before : BookState) (traced : Bool) (d : Devices) (r : Result ℕ ProgramFault)
+    → d.input.before ≡ remaining opened → PlaysScript before traced d r → PlaysFile remaining before traced d.output r
+plays_file remaining opened before traced d r is plays = inr (opened, d.input, is, plays)
+
+-- one more opened file, and its text
+pub one_more_text : {F : Type 0} (remaining : F → Option (List ℕ)) (files : List F) (texts : List (Vec ℕ Global)) (opened : F) (text : Vec ℕ Global)
+    → AreWholeTexts remaining files texts → IsWholeText remaining opened text.items → AreWholeTexts remaining (files ++ opened ∷ []) (texts ++ text ∷ [])
+one_more_text remaining [] [] opened text before is = (is, tt)
+one_more_text remaining [] (t ∷ texts) opened text before is = absurd before
+one_more_text remaining (f ∷ files) [] opened text before is = absurd before
+one_more_text remaining (f ∷ files) (t ∷ texts) opened text before is = (before.0, one_more_text remaining files texts opened text before.1 is)
+
+-- the scripts in opened files were viewed
+pub views_files : {F : Type 0} (remaining : F → Option (List ℕ)) (files : List F) (scripts slice : List (Vec ℕ Global)) (count : ℕ) (before : BookState) (output : Stream) (r : Result ℕ ProgramFault)
+    → slice ≡ scripts → length files ≡ count → AreWholeTexts remaining files scripts → ViewsOver before slice output r → ViewsFiles remaining count before output r
+views_files remaining files scripts slice count before output r same many texts views =
+    inr (files, scripts, many, texts, subst (λ (given : List (Vec ℕ Global)). ViewsOver before given output r) same views)
 
 -- what was done for words that could be taken
-pub has_outcome : {S : Type 0} (text : S → Text) (words : Result (Vec S Global) Outcome) (taken : Vec S Global) (slice : List S) (d : Devices) (outcome : Outcome)
-    → words ≡ Ok taken → slice ≡ taken.items → ComesTo (map text slice) d outcome → HasOutcome text words d outcome
-has_outcome text words taken slice d outcome is same answers =
-    subst (λ w. HasOutcome text w d outcome) (sym is) (subst (λ xs. ComesTo (map text xs) d outcome) same answers)
+pub has_outcome : {F S : Type 0} (remaining : F → Option (List ℕ)) (text : S → Text) (words : Result (Vec S Global) Outcome) (taken : Vec S Global) (slice : List S) (d : Devices) (outcome : Outcome)
+    → words ≡ Ok taken → slice ≡ taken.items → ComesTo remaining (map text slice) d outcome → HasOutcome remaining text words d outcome
+has_outcome remaining text words taken slice d outcome is same answers =
+    subst (λ w. HasOutcome remaining text w d outcome) (sym is) (subst (λ xs. ComesTo remaining (map text xs) d outcome) same answers)

@@ -1,7 +1,7 @@
 //! What the program does for the words of a command line: which files it opens, which streams it
 //! uses, and how it ends.
 
-ghost use Rattle.std.specs.Prelude.{◌≡◌, ◌≤◌, IfOk, IfErr, length, map, vec_len, true, false};
+ghost use Rattle.std.specs.Prelude.{◌≡◌, ◌≤◌, IfOk, IfErr, List, length, map, vec_len, true, false};
 ghost use Rattle.std.specs.Process.{exit_status};
 ghost use Rattle.clap.specs.declared.error.kind.ErrorKind.TheVariants.{InvalidValue};
 ghost use Rattle.rd_desk.specs.declared.desks.TheConstants.{MOST_VIEWERS};
@@ -12,7 +12,7 @@ ghost use Rattle.rd_program.specs.declared.faults.ProgramFault.TheVariants.{Read
 ghost use Rattle.rd_program.specs.Program.{IsUnread};
 ghost use Rattle.rd_command_line.specs.Options.{AreInRange, IsMistake};
 ghost use Rattle.rd_command_line.specs.Outcomes.{IsOutcomeOf, is_shown};
-ghost use Rattle.rd_command_line.specs.Answering.{ComesTo, DoesOptions, HasOutcome, LoadsFile, Performs, PlaysFile, PlaysNamed, ViewsFiles};
+ghost use Rattle.rd_command_line.specs.Answering.{AreWholeTexts, ComesTo, DoesOptions, HasOutcome, LoadsFile, Performs, PlaysFile, PlaysNamed, ViewsFiles};
 
 use super::command_line::{not_text, options};
 use super::outcomes::Outcome;
@@ -42,7 +42,7 @@ pub fn perform<R: Files + Threads + Wait + Sync, S: AsStr + Drop, I: Source, O: 
     requires input_works { I.has_failed input.old ≡ false }
     requires output_works { O.has_failed output.old ≡ false }
     requires errors_work { E.has_failed errors.old ≡ false }
-    ensures performs { Performs S.text words (exit_status result)
+    ensures performs { Performs R.File.remaining S.text words (exit_status result)
         (devices I.Source O.Sink input.old input.new output.old output.new)
         (sink_stream E.Sink errors.old errors.new) }
 {
@@ -61,7 +61,7 @@ fn outcome_of<R: Files + Threads + Wait + Sync, S: AsStr + Drop, I: Source, O: S
 ) -> Outcome
     requires input_works { I.has_failed input.old ≡ false }
     requires output_works { O.has_failed output.old ≡ false }
-    ensures answers { HasOutcome S.text words
+    ensures answers { HasOutcome R.File.remaining S.text words
         (devices I.Source O.Sink input.old input.new output.old output.new) result }
     ensures shown { is_shown result ≡ true → O.has_failed output.new ≡ false }
 {
@@ -82,7 +82,7 @@ pub fn answer<R: Files + Threads + Wait + Sync, S: AsStr, I: Source, O: Sink>(
 ) -> Outcome
     requires input_works { I.has_failed input.old ≡ false }
     requires output_works { O.has_failed output.old ≡ false }
-    ensures answers { ComesTo (map S.text words.now)
+    ensures answers { ComesTo R.File.remaining (map S.text words.now)
         (devices I.Source O.Sink input.old input.new output.old output.new) result }
     ensures shown { is_shown result ≡ true → O.has_failed output.new ≡ false }
 {
@@ -104,7 +104,7 @@ fn do_options<R: Files + Threads + Wait + Sync, I: Source, O: Sink>(
     requires input_works { I.has_failed input.old ≡ false }
     requires output_works { O.has_failed output.old ≡ false }
     requires actors { AreInRange asked }
-    ensures { DoesOptions asked.entry
+    ensures { DoesOptions R.File.remaining asked.entry
         (devices I.Source O.Sink input.old input.new output.old output.new) result }
 {
     match asked {
@@ -144,7 +144,7 @@ fn play_named<R: Files, I: Source, O: Sink>(
 ) -> Result<u64, ProgramFault>
     requires input_works { I.has_failed input.old ≡ false }
     requires output_works { O.has_failed output.old ≡ false }
-    ensures { PlaysNamed name.now (fresh_state (ring_length setup.ring) setup.actors) trace
+    ensures { PlaysNamed R.File.remaining name.now (fresh_state (ring_length setup.ring) setup.actors) trace
         (devices I.Source O.Sink input.old input.new output.old output.new) result }
 {
     match name {
@@ -163,7 +163,7 @@ fn play_file<R: Files, O: Sink>(
     trace: bool,
 ) -> Result<u64, ProgramFault>
     requires output_works { O.has_failed output.old ≡ false }
-    ensures { PlaysFile (fresh_state (ring_length setup.ring) setup.actors) trace
+    ensures { PlaysFile R.File.remaining (fresh_state (ring_length setup.ring) setup.actors) trace
         (sink_stream O.Sink output.old output.new) result }
 {
     let file = open_file(rt, name)?;
@@ -182,7 +182,7 @@ fn view_files<R: Files + Threads + Wait + Sync, O: Sink>(
     requires output_works { O.has_failed output.old ≡ false }
     requires some_files { 1 ≤ length names.now }
     requires few_files { length names.now ≤ MOST_VIEWERS }
-    ensures { ViewsFiles (length names.now) (fresh_state (ring_length setup.ring) setup.actors)
+    ensures { ViewsFiles R.File.remaining (length names.now) (fresh_state (ring_length setup.ring) setup.actors)
         (sink_stream O.Sink output.old output.new) result }
 {
     let scripts = whole_files(rt, alloc, names)?;
@@ -197,6 +197,8 @@ fn whole_files<R: Files>(
     names: &[&str],
 ) -> Result<Vec<Vec<u8>>, ProgramFault>
     ensures ok { IfOk result (λ texts. vec_len texts ≡ length names.now) }
+    ensures whole { IfOk result (λ texts. (files : List R.File) × (length files ≡ length names.now)
+        × AreWholeTexts R.File.remaining files texts.items) }
     ensures err { IfErr result IsUnread }
 {
     let mut texts = Vec::new(alloc);
@@ -221,7 +223,7 @@ fn load_file<R: Files, I: Source, O: Sink>(
 ) -> Result<u64, ProgramFault>
     requires input_works { I.has_failed input.old ≡ false }
     requires output_works { O.has_failed output.old ≡ false }
-    ensures { LoadsFile (devices I.Source O.Sink input.old input.new output.old output.new) result }
+    ensures { LoadsFile R.File.remaining (devices I.Source O.Sink input.old input.new output.old output.new) result }
 {
     let mut file = open_file(rt, name)?;
     let text = whole_text(alloc, &mut file)?;
