@@ -1,7 +1,9 @@
 -- What loading a text gives.
-use Rattle.std.proofs.Common.{◌≡◌, ◌≤◌, ◌+◌, inl, inr, ℕ, List, [], ◌∷◌, length, codes, Option, Some, option_map, Result, Err, sym, subst, arith}
+use Rattle.std.proofs.Common.{◌≡◌, ◌≤◌, ◌<◌, ◌+◌, inl, inr, ℕ, List, [], ◌∷◌, length, codes, Option, Some, None, option_map, Result, Err, refl, sym, subst, arith}
 use Rattle.std.specs.Option.{option_or}
 use Rattle.rd_trace.proofs.Prelude.{IsDistinct, Data, World, Refusal, Mark, book_state, loaded_state, first_refused, first_refused_mark, Replays, MOST_MARKS, HaveDifferentNames, LoadTraceFault, BadTrace, Flawed, TraceMark, TraceStep, Start, number_at, IsStart, HasActorCount, Trace, IsEither, HasValue, IsTraceText, IsTraceRing, LoadsValue, LoadsTrace}
+use Rattle.serde_json.specs.Read.{read}
+use Rattle.serde_json.proofs.OnLiterals.{serde_json_on_literals}
 use Rattle.rd_marks.specs.declared.books.Book.{Book}
 use Rattle.rd_trace.specs.declared.faults.LoadTraceFault.TheVariants.{NoMemory}
 
@@ -30,6 +32,15 @@ ring_of d t h = grind arith
 value_eq : {R : ℕ} (text : List ℕ) (d : Data) (t : Trace R) → HasValue text d → IsTraceText text t → IsEither d t
 value_eq text d t value is = grind arith
 
+-- the empty text has no value
+nothing_read : read [] ≡ None
+unfolding serde_json_on_literals
+nothing_read = refl
+
+not_empty : (text : List ℕ) (d : Data) → HasValue text d → 0 < length text
+not_empty [] d value = absurd (cc (nothing_read, value.1))
+not_empty (x ∷ xs) d value = omega arith
+
 module _ (text : List ℕ) (d : Data) (value : HasValue text d) (Q : ℕ) (ring : number_at (codes "ring") d ≡ Some Q) (is_ring : IsTraceRing Q) where
   -- no session over this ring is spelled, and so none at all
   no_session : ((t : Trace Q) → IsEither d t → ⊥) → LoadsTrace text (Err BadTrace)
@@ -42,7 +53,7 @@ module _ (text : List ℕ) (d : Data) (value : HasValue text d) (Q : ℕ) (ring 
   is_text t is = (value.0, d, value.1, (is_ring, is))
 
   pub loads_none : (fault : LoadTraceFault) → LoadsValue {R = Q} d (Err fault) → LoadsTrace text (Err fault)
-  loads_none NoMemory h = tt
+  loads_none NoMemory h = not_empty text d value
   loads_none BadTrace h = no_session h
   loads_none (Flawed flaw) h = (Q, h.0, is_text h.0 h.1, h.2)
   loads_none (TraceMark m n cause) h = (Q, h.0, is_text h.0 h.1, h.2)

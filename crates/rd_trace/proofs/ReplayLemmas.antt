@@ -304,9 +304,14 @@ module _ {R : ℕ} (t : Trace R) (flawless : start_flaw t.start ≡ None) where
   no_fault marks through = fault_of None None (no_mark_refused (start_world t.start) 0 t.marks marks) (none_refused (start_world t.start) [] (t.live ++ t.undone) through)
 
   module _ (old : BookState) (start : old.session.start ≡ start_world t.start) where
+    -- the result of a refused event: of memory, or of what else refused it
+    not_replayed : {B : Type 0} (IsBook : B → Type 0) (fault : LoadTraceFault) → (fault ≡ NoMemory) ⊎ (trace_fault t ≡ Some fault) → Replays IsBook t (Err fault)
+    not_replayed IsBook fault (inl memory) = inl (memory, flawless)
+    not_replayed IsBook fault (inr h) = inr h
+
     -- an event of a bookmark is refused
     pub no_marks : {B : Type 0} (IsBook : B → Type 0) (new : BookState) (fault : LoadTraceFault) → SetsMarks old t.marks new (Err fault) → Replays IsBook t (Err fault)
-    no_marks IsBook new fault (inl memory) = inl memory
+    no_marks IsBook new fault (inl memory) = not_replayed IsBook fault (inl memory)
     no_marks IsBook new fault (inr h) =
         inr (fault_of (Some fault) _ (subst (λ (w : World). first_refused_mark w 0 t.marks ≡ Some fault) start h) refl)
 
@@ -319,7 +324,8 @@ module _ {R : ℕ} (t : Trace R) (flawless : start_flaw t.start ≡ None) where
       pub no_steps : {B : Type 0} (IsBook : B → Type 0) (refused : RefusedEvent) (fault : LoadTraceFault) → RefusesOne now.session.start (t.live ++ t.undone) refused
           → fault ≡ unless_memory refused.cause (TraceStep refused.step refused.cause) → Replays IsBook t (Err fault)
       no_steps IsBook refused fault why is =
-          fault_told refused.cause (TraceStep refused.step refused.cause) fault _ _ why is (λ first same. by_steps (Some (refused.step, refused.cause)) first ∙ ap Some (sym same))
+          not_replayed IsBook fault
+          (fault_told refused.cause (TraceStep refused.step refused.cause) fault _ _ why is (λ first same. by_steps (Some (refused.step, refused.cause)) first ∙ ap Some (sym same)))
 
       -- all went through
       pub plays : (new : BookState) → MakesLive now t.live t.undone new (Ok tt) → (trace_fault t ≡ None) × (new ≡ loaded_state t)

@@ -1,5 +1,5 @@
 -- What loading a text gives: a book, or why there is none.
-use Rattle.std.specs.Prelude.{◌≡◌, ◌⊎◌, ◌+◌, ℕ, List, [], ◌∷◌, ◌++◌, Option, Some, None, option_map, Result, Ok, Err}
+use Rattle.std.specs.Prelude.{◌≡◌, ◌⊎◌, ◌+◌, ◌<◌, ℕ, List, [], ◌∷◌, ◌++◌, length, Option, Some, None, option_map, Result, Ok, Err}
 use Rattle.std.specs.Option.{option_or}
 use Rattle.rd_step.specs.Prelude.{World}
 use Rattle.rd_marks.specs.BookState.{Mark, BookState}
@@ -58,14 +58,17 @@ trace_fault t =
     (option_or (first_refused_mark (start_world t.start) 0 t.marks)
     (option_map (λ refused. TraceStep refused.0 refused.1) (first_refused (start_world t.start) [] (t.live ++ t.undone))))
 
--- the result of replaying a trace: its book, if it has one; or its fault, unless memory was refused
+-- the result of replaying a trace: its book, if it has one; or its fault; or that memory was refused,
+-- which only a trace answers whose start has no flaw
 abbrev pub Replays : {R : ℕ} {B : Type 0} → (B → Type 0) → Trace R → Result B LoadTraceFault → Type 0
 Replays IsBook t (Ok book) = (trace_fault t ≡ None) × IsBook book
-Replays IsBook t (Err fault) = (fault ≡ NoMemory) ⊎ (trace_fault t ≡ Some fault)
+Replays IsBook t (Err fault) =
+    ((fault ≡ NoMemory) × (start_flaw t.start ≡ None)) ⊎ (trace_fault t ≡ Some fault)
 
--- the result of loading a text: that of replaying the trace that it is, or BadTrace if it is none
+-- the result of loading a text: that of replaying the trace that it is, or BadTrace if it is none;
+-- or, if the text is not empty, that memory was refused
 abbrev pub LoadsTrace : List ℕ → Result AnyBook LoadTraceFault → Type 0
-LoadsTrace text (Err NoMemory) = Unit {0}
+LoadsTrace text (Err NoMemory) = 0 < length text
 LoadsTrace text (Err BadTrace) = (R : ℕ) (t : Trace R) → IsTraceText text t → ⊥
 LoadsTrace text result = (R : ℕ) × (t : Trace R) × IsTraceText text t × Replays (IsBookIn (loaded_state t)) t result
 

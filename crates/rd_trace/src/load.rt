@@ -1,7 +1,8 @@
 //! Loading a trace: a text is read whole, its value is dropped, and then the session that it spells
 //! is made to happen.
 
-ghost use Rattle.std.specs.Prelude.{◌≡◌, ◌≤◌, Some, codes};
+ghost use Rattle.std.specs.Prelude.{◌≡◌, ◌≤◌, ◌<◌, Some, IfErr, codes, length};
+ghost use Rattle.rd_trace.specs.declared.faults.FormFault.TheVariants.{NoMemory};
 ghost use Rattle.serde_json.specs.View.{view};
 ghost use Rattle.rd_step.specs.Prelude.{MOST_CELLS};
 ghost use Rattle.rd_marks.specs.BookState.{BookState};
@@ -62,9 +63,11 @@ fn loaded(alloc: Global, text: &[u8]) -> Result<AnyBook, LoadTraceFault>
 ///
 /// # Errors
 ///
-/// `BadForm` if the text is no JSON; `NoMemory` if memory was refused.
+/// `BadForm` if the text is no JSON; `NoMemory` if memory was refused, which an empty text does not
+/// ask for.
 fn parse_value(alloc: Global, text: &[u8]) -> Result<Value, FormFault>
-    ensures { Reads view (HasValue text.now) result }
+    ensures reads { Reads view (HasValue text.now) result }
+    ensures memory { IfErr result (λ fault. fault ≡ NoMemory → 0 < length text.now) }
 {
     match Value::from_slice(alloc, text) {
         Ok(value) => Ok(value),
