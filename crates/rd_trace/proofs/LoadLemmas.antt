@@ -1,7 +1,7 @@
 -- What loading a text gives.
 use Rattle.std.proofs.Common.{◌≡◌, ◌≤◌, ◌<◌, ◌+◌, inl, inr, ℕ, List, [], ◌∷◌, length, codes, Option, Some, None, option_map, Result, Err, refl, sym, subst, arith}
 use Rattle.std.specs.Option.{option_or}
-use Rattle.rd_trace.proofs.Prelude.{IsDistinct, Data, World, Refusal, Mark, book_state, loaded_state, first_refused, first_refused_mark, Replays, MOST_MARKS, HaveDifferentNames, LoadTraceFault, BadTrace, Flawed, TraceMark, TraceStep, Start, number_at, IsStart, HasActorCount, Trace, IsEither, HasValue, IsTraceText, IsTraceRing, LoadsValue, LoadsTrace}
+use Rattle.rd_trace.proofs.Prelude.{IsDistinct, Data, World, Refusal, Mark, book_state, loaded_state, first_refused, first_refused_mark, Replays, MOST_MARKS, HaveDifferentNames, LoadTraceFault, BadTrace, Flawed, TraceMark, TraceStep, Start, number_at, IsStart, HasActorCount, Trace, IsEitherVersion, HasValue, IsTraceText, IsTraceRing, LoadsValue, LoadsTrace}
 use Rattle.serde_json.specs.Read.{read}
 use Rattle.serde_json.proofs.OnLiterals.{serde_json_on_literals}
 use Rattle.rd_marks.specs.declared.books.Book.{Book}
@@ -12,7 +12,7 @@ use Rattle.rd_trace.specs.declared.faults.LoadTraceFault.TheVariants.{NoMemory}
 start_counted : {R : ℕ} (d : Data) (start : Start R) → IsStart d start → HasActorCount start
 start_counted d start h = grind arith
 
-pub counted : {R : ℕ} (d : Data) (t : Trace R) → IsEither d t → HasActorCount t.start
+pub counted : {R : ℕ} (d : Data) (t : Trace R) → IsEitherVersion d t → HasActorCount t.start
 counted {R} d t (inl h) = subst (λ (start : Start R). HasActorCount start) (sym h.actors.2) (h.actors.1.some, h.actors.1.few)
 counted d t (inr h) = start_counted h.start.0 t.start h.start.2
 
@@ -20,16 +20,16 @@ none_differ : HaveDifferentNames []
 unfolding IsDistinct
 none_differ = tt
 
-pub names_differ : {R : ℕ} (d : Data) (t : Trace R) → IsEither d t → HaveDifferentNames t.marks
+pub names_differ : {R : ℕ} (d : Data) (t : Trace R) → IsEitherVersion d t → HaveDifferentNames t.marks
 names_differ d t h = grind (arith, none_differ)
 
-pub few_marks : {R : ℕ} (d : Data) (t : Trace R) → IsEither d t → length t.marks ≤ MOST_MARKS
+pub few_marks : {R : ℕ} (d : Data) (t : Trace R) → IsEitherVersion d t → length t.marks ≤ MOST_MARKS
 few_marks d t h = grind arith
 
-pub ring_of : {R : ℕ} (d : Data) (t : Trace R) → IsEither d t → number_at (codes "ring") d ≡ Some R
+pub ring_of : {R : ℕ} (d : Data) (t : Trace R) → IsEitherVersion d t → number_at (codes "ring") d ≡ Some R
 ring_of d t h = grind arith
 
-value_eq : {R : ℕ} (text : List ℕ) (d : Data) (t : Trace R) → HasValue text d → IsTraceText text t → IsEither d t
+value_eq : {R : ℕ} (text : List ℕ) (d : Data) (t : Trace R) → HasValue text d → IsTraceText text t → IsEitherVersion d t
 value_eq text d t value is = grind arith
 
 -- the empty text has no value
@@ -43,13 +43,13 @@ not_empty (x ∷ xs) d value = omega arith
 
 module _ (text : List ℕ) (d : Data) (value : HasValue text d) (Q : ℕ) (ring : number_at (codes "ring") d ≡ Some Q) (is_ring : IsTraceRing Q) where
   -- no session over this ring is spelled, and so none at all
-  no_session : ((t : Trace Q) → IsEither d t → ⊥) → LoadsTrace text (Err BadTrace)
+  no_session : ((t : Trace Q) → IsEitherVersion d t → ⊥) → LoadsTrace text (Err BadTrace)
   no_session none = λ R t is.
       let its = value_eq text d t value is in
       let same : Q ≡ R = cc (ring, ring_of d t its) in
-      subst (λ (n : ℕ). (u : Trace n) → IsEither d u → ⊥) same none t its
+      subst (λ (n : ℕ). (u : Trace n) → IsEitherVersion d u → ⊥) same none t its
 
-  is_text : (t : Trace Q) → IsEither d t → IsTraceText text t
+  is_text : (t : Trace Q) → IsEitherVersion d t → IsTraceText text t
   is_text t is = (value.0, d, value.1, (is_ring, is))
 
   pub loads_none : (fault : LoadTraceFault) → LoadsValue {R = Q} d (Err fault) → LoadsTrace text (Err fault)
@@ -68,5 +68,5 @@ marks_not_bad : (w : World) (n : ℕ) (ms : List Mark) → first_refused_mark w 
 marks_not_bad w n [] h = cc
 marks_not_bad w n (m ∷ ms) h = not_bad (n + 1) (first_refused w [] m.events) (first_refused_mark w (n + 1) ms) (marks_not_bad w (n + 1) ms) h
 
-pub loads_value : {R : ℕ} (d : Data) (t : Trace R) → IsEither d t → (r : Result (Book R) LoadTraceFault) → Replays (λ (book : Book R). book_state book ≡ loaded_state t) t r → LoadsValue d r
+pub loads_value : {R : ℕ} (d : Data) (t : Trace R) → IsEitherVersion d t → (r : Result (Book R) LoadTraceFault) → Replays (λ (book : Book R). book_state book ≡ loaded_state t) t r → LoadsValue d r
 loads_value d t is r h = grind (arith, marks_not_bad)

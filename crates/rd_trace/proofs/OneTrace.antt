@@ -1,6 +1,6 @@
 -- A text is one trace at most.
 use Rattle.std.proofs.Common.{◌≡◌, ◌≢◌, ℕ, suc, ◌+◌, ◌≤◌, Bool, not, ◌&&◌, ◌==◌, nat_le, if◌then◌else◌, List, [], ◌∷◌, map, length, slice_get, codes, Option, Some, None, is_some, option_map, Vec, Global, inl, inr, refl, sym, ap, ◌∙◌, subst, arith}
-use Rattle.rd_trace.proofs.Prelude.{length-map, slice_get-map, list_all, Data, get, as_array, read, SegName, ArrSlot, Actor, SLOTS, SegmentParts, ArrayParts, World, MOST_ACTORS, Event, fresh_world, numbered, world_of_parts, first_flaw, indexes_fit, array_fits, Parts, Flaw, bytes_of, Mark, member_count, items_at, Gives, SpellEachAt, elements, event_of, IsActor, slot_of, filled_slots, IsArray, cell_of, IsSegment, IsSegmentList, IsMark, IsParts, IsStart, start_world, start_flaw, Start, Trace, IsFirstTrace, IsSecondTrace, IsEither, IsTraceText, loaded_state, seen_mark, IsSameBook}
+use Rattle.rd_trace.proofs.Prelude.{length-map, slice_get-map, list_all, Data, get, as_array, read, SegName, ArrSlot, Actor, SLOTS, SegmentParts, ArrayParts, World, MOST_ACTORS, Event, fresh_world, numbered, world_of_parts, first_flaw, indexes_fit, array_fits, Parts, Flaw, bytes_of, Mark, member_count, items_at, Gives, SpellEachAt, elements, event_of, IsActor, slot_of, filled_slots, IsArray, cell_of, IsSegment, IsSegmentList, IsMark, IsParts, IsStart, start_world, start_flaw, Start, Trace, IsVersion1, IsVersion2, IsEitherVersion, IsTraceText, loaded_state, seen_mark, IsSameBook}
 use Rattle.std.proofs.Props.{props}
 use Rattle.std.proofs.lemmas.List.Folds.{list_all-map}
 use mathlib.Core.HLevel.{is_prop→PathP}
@@ -205,7 +205,7 @@ abbrev pub seen : {R : ℕ} → Trace R → Seen
 seen t = record { flaw = start_flaw t.start; world = start_world t.start; marks = map seen_mark t.marks; live = t.live; undone = t.undone }
 
 module _ (R : ℕ) (d : Data) (t u : Trace R) where
-  same_first : IsFirstTrace d t → IsFirstTrace d u → seen t ≡ seen u
+  same_first : IsVersion1 d t → IsVersion1 d u → seen t ≡ seen u
   same_first h k =
       let count = some_same _ h.actors.0 k.actors.0 h.actors.1.number k.actors.1.number in
       let flaw = ap start_flaw h.actors.2 ∙ sym (ap start_flaw k.actors.2) in
@@ -215,7 +215,7 @@ module _ (R : ℕ) (d : Data) (t u : Trace R) where
       let undone = h.undone ∙ sym k.undone in
       λ i. record { flaw = flaw i; world = world i; marks = marks i; live = live i; undone = undone i }
 
-  same_second : IsSecondTrace d t → IsSecondTrace d u → seen t ≡ seen u
+  same_second : IsVersion2 d t → IsVersion2 d u → seen t ≡ seen u
   same_second h k =
       let at = some_same (get (codes "start") d) h.start.0 k.start.0 h.start.1 k.start.1 in
       let start = one_start R k.start.0 t.start u.start (subst (λ x. IsStart x t.start) at h.start.2) k.start.2 in
@@ -224,7 +224,7 @@ module _ (R : ℕ) (d : Data) (t u : Trace R) where
       let undone = same_events (codes "undone") d t.undone u.undone h.undone k.undone in
       λ i. record { flaw = start.0 i; world = start.1 i; marks = marks i; live = live i; undone = undone i }
 
-  same_either : IsEither d t → IsEither d u → seen t ≡ seen u
+  same_either : IsEitherVersion d t → IsEitherVersion d u → seen t ≡ seen u
   same_either (inl h) (inl k) = same_first h k
   same_either (inl h) (inr k) = absurd (two_counts d 4 6 (λ e. omega (arith, e)) h.members k.members)
   same_either (inr h) (inl k) = absurd (two_counts d 6 4 (λ e. omega (arith, e)) h.members k.members)
@@ -234,9 +234,9 @@ module _ (R : ℕ) (d : Data) (t u : Trace R) where
 pub same_trace : (text : List ℕ) (R Q : ℕ) (t : Trace R) (u : Trace Q) → IsTraceText text t → IsTraceText text u → (R ≡ Q) × (seen t ≡ seen u)
 same_trace text R Q t u h k =
     let d = k.1 in
-    let read_as : IsEither d t = subst (λ x. IsEither x t) (some_same (read text) h.1 d h.2 k.2) h.3.1 in
+    let read_as : IsEitherVersion d t = subst (λ x. IsEitherVersion x t) (some_same (read text) h.1 d h.2 k.2) h.3.1 in
     let ring = some_same _ R Q (ring_of d t read_as) (ring_of d u k.3.1) in
-    (ring, subst (λ P. (v : Trace P) → IsEither d v → seen t ≡ seen v) ring (λ v is. same_either R d t v read_as is) u k.3.1)
+    (ring, subst (λ P. (v : Trace P) → IsEitherVersion d v → seen t ≡ seen v) ring (λ v is. same_either R d t v read_as is) u k.3.1)
 
 pub same_book : (R Q : ℕ) (t : Trace R) (u : Trace Q) → seen t ≡ seen u → IsSameBook (loaded_state t) (loaded_state u)
 same_book R Q t u same = record { session = λ i. record { start = (same i).world; live = (same i).live; undone = (same i).undone }; marks = λ i. (same i).marks }

@@ -51,7 +51,7 @@ pub use Rattle.rd_trace.specs.Events.{act_data, event_data, event_of, event_of_i
 pub use Rattle.rd_trace.specs.Loading.{IsBookIn, IsSameAnswer, LoadsAgain, LoadsTrace, Replays, first_refused_mark, fresh_state, trace_fault}
 pub use Rattle.rd_trace.specs.Names.{name_data, name_of, name_of_items, next_data, next_of}
 pub use Rattle.rd_trace.specs.Numbers.{byte_number, items_at, member_count, number_at}
-pub use Rattle.rd_trace.specs.Saved.{HasValue, IsEither, IsFirstTrace, IsSameBook, IsSecondTrace, IsTraceText, Trace, book_data, book_object, loaded_state, saved_trace, seen_mark}
+pub use Rattle.rd_trace.specs.Saved.{HasValue, IsEitherVersion, IsVersion1, IsSameBook, IsVersion2, IsTraceText, Trace, book_data, book_object, loaded_state, saved_trace, seen_mark}
 pub use Rattle.rd_trace.specs.Segments.{IsSegment, IsSegmentList, cell_data, cell_of, cell_of_items, list_data, segment_data}
 pub use Rattle.rd_trace.specs.Spelled.{AreSpelled, Gives, Reads, SpellEach, SpellEachAt, elements, items_by, itself}
 pub use Rattle.rd_trace.specs.Starts.{HasActorCount, IsFreshStart, IsParts, IsStart, IsStartData, IsStartValue, SpellsWorld, fresh_data, parts_data, start_flaw, start_world}

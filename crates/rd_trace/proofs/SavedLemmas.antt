@@ -1,6 +1,6 @@
 -- Whole sessions as values.
 use Rattle.std.proofs.Common.{◌≡◌, ℕ, suc, ◌+◌, ◌<◌, ◌≤◌, List, [], ◌∷◌, ◌++◌, length, take, get_or, Some, None, Result, Ok, Err, IsOk, inl, inr, refl, sym, ap, ◌∙◌, subst, arith, length-append}
-use Rattle.rd_trace.proofs.Prelude.{length-map, map-append, take_more, get_or-map, same_Some, Data, Refusal, run, MOST_STEPS, Ran, run_entries, Entry, Event, state_of, numbered, BookState, GoThrough, Reads, Gives, SpellEach, items_by, event_of, event_data, SpellsWorld, AreMarks, mark_data, member_count, Trace, IsFirstTrace, IsSecondTrace, IsEither, loaded_state, saved_trace, book_data, FormFault, start_flaw}
+use Rattle.rd_trace.proofs.Prelude.{length-map, map-append, take_more, get_or-map, same_Some, Data, Refusal, run, MOST_STEPS, Ran, run_entries, Entry, Event, state_of, numbered, BookState, GoThrough, Reads, Gives, SpellEach, items_by, event_of, event_data, SpellsWorld, AreMarks, mark_data, member_count, Trace, IsVersion1, IsVersion2, IsEitherVersion, loaded_state, saved_trace, book_data, FormFault, start_flaw}
 use Rattle.rd_journal.specs.Journal.{Journal, IsRun, events}
 use Rattle.rd_journal.proofs.Walks.{whole_run}
 use Rattle.rd_trace.proofs.SpellLemmas.{take_got, some_got}
@@ -9,21 +9,21 @@ use Rattle.rd_trace.specs.declared.faults.FormFault.TheVariants as form
 
 -- ---- what is read
 
-no_first : {R : ℕ} (d : Data) → member_count d ≡ Some 4 → ((t : Trace R) → IsFirstTrace d t → ⊥) → (t : Trace R) → IsEither d t → ⊥
+no_first : {R : ℕ} (d : Data) → member_count d ≡ Some 4 → ((t : Trace R) → IsVersion1 d t → ⊥) → (t : Trace R) → IsEitherVersion d t → ⊥
 no_first d four none t (inl k) = none t k
 no_first d four none t (inr k) = let e : 6 ≡ 4 = same_Some 6 4 (sym k.members ∙ four) in omega (arith, e)
 
-no_second : {R : ℕ} (d : Data) → member_count d ≡ Some 6 → ((t : Trace R) → IsSecondTrace d t → ⊥) → (t : Trace R) → IsEither d t → ⊥
+no_second : {R : ℕ} (d : Data) → member_count d ≡ Some 6 → ((t : Trace R) → IsVersion2 d t → ⊥) → (t : Trace R) → IsEitherVersion d t → ⊥
 no_second d six none t (inl k) = let e : 4 ≡ 6 = same_Some 4 6 (sym k.members ∙ six) in omega (arith, e)
 no_second d six none t (inr k) = none t k
 
 -- a value of this many members is a trace of one version at most
-pub first_read : {R : ℕ} (d : Data) → member_count d ≡ Some 4 → (r : Result (SavedSession R) FormFault) → Reads saved_trace (IsFirstTrace d) r → Reads saved_trace (IsEither d) r
+pub first_read : {R : ℕ} (d : Data) → member_count d ≡ Some 4 → (r : Result (SavedSession R) FormFault) → Reads saved_trace (IsVersion1 d) r → Reads saved_trace (IsEitherVersion d) r
 first_read d four (Ok s) h = inl h
 first_read d four (Err form.NoMemory) h = tt
 first_read d four (Err form.BadForm) h = no_first d four h
 
-pub second_read : {R : ℕ} (d : Data) → member_count d ≡ Some 6 → (r : Result (SavedSession R) FormFault) → Reads saved_trace (IsSecondTrace d) r → Reads saved_trace (IsEither d) r
+pub second_read : {R : ℕ} (d : Data) → member_count d ≡ Some 6 → (r : Result (SavedSession R) FormFault) → Reads saved_trace (IsVersion2 d) r → Reads saved_trace (IsEitherVersion d) r
 second_read d six (Ok s) h = inr h
 second_read d six (Err form.NoMemory) h = tt
 second_read d six (Err form.BadForm) h = no_second d six h
@@ -48,7 +48,7 @@ goes_through j runs few =
 
 -- a value is a trace of version 2 of this state, whose start has no flaw
 abbrev pub SpellsBook : BookState → Data → Type 0
-SpellsBook b d = (t : Trace b.session.start.ring) × IsSecondTrace d t × (start_flaw t.start ≡ None) × (loaded_state t ≡ b)
+SpellsBook b d = (t : Trace b.session.start.ring) × IsVersion2 d t × (start_flaw t.start ≡ None) × (loaded_state t ≡ b)
 
 -- the value that a book is written as spells it, if the values of its members do
 pub book_spelled : (b : BookState) (start : Data) → SpellsWorld b.session.start start → SpellEach (Gives event_of) (items_by event_data b.session.live) b.session.live

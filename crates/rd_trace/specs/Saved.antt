@@ -50,7 +50,7 @@ pub record IsSameBook (a b : BookState) : Type 0 where
 
 -- a value is a trace of version 1: an object of four members; nothing is undone, and there is no
 -- bookmark
-pub record IsFirstTrace {R : ℕ} (d : Data) (t : Trace R) : Type 0 where
+pub record IsVersion1 {R : ℕ} (d : Data) (t : Trace R) : Type 0 where
   pub members : member_count d ≡ Some 4
   pub version : number_at (codes "version") d ≡ Some 1
   pub ring : number_at (codes "ring") d ≡ Some R
@@ -60,7 +60,7 @@ pub record IsFirstTrace {R : ℕ} (d : Data) (t : Trace R) : Type 0 where
   pub undone : t.undone ≡ []
 
 -- a value is a trace of version 2: an object of six members
-pub record IsSecondTrace {R : ℕ} (d : Data) (t : Trace R) : Type 0 where
+pub record IsVersion2 {R : ℕ} (d : Data) (t : Trace R) : Type 0 where
   pub members : member_count d ≡ Some 6
   pub version : number_at (codes "version") d ≡ Some 2
   pub ring : number_at (codes "ring") d ≡ Some R
@@ -70,12 +70,12 @@ pub record IsSecondTrace {R : ℕ} (d : Data) (t : Trace R) : Type 0 where
   pub undone : SpellEachAt (Gives event_of) (codes "undone") d t.undone
 
 -- a value is a trace of either version
-abbrev pub IsEither : {R : ℕ} → Data → Trace R → Type 0
-IsEither d t = IsFirstTrace d t ⊎ IsSecondTrace d t
+abbrev pub IsEitherVersion : {R : ℕ} → Data → Trace R → Type 0
+IsEitherVersion d t = IsVersion1 d t ⊎ IsVersion2 d t
 
 -- a value is a trace, over rings that a trace may have
 abbrev pub IsTrace : {R : ℕ} → Data → Trace R → Type 0
-IsTrace {R} d t = IsTraceRing R × IsEither d t
+IsTrace {R} d t = IsTraceRing R × IsEitherVersion d t
 
 -- a text is JSON, and its value is this one
 abbrev pub HasValue : List ℕ → Data → Type 0

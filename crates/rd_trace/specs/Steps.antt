@@ -14,7 +14,7 @@ use Rattle.rd_trace.specs.declared.faults.LoadTraceFault.TheVariants.{NoMemory, 
 use Rattle.rd_trace.specs.declared.replay.RefusedEvent.{RefusedEvent}
 use Rattle.rd_trace.specs.declared.starts.Start.{Start}
 use Rattle.rd_trace.specs.Starts.{start_world, start_flaw}
-use Rattle.rd_trace.specs.Saved.{Trace, IsEither, loaded_state}
+use Rattle.rd_trace.specs.Saved.{Trace, IsEitherVersion, loaded_state}
 use Rattle.rd_trace.specs.Loading.{first_refused_mark, Replays}
 use Rattle.rd_trace.specs.Traces.{first_refused}
 
@@ -48,8 +48,8 @@ MakesLive old live undone new (Err refused) = RefusesOne old.session.start (live
 -- spells none
 abbrev pub LoadsValue : {R : ℕ} → Data → Result (Book R) LoadTraceFault → Type 0
 LoadsValue d (Err NoMemory) = Unit {0}
-LoadsValue {R} d (Err BadTrace) = (t : Trace R) → IsEither d t → ⊥
-LoadsValue {R} d result = (t : Trace R) × IsEither d t × Replays (λ (book : Book R). book_state book ≡ loaded_state t) t result
+LoadsValue {R} d (Err BadTrace) = (t : Trace R) → IsEitherVersion d t → ⊥
+LoadsValue {R} d result = (t : Trace R) × IsEitherVersion d t × Replays (λ (book : Book R). book_state book ≡ loaded_state t) t result
 
 -- these bookmarks were set, each at its events, none of which is refused, or an event of one was
 -- refused

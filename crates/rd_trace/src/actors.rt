@@ -11,8 +11,9 @@ ghost use Rattle.rd_trace.specs.Numbers.{byte_number};
 ghost use Rattle.rd_trace.specs.Actors.{op_of, short_op, long_op, op_data, value_of, IsActor, actor_data};
 
 use super::faults::FormFault;
-use super::members::{bit_at, byte_in, member_count, number_at};
+use super::members::{bit_at, member_count, number_at};
 use super::names::{name_in, name_value};
+use super::numbers::byte_in;
 use super::spelled::{Spelled, Written};
 use rd_actor::{Actor, Op, Pc};
 use serde_json::{Map, Value, json, put};

@@ -13,7 +13,7 @@ ghost use Rattle.rd_trace.specs.Events.{act_of_word, act_with, event_by, event_o
 ghost use Rattle.rd_trace.specs.Texts.{IsReadBack, IsSpelledBack, AreAppended};
 
 use super::faults::FormFault;
-use super::members::byte_in;
+use super::numbers::byte_in;
 use super::spelled::Spelled;
 use super::texts::{comma_after, put_number};
 use rd_actor::Act;

@@ -18,6 +18,7 @@ pub mod laws;
 mod load;
 mod members;
 mod names;
+mod numbers;
 mod replay;
 mod rings;
 mod saved;

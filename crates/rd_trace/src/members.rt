@@ -1,8 +1,8 @@
-//! Whole numbers in values of serde_json, and the members of objects.
+//! The members of objects of serde_json, and how many there are.
 
 ghost use Rattle.std.specs.Prelude.{◌≡◌, option_map};
 ghost use Rattle.serde_json.specs.View.{view, items_view};
-ghost use Rattle.rd_trace.specs.Numbers.{member_count, number_at, bit_at, text_at, items_at, byte_number, word_number};
+ghost use Rattle.rd_trace.specs.Numbers.{member_count, number_at, bit_at, text_at, items_at};
 
 use serde_json::Value;
 
@@ -40,28 +40,4 @@ pub fn array_at<'a>(value: &'a Value, key: &str) -> Option<&'a Vec<Value>>
     ensures { option_map (λ list. items_view list.now.items) result ≡ items_at key.now (view value.now) }
 {
     value.get(key).and_then(Value::as_array)
-}
-
-/// Returns the whole number from 0 to 255 that a value is, or none.
-pub fn byte_in(value: &Value) -> Option<u8>
-    ensures { result ≡ byte_number (view value.now) }
-{
-    let number = value.as_u64()?;
-    if number <= u8::MAX as u64 {
-        Some(number as u8)
-    } else {
-        None
-    }
-}
-
-/// Returns the whole number from 0 to 2^32 - 1 that a value is, or none.
-pub fn word_in(value: &Value) -> Option<u32>
-    ensures { result ≡ word_number (view value.now) }
-{
-    let number = value.as_u64()?;
-    if number <= u32::MAX as u64 {
-        Some(number as u32)
-    } else {
-        None
-    }
 }

@@ -4,7 +4,7 @@ ghost use Rattle.std.specs.Prelude.{◌≡◌, Some, IfOk};
 ghost use Rattle.serde_json.specs.View.{view};
 ghost use Rattle.rd_trace.specs.Names.{name_of, next_of, name_data, next_data};
 
-use super::members::{byte_in, word_in};
+use super::numbers::{byte_in, word_in};
 use rd_cell::SegName;
 use serde_json::{Value, json};
 use std::alloc::{AllocError, Global};

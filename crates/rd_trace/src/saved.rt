@@ -12,7 +12,7 @@ ghost use Rattle.rd_trace.specs.Traces.{IsTraceRing, ring_length};
 ghost use Rattle.rd_trace.specs.Starts.{IsStartValue};
 ghost use Rattle.rd_trace.specs.Spelled.{Reads, Gives};
 ghost use Rattle.rd_trace.specs.Events.{event_of, event_data};
-ghost use Rattle.rd_trace.specs.Saved.{saved_trace, IsFirstTrace, IsSecondTrace, IsEither};
+ghost use Rattle.rd_trace.specs.Saved.{saved_trace, IsVersion1, IsVersion2, IsEitherVersion};
 ghost use Rattle.rd_trace.specs.Texts.{AreAppended, IsStartAppended};
 ghost use Rattle.rd_trace.specs.Writing.{IsTextOf};
 
@@ -86,7 +86,7 @@ pub fn session_in<const R: usize>(
 ) -> Result<SavedSession<R>, FormFault>
     requires small { R ≤ MOST_CELLS }
     requires ring { number_at (codes "ring") (view value.now) ≡ Some R }
-    ensures { Reads saved_trace (IsEither (view value.now)) result }
+    ensures { Reads saved_trace (IsEitherVersion (view value.now)) result }
 {
     match (number_at(value, VERSION), member_count(value)) {
         (Some(1), Some(FIRST_MEMBERS)) => first_session_in(alloc, value),
@@ -105,7 +105,7 @@ fn first_session_in<const R: usize>(
     requires members { member_count (view value.now) ≡ Some 4 }
     requires version { number_at (codes "version") (view value.now) ≡ Some 1 }
     requires ring { number_at (codes "ring") (view value.now) ≡ Some R }
-    ensures { Reads saved_trace (IsFirstTrace (view value.now)) result }
+    ensures { Reads saved_trace (IsVersion1 (view value.now)) result }
 {
     let Some(actors) = actors_at(value, ACTORS) else {
         return Err(FormFault::BadForm);
@@ -127,7 +127,7 @@ fn second_session_in<const R: usize>(
     requires members { member_count (view value.now) ≡ Some 6 }
     requires version { number_at (codes "version") (view value.now) ≡ Some 2 }
     requires ring { number_at (codes "ring") (view value.now) ≡ Some R }
-    ensures { Reads saved_trace (IsSecondTrace (view value.now)) result }
+    ensures { Reads saved_trace (IsVersion2 (view value.now)) result }
 {
     let Some(start) = value.get(START) else {
         return Err(FormFault::BadForm);
