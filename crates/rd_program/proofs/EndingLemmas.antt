@@ -1,20 +1,20 @@
 -- What a stream takes of a text that is handed over in parts.
 use Rattle.std.proofs.Common.{◌≡◌, ◌∙◌, true, false, ℕ, List, ◌++◌, Option, Result, Ok, Err, sym, ap, subst, append_assoc}
-use Rattle.std.specs.Prelude.{OnOk, OnErr}
+use Rattle.std.specs.Prelude.{MatchBool, OnOk, OnErr}
 use Rattle.std.specs.Io.KnownBytes.{Appends}
 use Rattle.std.proofs.KnownBytes.{Appends-trans}
 use Rattle.rd_script.specs.declared.devices.sinks.WriteFault.{WriteFault}
 use Rattle.rd_script.specs.Device.{TakesBeginning}
 use Rattle.rd_script.specs.Streams.{Stream}
-use Rattle.rd_program.specs.Endings.{Takes, TakesBy}
+use Rattle.rd_program.specs.Endings.{Takes}
 
 -- a stream that works takes the whole of a text
 takes_whole : (s : Stream) (text : List ℕ) → s.failed ≡ false → Appends s.before s.after text → Takes s text
-takes_whole s text works whole = subst (λ b. TakesBy b s text) (sym works) whole
+takes_whole s text works whole = subst (λ b. MatchBool b (TakesBeginning s.before s.after text) (Appends s.before s.after text)) (sym works) whole
 
 -- a stream that fails takes a beginning of it
 takes_beginning : (s : Stream) (text : List ℕ) → s.failed ≡ true → TakesBeginning s.before s.after text → Takes s text
-takes_beginning s text fails beginning = subst (λ b. TakesBy b s text) (sym fails) beginning
+takes_beginning s text fails beginning = subst (λ b. MatchBool b (TakesBeginning s.before s.after text) (Appends s.before s.after text)) (sym fails) beginning
 
 -- a stream that failed in the first part of a text
 pub takes_front : (s : Stream) (front back : List ℕ) → s.failed ≡ true → TakesBeginning s.before s.after front → Takes s (front ++ back)

@@ -1,5 +1,5 @@
 -- How the program ends after each outcome: its exit status, and what standard error then has.
-use Rattle.std.specs.Prelude.{◌≡◌, ℕ, Bool, true, false, List, ◌++◌, codes, Result, Ok, Err}
+use Rattle.std.specs.Prelude.{◌≡◌, ℕ, Bool, false, MatchBool, List, ◌++◌, codes, Result, Ok, Err}
 use Rattle.std.specs.Io.KnownBytes.{Appends}
 use Rattle.rd_cell.specs.declared.refusal.Refusal.TheVariants as refusal
 use Rattle.rd_script.specs.declared.answers.AnyRefusal.{AnyRefusal}
@@ -49,14 +49,9 @@ refusal_of (View fault) = view_refusal fault
 abbrev pub error_line : AnyRefusal → List ℕ
 error_line refusal = codes "lcrqdb: " ++ text_of (Err refusal)
 
--- a stream has this text after what it had, or, if it has failed, a beginning of the text
-abbrev pub TakesBy : Bool → Stream → List ℕ → Type 0
-TakesBy false s text = Appends s.before s.after text
-TakesBy true s text = TakesBeginning s.before s.after text
-
--- a stream took this text, all of it unless it has failed
+-- a stream took this text: all of it, after what it had; or, if it has failed, a beginning of it
 abbrev pub Takes : Stream → List ℕ → Type 0
-Takes s text = TakesBy s.failed s text
+Takes s text = MatchBool s.failed (TakesBeginning s.before s.after text) (Appends s.before s.after text)
 
 -- a stream got nothing: it has what it had, and has failed only if it had failed before
 abbrev pub GetsNothing : Bool → Stream → Type 0

@@ -10,6 +10,7 @@ use Rattle.rd_trace.specs.declared.faults.WriteTraceFault.{WriteTraceFault}
 use Rattle.rd_trace.specs.declared.any_book.AnyBook.{AnyBook}
 use Rattle.rd_trace.specs.Writing.{WritesTrace, is_write_fault}
 use Rattle.rd_trace.specs.Loading.{LoadsTrace, any_state}
+use Rattle.rd_program.specs.Endings.{GetsNothing}
 use Rattle.rd_program.specs.declared.faults.ProgramFault.{ProgramFault}
 use Rattle.rd_program.specs.declared.faults.ProgramFault.TheVariants.{NoMemory, Read, Script, Load, Trace}
 
@@ -27,10 +28,10 @@ abbrev pub RunsOver : BookState → Devices → Result ℕ ScriptFault → Type 
 RunsOver before d result = (after : BookState) × (kept : Journal) × RunsScript before after kept d result
 
 -- what became of the trace of a book in this state, if it was asked for: it was written, as far as
--- the result states; else nothing was written
+-- the result states; else the output got nothing
 abbrev pub WritesIf : Bool → BookState → Stream → Result (Unit {0}) WriteTraceFault → Type 0
 WritesIf true b output result = WritesTrace b output.before output.after result × (output.failed ≡ is_write_fault result)
-WritesIf false b output result = (result ≡ Ok tt) × (output.after ≡ output.before) × (output.failed ≡ false)
+WritesIf false b output result = (result ≡ Ok tt) × GetsNothing false output
 
 -- a script of n lines ran to its end over a book in this state, its report was written, and this
 -- became of the trace of its run
