@@ -88,7 +88,7 @@ pub fn answer<R: Files + Threads + Wait + Sync, S: AsStr, I: Source, O: Sink>(
 {
     match options(alloc, words) {
         Ok(asked) => Outcome::Done(do_options(rt, alloc, asked, input, output)),
-        Err(fault) => Outcome::of(alloc, fault),
+        Err(fault) => Outcome::from_fault(alloc, fault),
     }
 }
 
@@ -256,6 +256,6 @@ pub fn process_words<R: Env + Alloc<A = Global>>(rt: &R) -> Result<Vec<String>, 
         Err(error) if error.kind() == ErrorKind::OutOfMemory => {
             Err(Outcome::Done(Err(ProgramFault::NoMemory)))
         }
-        Err(_) => Err(Outcome::of(alloc, not_text(alloc))),
+        Err(_) => Err(Outcome::from_fault(alloc, not_text(alloc))),
     }
 }

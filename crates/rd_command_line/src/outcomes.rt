@@ -31,7 +31,7 @@ pub enum Outcome {
 
 impl Outcome {
     /// Returns the outcome of a command line that gives no options for this reason.
-    pub fn of(alloc: Global, fault: OptionsFault) -> Outcome
+    pub fn from_fault(alloc: Global, fault: OptionsFault) -> Outcome
         ensures { IsOutcomeOf fault result }
     {
         match fault {

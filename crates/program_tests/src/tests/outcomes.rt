@@ -88,7 +88,7 @@ fn a_mistake_goes_to_standard_error_with_status_2(rt: HostRuntime) -> Result<(),
 
 #[test]
 fn a_word_that_is_no_text_is_a_mistake(rt: HostRuntime) -> Result<(), Fail> {
-    let outcome = Outcome::of(rt.alloc(), not_text(rt.alloc()));
+    let outcome = Outcome::from_fault(rt.alloc(), not_text(rt.alloc()));
     let left = left_after(&rt, rt.alloc(), Err(outcome))?;
     let text = "error: invalid UTF-8 was detected in one or more arguments\n";
     assert_eq!(rt; left.status, ExitCode::from(2));
@@ -99,7 +99,7 @@ fn a_word_that_is_no_text_is_a_mistake(rt: HostRuntime) -> Result<(), Fail> {
 
 #[test]
 fn a_command_line_that_is_refused_memory_ends_with_status_1(rt: HostRuntime) -> Result<(), Fail> {
-    let outcome = Outcome::of(rt.alloc(), OptionsFault::NoMemory);
+    let outcome = Outcome::from_fault(rt.alloc(), OptionsFault::NoMemory);
     let left = left_after(&rt, rt.alloc(), Err(outcome))?;
     assert_eq!(rt; left.status, ExitCode::FAILURE);
     assert_eq!(rt;

@@ -6,6 +6,6 @@ pub returns-in-Err-clause-answers : goal.returns-in-Err-clause-answers
 returns-in-Err-clause-answers g c = inr (
   c.in-Err.fault,
   c.in-Err.ensures.err,
-  c.of.ensures,
+  c.from_fault.ensures,
   ((Keeps-refl _, c.requires.input_works), (Keeps-refl _, c.requires.output_works)),
 )

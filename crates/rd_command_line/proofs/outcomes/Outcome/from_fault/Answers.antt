@@ -1,7 +1,7 @@
 use Rattle.std.proofs.Common.{inr, refl, subst, sym}
 use Rattle.rd_command_line.specs.declared.outcomes.Outcome.TheVariants.{Shown, Refused}
 use Rattle.rd_command_line.specs.Outcomes.{IsOutcomeOf}
-use Rattle.rd_command_line.proofs.outcomes.Outcome.of.Goals as goal
+use Rattle.rd_command_line.proofs.outcomes.Outcome.from_fault.Goals as goal
 
 pub returns-in-Ok : goal.returns-in-Ok
 returns-in-Ok c = subst (λ fault. IsOutcomeOf fault (Shown c.in-Ok.text)) (sym c.in-Shown.is) (inr (c.in-Ok.text, refl))
