@@ -53,6 +53,12 @@ ROWS = [
     ("a trace with a ring", ["load", "a", "--ring", "2"], "", 2, "", "error: "),
 ]
 
+# A name, the text of a script and its report. The program reads a file in portions of 4,096 bytes.
+SCRIPTS = [
+    ("a script of a few bytes", "len\n", "at 0 0\n"),
+    ("a script of 120,006 bytes", "len\n" * 30_000 + "hello\n", "at 0 0\n" * 30_000 + "refused 22 BadLine\n"),
+]
+
 # The parts of a world of one actor, which is at the fetch-and-add of its enqueue.
 POISED = (
     '{"actors":[{"closed":false,"crq":[0,0],"h":0,"idx":0,"new":[0,0],"next":[0,0],"op":["enq",1],"pass":0,"pc":"E4","safe":false,"t":0,"val":null}],'
@@ -145,6 +151,17 @@ def run_row(built: str, row) -> str:
     return fault_of(got, wanted, fits)
 
 
+def run_script(built: str, row) -> str:
+    """What is wrong with the run of one script in a file; standard input has another one."""
+    _, script, report = row
+    with tempfile.NamedTemporaryFile("w", encoding="ascii") as file:
+        file.write(script)
+        file.flush()
+        status, output, errors = run(built, ["run", file.name], "deq 1\n")
+    got = (status, len(output), output[-40:], errors)
+    return fault_of(got, (0, len(report), report[-40:], ""), (status, output, errors) == (0, report, ""))
+
+
 def run_trace(built: str, row) -> str:
     """What is wrong with the loading of one trace."""
     _, trace, given, *wanted = row
@@ -235,6 +252,8 @@ def all_checks(built: str):
     """The checks, each a name and what is wrong, or nothing."""
     for row in ROWS:
         yield row[0], run_row(built, row)
+    for row in SCRIPTS:
+        yield row[0], run_script(built, row)
     for row in TRACES:
         yield row[0], run_trace(built, row)
     yield "the help has the lines and the places of the manual", help_fault(built)
