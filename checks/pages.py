@@ -15,7 +15,7 @@ examples of the manual are in `examples/`, each a script beside its report, and 
 `lessons` compares what the one is answered with the other. This compares the pages with these
 files. A view, and the line of a trace, are in the stored output of `rehearsals`, and the scripts of
 a view are in `examples/` too, byte for byte. A block that shows a reply and is none of these is a
-fault. Each block and each such script prints one line; the status is 1 if any of them differs. Only
+fault, and so is a line of the pseudo-code of docs/MODEL.md that `tools/model.py` can't read. Each block and each such script prints one line; the status is 1 if any of them differs. Only
 Python's standard library is used.
 """
 
@@ -31,6 +31,7 @@ sys.path.insert(0, str(TOP / "tools"))
 import contracts
 import definitions
 import manual
+import model
 from program import CRATES
 
 EXAMPLES = TOP / "crates" / "lessons" / "data"
@@ -120,6 +121,12 @@ def is_copied(name):
     return "" if copy.read_bytes() == source.read_bytes() else f"it is not {source.relative_to(TOP)}"
 
 
+def is_read(page):
+    """What of the pseudo-code can't be read, or nothing."""
+    model.read(page.read_text(encoding="utf-8"))
+    return ""
+
+
 def checks_of(name, examples):
     """The checks of a page, each a name and what is wrong, or nothing."""
     left = list(examples)
@@ -146,6 +153,7 @@ def all_checks():
         yield from checks_of(name, examples)
     for name in COPIED:
         yield f"examples/{name}", tried(is_copied, name)
+    yield "docs/MODEL.md: the pseudo-code", tried(is_read, model.PAGE)
 
 
 def main():
