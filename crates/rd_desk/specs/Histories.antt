@@ -47,8 +47,8 @@ abbrev pub IsCapacity : ℕ → Type 0
 IsCapacity n = ∥ (n ≡ 0) ⊎ ((k : ℕ) × (n ≡ 4 * 2 ^ k)) ∥₁
 
 -- what a call under the lock leaves of the history that it finds: an answered call of this viewer is
--- added to it; a refused one is not, since the history has the most calls, or since it fills its
--- list, and the room for one more was refused
+-- added to it; a refused one is not, since the history has the most calls, or since it has one of the
+-- lengths at which its list is full, where the room for one more may be refused
 abbrev pub LeavesHistory : ℕ → List (ℕ × Call) → Command → Answer → List (ℕ × Call) → Type 0
 LeavesHistory viewer found command (Ok answer) new = (length found < MOST_CALLS) × (new ≡ found ++ viewer_entry viewer command answer ∷ [])
 LeavesHistory viewer found command (Err HistoryFull) new = (length found ≡ MOST_CALLS) × (new ≡ found)

@@ -6,7 +6,6 @@ ghost use Rattle.rd_lock.specs.Histories.{AreAll, AreComparable};
 ghost use Rattle.std.specs.List.{AllByRecursion};
 ghost use Rattle.rd_lock.specs.Locks.{number as number_of, seen, served_seen, IsSamePass};
 ghost use Rattle.rd_lock.specs.Opening.{IsOpened, IsClosedOver, HasSeenUpTo};
-ghost use Rattle.rd_marks.specs.Book.{book_state};
 ghost use Rattle.rd_desk.specs.Desks.{IsViewerOf, opened_state, viewers as viewers_of};
 ghost use Rattle.rd_desk.specs.Histories.{entries, IsLeftBy};
 

@@ -1,5 +1,6 @@
 -- What a session is to its callers: a start world, the live events and the undone events. It has no
--- entry, no old word and no position in a run, and its definitions use only the run of a list.
+-- entry, no old word and no position in a run: its definitions use only the run of a list, and which
+-- of the entries that this leaves depend on each other.
 use Rattle.std.specs.Prelude.{◌≡◌, ◌⊎◌, ℕ, Bool, ◌-◌, ◌<◌, ◌==◌, nat_lt, if◌then◌else◌, List, [], ◌∷◌, ◌++◌, length, take, drop, Option, option_and_then, ok_or, Result, Ok, Err, IsOk}
 use Rattle.std.specs.List.{items_where_true}
 use Rattle.std.specs.Result.{result_ok}

@@ -11,7 +11,8 @@ use Rattle.rd_marks.specs.Commands.{AreObeyed}
 use Rattle.rd_cell.specs.declared.refusal.Refusal.TheVariants as refusal
 
 -- what a book is, whatever led to it; `kept` is what it keeps: the world that it was opened with,
--- its world now, and the entries of its live and of its undone steps
+-- its world now, and the entries of its live and of its undone steps. `undo_at` is the definition
+-- here; that the code answers an undo so is `answered` of the headline
 pub record IsRunOfLive (book : BookState) (kept : Journal) : Type 0 where
   -- the start is well-formed; from it the live events run to just the world that is kept and leave
   -- just the live entries, and from there the undone events run on and leave the undone entries

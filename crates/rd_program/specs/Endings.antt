@@ -47,7 +47,7 @@ refusal_of (View fault) = view_refusal fault
 
 -- the line on standard error for a refusal: the program's name, and then the refusal
 abbrev pub error_line : AnyRefusal → List ℕ
-error_line refusal = codes "lcrqdb: " ++ text_of (Err refusal)
+error_line cause = codes "lcrqdb: " ++ text_of (Err cause)
 
 -- a stream took this text: all of it, after what it had; or, if it has failed, a beginning of it
 abbrev pub Takes : Stream → List ℕ → Type 0

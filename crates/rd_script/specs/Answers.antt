@@ -33,7 +33,7 @@ commands_of (Ok command ∷ said) = command ∷ commands_of said
 commands_of (Err fault ∷ said) = commands_of said
 
 -- the answers to lines, one by one: to a fault its refusal, to a command the next of the answers to
--- commands, if there is one
+-- commands, of which `AreObeyed` gives each command one
 abbrev pub line_answers : List (Result Command LineFault) → List LineAnswer → List LineAnswer
 line_answers [] answers = []
 line_answers (Err fault ∷ said) answers = Err (Unread fault) ∷ line_answers said answers

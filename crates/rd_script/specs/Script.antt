@@ -61,8 +61,8 @@ pub record StoppedAtWrite (before after : BookState) (kept : Journal) (d : Devic
   pub begins : IsPrefix part (text_of last)
   pub wrote : Appends d.output.before d.output.after (report_of answers ++ part)
 
--- what a run of a script did to a book and its devices, by its result: the book is in the second
--- state then, and keeps this
+-- what a run of a script did to a book and its devices, by its result: `before` and `after` are the
+-- book's states, and `kept` is what it keeps after the run
 abbrev pub RunsScript : BookState → BookState → Journal → Devices → Result ℕ ScriptFault → Type 0
 RunsScript before after kept d (Ok n) = RanToEnd before after kept d n
 RunsScript before after kept d (Err Read) = StoppedAtRead before after kept d

@@ -17,7 +17,7 @@ slot_content _ = None
 
 -- the position and the slot that the items of a list spell
 abbrev pub slot_of_items : Items → Option (ℕ × ArrSlot)
-slot_of_items (item i (item s no_items)) = option_and_then (λ position. option_map (λ slot. (position, slot)) (slot_content s)) (whole_number i)
+slot_of_items (item i (item s no_items)) = option_and_then (λ position. option_map (λ held. (position, held)) (slot_content s)) (whole_number i)
 slot_of_items _ = None
 
 -- the position and the slot that a value spells

@@ -25,7 +25,7 @@ act_with word d =
 
 -- the event of this act and this actor, if both are there
 abbrev pub event_by : Option Act → Option ℕ → Option Event
-event_by act actor = option_and_then (λ known. option_map (λ n. record { actor = n; act = known }) actor) act
+event_by asked actor = option_and_then (λ known. option_map (λ n. record { actor = n; act = known }) actor) asked
 
 -- the event that the items of a list spell: its word and its actor, and the number or the choice if
 -- its word takes one

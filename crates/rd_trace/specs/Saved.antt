@@ -87,19 +87,19 @@ IsTraceText text t = IsUtf8 text × (d : Data) × (read text ≡ Some d) × IsTr
 
 -- the object of the values of a book's parts
 abbrev pub book_object : Items → Items → ℕ → Data → Items → Data
-book_object events marks cells start undone = object (
+book_object events marks cells begun undone = object (
     member (codes "events") (array events)
     (member (codes "marks") (array marks)
     (member (codes "ring") (number (unsigned cells))
-    (member (codes "start") start
+    (member (codes "start") begun
     (member (codes "undone") (array undone)
     (member (codes "version") (number (unsigned 2)) no_members))))))
 
 -- the value as which a book is written, where its start is written as this value
 abbrev pub book_data : Data → BookState → Data
-book_data start b = book_object (items_by event_data b.session.live) (items_by mark_data b.marks) b.session.start.ring start (items_by event_data b.session.undone)
+book_data begun b = book_object (items_by event_data b.session.live) (items_by mark_data b.marks) b.session.start.ring begun (items_by event_data b.session.undone)
 
 -- a text is one as which a book is written: JSON without spaces, its keys in alphabetical order,
 -- and a line feed
 abbrev pub IsWrittenAs : BookState → List ℕ → Type 0
-IsWrittenAs b text = (start : Data) × IsStartData b.session.start start × (text ≡ compact_text (book_data start b) ++ 10 ∷ [])
+IsWrittenAs b text = (begun : Data) × IsStartData b.session.start begun × (text ≡ compact_text (book_data begun b) ++ 10 ∷ [])

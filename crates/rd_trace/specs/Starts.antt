@@ -65,7 +65,7 @@ start_flaw (start.Parts p) = first_flaw p
 
 -- a value spells a start that has no flaw, and whose world is this one
 abbrev pub SpellsWorld : World → Data → Type 0
-SpellsWorld w d = (start : Start w.ring) × IsStart d start × (start_flaw start ≡ None) × (start_world start ≡ w)
+SpellsWorld w d = (begun : Start w.ring) × IsStart d begun × (start_flaw begun ≡ None) × (start_world begun ≡ w)
 
 -- the value as which a fresh start is written
 abbrev pub fresh_data : ℕ → Data
