@@ -6,29 +6,15 @@ no two overlap. The same picture gives the same bytes.
 """
 
 from dataclasses import dataclass, field
-from xml.sax.saxutils import escape
 
-# The colours of Okabe and Ito: of an actor's dots and lines, and darker for its words. Their
-# vermilion is that of `--undo` and `--roll` alone.
-ACTORS = [
-    ("#0072b2", "#005a8c"),
-    ("#009e73", "#006b4e"),
-    ("#cc79a7", "#8f3c6a"),
-    ("#56b4e9", "#1c6791"),
-    ("#e69f00", "#855c00"),
-    ("#000000", "#000000"),
-]
-ASKED, ASKED_WORDS, SHADE = "#d55e00", "#9c4500", 0.2
-BAND, GROUND, LANE, GREY, DARK = "#f1f1ee", "#ffffff", "#b9b9b4", "#6a6a6a", "#222222"
+from figure import (
+    ASKED, ASKED_WORDS, BAND, DARK, GREY, GROUND, HEAD, LANE, MARGIN, PLAIN, SHADE, SMALL,
+    colour_of, element, group, mixed, number, segment_of, svg, width_of, words_at,
+)
 
 # Sizes, in pixels.
-ROW, DOT, GAP, MARGIN = 22, 4.5, 14, 16
+ROW, DOT, GAP = 22, 4.5, 14
 BAND_TOP, LANE_TOP, FIRST_ROW = 8, 62, 82
-SMALL, PLAIN, HEAD = 10, 11, 12
-
-# How wide a letter is, as a part of the size, in a wide font; other letters are as wide as NORMAL.
-WIDTHS = {"ijl.,:;|'! ": 0.34, "frt-()": 0.44, "mwMW→": 0.98, "ABCDEGHNOQRSTUV": 0.75}
-NORMAL, BOLD = 0.64, 1.1
 
 
 @dataclass
@@ -77,12 +63,6 @@ def actor_lane(actor):
     return f"actor {actor}"
 
 
-def segment_of(lane):
-    """The segment of a lane, or nothing."""
-    words = lane.split(" ")
-    return words[1] if "." in words[-1] or len(words) == 3 else ""
-
-
 def order_of(lane):
     """Where a lane is: actors, the queue's ends, the segments, the array."""
     kind, *rest = lane.split(" ")
@@ -98,12 +78,6 @@ def order_of(lane):
 
 
 # ---- Where everything is --------------------------------------------------------------------------
-
-
-def width_of(text, size, bold=False):
-    """How wide a text may be, as a wide font has it."""
-    wide = sum(next((width for letters, width in WIDTHS.items() if letter in letters), NORMAL) for letter in text)
-    return wide * size * (BOLD if bold else 1)
 
 
 def name_of(lane):
@@ -180,35 +154,6 @@ class Layout:
 
 
 # ---- What is drawn --------------------------------------------------------------------------------
-
-
-def element(name, text=None, **values):
-    """An element of SVG; `_` in a name is `-`, and a value of None is left out."""
-    given = ((key.rstrip("_").replace("_", "-"), it) for key, it in values.items() if it is not None)
-    words = "".join(f' {key}="{escape(number(it), {chr(34): "&quot;"})}"' for key, it in given)
-    return f"<{name}{words}/>" if text is None else f"<{name}{words}>{escape(text)}</{name}>"
-
-
-def number(value):
-    """A value as text: a number with a fraction of one digit at most."""
-    return f"{value:.1f}".removesuffix(".0") if isinstance(value, float) else str(value)
-
-
-def words_at(x, y, text, size, fill, anchor="start", bold=False):
-    """A text at this point."""
-    weight = "bold" if bold else None
-    return element("text", text, x=x, y=y, font_size=size, fill=fill, text_anchor=anchor, font_weight=weight)
-
-
-def colour_of(actor):
-    """The colours of an actor: of its dots, and of its words."""
-    return ACTORS[(actor - 1) % len(ACTORS)]
-
-
-def mixed(colour, ground, part):
-    """The colour that is seen where this part of it is over a ground."""
-    pairs = [(int(colour[at: at + 2], 16), int(ground[at: at + 2], 16)) for at in (1, 3, 5)]
-    return "#" + "".join(f"{round(part * over + (1 - part) * under):02x}" for over, under in pairs)
 
 
 def dot_at(kind, x, y, colour):
@@ -349,22 +294,11 @@ def sentence_of(row):
     return f"{row.name}: actor {row.actor} at {row.point} {row.access} {row.place}: {row.answer}{reply}."
 
 
-def group(name, lines, opacity=None):
-    """Elements as one, if there are any."""
-    inside = list(lines)
-    given = f' opacity="{opacity}"' if opacity else ""
-    return [f'<g class="{name}"{given}>', *inside, "</g>"] if inside else []
-
-
 def draw(picture):
     """The picture as SVG."""
     layout = Layout(picture)
-    size = f'width="{layout.width}" height="{layout.height}" viewBox="0 0 {layout.width} {layout.height}"'
+    about = " ".join(["The steps, from the first down.", *map(sentence_of, picture.rows)])
     lines = [
-        f'<svg xmlns="http://www.w3.org/2000/svg" {size} role="img" font-family="DejaVu Sans, Verdana, sans-serif">',
-        element("title", picture.title),
-        element("desc", " ".join(["The steps, from the first down.", *map(sentence_of, picture.rows)])),
-        element("rect", width=layout.width, height=layout.height, fill=GROUND),
         *group("lanes", [*band_lines(layout), *lane_lines(layout)]),
         *group("asked", asked_lines(layout)),
         *group("start", start_lines(layout)),
@@ -373,5 +307,5 @@ def draw(picture):
         undone = row.name == "undone"
         lines += group("row undone" if undone else "row", row_lines(layout, row, at), 0.5 if undone else None)
     lines += group("words", asked_words(picture, layout.bottom + 22))
-    lines += [*group("legend", legend_lines(layout.height - 16)), "</svg>"]
-    return "\n".join(lines) + "\n"
+    lines += group("legend", legend_lines(layout.height - 16))
+    return svg(picture.title, about, layout.width, layout.height, lines)

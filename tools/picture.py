@@ -23,71 +23,17 @@ Each fact is a reply of the program to a line of a script: this is a client of i
 The same input gives the same bytes. Only Python's standard library is used.
 """
 
-import argparse
 import json
 import sys
 from collections import Counter
 from pathlib import Path
 
-from drawing import Dot, Picture, Row, actor_lane, draw, order_of, segment_of
-from program import add_program, run
+from drawing import Dot, Picture, Row, actor_lane, draw, order_of
+from figure import Fault, Session, number_above_0, parser_of, script_name, segment_of, write_drawn
 
 MOST_ROWS = 200
 
-
-class Fault(Exception):
-    """Why there is no picture."""
-
-
 # ---- What the program replies ---------------------------------------------------------------------
-
-
-class Session:
-    """The session that a script leaves: each question is asked of a new run of it."""
-
-    def __init__(self, arguments):
-        self.words, self.script = words_of(arguments), script_of(arguments.script, arguments.lines)
-        replies = self.replies_to(["len"])
-        self.live, self.undone = (int(word) for word in replies[-1].split(" ")[1:])
-        self.refused = sum(reply.startswith("refused ") for reply in replies[:-1])
-
-    def replies_to(self, lines):
-        """The replies to the script and to these lines after it."""
-        given = self.script + "".join(f"{line}\n" for line in lines).encode("ascii")
-        ended = run(self.words, given)
-        if ended.status:
-            raise Fault(ended.errors.strip() or f"the program ended with status {ended.status}")
-        return ended.output.decode("ascii").splitlines()
-
-    def ask(self, lines):
-        """The replies to these lines after the script."""
-        return self.replies_to(lines)[-len(lines):] if lines else []
-
-    def moved_to(self, first):
-        """Lines that undo all steps, and then make those before this one."""
-        moves = [f"forward {self.undone}", f"back {self.live + self.undone}", f"forward {first - 1}"]
-        return [line for line in moves if not line.endswith(" 0")]
-
-
-def words_of(arguments):
-    """The words that start the program."""
-    if arguments.trace is None:
-        options = [("--actors", arguments.actors), ("--ring", arguments.ring)]
-        chosen = [word for option, value in options if value for word in (option, value)]
-        return [arguments.program, "run", *chosen, "-"]
-    if arguments.actors or arguments.ring:
-        raise Fault("a trace has its own actors and rings: --trace comes without --actors and --ring")
-    return [arguments.program, "load", "--", arguments.trace]
-
-
-def script_of(name, count):
-    """The bytes of a script, or of so many first lines, with a line feed after the last one."""
-    try:
-        script = sys.stdin.buffer.read() if name == "-" else Path(name).read_bytes()
-    except OSError as fault:
-        raise Fault(f"{name}: {fault.strerror}") from fault
-    lines = script.removesuffix(b"\n").split(b"\n") if script else []
-    return b"".join(line + b"\n" for line in lines[:count])
 
 
 def records_of(session):
@@ -274,7 +220,7 @@ def picture_of(arguments):
 
 def title_of(arguments, session, picture, first, last):
     """What the picture shows, in a line."""
-    name = "a script" if arguments.script == "-" else Path(arguments.script).name
+    name = script_name(arguments)
     name += f", to line {arguments.lines}" if arguments.lines else ""
     count = session.live + session.undone
     part = "" if (first, last) == (1, count) else f", from step {first} to step {last}"
@@ -286,49 +232,26 @@ def title_of(arguments, session, picture, first, last):
 # ---- The command line -----------------------------------------------------------------------------
 
 
-def number_above_0(text):
-    """A number of the command line, 1 at least."""
-    if not text.isdecimal() or int(text) == 0:
-        raise argparse.ArgumentTypeError(f"{text} is no number from 1 on")
-    return int(text)
-
-
 def parser():
     """The command line."""
-    it = argparse.ArgumentParser(description="Draws the run of a script as a picture.")
-    it.add_argument("script", metavar="SCRIPT", help="the script; - is standard input")
-    it.add_argument("-o", dest="out", metavar="OUT.svg", default="-", help="where the picture goes; - is standard output")
+    it = parser_of("Draws the run of a script as a picture.")
     asked = it.add_mutually_exclusive_group()
     asked.add_argument("--undo", metavar="K", type=number_above_0, help="show what the line `undo K` is answered")
     asked.add_argument("--roll", metavar="K", type=number_above_0, help="shade the steps that `roll K` takes")
     it.add_argument("--from", dest="first", metavar="A", type=number_above_0, help="the first step that is drawn")
     it.add_argument("--to", dest="last", metavar="B", type=number_above_0, help="the last step that is drawn")
     it.add_argument("--lines", metavar="N", type=number_above_0, help="run the first N lines of the script alone")
-    it.add_argument("--trace", metavar="FILE", help="the trace over which the script is run")
-    it.add_argument("--actors", metavar="A", help="how many actors the fresh world has")
-    it.add_argument("--ring", metavar="R", help="how many cells its rings have")
-    add_program(it)
     return it
 
 
+def drawn_of(arguments):
+    """The picture that is asked for as SVG, and how many lines of the script were refused."""
+    picture, refused = picture_of(arguments)
+    return draw(picture), refused
+
+
 def main(words=None):
-    arguments = parser().parse_args(words)
-    try:
-        picture, refused = picture_of(arguments)
-        drawn = draw(picture)
-        if arguments.out == "-":
-            sys.stdout.write(drawn)
-        else:
-            Path(arguments.out).write_text(drawn, encoding="utf-8")
-    except Fault as fault:
-        print(f"picture.py: {fault}", file=sys.stderr)
-        return 1
-    except OSError as fault:
-        print(f"picture.py: {fault.filename}: {fault.strerror}", file=sys.stderr)
-        return 1
-    if refused:
-        print(f"picture.py: {refused} of the script's lines are refused", file=sys.stderr)
-    return 0
+    return write_drawn("picture.py", parser().parse_args(words), drawn_of)
 
 
 if __name__ == "__main__":
