@@ -3,10 +3,12 @@
 
     python3 checks/pictures.py [--store] [--program P]
 
-It is the last command of the gate, over the program that `rt ci` leaves. Of each picture it checks
-that it is stored byte for byte as `tools/picture.py` draws it and is shown on its page; that it is
-well-formed XML with a title and a description; that no two labels overlap and none is cut off; and
-that its dots agree with `bench/dependence.py`, which knows dependence from docs/MODEL.md alone: two
+The gate runs it, over the program that `rt ci` leaves. Of each picture it checks that it is stored
+byte for byte as `tools/picture.py` or `tools/moment.py` draws it and is shown on its page; that it
+is well-formed XML with a title and a description; and that no two labels overlap and none is cut
+off. The labels, marks, chips and pins of a moment have to agree with what the program replies when
+it is asked in another way (`checks/moments.py`), also those of random runs. The dots of lanes have
+to agree with `bench/dependence.py`, which knows dependence from docs/MODEL.md alone: two
 rows share a lane on which one of their dots is filled exactly if the two steps depend on each
 other. The last of these is checked of 200 runs that are drawn at random too, with what `--undo` and
 `--roll` mark. `--store` stores the pictures in place of comparing them. Each check prints a line;
@@ -31,12 +33,16 @@ sys.path[:0] = [str(TOP / "tools"), str(TOP / "bench")]
 
 import dependence
 import drawing
+import figure
+import moment
+import moments
 import picture
 import program
 
 EXAMPLES = Path("crates/lessons/data")
 GUIDE = f"{EXAMPLES}/guide.md"
 RUNS, STEPS = 200, 60  # how many runs are drawn at random, and the lines of each
+TRIED = 60  # of how many of them the last moment is drawn too
 SVG = "{http://www.w3.org/2000/svg}"
 HIGH, LOW = 0.8, 0.22  # how far a letter reaches above and below its line, as a part of its size
 
@@ -74,6 +80,22 @@ LESSONS = [
     ("15-why-a-dequeue-looks-twice", "-2", "--trace TRACE --lines 10 --undo 1"),
 ]
 
+# The moments, and those of the lessons, in the same way; the file has `-moment` after the lesson's name.
+MOMENTS = [
+    ("docs/MODEL.md", "docs/queue.svg", "moment.script", ""),
+    (GUIDE, "guide-1-moment.svg", "guide-1.script", "--line 16"),
+]
+LESSON_MOMENTS = [
+    ("02-empty-dequeue-repairs-tail", "", "--line 10"),
+    ("05-unsafe-cell", "", "--ring 2 --line 19"),
+    ("06-starvation-closes-ring", "", "--line 13"),
+    ("07-two-makers-race", "", "--line 21"),
+    ("14-what-the-safe-bit-prevents", "-1", "--trace TRACE --line 19"),
+    ("14-what-the-safe-bit-prevents", "-2", "--trace TRACE --line 6"),
+    ("15-why-a-dequeue-looks-twice", "-1", "--trace TRACE --line 2"),
+    ("15-why-a-dequeue-looks-twice", "-2", "--trace TRACE --line 8"),
+]
+
 
 # ---- What a picture has --------------------------------------------------------------------------
 
@@ -93,7 +115,7 @@ class Drawn:
 def box_of(text):
     """The box of a label, as a wide font has it: left, top, right, bottom."""
     size, x, y = (float(text.get(name)) for name in ("font-size", "x", "y"))
-    width = drawing.width_of(text.text, size, text.get("font-weight") == "bold")
+    width = figure.width_of(text.text, size, text.get("font-weight") == "bold")
     left = x - width * {"start": 0, "middle": 0.5, "end": 1}[text.get("text-anchor")]
     return left, y - HIGH * size, left + width, y + LOW * size
 
@@ -101,7 +123,7 @@ def box_of(text):
 def dot_of(element):
     """Where a dot or a cross is, and whether it is filled."""
     if element.tag == f"{SVG}circle":
-        return float(element.get("cx")), float(element.get("cy")), element.get("fill") != drawing.GROUND
+        return float(element.get("cx")), float(element.get("cy")), element.get("fill") != figure.GROUND
     x, y = element.get("d").removeprefix("M").split("l")[0].split(" ")
     half = drawing.DOT - 0.5
     return float(x) + half, float(y) + half, False
@@ -204,10 +226,10 @@ def path_of(name):
     return TOP / (name if "/" in name else EXAMPLES / name)
 
 
-def arguments_of(script, options, program_path):
-    """The command line of a picture."""
+def arguments_of(tool, script, options, program_path):
+    """The command line of a picture or a moment."""
     words = [str(path_of(word)) if word.endswith(".trace") else word for word in options.split()]
-    return picture.parser().parse_args([str(path_of(script)), *words, "--program", program_path])
+    return tool.parser().parse_args([str(path_of(script)), *words, "--program", program_path])
 
 
 def link_of(page, name):
@@ -215,30 +237,46 @@ def link_of(page, name):
     return os.path.relpath(path_of(name), (TOP / page).parent)
 
 
-def picture_fault(page, name, script, options, given):
-    """What is wrong with one picture, or nothing. It is stored first if that is wanted."""
-    arguments = arguments_of(script, options, given.program)
-    svg = drawing.draw(picture.picture_of(arguments)[0])
+def moment_fault(svg, arguments):
+    """The first thing that is wrong with a moment, or nothing."""
+    drawn = read(svg)
+    if not drawn.title or "Segment 0.0" not in drawn.about:
+        return "it has no title, or its description lacks segments"
+    return labels_fault(drawn) or moments.faults_of(svg, arguments)
+
+
+def stored_fault(tool, page, name, script, options, given):
+    """What is wrong with one picture or moment, or nothing. It is stored first if that is wanted."""
+    arguments = arguments_of(tool, script, options, given.program)
+    svg = tool.drawn_of(arguments)[0]
     if given.store:
         path_of(name).write_text(svg, encoding="utf-8")
     if not path_of(name).is_file() or path_of(name).read_text(encoding="utf-8") != svg:
         return "it is not stored as it is drawn: --store stores it"
     if f"]({link_of(page, name)})" not in (TOP / page).read_text(encoding="utf-8"):
         return f"{page} does not show it"
-    return faults_of(svg, arguments)
+    return faults_of(svg, arguments) if tool is picture else moment_fault(svg, arguments)
 
 
 def pictures():
-    """All pictures: the page, the file, the script and the options of each."""
-    yield from PICTURES
+    """All pictures and moments: what draws it, the page, the file, the script and the options."""
+    for row in PICTURES:
+        yield picture, *row
     for lesson, which, options in LESSONS:
         name = lesson + which
-        yield f"{EXAMPLES}/{lesson}.md", f"{name}.svg", f"{name}.script", options.replace("TRACE", f"{name}.trace")
+        options = options.replace("TRACE", f"{name}.trace")
+        yield picture, f"{EXAMPLES}/{lesson}.md", f"{name}.svg", f"{name}.script", options
+    for page, name, script, options in MOMENTS:
+        yield moment, page, name, script, options
+    for lesson, which, options in LESSON_MOMENTS:
+        name = lesson + which
+        options = options.replace("TRACE", f"{name}.trace")
+        yield moment, f"{EXAMPLES}/{lesson}.md", f"{name}-moment.svg", f"{name}.script", options
 
 
 def strangers():
     """The pictures that are stored and that no page shows."""
-    known = {path_of(name) for _, name, _, _ in pictures()}
+    known = {path_of(name) for _, _, name, _, _ in pictures()}
     return sorted({*TOP.glob("docs/*.svg"), *TOP.glob(f"{EXAMPLES}/*.svg")} - known)
 
 
@@ -267,10 +305,19 @@ def random_fault(seed, folder, given):
     return faults_of(drawing.draw(picture.picture_of(arguments)[0]), arguments)
 
 
-def random_faults(given):
-    """What is wrong with the first run whose picture is wrong, or nothing."""
+def random_moment_fault(seed, folder, given):
+    """What is wrong with the last moment of one run, or nothing."""
+    chance, script = random.Random(seed), folder / "random.script"
+    script.write_text(random_script(chance), encoding="ascii")
+    words = [str(script), "--ring", chance.choice(["2", "4", "8"]), "--program", given.program]
+    arguments = moment.parser().parse_args(words)
+    return moment_fault(moment.drawn_of(arguments)[0], arguments)
+
+
+def random_faults(given, count, fault_of):
+    """What is wrong with the first of so many runs whose picture is wrong, or nothing."""
     with tempfile.TemporaryDirectory() as folder:
-        faults = ((seed, random_fault(seed, Path(folder), given)) for seed in range(1, RUNS + 1))
+        faults = ((seed, fault_of(seed, Path(folder), given)) for seed in range(1, count + 1))
         return next((f"run {seed}: {fault}" for seed, fault in faults if fault), "")
 
 
@@ -278,22 +325,26 @@ def random_faults(given):
 
 # Command lines that give no picture, each with what is written to standard error.
 REFUSED = [
-    ("no.script", "", "no.script: No such file or directory"),
-    ("session.script", "--undo 99", "step 99 is not among the steps 1 to 14 that are drawn"),
-    ("session.script", "--from 9 --to 3", "the run has the steps 1 to 14: --from and --to name a part of them"),
-    ("session.script", "--program nowhere", "no program at nowhere"),
-    ("session.script", "--trace session.report", "lcrqdb: refused 27 BadTrace"),
+    (picture, "no.script", "", "no.script: No such file or directory"),
+    (picture, "session.script", "--undo 99", "step 99 is not among the steps 1 to 14 that are drawn"),
+    (picture, "session.script", "--from 9 --to 3", "the run has the steps 1 to 14: --from and --to name a part of them"),
+    (picture, "session.script", "--program nowhere", "no program at nowhere"),
+    (picture, "session.script", "--trace session.report", "lcrqdb: refused 27 BadTrace"),
+    (picture, "session.script", "--program /bin/true", "/bin/true does not reply as lcrqdb does"),
+    (moment, "no.script", "", "no.script: No such file or directory"),
+    (moment, "session.script", "--line 99", "the script has 19 lines: --line names one of them"),
+    (moment, "session.script", "--ring 2 --trace poised.trace", "--trace comes without --actors and --ring"),
 ]
 
 
-def refusal_fault(script, options, wanted, given):
+def refusal_fault(tool, script, options, wanted, given):
     """What is wrong with what a command line without a picture gives, or nothing."""
     words = [str(path_of(script)), "--program", given.program]
     words += [str(path_of(word)) if "." in word else word for word in options.split()]
     told = io.StringIO()
     try:
         with contextlib.redirect_stderr(told), contextlib.redirect_stdout(io.StringIO()):
-            status = picture.main(words)
+            status = tool.main(words)
         text = told.getvalue()
     except SystemExit as ended:
         status, text = 1, f"{ended}\n"
@@ -309,7 +360,7 @@ def long_run_fault(given):
         try:
             picture.picture_of(picture.parser().parse_args(words))
             return "it is drawn"
-        except picture.Fault as fault:
+        except figure.Fault as fault:
             if "choose at most 200 of them" not in str(fault):
                 return str(fault)
         part = picture.parser().parse_args([*words, "--from", "31", "--to", "230"])
@@ -319,14 +370,16 @@ def long_run_fault(given):
 
 def checks(given):
     """The checks, each a name and what is wrong, or nothing."""
-    for page, name, script, options in pictures():
-        yield f"{name} of {page}", picture_fault(page, name, script, options, given)
+    for tool, page, *row in pictures():
+        yield f"{row[0]} of {page}", stored_fault(tool, page, *row, given)
     for path in strangers():
         yield path.name, "no page shows it"
-    yield f"{RUNS} runs at random", random_faults(given)
+    yield f"{RUNS} runs at random", random_faults(given, RUNS, random_fault)
+    yield f"the last moment of {TRIED} of them", random_faults(given, TRIED, random_moment_fault)
     yield "a run of more than 200 steps", long_run_fault(given)
-    for script, options, wanted in REFUSED:
-        yield f"refused: {script} {options}".strip(), refusal_fault(script, options, wanted, given)
+    for tool, script, options, wanted in REFUSED:
+        name = f"{tool.__name__}.py refuses {script} {options}".strip()
+        yield name, refusal_fault(tool, script, options, wanted, given)
 
 
 def main():
