@@ -41,6 +41,7 @@ import program
 
 EXAMPLES = Path("crates/lessons/data")
 GUIDE = f"{EXAMPLES}/guide.md"
+CLOSERS = f"{EXAMPLES}/06-starvation-closes-ring.md"
 RUNS, STEPS = 200, 60  # how many runs are drawn at random, and the lines of each
 TRIED = 60  # of how many of them the last moment is drawn too
 SVG = "{http://www.w3.org/2000/svg}"
@@ -55,6 +56,7 @@ PICTURES = [
     ("docs/MANUAL.md", "poised.svg", "poised.script", "--trace poised.trace"),
     (GUIDE, "guide-1.svg", "guide-1.script", "--undo 10"),
     (GUIDE, "guide-4.svg", "guide-4.script", "--trace guide-4.trace"),
+    (CLOSERS, "two-closers.svg", "two-closers.script", "--from 26 --undo 28"),
 ]
 
 # Those of the lessons: the lesson, which of its pictures it is where it has two, and the options.
@@ -194,6 +196,11 @@ def dots_fault(drawn, steps):
     return ""
 
 
+def rows_before(arguments):
+    """How many steps are left out in front of the first row."""
+    return (arguments.first or 1) - 1
+
+
 def marks_fault(drawn, arguments, steps, live):
     """What is marked that should not be, or the other way round, or nothing."""
     wanted = {}
@@ -202,18 +209,20 @@ def marks_fault(drawn, arguments, steps, live):
         wanted = {"bar": {arguments.undo, later}} if later else {"free": {arguments.undo}}
     if arguments.roll:
         wanted = {"goes": set(dependence.closure(steps[:live], arguments.roll))}
+    before = rows_before(arguments)
+    wanted = {kind: {step - before for step in marked} for kind, marked in wanted.items()}
     return "" if drawn.marked == wanted else f"it marks {drawn.marked}, wanted {wanted}"
 
 
 def faults_of(svg, arguments):
-    """The first thing that is wrong with a picture of a whole run, or nothing."""
+    """The first thing that is wrong with the picture of a run or of some of its rows, or nothing."""
     drawn, session = read(svg), picture.Session(arguments)
     ring = json.loads(Path(arguments.trace).read_text())["ring"] if arguments.trace else int(arguments.ring or 4)
     steps = [dependence.step_of(record, ring) for record in picture.records_of(session)]
     return (
         words_fault(drawn)
         or labels_fault(drawn)
-        or dots_fault(drawn, steps)
+        or dots_fault(drawn, steps[rows_before(arguments) : arguments.last])
         or marks_fault(drawn, arguments, steps, session.live)
     )
 
