@@ -238,7 +238,7 @@ def path_of(name):
 def arguments_of(tool, script, options, program_path):
     """The command line of a picture or a moment."""
     words = [str(path_of(word)) if word.endswith(".trace") else word for word in options.split()]
-    return tool.parser().parse_args([str(path_of(script)), *words, "--program", program_path])
+    return tool.parser().parse_args([str(path_of(script)), *words, "--refused", "--program", program_path])
 
 
 def link_of(page, name):
@@ -307,7 +307,7 @@ def random_fault(seed, folder, given):
     """What is wrong with the picture of one run, or nothing."""
     chance, script = random.Random(seed), folder / "random.script"
     script.write_text(random_script(chance), encoding="ascii")
-    words = [str(script), "--ring", chance.choice(["2", "4", "8"]), "--program", given.program]
+    words = [str(script), "--refused", "--ring", chance.choice(["2", "4", "8"]), "--program", given.program]
     live = picture.Session(picture.parser().parse_args(words)).live
     asked = chance.choice([["--undo"], ["--roll"]]) if live else []
     arguments = picture.parser().parse_args([*words, *asked, *([str(chance.randint(1, live))] if live else [])])
@@ -318,7 +318,7 @@ def random_moment_fault(seed, folder, given):
     """What is wrong with the last moment of one run, or nothing."""
     chance, script = random.Random(seed), folder / "random.script"
     script.write_text(random_script(chance), encoding="ascii")
-    words = [str(script), "--ring", chance.choice(["2", "4", "8"]), "--program", given.program]
+    words = [str(script), "--refused", "--ring", chance.choice(["2", "4", "8"]), "--program", given.program]
     arguments = moment.parser().parse_args(words)
     return moment_fault(moment.drawn_of(arguments)[0], arguments)
 
@@ -340,6 +340,9 @@ REFUSED = [
     (picture, "session.script", "--program nowhere", "no program at nowhere"),
     (picture, "session.script", "--trace session.report", "lcrqdb: refused 27 BadTrace"),
     (picture, "session.script", "--program /bin/true", "/bin/true does not reply as lcrqdb does"),
+    (picture, "06-starvation-closes-ring.script", "", "2 of 25 lines are refused, the first is line 14: refused 4 "),
+    (picture, "session.report", "", "19 of 19 lines are refused, the first is line 1: refused 22 BadLine; --refused"),
+    (moment, "manual-4.script", "", "the first is line 1: refused 1 NoActor; --refused draws it"),
     (moment, "no.script", "", "no.script: No such file or directory"),
     (moment, "session.script", "--line 99", "the script has 19 lines: --line names one of them"),
     (moment, "session.script", "--ring 2 --trace poised.trace", "--trace comes without --actors and --ring"),
@@ -365,7 +368,7 @@ def long_run_fault(given):
     with tempfile.TemporaryDirectory() as folder:
         script = Path(folder) / "long.script"
         script.write_text(("enq 1 7\n" + "go 1\n" * 6) * 40, encoding="ascii")
-        words = [str(script), "--program", given.program]
+        words = [str(script), "--refused", "--program", given.program]
         try:
             picture.picture_of(picture.parser().parse_args(words))
             return "it is drawn"

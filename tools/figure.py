@@ -10,7 +10,7 @@ import sys
 from pathlib import Path
 from xml.sax.saxutils import escape
 
-from program import add_program, run
+from program import add_program, add_refused, refusals_of, run
 
 # The colours of Okabe and Ito: of an actor's dots and lines, and darker for its words. Their
 # vermilion is that of `--undo` and `--roll`, and of what is unsafe or closed.
@@ -50,7 +50,9 @@ class Session:
         if not replies or not replies[-1].startswith("at "):
             raise Fault(f"{arguments.program} does not reply as lcrqdb does")
         self.live, self.undone = (int(word) for word in replies[-1].split(" ")[1:])
-        self.refused = sum(reply.startswith("refused ") for reply in replies[:-1])
+        self.refused, has_fault = refusals_of(self.script, replies[:-1])
+        if has_fault and not arguments.refused:
+            raise Fault(f"{self.refused}; --refused draws it all the same")
 
     def replies_to(self, lines):
         """The replies to the script and to these lines after it."""
@@ -172,6 +174,7 @@ def parser_of(about):
     it.add_argument("--trace", metavar="FILE", help="the trace over which the script is run")
     it.add_argument("--actors", metavar="A", help="how many actors the fresh world has")
     it.add_argument("--ring", metavar="R", help="how many cells its rings have")
+    add_refused(it)
     add_program(it)
     return it
 
@@ -182,8 +185,8 @@ def script_name(arguments):
 
 
 def write_drawn(tool, arguments, drawn_of):
-    """Writes the text that `drawn_of` makes of a command line, which comes with how many lines of the
-    script were refused; returns the exit status."""
+    """Writes the text that `drawn_of` makes of a command line, which comes with what to say of the
+    script's refused lines; returns the exit status."""
     try:
         drawn, refused = drawn_of(arguments)
         if arguments.out == "-":
@@ -197,5 +200,5 @@ def write_drawn(tool, arguments, drawn_of):
         print(f"{tool}: {fault.filename}: {fault.strerror}", file=sys.stderr)
         return 1
     if refused:
-        print(f"{tool}: {refused} of the script's lines are refused", file=sys.stderr)
+        print(f"{tool}: {refused}", file=sys.stderr)
     return 0

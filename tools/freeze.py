@@ -2,8 +2,8 @@
 """A start out of a run: writes the world at a script's end as a start of one's own, a trace over
 which `lcrqdb load` runs other scripts.
 
-    python3 tools/freeze.py SCRIPT -o START.trace [--actors A] [--ring R] [--program P]
-    python3 tools/freeze.py SCRIPT -o START.trace --trace TRACE [--program P]
+    python3 tools/freeze.py SCRIPT -o START.trace [--actors A] [--ring R] [--refused] [--program P]
+    python3 tools/freeze.py SCRIPT -o START.trace --trace TRACE [--refused] [--program P]
 
 The script runs over a fresh world of A actors and rings of R cells, 4 each if left out, or over a
 trace. `-` is standard input for SCRIPT, and standard output for START.trace. At the script's end
@@ -12,7 +12,8 @@ the program. Steps, undone steps and bookmarks are left out: over the start, ste
 what was there before has no writer and no origin.
 
 Standard error says how many lines of the script are refused. The status is 1, with the reason in
-one line, if a file can't be read or written, or if the program does not run the script. Only
+one line, if a file can't be read or written, if the program does not run the script, or if a line
+is refused that makes a step or is no command, unless `--refused` is given. Only
 Python's standard library is needed; where `jsonschema` is there too, the start is checked against
 docs/trace.schema.json.
 """
@@ -171,16 +172,17 @@ def write(name, text):
         raise SystemExit(f"{name} can't be written: {fault.strerror}") from fault
 
 
-def count_refused(words, script):
-    """Runs a script, and says how many of its lines are refused."""
+def look_for_refusals(given, words, script):
+    """Runs a script, and says how many of its lines are refused; a refused event ends it."""
     ended = program.run(words, script)
     if ended.status:
         raise SystemExit(f"`{' '.join(words)}` ended with status {ended.status}: {ended.errors.strip()}")
     replies = ended.output.decode().splitlines()
-    refused = [(at, reply) for at, reply in enumerate(replies, 1) if reply.startswith("refused ")]
-    if refused:
-        at, reply = refused[0]
-        print(f"{len(refused)} of {len(replies)} lines are refused, first line {at}: {reply}", file=sys.stderr)
+    said, has_fault = program.refusals_of(script, replies)
+    if has_fault and not given.refused:
+        raise SystemExit(f"{said}; --refused writes the start all the same")
+    if said:
+        print(said, file=sys.stderr)
 
 
 def start_after(words, script):
@@ -211,6 +213,7 @@ def read_options():
     parser.add_argument("--trace", help="the trace over which the script runs")
     parser.add_argument("--actors", type=int, choices=range(1, 17), metavar="A", help="1 to 16 actors (4)")
     parser.add_argument("--ring", type=int, choices=(2, 4, 8), help="cells of a ring (4)")
+    program.add_refused(parser)
     program.add_program(parser)
     given = parser.parse_args()
     if given.trace and (given.actors or given.ring):
@@ -224,7 +227,7 @@ def main():
     options = ["--actors", str(given.actors or 4), "--ring", str(given.ring or 4)]
     words = [given.program, *(["load", given.trace] if given.trace else ["run", "-", *options])]
     try:
-        count_refused(words, script)
+        look_for_refusals(given, words, script)
         start = start_after(words, script)
     except (Broken, OSError, subprocess.TimeoutExpired) as fault:
         raise SystemExit(f"the script can't be run: {fault}") from fault

@@ -2,7 +2,7 @@
 """Draws the queue at one moment of a run: its segments, its array, and where each actor stands.
 
     python3 tools/moment.py SCRIPT [--line N] [-o OUT.svg] [--actors A] [--ring R] [--trace FILE]
-        [--program P]
+        [--refused] [--program P]
 
 SCRIPT, or its first N lines, is run by the built program, over the fresh world, or with `--trace`
 over that trace; `-` is standard input, and without `-o`, or with `-o -`, the drawing goes to
@@ -16,6 +16,9 @@ The array is drawn where it was touched. An actor in a call is a chip: its contr
 of that row in the pseudo-code of docs/MODEL.md, its words that the row reads, and the place that its
 next step would touch, to which a line leads. What the last live step wrote is marked in its actor's
 colour.
+
+Where a line is refused that makes a step or is no command, as when a `--ring` is forgotten, nothing
+is drawn and the status is 1, unless `--refused` is given.
 
 Each fact is a reply of the program to a line of a script: this is a client of its text interface.
 Which place a next step would touch is asked by making it and undoing it again. The same input gives
@@ -253,7 +256,7 @@ def titles_of(arguments, session):
 
 
 def moment_of(arguments):
-    """The moment that is asked for, and how many lines of the script were refused."""
+    """The moment that is asked for, and what to say of refused lines."""
     session = Session(arguments)
     count = len(session.script.splitlines())
     if arguments.lines and count < arguments.lines:
@@ -287,7 +290,7 @@ def parser():
 
 
 def drawn_of(arguments):
-    """The moment that is asked for as SVG, and how many lines of the script were refused."""
+    """The moment that is asked for as SVG, and what to say of refused lines."""
     moment, refused = moment_of(arguments)
     said = sentence_of(moment.last) if moment.last else "no step yet"
     return draw(moment, said), refused

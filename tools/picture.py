@@ -2,7 +2,7 @@
 """Draws a run as a picture: who touched which place, in which order.
 
     python3 tools/picture.py SCRIPT [-o OUT.svg] [--undo K | --roll K] [--from A] [--to B]
-        [--lines N] [--actors A] [--ring R] [--trace FILE] [--program P]
+        [--lines N] [--actors A] [--ring R] [--trace FILE] [--refused] [--program P]
 
 SCRIPT, or its first N lines, is run by the built program, over the fresh world, or with `--trace`
 over that trace; `-` is standard input, and without `-o`, or with `-o -`, the picture goes to
@@ -18,6 +18,9 @@ exactly if they have dots on one lane and one of the two is filled; each dot on 
 `--undo K` shows what the line `undo K` is answered: if it is refused, a bar runs along the lane
 that step K shares with the step that is named; if not, the row is framed. `--roll K` shades the
 rows that the rollback takes. A run of more than 200 steps is drawn in part, from step A to step B.
+
+Where a line is refused that makes a step or is no command, as when a `--ring` is forgotten, nothing
+is drawn and the status is 1, unless `--refused` is given.
 
 Each fact is a reply of the program to a line of a script: this is a client of its text interface.
 The same input gives the same bytes. Only Python's standard library is used.
@@ -201,7 +204,7 @@ def start_name(arguments, first):
 
 
 def picture_of(arguments):
-    """The picture that is asked for, and how many lines of the script were refused."""
+    """The picture that is asked for, and what to say of refused lines."""
     session = Session(arguments)
     count = session.live + session.undone
     first, last = window_of(arguments, count)
@@ -245,7 +248,7 @@ def parser():
 
 
 def drawn_of(arguments):
-    """The picture that is asked for as SVG, and how many lines of the script were refused."""
+    """The picture that is asked for as SVG, and what to say of refused lines."""
     picture, refused = picture_of(arguments)
     return draw(picture), refused
 

@@ -6,6 +6,7 @@ a time. `try_program` has a throw-away program built beside a copy of some crate
 
 import collections
 import os
+import re
 import select
 import shutil
 import statistics
@@ -21,6 +22,10 @@ BUILDS = "(cd crates/lcrqdb && rt run -- run ../../examples/session.script)"
 SECONDS = 120.0  # a run, or a line, that takes longer has failed
 LOOK_EVERY = 0.001
 PIPE_BYTES = 1 << 16
+
+# The lines that make a step, and the replies to a line that is no command.
+MAKES_A_STEP = re.compile(rb"(a?enq|a?deq|go|starve) ")
+NO_COMMAND = ("refused 22 ", "refused 23 ")
 
 Ended = collections.namedtuple("Ended", "status output errors")
 Watched = collections.namedtuple("Watched", "seconds peak_kib status output errors is_in_time")
@@ -55,6 +60,30 @@ def run(words, given=b"", **more):
         more["input"] = given
     ended = subprocess.run(words, check=False, **more)
     return Ended(ended.returncode, ended.stdout, (ended.stderr or b"").decode(errors="replace"))
+
+
+def refusals_of(script, replies):
+    """What to say of the refused lines of a script, nothing if there is none; and whether one of
+    them makes a step or is no command, so that the run is hardly the one that is meant. A refused
+    `undo` or `roll` is a question that was answered."""
+    lines = script.removesuffix(b"\n").split(b"\n")
+    refused = [
+        (at, line, reply)
+        for at, (line, reply) in enumerate(zip(lines, replies), 1)
+        if reply.startswith("refused ")
+    ]
+    if not refused:
+        return "", False
+    at, _, reply = refused[0]
+    has_fault = any(MAKES_A_STEP.match(line) or reply.startswith(NO_COMMAND) for _, line, reply in refused)
+    returns = "; the script has carriage returns" if b"\r" in script else ""
+    return f"{len(refused)} of {len(lines)} lines are refused, the first is line {at}: {reply}{returns}", has_fault
+
+
+def add_refused(parser):
+    """Adds the option that takes a script although lines are refused that make a step."""
+    about = "go on although a line that makes a step, or one that is no command, is refused"
+    parser.add_argument("--refused", action="store_true", help=about)
 
 
 def peak_of(process):
