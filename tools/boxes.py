@@ -316,7 +316,7 @@ class Layout:
 
     def caption(self):
         """The line above the figure."""
-        return f"{self.moment.caption}; rings of {self.moment.ring} cells (R = {self.moment.ring})"
+        return f"{self.moment.caption}; {self.moment.world}"
 
     def idle(self):
         """Who is in no call, in words."""

@@ -10,7 +10,7 @@ import sys
 from pathlib import Path
 from xml.sax.saxutils import escape
 
-from program import add_program, add_refused, refusals_of, run
+from program import add_program, add_refused, refusals_of, run, world_of
 
 # The colours of Okabe and Ito: of an actor's dots and lines, and darker for its words. Their
 # vermilion is that of `--undo` and `--roll`, and of what is unsafe or closed.
@@ -29,6 +29,8 @@ BAND, GROUND, LANE, GREY, DARK = "#f1f1ee", "#ffffff", "#b9b9b4", "#6a6a6a", "#2
 MARGIN = 16
 SMALL, PLAIN, HEAD = 10, 11, 12
 
+MOST_ACTORS, MOST_CELLS = 16, 64  # that a world may have
+
 # How wide a letter is, as a part of the size, in a wide font; other letters are as wide as NORMAL.
 WIDTHS = {"ijl.,:;|'! ": 0.34, "frt-()": 0.44, "mwMW→": 0.98, "ABCDEGHNOQRSTUV": 0.75}
 NORMAL, BOLD = 0.64, 1.1
@@ -46,13 +48,23 @@ class Session:
 
     def __init__(self, arguments):
         self.words, self.script = words_of(arguments), script_of(arguments.script, arguments.lines)
-        replies = self.replies_to(["len"])
-        if not replies or not replies[-1].startswith("at "):
+        cells = [f"show index 0.0 {cell}" for cell in range(MOST_CELLS)]
+        actors = [f"actor {actor}" for actor in range(1, MOST_ACTORS + 1)]
+        asked = ["len", *cells, *actors]
+        replies = self.replies_to(asked)
+        given, about = replies[:-len(asked)], replies[-len(asked):]
+        if len(about) < len(asked) or not about[0].startswith("at "):
             raise Fault(f"{arguments.program} does not reply as lcrqdb does")
-        self.live, self.undone = (int(word) for word in replies[-1].split(" ")[1:])
-        self.refused, has_fault = refusals_of(self.script, replies[:-1])
+        self.live, self.undone = (int(word) for word in about[0].split(" ")[1:])
+        self.ring = sum(reply.startswith("is ") for reply in about)
+        self.actors = sum(reply.startswith("actor ") for reply in about)
+        self.refused, has_fault = refusals_of(self.script, given)
         if has_fault and not arguments.refused:
             raise Fault(f"{self.refused}; --refused draws it all the same")
+
+    def world(self):
+        """What the world is, in words."""
+        return world_of(self.actors, self.ring)
 
     def replies_to(self, lines):
         """The replies to the script and to these lines after it."""

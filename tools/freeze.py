@@ -11,11 +11,11 @@ all actors and places are asked for, by `actor` and `show`, so each part of the 
 the program. Steps, undone steps and bookmarks are left out: over the start, steps count from 1, and
 what was there before has no writer and no origin.
 
-Standard error says how many lines of the script are refused. The status is 1, with the reason in
-one line, if a file can't be read or written, if the program does not run the script, or if a line
-is refused that makes a step or is no command, unless `--refused` is given. Only
-Python's standard library is needed; where `jsonschema` is there too, the start is checked against
-docs/trace.schema.json.
+Standard error says how many actors and cells the start has, and how many lines of the script are
+refused. The status is 1, with the reason in one line, if a file can't be read or written, if the
+program does not run the script, or if a line is refused that makes a step or is no command, unless
+`--refused` is given. Only Python's standard library is needed; where `jsonschema` is there too, the
+start is checked against docs/trace.schema.json.
 """
 
 import argparse
@@ -234,6 +234,9 @@ def main():
     if fault := schema_fault(start):
         raise SystemExit(f"the schema of traces refuses this start: {fault}")
     write(given.output, start)
+    trace = json.loads(start)
+    world = program.world_of(len(trace["start"]["actors"]), trace["ring"])
+    print(f"a start with {world}", file=sys.stderr)
     return 0
 
 

@@ -33,7 +33,7 @@ import model
 from figure import Fault, Session, number_above_0, parser_of, script_name, segment_of, write_drawn
 from queue_drawing import draw
 
-MOST_ACTORS, MOST_CELLS, SLOTS = 16, 64, 64
+SLOTS = 64
 AT_ONCE = 16  # of how many segments of a maker one run asks
 WORDS = ("crq", "new", "next", "t", "h", "closed", "val", "safe", "idx", "pass")
 
@@ -80,7 +80,7 @@ class Moment:
 
     title: str
     caption: str
-    ring: int
+    world: str  # how many actors, and the rings' size
     qhead: str
     qtail: str
     segments: list  # linked ones first, in the order of their links
@@ -193,8 +193,8 @@ def chip_of(actor, reply, tried, page, steps):
 
 def actors_of(session):
     """The reply about each actor of the world."""
-    replies = session.ask([f"actor {actor}" for actor in range(1, MOST_ACTORS + 1)])
-    return {actor: reply for actor, reply in enumerate(replies, 1) if reply.startswith("actor ")}
+    replies = session.ask([f"actor {actor}" for actor in range(1, session.actors + 1)])
+    return dict(enumerate(replies, 1))
 
 
 def chips_of(session, replies):
@@ -252,7 +252,8 @@ def titles_of(arguments, session):
     live = f"{session.live} live step{'' if session.live == 1 else 's'}{undone}"
     line = lines[-1].decode("ascii", "replace") if lines else ""
     where = f"after line {count}, {line}" if lines else "before the first line"
-    return f"The queue of {script_name(arguments)}, {where}: {live}", f"{where}: {live}"
+    name = f"{script_name(arguments)}, {session.world()}"
+    return f"The queue of {name}, {where}: {live}", f"{where}: {live}"
 
 
 def moment_of(arguments):
@@ -262,7 +263,6 @@ def moment_of(arguments):
     if arguments.lines and count < arguments.lines:
         raise Fault(f"the script has {count} lines: --line names one of them")
     replies = actors_of(session)
-    cells = content_of(session, [f"index 0.0 {cell}" for cell in range(MOST_CELLS)])
     ends = content_of(session, ["qhead", "qtail"])
     array = content_of(session, ["ahead", "atail", *(f"acell {slot}" for slot in range(SLOTS))])
     names = names_of(session, replies)
@@ -271,8 +271,8 @@ def moment_of(arguments):
     near = {*ends.values(), *map(segment_of, places)}
     title, caption = titles_of(arguments, session)
     moment = Moment(
-        title, caption, len(cells), ends["qhead"], ends["qtail"],
-        segments_of(session, names, len(cells), [*ends.values()]), array, chips,
+        title, caption, session.world(), ends["qhead"], ends["qtail"],
+        segments_of(session, names, session.ring, [*ends.values()]), array, chips,
         [actor for actor, reply in replies.items() if reply.startswith("actor Idle ")], last, near,
     )
     return moment, session.refused

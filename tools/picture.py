@@ -229,7 +229,7 @@ def title_of(arguments, session, picture, first, last):
     part = "" if (first, last) == (1, count) else f", from step {first} to step {last}"
     undone = f" and {session.undone} undone" if session.undone else ""
     asked = f"; {picture.asked}" if picture.asked else ""
-    return f"The run of {name}: {session.live} live steps{undone}{part}{asked}"
+    return f"The run of {name}, {session.world()}: {session.live} live steps{undone}{part}{asked}"
 
 
 # ---- The command line -----------------------------------------------------------------------------

@@ -80,6 +80,11 @@ def refusals_of(script, replies):
     return f"{len(refused)} of {len(lines)} lines are refused, the first is line {at}: {reply}{returns}", has_fault
 
 
+def world_of(actors, ring):
+    """How many actors a world has, and cells its rings, in words."""
+    return f"{actors} actor{'' if actors == 1 else 's'}, rings of {ring} cells (R = {ring})"
+
+
 def add_refused(parser):
     """Adds the option that takes a script although lines are refused that make a step."""
     about = "go on although a line that makes a step, or one that is no command, is refused"
