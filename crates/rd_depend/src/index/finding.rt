@@ -92,7 +92,7 @@ impl DependIndex {
         let Some(key) = key else {
             return None;
         };
-        Positions::found(self.by_key.positions(key, among), probes).first_above(k, probes)
+        Positions::found(self.by_key.kept_under(key, among), probes).first_above(k, probes)
     }
 
     /// Returns the first position greater than `k` of a step of this actor, if there is one. It

@@ -96,7 +96,7 @@ impl Table {
     }
 
     /// Returns the positions kept under the key: all of them, or only those of steps that wrote.
-    pub(crate) fn positions(&self, key: Key, among: Among) -> &[u32]
+    pub(crate) fn kept_under(&self, key: Key, among: Among) -> &[u32]
         ensures { result.now ≡ kept_in self.now (is_writes among) key }
     {
         let Some(slot) = self.slot(key) else {

@@ -48,7 +48,7 @@ impl DependIndex {
         let Some(key) = key else {
             return None;
         };
-        Positions::found(self.by_key.positions(key, Among::Writes), probes).last_up_to(n, probes)
+        Positions::found(self.by_key.kept_under(key, Among::Writes), probes).last_up_to(n, probes)
     }
 }
 

@@ -11,6 +11,6 @@ returns-in_default-clause-answer c = λ es is.
 pub returns-clause-answer : goal.returns-clause-answer
 returns-clause-answer c = λ es is.
     found_in c.args.self.now es is (Under (is_writes c.args.among) c.in-Some.key) c.args.k c.first_above.result
-    (subst (λ (l : List ℕ). IsAscending l → length l < 131072 → c.first_above.result ≡ find (nat_lt c.args.k) l) (c.found.ensures.items ∙ c.positions.ensures)
+    (subst (λ (l : List ℕ). IsAscending l → length l < 131072 → c.first_above.result ≡ find (nat_lt c.args.k) l) (c.found.ensures.items ∙ c.kept_under.ensures)
     c.first_above.ensures.first)
     ∙ sym (ap (λ (o : Option Key). find (nat_lt c.args.k) (positions (λ y. is_under_some o (touched_or_written (is_writes c.args.among) y)) es)) c.in-Some.is)

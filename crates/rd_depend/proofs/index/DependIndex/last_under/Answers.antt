@@ -10,6 +10,6 @@ returns-in_default-clause-answer c = λ es is.
 pub returns-clause-answer : goal.returns-clause-answer
 returns-clause-answer c = λ es is.
     last_in c.args.self.now es is (Under true c.in-Some.key) c.args.n c.last_up_to.result
-    (subst (λ (l : List ℕ). IsAscending l → length l < 131072 → c.last_up_to.result ≡ last_or None (before_first (nat_lt c.args.n) l)) (c.found.ensures.items ∙ c.positions.ensures)
+    (subst (λ (l : List ℕ). IsAscending l → length l < 131072 → c.last_up_to.result ≡ last_or None (before_first (nat_lt c.args.n) l)) (c.found.ensures.items ∙ c.kept_under.ensures)
     c.last_up_to.ensures.last)
     ∙ sym (ap (λ (o : Option Key). last_position (λ y. is_under_some o (touched_or_written true y)) (take c.args.n es)) c.in-Some.is)
