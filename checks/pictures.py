@@ -267,20 +267,20 @@ def stored_fault(tool, page, name, script, options, given):
     return faults_of(svg, arguments) if tool is picture else moment_fault(svg, arguments)
 
 
+def row_of_lesson(row, ending):
+    """The row of a lesson's picture, whose file has this after the lesson's name, as other rows are."""
+    lesson, which, options = row
+    name = lesson + which
+    options = options.replace("TRACE", f"{name}.trace")
+    return f"{EXAMPLES}/{lesson}.md", f"{name}{ending}.svg", f"{name}.script", options
+
+
 def pictures():
     """All pictures and moments: what draws it, the page, the file, the script and the options."""
-    for row in PICTURES:
-        yield picture, *row
-    for lesson, which, options in LESSONS:
-        name = lesson + which
-        options = options.replace("TRACE", f"{name}.trace")
-        yield picture, f"{EXAMPLES}/{lesson}.md", f"{name}.svg", f"{name}.script", options
-    for page, name, script, options in MOMENTS:
-        yield moment, page, name, script, options
-    for lesson, which, options in LESSON_MOMENTS:
-        name = lesson + which
-        options = options.replace("TRACE", f"{name}.trace")
-        yield moment, f"{EXAMPLES}/{lesson}.md", f"{name}-moment.svg", f"{name}.script", options
+    yield from ((picture, *row) for row in PICTURES)
+    yield from ((picture, *row_of_lesson(row, "")) for row in LESSONS)
+    yield from ((moment, *row) for row in MOMENTS)
+    yield from ((moment, *row_of_lesson(row, "-moment")) for row in LESSON_MOMENTS)
 
 
 def strangers():
