@@ -10,42 +10,42 @@ off. The labels, marks, chips and pins of a moment have to agree with what the p
 it is asked in another way (`checks/moments.py`), also those of random runs. The dots of lanes have
 to agree with `bench/dependence.py`, which knows dependence from docs/MODEL.md alone: two
 rows share a lane on which one of their dots is filled exactly if the two steps depend on each
-other. The last of these is checked of 200 runs that are drawn at random too, with what `--undo` and
-`--roll` mark. `--store` stores the pictures in place of comparing them. Each check prints a line;
-the status is 1 if one of them fails. Only Python's standard library is used.
+other. The marks of `--undo`, `--roll` and `--free` have to agree with it too. Rows, headings,
+lanes, segments and calls have to be those that `checks/runs.py` finds by other means. All of this
+is also checked of 200 random runs with random options, and of 12 longer ones with more actors and
+segments. `--store` stores the pictures in place of comparing them. Each check prints a line; the
+status is 1 if one of them fails. Only Python's standard library is used.
 """
 
 import argparse
 import contextlib
 import io
-import itertools
-import json
 import os
 import random
+import re
+import shlex
 import sys
 import tempfile
-from dataclasses import dataclass
+from collections.abc import Callable, Iterator
 from pathlib import Path
-from xml.etree import ElementTree
+from types import ModuleType
 
 TOP = Path(__file__).resolve().parent.parent
 sys.path[:0] = [str(TOP / "tools"), str(TOP / "bench")]
 
 import dependence
-import drawing
 import figure
 import moment
 import moments
 import picture
 import program
+import runs
 
 EXAMPLES = Path("crates/lessons/data")
 GUIDE = f"{EXAMPLES}/guide.md"
 CLOSERS = f"{EXAMPLES}/06-starvation-closes-ring.md"
-RUNS, STEPS = 200, 60  # how many runs are drawn at random, and the lines of each
-TRIED = 60  # of how many of them the last moment is drawn too
-SVG = "{http://www.w3.org/2000/svg}"
-HIGH, LOW = 0.8, 0.22  # how far a letter reaches above and below its line, as a part of its size
+RUNS, CROWDED_RUNS = 200, 12  # how many runs are drawn at random: short ones, and longer ones
+TRIED = 60  # of how many of the short ones the last moment is drawn too
 
 # The pictures that the pages show: the page, the picture's file, the script, and the options. A
 # name without a folder is one of the examples.
@@ -99,162 +99,36 @@ LESSON_MOMENTS = [
 ]
 
 
-# ---- What a picture has --------------------------------------------------------------------------
-
-
-@dataclass
-class Drawn:
-    """A picture as its elements say it."""
-
-    rows: list  # of each row its dots: the lane's position, and whether it is filled
-    texts: list  # the boxes of all labels, each with its text
-    size: tuple
-    title: str
-    about: str
-    marked: dict  # the rows that are marked, by the kind of mark
-
-
-def box_of(text):
-    """The box of a label, as a wide font has it: left, top, right, bottom."""
-    size, x, y = (float(text.get(name)) for name in ("font-size", "x", "y"))
-    width = figure.width_of(text.text, size, text.get("font-weight") == "bold")
-    left = x - width * {"start": 0, "middle": 0.5, "end": 1}[text.get("text-anchor")]
-    return left, y - HIGH * size, left + width, y + LOW * size
-
-
-def dot_of(element):
-    """Where a dot or a cross is, and whether it is filled."""
-    if element.tag == f"{SVG}circle":
-        return float(element.get("cx")), float(element.get("cy")), element.get("fill") != figure.GROUND
-    x, y = element.get("d").removeprefix("M").split("l")[0].split(" ")
-    half = drawing.DOT - 0.5
-    return float(x) + half, float(y) + half, False
-
-
-def rows_at(group, tops):
-    """The marks of a group, each by its kind and the rows that it covers."""
-    marked = {}
-    for mark in group if group is not None else []:
-        if mark.get("class") == "bar":
-            ends = {tops[float(mark.get(name))] for name in ("y1", "y2")}
-        else:
-            ends = {tops[float(mark.get("y")) + drawing.ROW // 2 - 1]}
-        marked.setdefault(mark.get("class"), set()).update(ends)
-    return marked
-
-
-def read(svg):
-    """What a picture has."""
-    root = ElementTree.fromstring(svg)
-    groups = [group for group in root.iter(f"{SVG}g") if group.get("class").split(" ")[0] == "row"]
-    dots = [[dot_of(it) for it in group if it.get("class")] for group in groups]
-    tops = {row[0][1]: at for at, row in enumerate(dots, 1)}
-    return Drawn(
-        rows=[{round(x): filled for x, _, filled in row} for row in dots],
-        texts=[(box_of(text), text.text) for text in root.iter(f"{SVG}text")],
-        size=(float(root.get("width")), float(root.get("height"))),
-        title=root.findtext(f"{SVG}title", ""),
-        about=root.findtext(f"{SVG}desc", ""),
-        marked=rows_at(next(iter(root.findall(f"{SVG}g[@class='asked']")), None), tops),
-    )
-
-
-# ---- The checks of a picture ---------------------------------------------------------------------
-
-
-def labels_fault(drawn):
-    """What is wrong with the labels of a picture, or nothing."""
-    width, height = drawn.size
-    for (left, top, right, bottom), text in drawn.texts:
-        if left < 0 or top < 0 or right > width or bottom > height:
-            return f"the label {text} is cut off"
-    for (one, text), (other, more) in itertools.combinations(drawn.texts, 2):
-        if one[0] < other[2] and other[0] < one[2] and one[1] < other[3] and other[1] < one[3]:
-            return f"the labels {text} and {more} overlap"
-    return ""
-
-
-def words_fault(drawn):
-    """What is wrong with the title and the description, or nothing."""
-    if not drawn.title:
-        return "it has no title"
-    return "" if drawn.about.count("actor ") >= len(drawn.rows) else "its description lacks steps"
-
-
-def share(one, other):
-    """Whether two rows share a lane on which one of their dots is filled."""
-    return any(filled or other[lane] for lane, filled in one.items() if lane in other)
-
-
-def dots_fault(drawn, steps):
-    """Where the dots of a picture and the dependence of its steps differ, or nothing."""
-    if len(drawn.rows) != len(steps):
-        return f"it has {len(drawn.rows)} rows for {len(steps)} steps"
-    for (at, one), (later, other) in itertools.combinations(enumerate(drawn.rows), 2):
-        if share(one, other) != dependence.depend(steps[at], steps[later]):
-            return f"steps {at + 1} and {later + 1} look as if they did or did not depend"
-    return ""
-
-
-def rows_before(arguments):
-    """How many steps are left out in front of the first row."""
-    return (arguments.first or 1) - 1
-
-
-def marks_fault(drawn, arguments, steps, live):
-    """What is marked that should not be, or the other way round, or nothing."""
-    wanted = {}
-    if arguments.undo:
-        later = dependence.first_dependant(steps[:live], arguments.undo)
-        wanted = {"bar": {arguments.undo, later}} if later else {"free": {arguments.undo}}
-    if arguments.roll:
-        wanted = {"goes": set(dependence.closure(steps[:live], arguments.roll))}
-    before = rows_before(arguments)
-    wanted = {kind: {step - before for step in marked} for kind, marked in wanted.items()}
-    return "" if drawn.marked == wanted else f"it marks {drawn.marked}, wanted {wanted}"
-
-
-def faults_of(svg, arguments):
-    """The first thing that is wrong with the picture of a run or of some of its rows, or nothing."""
-    drawn, session = read(svg), picture.Session(arguments)
-    ring = json.loads(Path(arguments.trace).read_text())["ring"] if arguments.trace else int(arguments.ring or 4)
-    steps = [dependence.step_of(record, ring) for record in picture.records_of(session)]
-    return (
-        words_fault(drawn)
-        or labels_fault(drawn)
-        or dots_fault(drawn, steps[rows_before(arguments) : arguments.last])
-        or marks_fault(drawn, arguments, steps, session.live)
-    )
-
-
 # ---- The pictures --------------------------------------------------------------------------------
 
 
-def path_of(name):
+def path_of(name: str) -> Path:
     """The file of an example, or of a name with a folder."""
     return TOP / (name if "/" in name else EXAMPLES / name)
 
 
-def arguments_of(tool, script, options, program_path):
+def arguments_of(tool: ModuleType, script: str, options: str, program_path: str) -> argparse.Namespace:
     """The command line of a picture or a moment."""
     words = [str(path_of(word)) if word.endswith(".trace") else word for word in options.split()]
     return tool.parser().parse_args([str(path_of(script)), *words, "--refused", "--program", program_path])
 
 
-def link_of(page, name):
+def link_of(page: str, name: str) -> str:
     """How a page names a picture."""
     return os.path.relpath(path_of(name), (TOP / page).parent)
 
 
-def moment_fault(svg, arguments):
+def moment_fault(svg: str, arguments: argparse.Namespace) -> str:
     """The first thing that is wrong with a moment, or nothing."""
-    drawn = read(svg)
+    drawn = runs.read(svg)
     if not drawn.title or "Segment 0.0" not in drawn.about:
         return "it has no title, or its description lacks segments"
-    return labels_fault(drawn) or moments.faults_of(svg, arguments)
+    return runs.labels_fault(drawn) or moments.faults_of(svg, arguments)
 
 
-def stored_fault(tool, page, name, script, options, given):
+def stored_fault(
+    tool: ModuleType, page: str, name: str, script: str, options: str, given: argparse.Namespace
+) -> str:
     """What is wrong with one picture or moment, or nothing. It is stored first if that is wanted."""
     arguments = arguments_of(tool, script, options, given.program)
     svg = tool.drawn_of(arguments)[0]
@@ -264,10 +138,10 @@ def stored_fault(tool, page, name, script, options, given):
         return "it is not stored as it is drawn: --store stores it"
     if f"]({link_of(page, name)})" not in (TOP / page).read_text(encoding="utf-8"):
         return f"{page} does not show it"
-    return faults_of(svg, arguments) if tool is picture else moment_fault(svg, arguments)
+    return runs.fault_of(svg, arguments) if tool is picture else moment_fault(svg, arguments)
 
 
-def row_of_lesson(row, ending):
+def row_of_lesson(row: tuple[str, str, str], ending: str) -> tuple[str, str, str, str]:
     """The row of a lesson's picture, whose file has this after the lesson's name, as other rows are."""
     lesson, which, options = row
     name = lesson + which
@@ -275,7 +149,7 @@ def row_of_lesson(row, ending):
     return f"{EXAMPLES}/{lesson}.md", f"{name}{ending}.svg", f"{name}.script", options
 
 
-def pictures():
+def pictures() -> Iterator[tuple]:
     """All pictures and moments: what draws it, the page, the file, the script and the options."""
     yield from ((picture, *row) for row in PICTURES)
     yield from ((picture, *row_of_lesson(row, "")) for row in LESSONS)
@@ -283,7 +157,7 @@ def pictures():
     yield from ((moment, *row_of_lesson(row, "-moment")) for row in LESSON_MOMENTS)
 
 
-def strangers():
+def strangers() -> list[Path]:
     """The pictures that are stored and that no page shows."""
     known = {path_of(name) for _, _, name, _, _ in pictures()}
     return sorted({*TOP.glob("docs/*.svg"), *TOP.glob(f"{EXAMPLES}/*.svg")} - known)
@@ -291,39 +165,105 @@ def strangers():
 
 # ---- Runs drawn at random ------------------------------------------------------------------------
 
+# How often a short script has a line, without its actor.
+WEIGHTS = {"go": 14, "enq": 3, "deq": 3, "aenq": 1, "adeq": 1, "starve yes": 1, "starve no": 1}
+WEIGHTS |= {"undo": 1, "redo": 1, "undo\r": 1}
 
-def random_script(chance):
+
+def short_script(chance: random.Random) -> str:
     """A script of calls, steps, choices and a few undos, some of which are refused."""
-    weights = {"go": 14, "enq": 3, "deq": 3, "aenq": 1, "adeq": 1, "starve": 2, "undo": 1, "redo": 1}
-    lines = []
-    for word in chance.choices([*weights], [*weights.values()], k=STEPS):
-        actor, value = chance.randint(1, 3), chance.randint(0, 9)
-        more = {"enq": f" {value}", "aenq": f" {value}", "starve": chance.choice([" yes", " no"])}.get(word, "")
-        lines.append(word if word in ("undo", "redo") else f"{word} {actor}{more}")
-    return "".join(f"{line}\n" for line in lines)
+    script = []
+    for line in chance.choices([*WEIGHTS], [*WEIGHTS.values()], k=60):
+        word, *choice = line.split(" ")
+        actor, value = str(chance.randint(1, 3)), str(chance.randint(0, 9))
+        more = {"undo": [], "redo": [], "enq": [actor, value], "aenq": [actor, value]}
+        script.append(" ".join([word, *more.get(word, [actor, *choice])]))
+    return "".join(f"{line}\n" for line in script)
 
 
-def random_fault(seed, folder, given):
+def crowded_script(chance: random.Random) -> str:
+    """A longer script of six actors, some at a time, whose enqueues make many segments over rings
+    of 2 cells: some are linked, and others lose the race."""
+    script = []
+    for _ in range(8):
+        actors = chance.sample(range(1, 7), chance.randint(1, 3))
+        goes = [f"go {actor}" for actor in actors for _ in range(14)]
+        goes += [f"starve {actor} yes" for actor in actors for _ in range(4)]
+        chance.shuffle(goes)
+        calls = [f"enq {actor} {chance.randint(0, 2 ** 64 - 1)}" for actor in actors]
+        script += [*calls, f"deq {chance.randint(1, 6)}", *goes[chance.randint(0, 9):]]
+    return "".join(f"{line}\n" for line in [*script, *["undo"] * chance.randint(0, 3)])
+
+
+def words_of(seed: int, folder: Path, is_short: bool, given: argparse.Namespace) -> tuple[random.Random, list[str]]:
+    """What chooses all of a run at random, and the words for its script, which is written."""
+    chance, script = random.Random(seed), folder / "random.script"
+    script.write_text((short_script if is_short else crowded_script)(chance), encoding="ascii")
+    world = ["--ring", chance.choice(["2", "4", "8"])] if is_short else ["--ring", "2", "--actors", "6"]
+    return chance, [str(script), "--refused", *world, "--program", given.program]
+
+
+def options_of(chance: random.Random, records: list[str], live: int) -> list[str]:
+    """Options at random: which steps are drawn, and what is asked about one of them."""
+    count, words = len(records), []
+    if chance.random() < 0.4:
+        first, last = sorted(chance.choices(range(1, count + 1), k=2))
+        words += ["--from", str(first), "--to", str(last)]
+    places = sorted({record.split("; ")[2] for record in records} - {"-"})
+    if places and chance.random() < 0.3:
+        chosen = ",".join(chance.sample(places, min(2, len(places))))
+        words += ["--places", re.sub(r"\bcell\b", chance.choice(["cell", "value", "index"]), chosen)]
+    if chance.random() < 0.3:
+        words += ["--actor", chance.choice(records).split("; ")[1].split(" ")[1]]
+    words += ["--free"] if chance.random() < 0.3 else []
+    asked = chance.choice(["--undo", "--roll"])
+    return [*words, asked, str(chance.randint(1, live))] if live and chance.random() < 0.7 else words
+
+
+def is_right(fault: figure.Fault, run: runs.Run) -> bool:
+    """Whether a picture is refused since it would have no row or too many, or not those that are
+    asked about."""
+    drawn, asked = run.drawn(), run.arguments.undo or run.arguments.roll
+    if not 1 <= len(drawn) <= 200 or asked and asked not in drawn:
+        return True
+    later = dependence.first_dependant(run.steps[: run.live], asked) if run.arguments.undo else None
+    return later is not None and later not in drawn and f"Depended {later}, which is " in str(fault)
+
+
+def run_fault(seed: int, folder: Path, given: argparse.Namespace, is_short: bool) -> str:
     """What is wrong with the picture of one run, or nothing."""
-    chance, script = random.Random(seed), folder / "random.script"
-    script.write_text(random_script(chance), encoding="ascii")
-    words = [str(script), "--refused", "--ring", chance.choice(["2", "4", "8"]), "--program", given.program]
-    live = picture.Session(picture.parser().parse_args(words)).live
-    asked = chance.choice([["--undo"], ["--roll"]]) if live else []
-    arguments = picture.parser().parse_args([*words, *asked, *([str(chance.randint(1, live))] if live else [])])
-    return faults_of(drawing.draw(picture.picture_of(arguments)[0]), arguments)
+    chance, words = words_of(seed, folder, is_short, given)
+    session = figure.Session(picture.parser().parse_args(words))
+    if not session.live + session.undone:
+        return ""
+    records = picture.records_of(session)
+    options = options_of(chance, records, session.live)
+    arguments = picture.parser().parse_args([*words, *options])
+    run = runs.run_of(arguments, session, records)
+    try:
+        fault = runs.faults_of(picture.drawn_of(arguments)[0], run, session)
+    except figure.Fault as refusal:
+        fault = "" if is_right(refusal, run) else str(refusal)
+    return f"{' '.join(options)}: {fault}" if fault else ""
 
 
-def random_moment_fault(seed, folder, given):
+def random_fault(seed: int, folder: Path, given: argparse.Namespace) -> str:
+    """What is wrong with the picture of one run, or nothing."""
+    return run_fault(seed, folder, given, True)
+
+
+def crowded_fault(seed: int, folder: Path, given: argparse.Namespace) -> str:
+    """What is wrong with the picture of one longer run, or nothing."""
+    return run_fault(seed, folder, given, False)
+
+
+def random_moment_fault(seed: int, folder: Path, given: argparse.Namespace) -> str:
     """What is wrong with the last moment of one run, or nothing."""
-    chance, script = random.Random(seed), folder / "random.script"
-    script.write_text(random_script(chance), encoding="ascii")
-    words = [str(script), "--refused", "--ring", chance.choice(["2", "4", "8"]), "--program", given.program]
-    arguments = moment.parser().parse_args(words)
+    arguments = moment.parser().parse_args(words_of(seed, folder, True, given)[1])
     return moment_fault(moment.drawn_of(arguments)[0], arguments)
 
 
-def random_faults(given, count, fault_of):
+def random_faults(given: argparse.Namespace, count: int, fault_of: Callable[..., str]) -> str:
     """What is wrong with the first of so many runs whose picture is wrong, or nothing."""
     with tempfile.TemporaryDirectory() as folder:
         faults = ((seed, fault_of(seed, Path(folder), given)) for seed in range(1, count + 1))
@@ -336,7 +276,16 @@ def random_faults(given, count, fault_of):
 REFUSED = [
     (picture, "no.script", "", "no.script: No such file or directory"),
     (picture, "session.script", "--undo 99", "step 99 is not among the steps 1 to 14 that are drawn"),
-    (picture, "session.script", "--from 9 --to 3", "the run has the steps 1 to 14: --from and --to name a part of them"),
+    (picture, "session.script", "--from 9 --to 3", "the run has the steps 1 to 14: --from and --to name a part of"),
+    (picture, "session.script", "--places nowhere", "--places 'nowhere': refused 22 BadLine"),
+    (picture, "session.script", "--places 'qhead,cell 0.0 9'", "--places 'cell 0.0 9': refused 19 NoSuchPlace"),
+    (picture, "session.script", "--places 'acell 5' --actor 4", "no step from 1 to 14 is at acell 5 or of actor 4"),
+    (picture, "session.script", "--places 'qhead\nundo'", "--places 'qhead\\nundo': no place has such a name"),
+    (picture, "session.script", "--actor 1,5", "--actor '5': the world has the actors 1 to 4"),
+    (picture, "session.script", "--actor 1 --actor x", "--actor 'x': the world has the actors 1 to 4"),
+    (picture, "session.script", "--undo 9 --actor 1", "step 9 is not drawn, since it is not of actor 1"),
+    (picture, "session.script", "--lines 15 --undo 8 --actor 1", "12, which is not drawn, since it is not of actor 1"),
+    (picture, "session.script", "--lines 15 --undo 8 --to 9", "12, which is after the last row: --to 12 has it"),
     (picture, "session.script", "--program nowhere", "no program at nowhere"),
     (picture, "session.script", "--trace session.report", "lcrqdb: refused 27 BadTrace"),
     (picture, "session.script", "--program /bin/true", "/bin/true does not reply as lcrqdb does"),
@@ -349,10 +298,10 @@ REFUSED = [
 ]
 
 
-def refusal_fault(tool, script, options, wanted, given):
+def refusal_fault(tool: ModuleType, script: str, options: str, wanted: str, given: argparse.Namespace) -> str:
     """What is wrong with what a command line without a picture gives, or nothing."""
     words = [str(path_of(script)), "--program", given.program]
-    words += [str(path_of(word)) if "." in word else word for word in options.split()]
+    words += [str(path_of(word)) if path_of(word).exists() else word for word in shlex.split(options)]
     told = io.StringIO()
     try:
         with contextlib.redirect_stderr(told), contextlib.redirect_stdout(io.StringIO()):
@@ -363,38 +312,54 @@ def refusal_fault(tool, script, options, wanted, given):
     return "" if status == 1 and wanted in text and text.count("\n") == 1 else f"it ended with {status} and {text!r}"
 
 
-def long_run_fault(given):
-    """What is wrong with a run that is too long for one picture, or nothing."""
+# Scripts with the options of their pictures.
+LONG = ("enq 1 7\n" + "go 1\n" * 6) * 40
+ODD = [
+    ("200 steps of a longer run", LONG, "--from 31 --to 230 --free"),
+    ("a longer run at some places", LONG, "--places 'tail 0.0,next 1.0'"),
+    # Actor 2's Q7 writes the index half alone, and actor 1's E8 loses: both have dots on both halves.
+    ("two CAS2 that share an index", "enq 1 7\n" + "go 1\n" * 5 + "deq 2\n" + "go 2\n" * 5 + "go 1\n", "--undo 12"),
+]
+
+
+def odd_fault(script: str, options: str, given: argparse.Namespace) -> str:
+    """What is wrong with the picture of a script, or nothing."""
     with tempfile.TemporaryDirectory() as folder:
-        script = Path(folder) / "long.script"
-        script.write_text(("enq 1 7\n" + "go 1\n" * 6) * 40, encoding="ascii")
-        words = [str(script), "--refused", "--program", given.program]
-        try:
-            picture.picture_of(picture.parser().parse_args(words))
-            return "it is drawn"
-        except figure.Fault as fault:
-            if "choose at most 200 of them" not in str(fault):
-                return str(fault)
-        part = picture.parser().parse_args([*words, "--from", "31", "--to", "230"])
-        drawn = read(drawing.draw(picture.picture_of(part)[0]))
-        return labels_fault(drawn) or ("" if len(drawn.rows) == 200 else f"{len(drawn.rows)} rows are drawn")
+        path = Path(folder) / "odd.script"
+        path.write_text(script, encoding="ascii")
+        words = [str(path), "--refused", "--program", given.program, *shlex.split(options)]
+        arguments = picture.parser().parse_args(words)
+        return runs.fault_of(picture.drawn_of(arguments)[0], arguments)
 
 
-def checks(given):
+def long_run_fault(given: argparse.Namespace) -> str:
+    """What is wrong with a run that is too long for one picture, or nothing."""
+    try:
+        odd_fault(LONG, "", given)
+        return "it is drawn"
+    except figure.Fault as fault:
+        return "" if "choose at most 200 of them" in str(fault) else str(fault)
+
+
+def checks(given: argparse.Namespace) -> Iterator[tuple[str, str]]:
     """The checks, each a name and what is wrong, or nothing."""
     for tool, page, *row in pictures():
         yield f"{row[0]} of {page}", stored_fault(tool, page, *row, given)
     for path in strangers():
         yield path.name, "no page shows it"
     yield f"{RUNS} runs at random", random_faults(given, RUNS, random_fault)
+    yield f"{CROWDED_RUNS} longer ones of more actors", random_faults(given, CROWDED_RUNS, crowded_fault)
     yield f"the last moment of {TRIED} of them", random_faults(given, TRIED, random_moment_fault)
+    for name, script, options in ODD:
+        yield name, odd_fault(script, options, given)
     yield "a run of more than 200 steps", long_run_fault(given)
     for tool, script, options, wanted in REFUSED:
-        name = f"{tool.__name__}.py refuses {script} {options}".strip()
+        name = f"{tool.__name__}.py refuses {script} {options!r}".strip()
         yield name, refusal_fault(tool, script, options, wanted, given)
 
 
-def main():
+def main() -> int:
+    """Prints the checks; returns the exit status."""
     parser = argparse.ArgumentParser(description="Compares the pictures of the pages with those drawn anew.")
     parser.add_argument("--store", action="store_true", help="store the pictures in place of comparing them")
     program.add_program(parser)

@@ -1,162 +1,26 @@
-"""Lays out a picture of a run and draws it as SVG: `tools/picture.py` says what a picture shows.
+"""Draws a picture of a run as SVG, by its layout in `tools/lanes.py`.
 
-A picture is its lanes and its rows; `draw` gives its text. The text is plain: no script, no font of
-its own, and a title and a description in words. Labels get the room that a wide font needs, so that
-no two overlap. The same picture gives the same bytes.
+`tools/picture.py` says what a picture shows; `draw` gives its text. The text is plain: no script,
+no font of its own, and a title and a description in words. The same picture gives the same bytes.
 """
 
-from dataclasses import dataclass, field
+from collections.abc import Iterator
 
 from figure import (
     ASKED, ASKED_WORDS, BAND, DARK, GREY, GROUND, HEAD, LANE, MARGIN, PLAIN, SHADE, SMALL,
-    colour_of, element, group, mixed, number, segment_of, svg, width_of, words_at,
+    colour_of, element, group, mixed, number, svg, width_of, words_at,
 )
+from lanes import BAND_TOP, DOT, FIRST_ROW, GAP, MARK, ROW, Call, Layout, Picture, Row, actor_lane, band_of, name_of
 
-# Sizes, in pixels.
-ROW, DOT, GAP = 22, 4.5, 14
-BAND_TOP, LANE_TOP, FIRST_ROW = 8, 62, 82
-
-
-@dataclass
-class Dot:
-    """What a step did on one lane."""
-
-    lane: str
-    kind: str  # wrote, read or lost
-    text: str
+CALL, BAR, NUMBER = 6, 6, 7  # half of how wide a call and a bar are, and half of how high the frame of a number is
+IN_CALL = 0.22  # how much of an actor's colour the shade of its call has
+PALE = 0.5  # how opaque undone rows are
 
 
-@dataclass
-class Row:
-    """A step: `name` is its number or `undone`, `point` its control point or its call."""
-
-    name: str
-    actor: int
-    point: str
-    place: str
-    access: str
-    answer: str
-    reply: str
-    dots: list = field(default_factory=list)
-    goes: bool = False  # taken by the rollback that is asked for
+# ---- Dots and words -------------------------------------------------------------------------------
 
 
-@dataclass
-class Picture:
-    """What is to be drawn."""
-
-    title: str
-    lanes: list
-    rows: list
-    start: dict  # what is on a lane before the first row, where that is shown
-    start_name: str = ""
-    bar: tuple = ()  # a lane, and the numbers of the rows from which to which it is marked
-    frame: int | None = None  # the row that may go alone
-    asked: str = ""
-
-
-# ---- Lanes ---------------------------------------------------------------------------------------
-
-
-def actor_lane(actor):
-    """The name of an actor's lane."""
-    return f"actor {actor}"
-
-
-def order_of(lane):
-    """Where a lane is: actors, the queue's ends, the segments, the array."""
-    kind, *rest = lane.split(" ")
-    if kind == "actor":
-        return (0, int(rest[0]))
-    if kind in ("qhead", "qtail"):
-        return (1, kind)
-    if kind in ("ahead", "atail", "acell"):
-        return (3, len(rest), int(rest[0]) if rest else 0, kind)
-    maker, number = rest[0].split(".")
-    column = {"head": 0, "tail": 1, "value": 2, "index": 2, "next": 3}[kind]
-    return (2, int(maker), int(number), column, int(rest[1]) if rest[1:] else 0, kind == "index")
-
-
-# ---- Where everything is --------------------------------------------------------------------------
-
-
-def name_of(lane):
-    """What is above a lane."""
-    kind = lane.split(" ")[0]
-    if kind == "acell":
-        return f"slot {lane.split(' ')[1]}"
-    return {"index": "safe idx", "ahead": "head", "atail": "tail"}.get(kind, kind)
-
-
-def band_of(lane):
-    """The heading of the band in which a lane is; none for an actor's."""
-    kind = order_of(lane)[0]
-    return ["", "queue", f"segment {segment_of(lane)}", "array"][kind]
-
-
-class Layout:
-    """Where the lanes and the bands of a picture are, from left to right."""
-
-    def __init__(self, picture):
-        self.picture = picture
-        names = [picture.start_name, *(row.name for row in picture.rows)]
-        self.numbers = MARGIN + max(width_of(name, SMALL) for name in names)
-        self.lanes, self.bands, at = {}, [], self.numbers + 6
-        for band in dict.fromkeys(band_of(lane) for lane in picture.lanes):
-            at = self.put_band(band, at + (GAP if band else 0))
-        self.width = round(max(at + MARGIN, 420.0, self.width_of_words()))
-        self.first = FIRST_ROW + (ROW if picture.start_name else 0)
-        self.bottom = self.first + ROW * (len(picture.rows) - 1) + 14
-        self.height = self.bottom + (58 if picture.asked else 34)
-
-    def width_of_words(self):
-        """How wide the words below the picture are."""
-        return 2 * MARGIN + width_of(self.picture.asked, HEAD, True) + 280 if self.picture.asked else 0
-
-    def put_band(self, band, left):
-        """Puts the lanes of a band, from here on; returns where it ends."""
-        at = left
-        for lane in self.picture.lanes:
-            if band_of(lane) == band:
-                before, after = self.room_of(lane)
-                self.lanes[lane] = round(at + before)
-                at = self.lanes[lane] + after + GAP / 2
-        if not band:
-            return at
-        right = max(at, left + width_of(band, HEAD, True) + 2 * GAP)
-        self.bands.append((band, round(left), round(right)))
-        return right
-
-    def room_of(self, lane):
-        """How much room a lane wants at its left and its right, for its words."""
-        half = width_of(name_of(lane), SMALL) / 2 + 2
-        starts = [self.picture.start[lane]] if self.picture.start_name else []
-        if not lane.startswith("actor "):
-            texts = [dot.text for row in self.picture.rows for dot in row.dots if dot.lane == lane]
-            widest = max((width_of(text, SMALL, True) for text in [*texts, *starts]), default=0)
-            return max(half, 12), max(half, widest + 10)
-        rows = [row for row in self.picture.rows if actor_lane(row.actor) == lane]
-        half = width_of(lane, HEAD, True) / 2 + 2
-        points = [*(row.point for row in rows), *starts]
-        return (
-            max(half, max(width_of(point, PLAIN) for point in points) + 16),
-            max(half, max(width_of(row.reply, PLAIN, True) for row in rows) + 14),
-        )
-
-    def row(self, at):
-        """How far down a row is."""
-        return self.first + ROW * at
-
-    def ground_of(self, lane, row):
-        """The colour behind a lane in this row."""
-        ground = BAND if band_of(lane) else GROUND
-        return mixed(ASKED, ground, SHADE) if row.goes else ground
-
-
-# ---- What is drawn --------------------------------------------------------------------------------
-
-
-def dot_at(kind, x, y, colour):
+def dot_at(kind: str, x: float, y: float, colour: str) -> str:
     """A dot, or a cross."""
     if kind == "lost":
         half = DOT - 0.5
@@ -167,39 +31,105 @@ def dot_at(kind, x, y, colour):
     return element("circle", class_=kind, cx=x, cy=y, r=DOT, fill=fill, stroke=colour, stroke_width=1.6)
 
 
-def over(x, y, text, size, fill, ground, bold=False):
+def over(x: float, y: float, text: str, size: int, fill: str, ground: str, bold: bool = False) -> list[str]:
     """A text at the right of a dot, on a ground of its own, so that no line goes through it."""
     if not text:
         return []
-    box = element("rect", x=x + 6, y=y - 7, width=width_of(text, size, bold) + 3, height=14, fill=ground)
+    box = element("rect", x=x + 7, y=y - 7, width=width_of(text, size, bold) + 2, height=14, fill=ground)
     return [box, words_at(x + 8, y + 4, text, size, fill, bold=bold)]
 
 
-def band_lines(layout):
-    """The bands with their headings, and a heading over the two lanes of each cell."""
+def dots_at(x: float, y: float, step: float, fill: str) -> list[str]:
+    """Three small dots below each other, for steps that are left out."""
+    return [element("circle", cx=x, cy=y + step * at, r=1.1, fill=fill) for at in (-1, 0, 1)]
+
+
+# ---- Lanes ----------------------------------------------------------------------------------------
+
+
+def band_lines(layout: Layout) -> Iterator[str]:
+    """The bands, those of segments that were never linked in a broken frame."""
     for band, left, right in layout.bands:
-        yield element("rect", x=left, y=BAND_TOP, width=right - left, height=layout.bottom - BAND_TOP, rx=6, fill=BAND)
-        yield words_at(left + GAP, BAND_TOP + 15, band, HEAD, DARK, bold=True)
+        dashes = {"stroke": GREY, "stroke_dasharray": "6 4"} if band in layout.picture.apart else {}
+        height = layout.bottom - BAND_TOP
+        yield element("rect", x=left, y=BAND_TOP, width=right - left, height=height, rx=6, fill=BAND, **dashes)
+
+
+def heading_lines(layout: Layout, down: int) -> Iterator[str]:
+    """What is above the lanes of a part: the names of bands, cells and lanes."""
+    for band, left, _ in layout.bands:
+        yield words_at(left + GAP, down + BAND_TOP + 15, layout.heading_of(band), HEAD, DARK, bold=True)
     for lane, x in layout.lanes.items():
         if lane.startswith("value "):
             middle = (x + layout.lanes[f"index {lane.partition(' ')[2]}"]) / 2
-            yield words_at(middle, 40, f"cell {lane.split(' ')[2]}", PLAIN, DARK, "middle")
-
-
-def lane_lines(layout):
-    """The lanes with their names."""
-    for lane, x in layout.lanes.items():
-        line = {"x1": x, "y1": LANE_TOP, "x2": x, "y2": layout.bottom - 4}
+            yield words_at(middle, down + 40, f"cell {lane.split(' ')[2]}", PLAIN, DARK, "middle")
         if band_of(lane):
-            yield element("line", **line, stroke=LANE)
-            yield words_at(x, 56, name_of(lane), SMALL, GREY, "middle")
+            yield words_at(x, down + 56, name_of(lane), SMALL, GREY, "middle")
         else:
-            colour, dark = colour_of(int(lane.split(" ")[1]))
-            yield element("line", **line, stroke=colour, stroke_width=2)
-            yield words_at(x, 40, lane, HEAD, dark, "middle", True)
+            yield words_at(x, down + 40, lane, HEAD, colour_of(int(lane.split(" ")[1]))[1], "middle", True)
 
 
-def start_lines(layout):
+def lane_lines(layout: Layout) -> Iterator[str]:
+    """The lanes of each part with what is above them."""
+    for part in layout.parts:
+        top, bottom = part.lane_ends()
+        for lane, x in layout.lanes.items():
+            line = {"x1": x, "y1": top, "x2": x, "y2": bottom}
+            if band_of(lane):
+                yield element("line", **line, stroke=LANE)
+            else:
+                yield element("line", **line, stroke=colour_of(int(lane.split(" ")[1]))[0], stroke_width=2)
+        yield from group("headings", heading_lines(layout, part.down))
+
+
+def break_lines(layout: Layout) -> Iterator[str]:
+    """What stands between two rows where steps are left out."""
+    for y in layout.breaks:
+        ends = {"x1": layout.numbers + 6, "y1": y, "x2": layout.right, "y2": y}
+        line = element("line", **ends, stroke=GREY, stroke_dasharray="1 5")
+        yield from group("break", [*dots_at(layout.numbers - 6, y, 4, GREY), line])
+
+
+# ---- Calls ----------------------------------------------------------------------------------------
+
+
+def shade_path(x: int, top: int, bottom: int, begins: bool, ends: bool) -> str:
+    """The outline of a shade along a lane, round where a call begins and where it ends."""
+    upper = f"M{x - CALL} {top + CALL}a{CALL} {CALL} 0 0 1 {2 * CALL} 0" if begins else f"M{x - CALL} {top}h{2 * CALL}"
+    lower = f"V{bottom - CALL}a{CALL} {CALL} 0 0 1 {-2 * CALL} 0z" if ends else f"V{bottom}h{-2 * CALL}z"
+    return upper + lower
+
+
+def ends_of(layout: Layout, call: Call) -> tuple[tuple[int, bool], tuple[int, bool]]:
+    """From where to where a call is, and whether it begins and ends there."""
+    picture = layout.picture
+    begin = layout.side_of(call.begin, -1) if call.begin else (layout.parts[0].lane_ends()[0], False)
+    is_open = call.end is None or call.end > picture.last
+    return begin, (layout.parts[-1].lane_ends()[1], False) if is_open else layout.side_of(call.end, 1)
+
+
+def call_lines(layout: Layout, undone: bool) -> Iterator[str]:
+    """The calls as shades along their actors' lanes, beside live rows or beside undone ones."""
+    rows = zip(layout.picture.rows, layout.rows)
+    border = next((y - ROW // 2 for row, y in rows if row.name == "undone"), layout.bottom)
+    for call in layout.picture.calls:
+        (top, begins), (bottom, ends) = ends_of(layout, call)
+        x = layout.lanes[actor_lane(call.actor)]
+        for upper, lower in layout.clipped(*((max(top, border), bottom) if undone else (top, min(bottom, border)))):
+            path = shade_path(x, upper, lower, begins and upper == top, ends and lower == bottom)
+            yield element("path", class_="call", d=path, fill=mixed(colour_of(call.actor)[0], GROUND, IN_CALL))
+
+
+# ---- Rows -----------------------------------------------------------------------------------------
+
+
+def ground_of(lane: str, row: Row) -> str:
+    """The colour behind a lane in this row."""
+    ground = BAND if band_of(lane) else GROUND
+    return mixed(ASKED, ground, SHADE) if row.goes else ground
+
+
+def start_lines(layout: Layout) -> Iterator[str]:
     """What is on each lane before the first row."""
     picture, y = layout.picture, FIRST_ROW
     if not picture.start_name:
@@ -213,99 +143,193 @@ def start_lines(layout):
             yield from over(x - 3, y, text, SMALL, GREY, BAND)
 
 
-def row_lines(layout, row, at):
+def name_lines(layout: Layout, row: Row, at: int) -> Iterator[str]:
+    """The number of a row, in a frame where it could be undone alone, and filled where a bar ends."""
+    y, is_end = layout.rows[at], at in (layout.picture.bar or ())[1:]
+    width = width_of(row.name, SMALL, True)
+    place = {"x": layout.numbers - width - 3, "y": y - NUMBER, "width": width + 6, "height": 2 * NUMBER, "rx": 4}
+    if is_end:
+        yield element("rect", class_="end", **place, fill=mixed(ASKED, GROUND, 0.35))
+    if row.is_free:
+        yield number_frame(**place)
+    yield words_at(layout.numbers, y + 4, row.name, SMALL, ASKED_WORDS if is_end else GREY, "end", is_end)
+
+
+def row_lines(layout: Layout, row: Row, at: int) -> Iterator[str]:
     """One row: its line first, then dots and words over it."""
-    y, actor = layout.row(at), layout.lanes[actor_lane(row.actor)]
+    y, actor = layout.rows[at], layout.lanes[actor_lane(row.actor)]
     colour, dark = colour_of(row.actor)
     if row.dots:
         ends = [layout.lanes[dot.lane] for dot in row.dots]
         yield element("line", x1=actor, y1=y, x2=max(ends), y2=y, stroke=colour, stroke_opacity=0.6)
-    yield words_at(layout.numbers, y + 4, row.name, SMALL, GREY, "end")
+    yield from name_lines(layout, row, at)
     yield words_at(actor - 9, y + 4, row.point, PLAIN, DARK, "end")
-    yield from over(actor, y, row.reply, PLAIN, dark, layout.ground_of(actor_lane(row.actor), row), True)
+    yield from over(actor, y, row.reply, PLAIN, dark, ground_of(actor_lane(row.actor), row), True)
     yield dot_at("wrote", actor, y, colour)
     for dot in row.dots:
         x, is_write = layout.lanes[dot.lane], dot.kind == "wrote"
-        ground = layout.ground_of(dot.lane, row)
-        yield from over(x, y, dot.text, SMALL, DARK if is_write else GREY, ground, is_write)
+        yield from over(x, y, dot.text, SMALL, DARK if is_write else GREY, ground_of(dot.lane, row), is_write)
         yield dot_at(dot.kind, x, y, colour)
 
 
-def shade_at(x, y, width, height):
+# ---- What was asked -------------------------------------------------------------------------------
+
+
+def shade_at(x: float, y: float, width: float, height: float) -> str:
     """The ground of a row that goes."""
     return element("rect", class_="goes", x=x, y=y, width=width, height=height, rx=5, fill=ASKED, fill_opacity=SHADE)
 
 
-def frame_at(x, y, width, height):
+def frame_at(x: float, y: float, width: float, height: float) -> str:
     """The frame of a row that may go alone."""
     dashes = {"fill": "none", "stroke": ASKED, "stroke_width": 1.5, "stroke_dasharray": "5 3"}
     return element("rect", class_="free", x=x, y=y, width=width, height=height, rx=5, **dashes)
 
 
-def bar_at(x, y, height):
+def number_frame(**place: float) -> str:
+    """The frame of the number of a step that could be undone alone."""
+    dashes = {"fill": "none", "stroke": ASKED, "stroke_width": 1.2, "stroke_dasharray": "3 2"}
+    return element("rect", class_="lone", **place, **dashes)
+
+
+def bar_at(x: float, top: float, bottom: float) -> str:
     """The part of a lane between two steps that share it."""
-    ends = {"x1": x, "y1": y, "x2": x, "y2": y + height}
-    return element("line", class_="bar", **ends, stroke=ASKED, stroke_width=13, stroke_opacity=0.85, stroke_linecap="round")
+    place = {"x": x - BAR, "y": top, "width": 2 * BAR, "height": bottom - top, "rx": BAR}
+    return element("rect", class_="bar", **place, fill=ASKED, stroke=ASKED_WORDS, stroke_width=1.2)
 
 
-def asked_lines(layout):
+def asked_lines(layout: Layout) -> Iterator[str]:
     """What is marked: rows that go, the lane that two steps share, or a row that may go alone."""
-    picture, width = layout.picture, layout.width - 8
-    for at, row in enumerate(picture.rows):
+    picture, width, half = layout.picture, layout.width - 8, ROW // 2 - 1
+    for row, y in zip(picture.rows, layout.rows):
         if row.goes:
-            yield shade_at(4, layout.row(at) - ROW // 2 + 1, width, ROW - 2)
+            yield shade_at(4, y - half, width, ROW - 2)
     if picture.frame is not None:
-        yield frame_at(4, layout.row(picture.frame) - ROW // 2 + 1, width, ROW - 2)
+        yield frame_at(4, layout.rows[picture.frame] - half, width, ROW - 2)
     if picture.bar:
         lane, earlier, later = picture.bar
-        yield bar_at(layout.lanes[lane], layout.row(earlier), ROW * (later - earlier))
+        for top, bottom in layout.clipped(layout.rows[earlier] - half + 1, layout.rows[later] + half - 1):
+            yield bar_at(layout.lanes[lane], top, bottom)
 
 
-def asked_words(picture, y):
+def meaning_of(picture: Picture) -> str:
+    """How what was asked is shown."""
+    if picture.bar and picture.bar[0].startswith("actor "):
+        return f"orange bar: both are steps of {picture.bar[0]}, and each dot on its lane counts as a write"
+    if picture.bar:
+        return "orange bar: the lane that both share, and one of them writes it"
+    if picture.frame is not None:
+        return "orange frame: no later step depends on it, so it goes alone"
+    others = f"{picture.hidden} more that have no row here" if picture.hidden else "no others"
+    return f"orange rows: these go, and {others}"
+
+
+def width_of_words(picture: Picture) -> float:
+    """How wide the words about what was asked are; 0 if nothing was."""
+    if not picture.asked:
+        return 0.0
+    return MARK + 8 + width_of(picture.asked, HEAD, True) + GAP + width_of(meaning_of(picture), SMALL)
+
+
+def asked_words(layout: Layout) -> Iterator[str]:
     """The line that was asked with its reply, and how it is shown."""
+    picture, y = layout.picture, layout.words
     if not picture.asked:
         return
     if picture.bar:
-        mark, meaning = bar_at(MARGIN + 8, y - 4, 0), "the lane that both share, one of them writing"
-    elif picture.frame is not None:
-        mark, meaning = frame_at(MARGIN, y - 12, 20, 16), "no later step depends on it: it goes alone"
+        yield bar_at(MARGIN + MARK / 2, y - 13, y + 5)
     else:
-        mark, meaning = shade_at(MARGIN, y - 12, 20, 16), "these go, and no others"
-    after = MARGIN + 28 + width_of(picture.asked, HEAD, True) + GAP
-    yield mark
-    yield words_at(MARGIN + 28, y, picture.asked, HEAD, ASKED_WORDS, bold=True)
-    yield words_at(after, y, meaning, SMALL, GREY)
+        yield (shade_at if picture.frame is None else frame_at)(MARGIN, y - 12, MARK, 16)
+    begin = MARGIN + MARK + 8
+    yield words_at(begin, y, picture.asked, HEAD, ASKED_WORDS, bold=True)
+    yield words_at(begin + width_of(picture.asked, HEAD, True) + GAP, y, meaning_of(picture), SMALL, GREY)
 
 
-def legend_lines(y):
-    """What the dots are."""
-    at = MARGIN + DOT
-    for kind, text in [("wrote", "write"), ("read", "read"), ("lost", "compare-and-swap that lost")]:
-        yield dot_at(kind, at, y, DARK)
-        yield words_at(at + 9, y + 4, text, SMALL, GREY)
-        at += width_of(text, SMALL) + 28
+# ---- The legend -----------------------------------------------------------------------------------
+
+LEGEND = {
+    "wrote": "write",
+    "read": "read",
+    "lost": "compare-and-swap that lost",
+    "call": "in a call",
+    "index": "safe, index",
+    "undone": "pale: undone",
+    "break": "steps are left out",
+    "lone": "orange frame around a number: could be undone alone now",
+}
 
 
-def sentence_of(row):
+def legend_of(picture: Picture) -> list[str]:
+    """What the legend explains: the dots, and what else the picture has."""
+    has = {
+        "call": bool(picture.calls),
+        "index": any(lane.startswith("index ") for lane in picture.lanes),
+        "undone": any(row.name == "undone" for row in picture.rows),
+        "break": len(picture.rows) <= picture.last - picture.first,
+        "lone": picture.shows_free,
+    }
+    return [name for name in LEGEND if has.get(name, True)]
+
+
+def legend_mark(name: str, x: int, y: int) -> list[str]:
+    """A mark of the legend."""
+    middle = x + MARK / 2
+    if name == "call":
+        return [element("rect", x=middle - CALL, y=y - 7, width=2 * CALL, height=14, fill=mixed(DARK, GROUND, IN_CALL))]
+    if name == "index":
+        return [words_at(x, y + 4, "1 0", SMALL, DARK, bold=True)]
+    if name == "undone":
+        return group("pale", [dot_at("wrote", middle, y, DARK)], PALE)
+    if name == "break":
+        return dots_at(middle, y, 4, GREY)
+    if name == "lone":
+        return [number_frame(x=x, y=y - NUMBER, width=MARK, height=2 * NUMBER, rx=4)]
+    return [dot_at(name, middle, y, DARK)]
+
+
+def legend_lines(layout: Layout) -> Iterator[str]:
+    """What the dots and the other marks are."""
+    for name, (x, y) in zip(legend_of(layout.picture), layout.legend):
+        yield from legend_mark(name, x, y)
+        yield words_at(x + MARK + 4, y + 4, LEGEND[name], SMALL, GREY)
+
+
+# ---- The picture ----------------------------------------------------------------------------------
+
+
+def sentence_of(row: Row) -> str:
     """A row in words."""
     reply = f"; the call replies {row.reply}" if row.reply else ""
+    free = "; it could be undone alone now" if row.is_free else ""
     if row.place == "-":
-        return f"{row.name}: actor {row.actor}, {row.point}."
-    return f"{row.name}: actor {row.actor} at {row.point} {row.access} {row.place}: {row.answer}{reply}."
+        return f"{row.name}: actor {row.actor}, {row.point}{free}."
+    return f"{row.name}: actor {row.actor} at {row.point} {row.access} {row.place}: {row.answer}{reply}{free}."
 
 
-def draw(picture):
+def about(picture: Picture) -> str:
+    """The picture in words."""
+    chosen = f" {picture.chosen} alone" if picture.chosen else ""
+    stands = [f"{lane} at {text}" for lane, text in picture.start.items() if text and lane.startswith("actor ")]
+    begin = [f"Before the first row: {'; '.join(stands)}."] if stands and picture.start_name else []
+    apart = [f"Segment {name} was never linked." for name in sorted(picture.apart)]
+    return " ".join([f"The steps{chosen}, from the first down.", *begin, *map(sentence_of, picture.rows), *apart])
+
+
+def draw(picture: Picture) -> str:
     """The picture as SVG."""
-    layout = Layout(picture)
-    about = " ".join(["The steps, from the first down.", *map(sentence_of, picture.rows)])
+    layout = Layout(picture, width_of_words(picture), [LEGEND[name] for name in legend_of(picture)])
     lines = [
-        *group("lanes", [*band_lines(layout), *lane_lines(layout)]),
+        *group("bands", band_lines(layout)),
+        *group("calls", call_lines(layout, False)),
+        *group("calls undone", call_lines(layout, True), PALE),
+        *group("lanes", lane_lines(layout)),
+        *group("breaks", break_lines(layout)),
         *group("asked", asked_lines(layout)),
         *group("start", start_lines(layout)),
     ]
     for at, row in enumerate(picture.rows):
         undone = row.name == "undone"
-        lines += group("row undone" if undone else "row", row_lines(layout, row, at), 0.5 if undone else None)
-    lines += group("words", asked_words(picture, layout.bottom + 22))
-    lines += group("legend", legend_lines(layout.height - 16))
-    return svg(picture.title, about, layout.width, layout.height, lines)
+        lines += group("row undone" if undone else "row", row_lines(layout, row, at), PALE if undone else None)
+    lines += group("words", asked_words(layout))
+    lines += group("legend", legend_lines(layout))
+    return svg(picture.title, about(picture), layout.width, layout.height, lines)
