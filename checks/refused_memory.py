@@ -285,6 +285,7 @@ def command_lines(folder):
     yield "load", ("load", trace), script_of(["len", "go 1", "undo", "mark a", "len"]), fault_in_run
     moves = ["len", "marks", "markat 2", "redo", "deq 1", "same a b", "goto b", "undo", "mark c", "goto a", "go 1", "len", "show whole 1.0"]
     yield "load of a whole session", ("load", session), script_of(moves), fault_in_run
+    yield "load --trace", ("load", session, "--trace"), script_of(moves), fault_in_traced_run
     yield "view", ("view", first, second, first, second), b"", fault_in_view
     yield "help", ("run", "--help"), b"", fault_in_words
     yield "a mistake", ("run", "-", "--ring", "3"), b"", fault_in_words

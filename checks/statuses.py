@@ -51,6 +51,8 @@ ROWS = [
     ("a trace that is not there", ["load", "/nowhere/trace"], "len\n", 1, "", "lcrqdb: refused 24 Read\n"),
     ("no trace", ["load"], "", 2, "", "error: "),
     ("a trace with a ring", ["load", "a", "--ring", "2"], "", 2, "", "error: "),
+    ("--trace and no trace", ["load", "--trace"], "", 2, "", "error: "),
+    ("an option of load that is not there", ["load", "a", "--trace", "--foo"], "", 2, "", "error: "),
 ]
 
 # A name, the text of a script and its report. The program reads a file in portions of 4,096 bytes.
@@ -58,6 +60,9 @@ SCRIPTS = [
     ("a script of a few bytes", "len\n", "at 0 0\n"),
     ("a script of 120,006 bytes", "len\n" * 30_000 + "hello\n", "at 0 0\n" * 30_000 + "refused 22 BadLine\n"),
 ]
+
+# A script of a thousand lines.
+MANY = "len\n" * 1000
 
 # The parts of a world of one actor, which is at the fetch-and-add of its enqueue.
 POISED = (
@@ -126,6 +131,20 @@ TRACES = [
     ),
 ]
 
+# The same for `load --trace`.
+MARKS = '[{"events":[["deq",1]],"name":"a"}]'
+UNDONE = session('[["enq",1,7]]', MARKS, undone='[["go",1]]')
+REDONE = session('[["enq",1,7],["go",1]]', MARKS)
+FIRST = '{"actors":1,"events":[],"ring":2,"version":1}'
+OWN, OWN_STEPPED = session(start=POISED), session('[["go",1]]', start=POISED)
+SAVED = [
+    ("a session saved as it was", UNDONE, "", 0, UNDONE, ""),
+    ("a session gone on with and saved", UNDONE, "redo\n", 0, "at 2 0\n" + REDONE, ""),
+    ("a trace of version 1 saved", FIRST, "len\n", 0, "at 0 0\n" + session(), ""),
+    ("a saved start of one's own", OWN, "go 1\n", 0, "ok 1\n" + OWN_STEPPED, ""),
+    ("half a trace is not saved", UNDONE[:40], "len\n", 1, "", "lcrqdb: refused 27 BadTrace\n"),
+]
+
 
 def run(built: str, words: list, given: str = "", **more) -> tuple:
     """The status, standard output and standard error of a run, as texts."""
@@ -162,20 +181,20 @@ def run_script(built: str, row) -> str:
     return fault_of(got, (0, len(report), report[-40:], ""), (status, output, errors) == (0, report, ""))
 
 
-def run_trace(built: str, row) -> str:
-    """What is wrong with the loading of one trace."""
+def run_trace(built: str, row, *flags) -> str:
+    """What is wrong with the loading of one trace, with these flags."""
     _, trace, given, *wanted = row
     with tempfile.NamedTemporaryFile("w", encoding="ascii") as file:
         file.write(trace)
         file.flush()
-        got = run(built, ["load", file.name], given)
+        got = run(built, ["load", file.name, *flags], given)
     return fault_of(got, wanted, list(got) == wanted)
 
 
-def write_fault(built: str, output) -> str:
+def write_fault(built: str, output, words: list[str], given: str) -> str:
     """What is wrong where standard output takes nothing: status 1 and the text of a failed
     write."""
-    status, _, errors = run(built, ["run", "-"], "len\n" * 1000, stdout=output)
+    status, _, errors = run(built, words, given, stdout=output)
     fits = (status, errors) == (1, "lcrqdb: refused 25 Write\n")
     return "" if fits else f"status {status}, {errors!r}"
 
@@ -185,15 +204,15 @@ def closed_pipe(built: str) -> str:
     reading, writing = os.pipe()
     os.close(reading)
     try:
-        return write_fault(built, writing)
+        return write_fault(built, writing, ["run", "-"], MANY)
     finally:
         os.close(writing)
 
 
-def full_device(built: str) -> str:
+def full_device(built: str, words: list[str], given: str) -> str:
     """What is wrong with a full device."""
     with open("/dev/full", "w", encoding="ascii") as full:
-        return write_fault(built, full)
+        return write_fault(built, full, words, given)
 
 
 def table_of(lines: str, replies: list) -> str:
@@ -256,9 +275,13 @@ def all_checks(built: str):
         yield row[0], run_script(built, row)
     for row in TRACES:
         yield row[0], run_trace(built, row)
+    for row in SAVED:
+        yield row[0], run_trace(built, row, "--trace")
     yield "the help has the lines and the places of the manual", help_fault(built)
     yield "a closed pipe", closed_pipe(built)
-    yield "a full device", full_device(built)
+    yield "a full device", full_device(built, ["run", "-"], MANY)
+    saving = ["load", str(LESSONS / "poised.trace"), "--trace"]
+    yield "a full device for a saved session", full_device(built, saving, "")
     for page in sorted(LESSONS.glob("[0-9]*.md")):
         yield page.stem, "" if is_as_its_page_says(built, page) else "it is not as its page says"
     for report in sorted(LESSONS.glob("*.report")):

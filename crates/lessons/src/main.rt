@@ -318,6 +318,7 @@ fn load_message(alloc: Global, trace: &str) -> Result<String> {
         trace.as_bytes(),
         &mut ReadSource::new("".as_bytes()),
         &mut WriteSink::new(&mut replies),
+        false,
     );
     let mut errors = Vec::new(alloc);
     end(&outcome, &mut WriteSink::new(&mut errors));
@@ -332,6 +333,7 @@ fn replies_over(alloc: Global, trace: &str, script: &str) -> Result<String> {
         trace.as_bytes(),
         &mut ReadSource::new(script.as_bytes()),
         &mut WriteSink::new(&mut written),
+        false,
     )?;
     Ok(String::from_utf8(written)?)
 }

@@ -12,7 +12,7 @@ use Rattle.rd_command_line.specs.declared.requests.Options.TheVariants.{Run, Vie
 use Rattle.rd_cell.specs.declared.limits.TheConstants.{MOST_ACTORS}
 use Rattle.rd_trace.specs.declared.rings.Ring.{Ring}
 use Rattle.rd_command_line.specs.Options.{ring_text, flag_text}
-use Rattle.rd_command_line.specs.CommandLine.{IsNumber, GivesWorld, GivesRun, GivesView, GivesLoad}
+use Rattle.rd_command_line.specs.CommandLine.{IsNumber, GivesWorld, GivesFile, GivesRun, GivesView, GivesLoad}
 
 -- what is nothing is not something
 pub none_some : {X : Type 0} (o : Option X) (x : X) → o ≡ None → o ≡ Some x → ⊥
@@ -72,26 +72,20 @@ out_of_range m n read out actors ring tells =
 pub first_value_is : (m : ArgMatches) (id v : Text) → Some v ≡ first_value (found_of m) id → first_of id (rows_of (found_of m)) ≡ Some v
 first_value_is m id v given = sym (first_value-rows (found_of m) id) ∙ sym given
 
--- options that the rows of `run` tell have a file
-pub no_file : (m : ArgMatches) → None ≡ first_value (found_of m) (codes "file") → (o : Options) → GivesRun (rows_of (found_of m)) o → ⊥
-no_file m none (Run file actors ring trace) tells = no_value m (codes "file") file.now none tells.0
-no_file m none _ tells = tells
+-- a choice of the trace that rows tell has one of the texts
+pub no_choice : (m : ArgMatches) (v : Text) → Some v ≡ first_value (found_of m) (codes "trace")
+    → ((choice : Bool) → v ≡ flag_text choice → ⊥) → (file : Text) (trace : Bool) → GivesFile (rows_of (found_of m)) file trace → ⊥
+no_choice m v given none file trace tells = none trace (same_value m (codes "trace") v (flag_text trace) given tells.1)
+
+-- options that the rows of `run` tell have a file and a choice of the trace
+pub no_run_file : (m : ArgMatches) → ((file : Text) (trace : Bool) → GivesFile (rows_of (found_of m)) file trace → ⊥) → (o : Options) → GivesRun (rows_of (found_of m)) o → ⊥
+no_run_file m none (Run file actors ring trace) tells = none file.now trace tells.0
+no_run_file m none _ tells = tells
 
 -- and a world
 pub no_run_world : (m : ArgMatches) → ((actors : ℕ) (ring : Ring) → GivesWorld (rows_of (found_of m)) actors ring → ⊥) → (o : Options) → GivesRun (rows_of (found_of m)) o → ⊥
 no_run_world m none (Run file actors ring trace) tells = none actors ring tells.1
 no_run_world m none _ tells = tells
-
--- and a choice of the trace
-pub no_trace : (m : ArgMatches) → None ≡ first_value (found_of m) (codes "trace") → (o : Options) → GivesRun (rows_of (found_of m)) o → ⊥
-no_trace m none (Run file actors ring trace) tells = no_value m (codes "trace") (flag_text trace) none tells.2
-no_trace m none _ tells = tells
-
--- by one of its texts
-pub no_choice : (m : ArgMatches) (v : Text) → Some v ≡ first_value (found_of m) (codes "trace")
-    → ((choice : Bool) → v ≡ flag_text choice → ⊥) → (o : Options) → GivesRun (rows_of (found_of m)) o → ⊥
-no_choice m v given none (Run file actors ring trace) tells = none trace (same_value m (codes "trace") v (flag_text trace) given tells.2)
-no_choice m v given none _ tells = tells
 
 -- the files that a getter gives are in the rows
 pub files_are : (m : ArgMatches) (names : List Text) → Some names ≡ option_map raw_values (matched_of (found_of m) (codes "files")) → all_of (codes "files") (rows_of (found_of m)) ≡ Some names
@@ -119,7 +113,7 @@ pub no_view_world : (m : ArgMatches) → ((actors : ℕ) (ring : Ring) → Gives
 no_view_world m none (View files actors ring) tells = none actors ring tells.2
 no_view_world m none _ tells = tells
 
--- options that the rows of `load` tell have a file
-pub no_load_file : (m : ArgMatches) → None ≡ first_value (found_of m) (codes "file") → (o : Options) → GivesLoad (rows_of (found_of m)) o → ⊥
-no_load_file m none (Load file) tells = no_value m (codes "file") file.now none tells
+-- options that the rows of `load` tell have a file and a choice of the trace
+pub no_load_file : (m : ArgMatches) → ((file : Text) (trace : Bool) → GivesFile (rows_of (found_of m)) file trace → ⊥) → (o : Options) → GivesLoad (rows_of (found_of m)) o → ⊥
+no_load_file m none (Load file trace) tells = none file.now trace tells
 no_load_file m none _ tells = tells

@@ -39,12 +39,12 @@ PlaysFile {F} remaining before traced output result =
     ⊎ ((opened : F) × (file : Stream) × (file.before ≡ remaining opened)
     × PlaysScript before traced (record { input = file; output = output }) result)
 
--- a file was opened, its whole text was loaded, and the script on the input was run over its trace;
--- or the file could not be opened or read, and neither stream was used
-abbrev pub LoadsFile : {F : Type 0} → (F → Option (List ℕ)) → Devices → Result ℕ ProgramFault → Type 0
-LoadsFile {F} remaining d result =
+-- a file was opened, and its whole text was resumed with the script on the input; or the file could
+-- not be opened or read, and neither stream was used
+abbrev pub LoadsFile : {F : Type 0} → (F → Option (List ℕ)) → Bool → Devices → Result ℕ ProgramFault → Type 0
+LoadsFile {F} remaining traced d result =
     (((fault : ProgramFault) × (result ≡ Err fault) × IsUnread fault) × TouchesNothing d)
-    ⊎ ((opened : F) × (text : List ℕ) × IsWholeText remaining opened text × ResumesTrace text d result)
+    ⊎ ((opened : F) × (text : List ℕ) × IsWholeText remaining opened text × ResumesTrace text traced d result)
 
 -- this many files were opened, and the scripts that are their whole texts were viewed over a book in
 -- this state; or a file could not be opened or read, and the output is as it was
@@ -68,7 +68,7 @@ DoesOptions remaining (Run file actors ring trace) d result =
 DoesOptions remaining (View files actors ring) d result =
     IsUnused d.input
     × ViewsFiles remaining (length files.items) (fresh_state (ring_length ring) actors) d.output result
-DoesOptions remaining (Load file) d result = LoadsFile remaining d result
+DoesOptions remaining (Load file trace) d result = LoadsFile remaining trace d result
 
 -- the outcome of a command line of these words: they give options, and what the options ask for was
 -- done; or they give none, and neither stream was used

@@ -68,9 +68,9 @@ run_app names = with_rule (run_over_app names) trace_rule
 abbrev pub view_app : ValueNames → App
 view_app names = with_rule (with_rule (with_rule (new_app (codes "view")) files_rule) actors_rule) (ring_rule names)
 
--- the subcommand `load`: the file of the trace
+-- the subcommand `load`: the file of the trace, and `--trace`
 abbrev pub load_app : App
-load_app = with_rule (new_app (codes "load")) file_rule
+load_app = with_rule (with_rule (new_app (codes "load")) file_rule) trace_rule
 
 -- the type of the names of the rings, as clap is given them for `run` and for `view`
 abbrev pub BothNames : Type 0
@@ -101,10 +101,13 @@ pub record GivesWorld (rows : List Row) (actors : ℕ) (ring : Ring) : Type 0 wh
   pub few : actors ≤ MOST_ACTORS
   pub spelled : first_of (codes "ring") rows ≡ Some (ring_text ring)
 
+-- the values that clap found for the file and for `--trace` give this name and this choice
+abbrev pub GivesFile : List Row → Text → Bool → Type 0
+GivesFile rows name trace = (first_of (codes "file") rows ≡ Some name) × (first_of (codes "trace") rows ≡ Some (flag_text trace))
+
 -- the values that clap found for the arguments of `run` give these options
 abbrev pub GivesRun : List Row → Options → Type 0
-GivesRun rows (Run file actors ring trace) =
-    (first_of (codes "file") rows ≡ Some file.now) × GivesWorld rows actors ring × (first_of (codes "trace") rows ≡ Some (flag_text trace))
+GivesRun rows (Run file actors ring trace) = GivesFile rows file.now trace × GivesWorld rows actors ring
 GivesRun rows _ = ⊥
 
 -- the values that clap found for the arguments of `view` give these options
@@ -113,9 +116,9 @@ GivesView rows (View files actors ring) =
     (all_of (codes "files") rows ≡ Some (map (λ file. file.now) files.items)) × (1 ≤ length files.items) × GivesWorld rows actors ring
 GivesView rows _ = ⊥
 
--- the value that clap found for the argument of `load` gives these options
+-- the values that clap found for the arguments of `load` give these options
 abbrev pub GivesLoad : List Row → Options → Type 0
-GivesLoad rows (Load file) = first_of (codes "file") rows ≡ Some file.now
+GivesLoad rows (Load file trace) = GivesFile rows file.now trace
 GivesLoad rows _ = ⊥
 
 -- the subcommand that clap found, with the values for its arguments, gives these options

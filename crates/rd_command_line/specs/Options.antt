@@ -29,19 +29,19 @@ flag_text false = codes "false"
 abbrev pub AreInRange : Options → Type 0
 AreInRange (Run file actors ring trace) = (1 ≤ actors) × (actors ≤ MOST_ACTORS)
 AreInRange (View files actors ring) = ((1 ≤ actors) × (actors ≤ MOST_ACTORS)) × ((1 ≤ length files.items) × (length files.items ≤ MOST_VIEWERS))
-AreInRange (Load file) = ⊤
+AreInRange (Load file trace) = ⊤
 
 -- these options name more files than there may be viewers
 abbrev pub HasManyFiles : Options → Type 0
 HasManyFiles (Run file actors ring trace) = ⊥
 HasManyFiles (View files actors ring) = MOST_VIEWERS < length files.items
-HasManyFiles (Load file) = ⊥
+HasManyFiles (Load file trace) = ⊥
 
 -- these options name no more files than there may be viewers
 abbrev pub HasFewFiles : Options → Type 0
 HasFewFiles (Run file actors ring trace) = ⊤
 HasFewFiles (View files actors ring) = length files.items ≤ MOST_VIEWERS
-HasFewFiles (Load file) = ⊤
+HasFewFiles (Load file trace) = ⊤
 
 -- the fault of a command line for which clap gives this error, by the error's kind
 abbrev pub fault_by : ErrorKind → Error → OptionsFault

@@ -127,7 +127,7 @@ fn do_options<R: Files + Threads + Wait + Sync, I: Source, O: Sink>(
             actors,
             ring,
         } => view_files(rt, alloc, files.as_slice(), output, Setup { actors, ring }),
-        Options::Load { file } => load_file(rt, alloc, file, input, output),
+        Options::Load { file, trace } => load_file(rt, alloc, file, input, output, trace),
     }
 }
 
@@ -220,14 +220,16 @@ fn load_file<R: Files, I: Source, O: Sink>(
     name: &str,
     input: &mut I,
     output: &mut O,
+    trace: bool,
 ) -> Result<u64, ProgramFault>
     requires input_works { I.has_failed input.old ≡ false }
     requires output_works { O.has_failed output.old ≡ false }
-    ensures { LoadsFile R.File.remaining (devices I.Source O.Sink input.old input.new output.old output.new) result }
+    ensures { LoadsFile R.File.remaining trace
+        (devices I.Source O.Sink input.old input.new output.old output.new) result }
 {
     let mut file = open_file(rt, name)?;
     let text = whole_text(alloc, &mut file)?;
-    resume(alloc, text.as_slice(), input, output)
+    resume(alloc, text.as_slice(), input, output, trace)
 }
 
 /// Returns the file of this name, opened for reading; `Read` if it can't be opened.

@@ -5,11 +5,12 @@
 //! matches, or the kinds of fault.
 
 ghost use Rattle.std.specs.Prelude.{◌≡◌, ◌≢◌, ℕ, IfOk, IfErr, IfSome, IsNone, Bool, map, false};
+ghost use Rattle.clap.specs.Walk.{Text};
 ghost use Rattle.clap.specs.Words.{app_of, found_of, kind_of, rows_of, rule_of, subcommand_rows_of};
 ghost use Rattle.clap.specs.declared.builder.command.Command.TheViews.{out-Command};
 ghost use Rattle.clap.specs.declared.error.kind.ErrorKind.TheVariants.{InvalidValue};
 ghost use Rattle.rd_command_line.specs.Options.{IsMistake, AreInRange, flag_text};
-ghost use Rattle.rd_command_line.specs.CommandLine.{AreRings, BothNames, IsRings, GivesSubcommand, GivesWorld, GivesRun, GivesView, GivesLoad, GivesOptions, EndsFor};
+ghost use Rattle.rd_command_line.specs.CommandLine.{AreRings, BothNames, IsRings, GivesSubcommand, GivesWorld, GivesFile, GivesRun, GivesView, GivesLoad, GivesOptions, EndsFor};
 ghost use Rattle.rd_command_line.specs.CommandLine.{file_rule, files_rule, actors_rule, ring_rule, trace_rule, run_over_app, run_app, view_app, load_app, program_app};
 
 use super::requests::{Options, OptionsFault, ring_of};
@@ -93,9 +94,8 @@ fn run_from<'a>(run: &ArgMatches<'a>) -> Option<Options<'a>>
     ensures some { IfSome result (GivesRun (rows_of (found_of run.now))) }
     ensures none { IsNone result → (o : Options) → GivesRun (rows_of (found_of run.now)) o → ⊥ }
 {
-    let file = run.get_str("file")?;
+    let (file, trace) = file_from(run)?;
     let (actors, ring) = world_from(run)?;
-    let trace = choice_of(run.get_str("trace")?)?;
     Some(Options::Run {
         file,
         actors,
@@ -142,13 +142,25 @@ fn world_from<'a>(matches: &ArgMatches<'a>) -> Option<(u8, Ring)>
     }
 }
 
-/// Returns the options from the matches of `load`, or none if the file is missing.
+/// Returns the options from the matches of `load`, or none if a value is missing or not one that the
+/// program takes.
 fn load_from<'a>(load: &ArgMatches<'a>) -> Option<Options<'a>>
     ensures some { IfSome result (GivesLoad (rows_of (found_of load.now))) }
     ensures none { IsNone result → (o : Options) → GivesLoad (rows_of (found_of load.now)) o → ⊥ }
 {
-    let file = load.get_str("file")?;
-    Some(Options::Load { file })
+    let (file, trace) = file_from(load)?;
+    Some(Options::Load { file, trace })
+}
+
+/// Returns the file, and whether the trace is asked for, from the matches of `run` or `load`, or
+/// none if a value is missing or not one that the program takes.
+fn file_from<'a>(matches: &ArgMatches<'a>) -> Option<(&'a str, bool)>
+    ensures some { IfSome result (λ asked. GivesFile (rows_of (found_of matches.now)) asked.0.now asked.1) }
+    ensures none { IsNone result → (file : Text) (trace : Bool) → GivesFile (rows_of (found_of matches.now)) file trace → ⊥ }
+{
+    let file = matches.get_str("file")?;
+    let trace = choice_of(matches.get_str("trace")?)?;
+    Some((file, trace))
 }
 
 /// Returns the choice that the text of a flag spells, or none if it spells none.
@@ -217,7 +229,8 @@ fn load<'a>(alloc: Global) -> Result<Command<'a>, AllocError>
     Command::new(alloc, "load")
         .about("Does the lines of standard input over the run of a trace")
         .after_help(FORMS)
-        .arg(file(alloc, "TRACE").help("A trace, as run --trace writes it"))
+        .arg(file(alloc, "TRACE").help("A trace, as --trace writes it"))?
+        .arg(trace(alloc))
 }
 
 /// Returns the argument that names a file.

@@ -50,6 +50,8 @@ pub enum Options<'a> {
     Load {
         /// The trace's file.
         file: &'a str,
+        /// `--trace`: whether the trace of the session follows the report.
+        trace: bool,
     },
 }
 

@@ -1,11 +1,11 @@
--- What the program does: a script's run over a book, with the trace of it after the report if one
--- is asked for, and a script's run over the run of a trace.
+-- What the program does: a script's run over a book, the fresh one or that of a trace, with the
+-- trace of the session after the report if one is asked for.
 use Rattle.std.specs.Prelude.{◌≡◌, ◌⊎◌, ℕ, Bool, true, false, List, Option, Result, Ok, Err}
 use Rattle.rd_journal.specs.Journal.{Journal}
 use Rattle.rd_marks.specs.BookState.{BookState}
-use Rattle.rd_script.specs.declared.faults.ScriptFault.{ScriptFault}
 use Rattle.rd_script.specs.Streams.{Devices, IsUnused, Stream}
 use Rattle.rd_script.specs.Script.{RanToEnd, RunsScript}
+use Rattle.rd_trace.specs.declared.faults.LoadTraceFault.{LoadTraceFault}
 use Rattle.rd_trace.specs.declared.faults.WriteTraceFault.{WriteTraceFault}
 use Rattle.rd_trace.specs.declared.any_book.AnyBook.{AnyBook}
 use Rattle.rd_trace.specs.Writing.{WritesTrace, is_write_fault}
@@ -21,11 +21,6 @@ IsUnread fault = (fault ≡ NoMemory) ⊎ (fault ≡ Read)
 -- neither device was used
 abbrev pub TouchesNothing : Devices → Type 0
 TouchesNothing d = IsUnused d.input × IsUnused d.output
-
--- what a script's run over a book in this state did, whatever state it left and whatever the book
--- keeps then
-abbrev pub RunsOver : BookState → Devices → Result ℕ ScriptFault → Type 0
-RunsOver before d result = (after : BookState) × (kept : Journal) × RunsScript before after kept d result
 
 -- what became of the trace of a book in this state, if it was asked for: it was written, as far as
 -- the result states; else the output got nothing
@@ -43,25 +38,23 @@ pub record RanToTrace (before : BookState) (traced : Bool) (d : Devices) (n : �
   pub ran : RanToEnd before after kept (record d { output = record d.output { after = reported; failed = false } }) n
   pub trace : WritesIf traced after (record d.output { before = reported }) written
 
--- what `run` did over a book in this state, by its result: it ran a script, and, if that came to
--- its end and a trace was asked for, wrote the trace after the report
+-- what `run` and `load` did over a book in this state, by the result: a script ran, whatever state
+-- it left and whatever the book keeps then; and, if it came to its end and a trace was asked for,
+-- the trace was written after the report
+abbrev pub PlaysOver : BookState → Bool → Devices → Result ℕ ProgramFault → Type 0
+PlaysOver before traced d (Ok n) = RanToTrace before traced d n (Ok tt)
+PlaysOver before traced d (Err (Script fault)) = (after : BookState) × (kept : Journal) × RunsScript before after kept d (Err fault)
+PlaysOver before traced d (Err (Trace fault)) = (n : ℕ) × RanToTrace before traced d n (Err fault)
+PlaysOver before traced d (Err _) = ⊥
+
+-- what `run` did over a book in this state: memory for the book was refused, and neither device was
+-- used; or a script was played over it
 abbrev pub PlaysScript : BookState → Bool → Devices → Result ℕ ProgramFault → Type 0
-PlaysScript before traced d (Ok n) = RanToTrace before traced d n (Ok tt)
-PlaysScript before traced d (Err NoMemory) = TouchesNothing d
-PlaysScript before traced d (Err (Script fault)) = RunsOver before d (Err fault)
-PlaysScript before traced d (Err (Trace fault)) = (n : ℕ) × RanToTrace before traced d n (Err fault)
-PlaysScript before traced d (Err _) = ⊥
+PlaysScript before traced d result = ((result ≡ Err NoMemory) × TouchesNothing d) ⊎ PlaysOver before traced d result
 
--- the text was loaded as a book, and a script ran over that book with this result
-pub record RunsOverTrace (text : List ℕ) (d : Devices) (result : Result ℕ ScriptFault) : Type 0 where
-  pub book : AnyBook
-  pub loads : LoadsTrace text (Ok book)
-  pub runs : RunsOver (any_state book) d result
-
--- what `load` did with the text of a file, by its result: neither device is used unless the text is
--- loaded as a book
-abbrev pub ResumesTrace : List ℕ → Devices → Result ℕ ProgramFault → Type 0
-ResumesTrace text d (Ok n) = RunsOverTrace text d (Ok n)
-ResumesTrace text d (Err (Script fault)) = RunsOverTrace text d (Err fault)
-ResumesTrace text d (Err (Load fault)) = TouchesNothing d × LoadsTrace text (Err fault)
-ResumesTrace text d (Err _) = ⊥
+-- what `load` did with the text of a file: it was not loaded, and neither device was used; or it was
+-- loaded as a book, and a script was played over that
+abbrev pub ResumesTrace : List ℕ → Bool → Devices → Result ℕ ProgramFault → Type 0
+ResumesTrace text traced d result =
+    ((fault : LoadTraceFault) × (result ≡ Err (Load fault)) × TouchesNothing d × LoadsTrace text (Err fault))
+    ⊎ ((book : AnyBook) × LoadsTrace text (Ok book) × PlaysOver (any_state book) traced d result)

@@ -1,12 +1,11 @@
-//! What the program does over the devices that it is given: a script's run over a fresh world, with
-//! the trace of it after the report if one is asked for, and a script's run over the run of a
-//! trace.
+//! What the program does over the devices that it is given: a script's run over a fresh world or
+//! over the run of a trace, with the trace of the session after the report if one is asked for.
 
 ghost use Rattle.std.specs.Prelude.{◌≡◌, ℕ, false, IfOk, IfErr, IfSome};
 ghost use Rattle.rd_script.specs.Streams.{devices, sink_stream};
 ghost use Rattle.rd_trace.specs.Traces.{ring_length};
 ghost use Rattle.rd_trace.specs.Loading.{any_state, fresh_state};
-ghost use Rattle.rd_program.specs.Program.{IsUnread, PlaysScript, ResumesTrace, WritesIf};
+ghost use Rattle.rd_program.specs.Program.{IsUnread, PlaysOver, PlaysScript, ResumesTrace, WritesIf};
 
 use super::faults::ProgramFault;
 use super::setups::Setup;
@@ -41,8 +40,8 @@ pub fn play<S: Source, K: Sink>(
     play_over(alloc, reader, writer, &mut book, trace)
 }
 
-/// Runs a script over a book in which nothing was done yet, writes its report, and after it the
-/// trace if that is asked for. Returns the number of the script's lines.
+/// Runs a script over a book, writes its report, and after it the trace if that is asked for.
+/// Returns the number of the script's lines.
 fn play_over<S: Source, K: Sink>(
     alloc: Global,
     reader: &mut S,
@@ -52,7 +51,7 @@ fn play_over<S: Source, K: Sink>(
 ) -> Result<u64, ProgramFault>
     requires reader_works { S.has_failed reader.old ≡ false }
     requires writer_works { K.has_failed writer.old ≡ false }
-    ensures { PlaysScript (any_state book.old) trace
+    ensures { PlaysOver (any_state book.old) trace
         (devices S.Source K.Sink reader.old reader.new writer.old writer.new) result }
 {
     let lines = book.run(reader, writer)?;
@@ -76,27 +75,28 @@ fn write_if<K: Sink>(
     Ok(())
 }
 
-/// Loads a text as a trace, runs a script over its book, and writes the script's report. Returns
+/// Loads a text as a trace, runs a script over its book, and writes the script's report. If the
+/// trace of the session is asked for, it follows the report of a run that came to its end. Returns
 /// the number of the script's lines.
 ///
 /// # Errors
 ///
-/// `Load` if the trace was not loaded; neither device was then used. `Script` if the run of the
-/// script stopped.
+/// `Load` if the text was not loaded; neither device was then used. `Script` and `Trace` as in
+/// `play`.
 pub fn resume<S: Source, K: Sink>(
     alloc: Global,
     text: &[u8],
     reader: &mut S,
     writer: &mut K,
+    trace: bool,
 ) -> Result<u64, ProgramFault>
     requires reader_works { S.has_failed reader.old ≡ false }
     requires writer_works { K.has_failed writer.old ≡ false }
-    ensures resumes { ResumesTrace text.now
+    ensures resumes { ResumesTrace text.now trace
         (devices S.Source K.Sink reader.old reader.new writer.old writer.new) result }
 {
     let mut book = load_trace(alloc, text)?;
-    let lines = book.run(reader, writer)?;
-    Ok(lines)
+    play_over(alloc, reader, writer, &mut book, trace)
 }
 
 /// Returns the whole text that a reader gives.

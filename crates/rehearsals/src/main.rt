@@ -30,7 +30,7 @@ const AMPLE: usize = 1_000_000;
 
 /// The command lines, in order. Where one opens a file, the script on the input differs from that
 /// in the file.
-const REHEARSALS: [Rehearsal; 29] = [
+const REHEARSALS: [Rehearsal; 31] = [
     Rehearsal {
         words: &[
             "run",
@@ -87,6 +87,16 @@ const REHEARSALS: [Rehearsal; 29] = [
     Rehearsal {
         words: &["load", "whole.trace"],
         input: "len\nmarkat 1\ngo 1\nundo\ngoto here\nshow cell 0.0 1\n",
+        room: AMPLE,
+    },
+    Rehearsal {
+        words: &["load", "whole.trace", "--trace"],
+        input: "",
+        room: AMPLE,
+    },
+    Rehearsal {
+        words: &["load", "--trace", "begun.trace"],
+        input: "go 1\nmark here\nundo\n",
         room: AMPLE,
     },
     Rehearsal {

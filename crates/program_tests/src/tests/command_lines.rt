@@ -14,8 +14,8 @@ enum Wanted {
     Runs(&'static str, u8, Ring, bool),
     /// To view scripts: the files, the actors, and the ring.
     Views(&'static [&'static str], u8, Ring),
-    /// To load a trace: the file.
-    Loads(&'static str),
+    /// To load a trace: the file, and whether the trace of the session follows.
+    Loads(&'static str, bool),
     /// A text that begins and goes on so.
     Shown(&'static str, &'static str),
     /// A mistake whose text begins so.
@@ -45,8 +45,8 @@ fn compare(rt: &impl Abort, alloc: Global, words: &[&str], wanted: Wanted) -> Re
             };
             assert_eq!(rt; read, options, "{words:?}");
         }
-        (Ok(read), Wanted::Loads(file)) => {
-            assert_eq!(rt; read, Options::Load { file }, "{words:?}");
+        (Ok(read), Wanted::Loads(file, trace)) => {
+            assert_eq!(rt; read, Options::Load { file, trace }, "{words:?}");
         }
         (Err(OptionsFault::Shown(error)), Wanted::Shown(beginning, part)) => {
             let mut text = String::new(alloc);
@@ -68,7 +68,7 @@ fn compare(rt: &impl Abort, alloc: Global, words: &[&str], wanted: Wanted) -> Re
 
 #[test]
 fn run_takes_a_file_and_three_options(rt: HostRuntime) -> Result<(), Fail> {
-    let rows: [(&[&str], Wanted); 12] = [
+    let rows: [(&[&str], Wanted); 11] = [
         (
             &["lcrqdb", "run", "a.txt"],
             Wanted::Runs("a.txt", 4, Ring::Four, false),
@@ -113,7 +113,32 @@ fn run_takes_a_file_and_three_options(rt: HostRuntime) -> Result<(), Fail> {
             &["lcrqdb", "run", "--trace", "a", "--ring=2"],
             Wanted::Runs("a", 4, Ring::Two, true),
         ),
-        (&["lcrqdb", "load", "a.json"], Wanted::Loads("a.json")),
+    ];
+    for (words, wanted) in rows {
+        compare(&rt, rt.alloc(), words, wanted)?;
+    }
+    Ok(())
+}
+
+#[test]
+fn load_takes_a_file_and_one_option(rt: HostRuntime) -> Result<(), Fail> {
+    let rows: [(&[&str], Wanted); 4] = [
+        (
+            &["lcrqdb", "load", "a.json"],
+            Wanted::Loads("a.json", false),
+        ),
+        (
+            &["lcrqdb", "load", "--trace", "a"],
+            Wanted::Loads("a", true),
+        ),
+        (
+            &["lcrqdb", "load", "a", "--trace"],
+            Wanted::Loads("a", true),
+        ),
+        (
+            &["lcrqdb", "load", "--", "--trace"],
+            Wanted::Loads("--trace", false),
+        ),
     ];
     for (words, wanted) in rows {
         compare(&rt, rt.alloc(), words, wanted)?;
@@ -185,7 +210,7 @@ fn view_takes_up_to_64_files(rt: HostRuntime) -> Result<(), Fail> {
 
 #[test]
 fn other_command_lines_are_refused(rt: HostRuntime) -> Result<(), Fail> {
-    let rows: [(&[&str], &str); 33] = [
+    let rows: [(&[&str], &str); 35] = [
         (&[], "error: "),
         (&["lcrqdb"], "error: "),
         (&["lcrqdb", "walk", "a"], "error: "),
@@ -224,7 +249,9 @@ fn other_command_lines_are_refused(rt: HostRuntime) -> Result<(), Fail> {
         (&["lcrqdb", "load", "a", "b"], "error: "),
         (&["lcrqdb", "load", "--ring", "2", "a"], "error: "),
         (&["lcrqdb", "load", "--actors", "2", "a"], "error: "),
-        (&["lcrqdb", "load", "--trace", "a"], "error: "),
+        (&["lcrqdb", "load", "--trace"], "error: "),
+        (&["lcrqdb", "load", "a", "--trace", "--trace"], "error: "),
+        (&["lcrqdb", "load", "a", "--trace=true"], "error: "),
     ];
     for (words, beginning) in rows {
         compare(&rt, rt.alloc(), words, Wanted::Refused(beginning))?;
@@ -269,7 +296,10 @@ fn help_and_the_version_are_shown(rt: HostRuntime) -> Result<(), Fail> {
         ),
         (
             &["lcrqdb", "load", "--help"],
-            Wanted::Shown(load, "\nThe manual is docs/MANUAL.md"),
+            Wanted::Shown(
+                load,
+                "\n      --trace  Writes the trace of the run behind its report\n",
+            ),
         ),
         (
             &["lcrqdb", "view", "--help"],

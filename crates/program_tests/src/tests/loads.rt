@@ -1,22 +1,23 @@
-//! Traces that the program loads, each with a script over it and its report, or with the fault that
-//! it comes to.
+//! Traces that the program loads, each with a script over it and what is written, the trace of the
+//! session too where it is asked for; or with the fault that it comes to.
 
 use rd_cell::Refusal;
 use rd_program::{ProgramFault, resume, whole_text};
 use rd_script::{ReadSource, WriteSink};
 use rd_step::Flaw;
-use rd_trace::LoadTraceFault;
+use rd_trace::{LoadTraceFault, WriteTraceFault};
 use std::alloc::Global;
 use std::io;
 use std::process::Abort;
 use std::test::Fail;
+use test_kit::{End, Limit, PageWriter};
 
 /// The trace of an enqueue's first two steps.
 const BEGUN: &str =
     "{\"actors\":4,\"events\":[[\"enq\",1,7],[\"go\",1]],\"ring\":4,\"version\":1}\n";
 
-/// Loads the trace, runs the script over it, and answers how it ended; the report must be the
-/// wanted.
+/// Loads the trace, runs the script over it, and answers how it ended; what is written must be the
+/// wanted. The trace of the session is not asked for.
 fn loaded(
     rt: &impl Abort,
     alloc: Global,
@@ -24,15 +25,102 @@ fn loaded(
     script: &str,
     report: &str,
 ) -> Result<u64, ProgramFault> {
+    resumed(rt, alloc, trace, script, report, false)
+}
+
+/// As `loaded`; the trace of the session is asked for if `traced`.
+fn resumed(
+    rt: &impl Abort,
+    alloc: Global,
+    trace: &str,
+    script: &str,
+    wanted: &str,
+    traced: bool,
+) -> Result<u64, ProgramFault> {
     let mut written = Vec::new(alloc);
     let lines = resume(
         alloc,
         trace.as_bytes(),
         &mut ReadSource::new(script.as_bytes()),
         &mut WriteSink::new(&mut written),
+        traced,
     );
-    assert_eq!(rt; written.as_slice(), report.as_bytes(), "trace {trace}");
+    assert_eq!(rt; written.as_slice(), wanted.as_bytes(), "trace {trace}");
     lines
+}
+
+/// A trace, a script over it, its report, and the trace of the session after it.
+struct Saving {
+    trace: &'static str,
+    script: &'static str,
+    report: &'static str,
+    session: &'static str,
+}
+
+/// Sessions that begin in the fresh world, in a trace of version 1 and in one of version 2, and one
+/// that begins in an actor at the fetch-and-add of its enqueue.
+const SAVINGS: &[Saving] = &[
+    Saving {
+        trace: BEGUN,
+        script: "go 1\nmark a\nundo\n",
+        report: "ok 3\nmarked 3\nat 2 1\n",
+        session: "{\"events\":[[\"enq\",1,7],[\"go\",1]],\"marks\":[{\"events\":[[\"enq\",1,7],[\"go\",1],[\"go\",1]],\"name\":\"a\"}],\"ring\":4,\"start\":{\"fresh\":4},\"undone\":[[\"go\",1]],\"version\":2}\n",
+    },
+    Saving {
+        trace: "{\"version\":2,\"ring\":8,\"start\":{\"fresh\":2},\"events\":[],\"undone\":[[\"deq\",2]],\"marks\":[]}",
+        script: "redo\nlen\n",
+        report: "at 1 0\nat 1 0\n",
+        session: "{\"events\":[[\"deq\",2]],\"marks\":[],\"ring\":8,\"start\":{\"fresh\":2},\"undone\":[],\"version\":2}\n",
+    },
+    Saving {
+        trace: "{\"events\":[],\"marks\":[],\"ring\":2,\"start\":{\"actors\":[{\"closed\":false,\"crq\":[0,0],\"h\":0,\"idx\":0,\"new\":[0,0],\"next\":[0,0],\"op\":[\"enq\",1],\"pass\":0,\"pc\":\"E4\",\"safe\":false,\"t\":0,\"val\":null}],\"array\":{\"cells\":[[3,\"top\"]],\"head\":0,\"tail\":0},\"qhead\":[0,0],\"qtail\":[0,0],\"segments\":[[{\"cells\":[[true,0,null],[true,1,null]],\"closed\":false,\"head\":0,\"next\":null,\"tail\":1}],[]]},\"undone\":[],\"version\":2}",
+        script: "go 1\nshow tail 0.0\n",
+        report: "ok 1\nis open 2\n",
+        session: "{\"events\":[[\"go\",1]],\"marks\":[],\"ring\":2,\"start\":{\"actors\":[{\"closed\":false,\"crq\":[0,0],\"h\":0,\"idx\":0,\"new\":[0,0],\"next\":[0,0],\"op\":[\"enq\",1],\"pass\":0,\"pc\":\"E4\",\"safe\":false,\"t\":0,\"val\":null}],\"array\":{\"cells\":[[3,\"top\"]],\"head\":0,\"tail\":0},\"qhead\":[0,0],\"qtail\":[0,0],\"segments\":[[{\"cells\":[[true,0,null],[true,1,null]],\"closed\":false,\"head\":0,\"next\":null,\"tail\":1}],[]]},\"undone\":[],\"version\":2}\n",
+    },
+];
+
+#[test]
+fn the_trace_of_a_loaded_session_follows_its_report_if_it_is_asked_for(
+    rt: HostRuntime,
+) -> Result<(), Fail> {
+    for row in SAVINGS {
+        let both = format!(in rt.alloc(); "{}{}", row.report, row.session)?;
+        let saved = resumed(&rt, rt.alloc(), row.trace, row.script, both.as_str(), true);
+        let unsaved = loaded(&rt, rt.alloc(), row.trace, row.script, row.report);
+        let lines = row.script.lines().count() as u64;
+        assert!(rt; matches!((saved, unsaved), (Ok(n), Ok(m)) if n == lines && m == lines));
+    }
+    Ok(())
+}
+
+#[test]
+fn a_saved_session_is_saved_again_as_its_text(rt: HostRuntime) {
+    for row in SAVINGS {
+        let lines = resumed(&rt, rt.alloc(), row.session, "", row.session, true);
+        assert!(rt; matches!(lines, Ok(0)));
+    }
+}
+
+#[test]
+fn a_writer_that_fails_in_the_trace_of_a_loaded_session_has_its_report(rt: HostRuntime) {
+    for row in SAVINGS {
+        let mut written = Vec::new(rt.alloc());
+        let limit = Limit {
+            calls: row.report.len() + 3,
+            most: 1,
+            end: End::Fails,
+        };
+        let lines = resume(
+            rt.alloc(),
+            row.trace.as_bytes(),
+            &mut ReadSource::new(row.script.as_bytes()),
+            &mut WriteSink::new(PageWriter::that_ends(&mut written, limit)),
+            true,
+        );
+        assert!(rt; matches!(lines, Err(ProgramFault::Trace(WriteTraceFault::Write))));
+        assert!(rt; written.starts_with(row.report.as_bytes()) && written.ends_with(b"{\"e"));
+    }
 }
 
 #[test]
@@ -61,8 +149,10 @@ fn the_ring_and_the_actors_are_those_of_the_trace(rt: HostRuntime) {
 
 #[test]
 fn a_text_that_is_no_trace_runs_no_script(rt: HostRuntime) {
-    let lines = loaded(&rt, rt.alloc(), "{\"actors\":4,\"ev", "len\n", "");
-    assert!(rt; matches!(lines, Err(ProgramFault::Load(LoadTraceFault::BadTrace))));
+    for traced in [false, true] {
+        let lines = resumed(&rt, rt.alloc(), "{\"actors\":4,\"ev", "len\n", "", traced);
+        assert!(rt; matches!(lines, Err(ProgramFault::Load(LoadTraceFault::BadTrace))));
+    }
 }
 
 #[test]

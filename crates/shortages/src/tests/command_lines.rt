@@ -37,12 +37,9 @@ fn a_command_line_that_was_refused_memory_is_read_as_ever_the_next_time(rt: Host
     };
     let words = ["lcrqdb", "run", "a", "--ring", "2", "--trace"];
     come_to(&rt, alloc, &words, run);
-    come_to(
-        &rt,
-        alloc,
-        &["lcrqdb", "load", "a"],
-        Options::Load { file: "a" },
-    );
+    let (file, trace) = ("a", true);
+    let load = Options::Load { file, trace };
+    come_to(&rt, alloc, &["lcrqdb", "load", "a", "--trace"], load);
     let files = Vec::from_array(alloc, ["a", "b"])
         .or(Vec::from_array(alloc, ["a", "b"]))
         .expect(&rt, "refused memory twice");

@@ -2,6 +2,7 @@
 
 use super::trials::{has_text, on_trial};
 use rd_marks::Book;
+use rd_program::{ProgramFault, resume};
 use rd_script::{ReadSource, WriteSink};
 use rd_trace::{AnyBook, LoadTraceFault, WriteTraceFault, load_trace, write_trace};
 use std::alloc::Global;
@@ -139,14 +140,21 @@ fn a_trace_whose_loading_was_refused_memory_is_loaded_whole_the_next_time(rt: Ho
     are_loaded(&rt, rt.alloc(), ROWS, &mut page);
 }
 
-/// Whether the book that a trace is loaded as is written as that trace. If not, memory was refused.
+/// Whether the session that a trace is loaded as is written as that trace. If not, memory was
+/// refused, and nothing was written.
 fn comes_back(rt: &impl Abort, alloc: Global, trace: &[u8], page: &mut Vec<u8>) -> bool {
     page.clear();
-    match loaded(rt, alloc, trace) {
-        None => false,
-        Some(book) => {
-            let answer = book.write_trace(alloc, &mut WriteSink::new(&mut *page));
-            is_whole(rt, answer, page, trace)
+    let script = &mut ReadSource::new(b"".as_slice());
+    let sink = &mut WriteSink::new(&mut *page);
+    match resume(alloc, trace, script, sink, true) {
+        Err(ProgramFault::Load(LoadTraceFault::NoMemory)) => {
+            assert!(rt; page.is_empty());
+            false
+        }
+        Err(ProgramFault::Trace(fault)) => is_whole(rt, Err(fault), page, trace),
+        saved => {
+            assert!(rt; matches!(saved, Ok(0)));
+            is_whole(rt, Ok(()), page, trace)
         }
     }
 }

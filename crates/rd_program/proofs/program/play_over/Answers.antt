@@ -2,14 +2,14 @@ use Rattle.std.proofs.Common.{Ok, Err}
 use Rattle.rd_trace.specs.Loading.{any_journal, any_state}
 use Rattle.rd_script.specs.Streams.{devices}
 use Rattle.rd_program.specs.declared.faults.ProgramFault.TheVariants.{Script, Trace}
-use Rattle.rd_program.specs.Program.{PlaysScript}
+use Rattle.rd_program.specs.Program.{PlaysOver}
 use Rattle.rd_program.proofs.ProgramLemmas.{fault_passed_up, ran_to_trace}
 use Rattle.rd_program.proofs.program.play_over.Goals as goal
 
 pub returns-in_err-lines : goal.returns-in_err-lines
 returns-in_err-lines g c =
     let d = devices g.S.Source g.K.Sink c.args.reader.now c.run.new.reader c.args.writer.now c.run.new.writer in
-    fault_passed_up (λ r. PlaysScript (any_state c.args.book.now) c.args.trace d r) (Script c.in_err-lines.field-0.0) c.from_residual.result c.from_residual.ensures.1
+    fault_passed_up (λ r. PlaysOver (any_state c.args.book.now) c.args.trace d r) (Script c.in_err-lines.field-0.0) c.from_residual.result c.from_residual.ensures.1
     (any_state c.run.new.self, any_journal c.run.new.self, c.in_err-lines.ensures.runs)
 
 pub returns-in_err-write_if : goal.returns-in_err-write_if
@@ -19,7 +19,7 @@ returns-in_err-write_if g c =
     let ran = ran_to_trace (any_state c.args.book.now) (any_state c.run.new.self) (any_journal c.run.new.self) c.args.trace d
     (g.K.Sink.contents c.run.new.writer) (g.K.Sink.has_failed c.run.new.writer) c.in_ok-lines.lines (Err fault)
     c.in_ok-lines.ensures.runs c.in_err-write_if.ensures in
-    fault_passed_up (λ r. PlaysScript (any_state c.args.book.now) c.args.trace d r) (Trace fault) c.from_residual-in_err-write_if.result c.from_residual-in_err-write_if.ensures.1
+    fault_passed_up (λ r. PlaysOver (any_state c.args.book.now) c.args.trace d r) (Trace fault) c.from_residual-in_err-write_if.result c.from_residual-in_err-write_if.ensures.1
     (c.in_ok-lines.lines, ran)
 
 pub returns : goal.returns
