@@ -1,11 +1,11 @@
 """What `checks/pictures.py` checks of the moments that `tools/moment.py` draws.
 
-The session is asked again in another way: its live and undone steps are written as a trace over the
-same start, which `lcrqdb load` loads. Of each place that is drawn, the labels are compared with what
-is shown there, half by half, and the mark with its last writer; of each chip, the control point,
-the call and the words with the line `actor A`, the lines with the text of docs/MODEL.md, and the
-place with the record of the actor's next step; of each pin, that it is at that place. No label may
-overlap another one or be cut off.
+The session is asked again in another way: the program writes it as a trace, which `lcrqdb load`
+loads. Of each place that is drawn, the labels are compared with what is shown there, half by half,
+and the mark with its last writer; of each chip, the control point, the call and the words with the
+line `actor A`, the lines with the text of docs/MODEL.md, and the place with the record of the
+actor's next step; of each pin, that it is at that place. No label may overlap another one or be cut
+off.
 """
 
 import json
@@ -63,21 +63,13 @@ def read(svg):
 # ---- The same session, as a trace ------------------------------------------------------------------
 
 
-def event_of(record):
-    """The event of a step in a trace."""
-    word, actor, *rest = record.split("; ")[1].split(" ")
-    return [word, int(actor), *(it == "yes" if it in ("yes", "no") else int(it) for it in rest)]
-
-
-def trace_of(session, records, arguments):
-    """The session as a trace over its start."""
-    start, ring = {"fresh": int(arguments.actors or 4)}, int(arguments.ring or 4)
-    if arguments.trace:
-        trace = json.loads(Path(arguments.trace).read_text(encoding="utf-8"))
-        start, ring = trace["start"], trace["ring"]
-    events = [event_of(record) for record in records]
-    given = {"events": events[: session.live], "undone": events[session.live:]}
-    return given | {"version": 2, "ring": ring, "start": start, "marks": []}
+def trace_of(session: moment.Session) -> dict:
+    """The session as a trace."""
+    built, command, *others = session.words
+    ended = program.run([built, command, "--trace", *others], session.script)
+    if ended.status:
+        raise figure.Fault(ended.errors.strip())
+    return json.loads(ended.output.splitlines()[-1])
 
 
 class Loaded:
@@ -254,7 +246,7 @@ def faults_of(svg, arguments):
     """The first thing that is wrong with a moment, but for its labels' boxes, or nothing."""
     drawn, session = read(svg), moment.Session(arguments)
     records = picture.records_of(session) if session.live + session.undone else []
-    trace = trace_of(session, records, arguments)
+    trace = trace_of(session)
     with tempfile.TemporaryDirectory() as folder:
         loaded = Loaded(arguments.program, folder, trace)
         return (

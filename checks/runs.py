@@ -381,7 +381,7 @@ def segments_of(run: Run) -> set[str]:
 def chain_of(run: Run, session: figure.Session) -> tuple[list[str], set[str]]:
     """The segments in the order of their links from the root on, and all that are linked, when
     the steps are loaded as a trace."""
-    trace = moments.trace_of(session, run.records, run.arguments)
+    trace = moments.trace_of(session)
     trace |= {"events": trace["events"] + trace["undone"], "undone": []}
     names = sorted(segments_of(run))
     with tempfile.TemporaryDirectory() as folder:
