@@ -1,11 +1,11 @@
 //! The lessons for teachers and the guide: runs the scripts of each as the program does, and
 //! compares the replies with those on its page.
 //!
-//! A lesson's page has a table with its script beside the replies. The guide, and a lesson over two
-//! starts, have several tables and traces: just those that their scripts give, in this order. The
-//! sessions of the README and the manual, and that of the poised world, have a report beside each
-//! script. For each page or report, one line that is printed states whether it is as the scripts
-//! give it.
+//! A page has its script beside the replies in a table, with words in a third column, which are for
+//! readers alone. The guide, and a lesson over two starts, have several tables and traces. A page
+//! has just those that its scripts give, in this order. The sessions of the README and the manual,
+//! and that of the poised world, have a report beside each script. For each page or report, one line
+//! that is printed states whether it is as the scripts give it.
 #![tactic(auto)]
 
 use anyhow::Result;
@@ -83,8 +83,11 @@ const TWO_VIEWERS: &str = "\nRun by two viewers.\n";
 /// its name with `-1` and `-2` at the end.
 const TWO_STARTS: &str = "\nRun over two starts.\n";
 
-/// The head of the table with the script and the replies.
-const TABLE_HEAD: &str = "\n| Line | Reply |\n|---|---|\n";
+/// The first line of the table with the script, the replies, and what happens in words.
+const HEADINGS: &str = "| Line | Reply | What happens |";
+
+/// How a row below the head of that table begins.
+const ROW_BEGINS: &str = "| `";
 
 /// The head of the table with mistakes in a trace and what `load` answers to them.
 const MISTAKES_HEAD: &str = "\n| In place of | Somebody writes | `load` answers |\n|---|---|---|\n";
@@ -137,20 +140,21 @@ fn is_as_its_page_says<R: Files + Alloc<A = Global> + Threads + Wait + Sync>(
     alloc: Global,
     name: &str,
 ) -> Result<bool> {
-    let page = fs::read_to_string(rt, format!(in alloc; "{name}.md")?.as_str())?;
-    if page.contains(TWO_VIEWERS) {
-        let table = table_of_viewers(rt, alloc, name)?;
-        return Ok(page.contains(table.as_str()));
-    }
+    let page = page_of(rt, alloc, name)?;
     if page.contains(TWO_STARTS) {
         let blocks = blocks_of_starts(rt, alloc, name)?;
+        return Ok(has_exactly(page.as_str(), blocks.as_slice()));
+    }
+    let mut blocks = Vec::new(alloc);
+    if page.contains(TWO_VIEWERS) {
+        blocks.push(table_of_viewers(rt, alloc, name)?)?;
         return Ok(has_exactly(page.as_str(), blocks.as_slice()));
     }
     let script = fs::read_to_string(rt, format!(in alloc; "{name}.script")?.as_str())?;
     let replies = if page.contains(TRACE) {
         let trace = fs::read_to_string(rt, format!(in alloc; "{name}.trace")?.as_str())?;
-        if page.contains(TRACE_HEAD) && !page.contains(block_of(alloc, &trace)?.as_str()) {
-            return Ok(false);
+        if page.contains(TRACE_HEAD) {
+            blocks.push(block_of(alloc, &trace)?)?;
         }
         replies_over(alloc, &trace, &script)?
     } else if page.contains(RING_OF_TWO) {
@@ -158,8 +162,40 @@ fn is_as_its_page_says<R: Files + Alloc<A = Global> + Threads + Wait + Sync>(
     } else {
         report_from_start(alloc, Ring::Four, &script, false)?
     };
-    let table = table_of(alloc, &script, &replies)?;
-    Ok(page.contains(table.as_str()))
+    blocks.push(table_of(alloc, &script, &replies)?)?;
+    Ok(has_exactly(page.as_str(), blocks.as_slice()))
+}
+
+/// Reads the page of this name, and leaves out what the rows of its tables of lines say in words.
+fn page_of<R: Files + Alloc<A = Global>>(rt: &R, alloc: Global, name: &str) -> Result<String> {
+    let page = fs::read_to_string(rt, format!(in alloc; "{name}.md")?.as_str())?;
+    let mut bare = String::new(alloc);
+    let mut is_table = false;
+    for line in page.lines() {
+        is_table = line == HEADINGS || is_table && line.starts_with('|');
+        if is_table && line.starts_with(ROW_BEGINS) {
+            write_pair(&mut bare, line)?;
+        } else {
+            writeln!(bare, "{line}")?;
+        }
+    }
+    Ok(bare)
+}
+
+/// Appends a row of a table to the text, without its last cell. So a row that doesn't have three
+/// cells becomes one that no table of lines and replies has.
+fn write_pair(text: &mut String, row: &str) -> Result<()> {
+    match before_last_cell(row) {
+        Some(cells) => writeln!(text, "{cells}|")?,
+        None => writeln!(text, "{row}")?,
+    }
+    Ok(())
+}
+
+/// Returns what a row of a table has before its last cell; none if it ends without a bar.
+fn before_last_cell(row: &str) -> Option<&str> {
+    let (cells, _) = row.strip_suffix('|')?.rsplit_once('|')?;
+    Some(cells)
 }
 
 /// Whether the replies to a session's script are those of its report, over the fresh world or over
@@ -203,7 +239,7 @@ fn is_guide_as_it_says<R: Files + Alloc<A = Global> + Threads + Wait + Sync>(
     rt: &R,
     alloc: Global,
 ) -> Result<bool> {
-    let page = fs::read_to_string(rt, "guide.md")?;
+    let page = page_of(rt, alloc, GUIDE)?;
     let blocks = guide_blocks(rt, alloc)?;
     Ok(has_exactly(page.as_str(), blocks.as_slice()))
 }
@@ -250,7 +286,7 @@ fn text_after<'a>(text: &'a str, block: &str) -> Option<&'a str> {
 
 /// Whether a text has a table of lines, a table of mistakes or a trace.
 fn has_block(text: &str) -> bool {
-    text.contains(TABLE_HEAD) || text.contains(MISTAKES_HEAD) || text.contains(TRACE_HEAD)
+    text.contains(HEADINGS) || text.contains(MISTAKES_HEAD) || text.contains(TRACE_HEAD)
 }
 
 /// Runs a script over the fresh world, pushes its table and the trace of its run to the blocks, and
@@ -357,7 +393,7 @@ fn report_from_start(alloc: Global, ring: Ring, script: &str, traced: bool) -> R
 
 /// Returns the table of a script's lines and the replies to them, and the empty line after it.
 fn table_of(alloc: Global, script: &str, replies: &str) -> Result<String> {
-    let mut table = String::from_str(alloc, TABLE_HEAD)?;
+    let mut table = format!(in alloc; "\n{HEADINGS}\n|---|---|---|\n")?;
     for (line, reply) in script.lines().zip(replies.lines()) {
         writeln!(table, "| `{line}` | `{reply}` |")?;
     }
