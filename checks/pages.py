@@ -15,8 +15,9 @@ examples of the manual are in `examples/`, each a script beside its report, and 
 `lessons` compares what the one is answered with the other. This compares the pages with these
 files. A view, and the line of a trace, are in the stored output of `rehearsals`, and the scripts of
 a view are in `examples/` too, byte for byte. A block that shows a reply and is none of these is a
-fault, and so is a line of the pseudo-code of docs/MODEL.md that `tools/model.py` can't read. Each block and each such script prints one line; the status is 1 if any of them differs. Only
-Python's standard library is used.
+fault, and so is a line of the pseudo-code of docs/MODEL.md that `tools/model.py` can't read. Each
+block and each such script prints one line; the status is 1 if any of them differs. Only Python's
+standard library is used.
 """
 
 import collections

@@ -48,6 +48,7 @@ class Session:
 
     def __init__(self, arguments):
         self.words, self.script = words_of(arguments), script_of(arguments.script, arguments.lines)
+        self.over = f"{arguments.trace}: " if arguments.trace else ""  # what a fault of the program names
         cells = [f"show index 0.0 {cell}" for cell in range(MOST_CELLS)]
         actors = [f"actor {actor}" for actor in range(1, MOST_ACTORS + 1)]
         asked = ["len", *cells, *actors]
@@ -71,7 +72,7 @@ class Session:
         given = self.script + "".join(f"{line}\n" for line in lines).encode("ascii")
         ended = run(self.words, given)
         if ended.status:
-            raise Fault(ended.errors.strip() or f"the program ended with status {ended.status}")
+            raise Fault(self.over + (ended.errors.strip() or f"the program ended with status {ended.status}"))
         return ended.output.decode("ascii").splitlines()
 
     def ask(self, lines):

@@ -198,7 +198,6 @@ def schema_fault(text):
     """What the schema of traces refuses in a text; nothing where the library for it is missing."""
     if not importlib.util.find_spec("jsonschema"):
         return ""
-    sys.path.append(str(program.TOP / "checks"))
     import schema
 
     return schema.fault_of(json.loads(text))

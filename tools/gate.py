@@ -124,10 +124,13 @@ def main():
     parser.add_argument("--watch", action="store_true", help="watch the checker's processes until stopped")
     parser.add_argument("--run", action="append", default=[], help="count only calls of this `rt ci`, by its process number")
     given = parser.parse_args()
-    if given.watch:
-        watch(given.times[0])
-    for path in given.times:
-        show(times_of(path, given.run))
+    try:
+        if given.watch:
+            watch(given.times[0])
+        for path in given.times:
+            show(times_of(path, given.run))
+    except OSError as fault:
+        raise SystemExit(f"gate.py: {fault.filename}: {fault.strerror}") from fault
     return 0
 
 

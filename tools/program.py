@@ -17,11 +17,14 @@ from pathlib import Path
 
 TOP = Path(__file__).resolve().parent.parent
 CRATES = TOP / "crates"
-BUILT = CRATES / "lcrqdb" / "out" / "lcrqdb"  # where `rt run` and `rt ci` leave it
-BUILDS = "(cd crates/lcrqdb && rt run -- run ../../examples/session.script)"
+# Where the program is: where `rt run` and `rt ci` leave it, and in the archive that is handed out.
+PLACES = (CRATES / "lcrqdb" / "out" / "lcrqdb", TOP / "bin" / "lcrqdb")
+BUILT = next((path for path in PLACES if path.is_file()), PLACES[0])
+BUILDS = "(cd crates/lcrqdb && rt run -- run ../../examples/session.script), or unproved python3 tools/quick_build.py"
 SECONDS = 120.0  # a run, or a line, that takes longer has failed
 LOOK_EVERY = 0.001
 PIPE_BYTES = 1 << 16
+ELF = b"\x7fELF"  # how a program begins
 
 # The lines that make a step, and the replies to a line that is no command.
 MAKES_A_STEP = re.compile(rb"(a?enq|a?deq|go|starve) ")
@@ -33,6 +36,11 @@ Watched = collections.namedtuple("Watched", "seconds peak_kib status output erro
 
 class Broken(Exception):
     """The program ended, took too long or gave another reply than the one that is wanted."""
+
+
+def is_unproved(data: bytes) -> bool:
+    """Whether a file is a program that `rt try` built, which puts checks of memory into it."""
+    return data.startswith(ELF) and b"AddressSanitizer" in data
 
 
 def required(path, command):

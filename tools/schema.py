@@ -1,7 +1,7 @@
 #!/usr/bin/env python3
 """Checks traces against docs/trace.schema.json, the JSON Schema of versions 1 and 2.
 
-    python3 checks/schema.py FILE..
+    python3 tools/schema.py FILE..
 
 For each file it prints where the first value is that the schema refuses, and why; `$` is the whole
 trace. The status is 1 if there is one, or if a file can't be read. It needs the library
