@@ -1,24 +1,11 @@
 -- Accesses that do not interfere commute.
-use Rattle.std.proofs.Common.{◌≡◌, ℕ, zero, suc, ◌+◌, Bool, true, false, ◌==◌, if◌then◌else◌, inl, inr, refl, sym, ◌∙◌, ap, ap₂, subst, Option, Some, None, is_some, IfSome, Result, Ok, Err, IfOk, arith}
-use Rattle.std.proofs.lemmas.Bool.{cases_Bool, both_ways, and_left, or_parts, ne_eqb}
-use Rattle.std.proofs.lemmas.Result.{IfOk-at_ok}
-use mathlib.Core.Path.{fun_ext}
+use Rattle.rd_cell.proofs.Prelude.{◌≡◌, ℕ, zero, suc, ◌+◌, Bool, true, false, ◌==◌, if◌then◌else◌, inl, inr, refl, sym, ◌∙◌, ap, ap₂, subst, Option, Some, None, is_some, IfSome, Result, Ok, Err, IfOk, arith, cases_Bool, both_ways, and_left, or_parts, ne_eqb, IfOk-at_ok, fun_ext, SegName, Cell, Content, Operation, Refusal, name_eq, covers, some_covers, some_overlap, written, interfere, Contents, half, cell_of_halves, share, after_write_at, operand, holding, Effect, effect, wrote_by, Performed, contents_after, number_made_from, number_made, effect_at, operate, make, perform, result_map}
 use Rattle.rd_cell.specs.declared.limits.TheConstants.{MOST_SEGMENTS}
-use Rattle.rd_cell.specs.declared.places.SegName.{SegName}
 use Rattle.rd_cell.specs.declared.places.Place.{Place}
 use Rattle.rd_cell.specs.declared.places.Place.TheVariants as place
-use Rattle.rd_cell.specs.declared.cells.Cell.{Cell}
-use Rattle.rd_cell.specs.declared.contents.Content.{Content}
 use Rattle.rd_cell.specs.declared.contents.Content.TheVariants as content
-use Rattle.rd_cell.specs.declared.operations.Operation.{Operation}
 use Rattle.rd_cell.specs.declared.access.Access.{Access}
 use Rattle.rd_cell.specs.declared.access.Access.TheVariants.{NoPlace, At, Make}
-use Rattle.rd_cell.specs.declared.refusal.Refusal.{Refusal}
-use Rattle.rd_cell.specs.Places.{name_eq, covers, some_covers, some_overlap, written, interfere}
-use Rattle.rd_cell.specs.Contents.{Contents, half, cell_of_halves, share, after_write_at, operand, holding}
-use Rattle.rd_cell.specs.Operations.{Effect, effect, wrote_by}
-use Rattle.rd_cell.specs.Access.{Performed, contents_after, number_made_from, number_made, effect_at, operate, make, perform}
-use Rattle.rd_cell.specs.Results.{result_map}
 use Rattle.rd_cell.proofs.PlaceLemmas.{both_cover, written-covers, interfere-sym}
 
 -- Writes

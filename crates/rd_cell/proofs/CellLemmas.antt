@@ -1,6 +1,5 @@
 -- When two cells are one.
-use Rattle.std.proofs.Common.{◌≡◌, true, arith}
-use Rattle.rd_cell.specs.declared.cells.Cell.{Cell}
+use Rattle.rd_cell.proofs.Prelude.{◌≡◌, true, arith, Cell}
 use Rattle.rd_cell.specs.Cells.{cell_eq}
 
 -- the test answers true for one cell alone

@@ -1,22 +1,9 @@
 -- An effect on some of the places, as one on all of them.
-use Rattle.std.proofs.lemmas.Grind.{common_steps}
-use Rattle.std.proofs.Common.{◌≡◌, true, false, Bool, inl, inr, sym, ◌∙◌, ap, Option, Some, None, Result, Ok, Err, IfOk, arith}
-use Rattle.std.proofs.lemmas.Bool.{cases_Bool, false_from_ne_true, both_ways}
-use Rattle.std.proofs.lemmas.Result.{IfOk-at_ok}
+use Rattle.rd_cell.proofs.Prelude.{common_steps, ◌≡◌, true, false, Bool, inl, inr, sym, ◌∙◌, ap, Option, Some, None, Result, Ok, Err, IfOk, arith, cases_Bool, false_from_ne_true, both_ways, IfOk-at_ok, SegName, Wrote, Content, Operation, Refusal, is_of, place_eq, is_of_same_segment, covers, segment_of, some_covers, written, Contents, restore, operand, effect, Performed, operate, HasEffect, everywhere, Operates, OperatesOn, Restores}
 use Rattle.rd_cell.specs.declared.places.Place.{Place}
-use Rattle.rd_cell.specs.declared.places.SegName.{SegName}
-use Rattle.rd_cell.specs.declared.places.Wrote.{Wrote}
 use Rattle.rd_cell.specs.declared.places.Wrote.TheVariants as wrote
-use Rattle.rd_cell.specs.declared.contents.Content.{Content}
-use Rattle.rd_cell.specs.declared.contents.Content.TheVariants as content
-use Rattle.rd_cell.specs.declared.operations.Operation.{Operation}
 use Rattle.rd_cell.specs.declared.operations.Answer.{Answer}
 use Rattle.rd_cell.specs.declared.access.Done.{Done}
-use Rattle.rd_cell.specs.declared.refusal.Refusal.{Refusal}
-use Rattle.rd_cell.specs.Places.{is_of, place_eq, is_of_same_segment, covers, segment_of, some_covers, written}
-use Rattle.rd_cell.specs.Contents.{Contents, restore, operand}
-use Rattle.rd_cell.specs.Operations.{effect}
-use Rattle.rd_cell.specs.Access.{Performed, operate, HasEffect, everywhere, Operates, OperatesOn, Restores}
 use Rattle.rd_cell.proofs.PlaceLemmas.{place_eq-true, written-covers}
 use Rattle.rd_cell.proofs.AccessLemmas.{after_write-outside, after_write-same, place-operate}
 

@@ -1,3 +1,4 @@
+pub mod Prelude
 pub mod PlaceLemmas
 pub mod AccessLemmas
 pub mod ListLemmas

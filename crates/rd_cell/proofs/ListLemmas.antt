@@ -1,6 +1,5 @@
 -- Reading a list after a write.
-use Rattle.std.proofs.Common.{◌≡◌, ◌≢◌, ℕ, zero, suc, ◌<◌, ◌≤◌, refl, sym, ap, arith, ◌++◌, Some, None, List, [], ◌∷◌, length, set, take, slice_get}
-use Rattle.std.proofs.lemmas.Option.{slice_get_past}
+use Rattle.rd_cell.proofs.Prelude.{◌≡◌, ◌≢◌, ℕ, zero, suc, ◌<◌, ◌≤◌, refl, sym, ap, arith, ◌++◌, Some, None, List, [], ◌∷◌, length, set, take, slice_get, slice_get_past}
 
 -- the written element
 pub slice_get-set_same : {X : Type 0} (xs : List X) (i : ℕ) (x : X) → i < length xs → slice_get (set xs i x) i ≡ Some x

@@ -1,11 +1,7 @@
 -- Equality and overlap of places.
-use Rattle.std.proofs.Common.{◌≡◌, ℕ, true, false, ◌==◌, refl, sym, subst, eq-eqb, Option, Some, None, arith}
-use Rattle.std.proofs.lemmas.Bool.{and_from, or_left, or_right}
-use Rattle.rd_cell.specs.declared.places.SegName.{SegName}
+use Rattle.rd_cell.proofs.Prelude.{◌≡◌, ℕ, true, false, ◌==◌, refl, sym, subst, eq-eqb, Option, Some, None, arith, and_from, or_left, or_right, SegName, Wrote, name_eq, is_of, is_of_cell, place_eq, covers, overlaps, some_covers, some_overlap, written, interfere}
 use Rattle.rd_cell.specs.declared.places.Place.{Place}
 use Rattle.rd_cell.specs.declared.places.Place.TheVariants as place
-use Rattle.rd_cell.specs.declared.places.Wrote.{Wrote}
-use Rattle.rd_cell.specs.Places.{name_eq, is_of, is_of_cell, place_eq, covers, overlaps, some_covers, some_overlap, written, interfere}
 
 -- the test answers true for one name alone
 pub name_eq-true : (s t : SegName) → name_eq s t ≡ true → s ≡ t

@@ -1,6 +1,5 @@
 -- What `and_then` and `ok_or` give, taken apart.
-use Rattle.std.proofs.Common.{◌≡◌, Option, Some, ok_or, Result, Ok, Err, arith}
-use Rattle.rd_cell.specs.Results.{and_then}
+use Rattle.rd_cell.proofs.Prelude.{◌≡◌, Option, Some, ok_or, Result, Ok, Err, arith, and_then}
 
 -- a value came of a value
 pub and_then_ok : {T U E P : Type 0} (r : Result T E) (f : T → Result U E) (y : U) → and_then r f ≡ Ok y → ((x : T) → r ≡ Ok x → f x ≡ Ok y → P) → P

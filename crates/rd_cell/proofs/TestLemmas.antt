@@ -1,6 +1,5 @@
 -- A test of two facts in order.
-use Rattle.std.proofs.Common.{◌≡◌, ◌↔◌, Bool, true, false}
-use Rattle.std.proofs.lemmas.Bool.{both_ways}
+use Rattle.rd_cell.proofs.Prelude.{◌≡◌, ◌↔◌, Bool, true, false, both_ways}
 
 -- the first is passed
 pub both_tests : {P Q W : Type 0} (a b : Bool) → (a ≡ true) ↔ P → (b ≡ true) ↔ Q → (P → Q → W) → (W → Q) → a ≡ true → (b ≡ true) ↔ W

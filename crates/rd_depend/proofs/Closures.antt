@@ -1,11 +1,7 @@
 -- The causal closure is the least set that holds its step and what depends on its members, and lone
 -- undos that take the step out take all of it out.
-use Rattle.std.proofs.Common.{◌≡◌, ◌≢◌, ℕ, zero, suc, ◌+◌, ◌-◌, ◌<◌, ◌≤◌, ◌==◌, ◌||◌, inl, inr, Bool, true, false, nat_lt, if◌then◌else◌, refl, sym, ◌∙◌, ap, subst, arith, List, [], ◌∷◌, ◌++◌, length, take, drop, slice_get, Option, Some, None, option_and_then, eq-eqb, ne_eqb}
-use Rattle.std.proofs.lemmas.Bool.{cases_Bool, cond-false, cond-true, le-ltb, lt-ltb, ltb-false, ltb-true}
+use Rattle.rd_depend.proofs.Prelude.{◌≡◌, ◌≢◌, ℕ, zero, suc, ◌+◌, ◌-◌, ◌<◌, ◌≤◌, ◌==◌, ◌||◌, inl, inr, Bool, true, false, nat_lt, if◌then◌else◌, refl, sym, ◌∙◌, ap, subst, arith, List, [], ◌∷◌, ◌++◌, length, take, drop, slice_get, Option, Some, None, option_and_then, eq-eqb, ne_eqb, cases_Bool, cond-false, cond-true, le-ltb, lt-ltb, ltb-false, ltb-true, AreLoneUndos, IsInClosure, closure_from, number_after, closure, position_from, cases_eq, common_steps, depends, depends_on_one, false≢true, first_dependant, numbered, or_cases, or_left, or_right, Entry}
 use Rattle.rd_step.specs.Dependence.IsInClosure.{itself, dependant}
-use Rattle.rd_step.specs.Dependence.{AreLoneUndos, IsInClosure, closure_from, number_after}
-use Rattle.rd_step.specs.Prelude.{closure}
-use Rattle.rd_depend.proofs.Prelude.{position_from, cases_eq, common_steps, depends, depends_on_one, false≢true, first_dependant, numbered, or_cases, or_left, or_right, Entry}
 
 -- The marks are closed
 

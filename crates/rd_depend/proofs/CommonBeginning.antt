@@ -1,6 +1,5 @@
 -- Where neither of two lists begins the other.
-use Rattle.std.proofs.Common.{◌≡◌, ℕ, zero, suc, ◌<◌, refl, arith, List, [], ◌∷◌, length, slice_get, Some}
-use Rattle.rd_depend.specs.Beginnings.{Begins, NeitherBegins}
+use Rattle.rd_depend.proofs.Prelude.{◌≡◌, ℕ, zero, suc, ◌<◌, refl, arith, List, [], ◌∷◌, length, slice_get, Some, Begins, NeitherBegins}
 
 -- a list does not begin one that ends before it, or that goes on with another element
 begins_not : {X : Type 0} (xs ys : List X) (n : ℕ) → ((x : X) → slice_get xs n ≡ Some x → slice_get ys n ≡ Some x → ⊥) → n < length xs → Begins xs ys → ⊥

@@ -1,6 +1,5 @@
 -- What is kept of two runs while they are compared goes on over one more step as it should.
-use Rattle.rd_depend.proofs.Prelude.{common_steps, slice_get-get_or, slice_get_past, and_from, and_parts, map-append, reverse-append, nil_from_length, option_to_list, set, is_nothing, slice_get-set_same, slice_get-set_other, Entry, Key, PlacedStep, Reached, is_value_written, key_eq, is_that, place_key, value_key, segment_key, key_eq-true, key_eq-refl, key_eq-sym, is_making, last_blocking, passed, passed_under, IsInOrder, IsAfter, Placed, reached_or_nothing, with_first, list_at, items_of}
-use Rattle.std.proofs.Common.{◌≡◌, ◌↔◌, ℕ, ◌+◌, ◌<◌, ◌≤◌, Bool, true, false, not, ◌&&◌, ◌==◌, if◌then◌else◌, cond, IsTrue, List, [], ◌∷◌, ◌++◌, length, map, get_or, reverse, Vec, Global, Option, Some, None, IsSome, MatchOption, refl, sym, ap, subst, ◌∙◌, arith}
+use Rattle.rd_depend.proofs.Prelude.{common_steps, slice_get-get_or, slice_get_past, and_from, and_parts, map-append, reverse-append, nil_from_length, option_to_list, set, is_nothing, slice_get-set_same, slice_get-set_other, Entry, Key, PlacedStep, Reached, is_value_written, key_eq, is_that, place_key, value_key, segment_key, key_eq-true, key_eq-refl, key_eq-sym, is_making, last_blocking, passed, passed_under, IsInOrder, IsAfter, Placed, reached_or_nothing, with_first, list_at, items_of, ◌≡◌, ◌↔◌, ℕ, ◌+◌, ◌<◌, ◌≤◌, Bool, true, false, not, ◌&&◌, ◌==◌, if◌then◌else◌, cond, IsTrue, List, [], ◌∷◌, ◌++◌, length, map, get_or, reverse, Vec, Global, Option, Some, None, IsSome, MatchOption, refl, sym, ap, subst, ◌∙◌, arith}
 use Rattle.rd_depend.proofs.IndexKeys.{place_value, place_segment, value_segment}
 
 -- How far steps reached, under one key and under all

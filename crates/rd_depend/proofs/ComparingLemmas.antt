@@ -1,6 +1,5 @@
 -- A comparison of two runs as it goes on over the steps of the first one.
-use Rattle.rd_depend.proofs.Prelude.{common_steps, drop_all, drop-cons, Entry, Key, Reached, DecidesEquivalence, Placed, all_left, nothing_reached, KeepsOrder, GoesOn, IsOutOfOrder}
-use Rattle.std.proofs.Common.{◌≡◌, ◌↔◌, ℕ, ◌+◌, ◌<◌, ◌≤◌, Bool, false, IsTrue, List, [], ◌∷◌, length, drop, get_or, refl, sym, ap, subst, arith, length-append}
+use Rattle.rd_depend.proofs.Prelude.{common_steps, drop_all, drop-cons, Entry, Key, Reached, DecidesEquivalence, Placed, all_left, nothing_reached, KeepsOrder, GoesOn, IsOutOfOrder, ◌≡◌, ◌↔◌, ℕ, ◌+◌, ◌<◌, ◌≤◌, Bool, false, IsTrue, List, [], ◌∷◌, length, drop, get_or, refl, sym, ap, subst, arith, length-append}
 use Rattle.rd_depend.proofs.KeepingOrder.{kept_taken, taken_kept}
 use Rattle.rd_depend.proofs.RunsAgree.{taken_equivalent, untaken_different}
 

@@ -1,6 +1,5 @@
 -- Equivalence is symmetric and transitive, as taking out is.
-use Rattle.std.proofs.Common.{◌≡◌, sym, ◌∙◌, ap, refl, subst, List, Ok, arith}
-use Rattle.rd_depend.proofs.Prelude.{World, Ran, run, Event, Entry, IsEquivalent, events, run_entries, IsRunFrom, run_events}
+use Rattle.rd_depend.proofs.Prelude.{◌≡◌, sym, ◌∙◌, ap, refl, subst, List, Ok, arith, World, Ran, run, Event, Entry, IsEquivalent, events, run_entries, IsRunFrom, run_events}
 use Rattle.rd_depend.proofs.TakingOut.{takes_back}
 use Rattle.rd_depend.proofs.TakingOn.{takes_on}
 use Rattle.rd_depend.proofs.RunsAgree.{equivalent_taken, taken_equivalent}

@@ -1,7 +1,6 @@
 -- Taking an entry that may come first out of one list, and the first one out of the other, keeps
 -- whether the lists are equivalent.
-use Rattle.std.proofs.Common.{◌≡◌, ◌↔◌, ℕ, zero, suc, ◌-◌, ◌≤◌, Bool, refl, sym, ◌∙◌, ap, subst, arith, List, [], ◌∷◌, ◌++◌, length, take, drop, length-drop, Ok}
-use Rattle.rd_depend.proofs.Prelude.{map-append, take_all, World, Stepped, step, Ran, run, IsFree, Event, Entry, IsEquivalent, events, run_entries, IsRunFrom, runs_to, FirstStep, first_step, middle, as_stepped-same, goes_first, stands_in, DecidesEquivalence}
+use Rattle.rd_depend.proofs.Prelude.{◌≡◌, ◌↔◌, ℕ, zero, suc, ◌-◌, ◌≤◌, Bool, refl, sym, ◌∙◌, ap, subst, arith, List, [], ◌∷◌, ◌++◌, length, take, drop, length-drop, Ok, map-append, take_all, World, Stepped, step, Ran, run, IsFree, Event, Entry, IsEquivalent, events, run_entries, IsRunFrom, runs_to, FirstStep, first_step, middle, as_stepped-same, goes_first, stands_in, DecidesEquivalence}
 use Rattle.rd_depend.proofs.FirstOfActor.{MayComeFirst, one_place}
 
 -- an entry that depends on no earlier one goes first, and the others run on with their entries

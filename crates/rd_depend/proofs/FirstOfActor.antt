@@ -1,7 +1,6 @@
 -- An entry of an event that depends on no earlier one is the first of its actor, so there is one
 -- such place at most.
-use Rattle.std.proofs.Common.{◌≡◌, ℕ, refl, sym, ap, subst, List, [], ◌∷◌, ◌++◌, arith, rules}
-use Rattle.rd_depend.proofs.Prelude.{free_parts, IsFree, Event, Entry}
+use Rattle.rd_depend.proofs.Prelude.{◌≡◌, ℕ, refl, sym, ap, subst, List, [], ◌∷◌, ◌++◌, arith, rules, free_parts, IsFree, Event, Entry}
 
 -- none of these entries is by this actor
 abbrev pub HasNoneBy : ℕ → List Entry → Type 0

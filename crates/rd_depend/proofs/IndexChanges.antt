@@ -1,6 +1,5 @@
 -- The calls of an index, from what they do to its lists.
-use Rattle.std.proofs.Common.{◌≡◌, ℕ, zero, suc, ◌+◌, ◌-◌, ◌<◌, ◌≤◌, Bool, true, false, ◌&&◌, ◌||◌, ◌==◌, if◌then◌else◌, List, [], ◌∷◌, ◌++◌, length, take, drop, Option, Some, slice_get, refl, sym, ap, subst, ◌∙◌, append_assoc, arith, length-append, eq-eqb, Result, IsOk, OnOk, is_err, rules}
-use Rattle.rd_depend.proofs.Prelude.{Entry, DependIndex, Home, Homes, Key, Table, Lists, list_at, spare_at, one_if, kept_in, spare_in, is_kept_in, AreReady, KeepsLists, Puts, TakesLast, HasLast, Touch, By, Under, touches, kept, spare, number_of, IsIndexOf, HasRoomFor, GivesRoom, UsesRoom, IsLast, homes_of, Adds, Keeps, EndsWith}
+use Rattle.rd_depend.proofs.Prelude.{◌≡◌, ℕ, zero, suc, ◌+◌, ◌-◌, ◌<◌, ◌≤◌, Bool, true, false, ◌&&◌, ◌||◌, ◌==◌, if◌then◌else◌, List, [], ◌∷◌, ◌++◌, length, take, drop, Option, Some, slice_get, refl, sym, ap, subst, ◌∙◌, append_assoc, arith, length-append, eq-eqb, Result, IsOk, OnOk, is_err, rules, Entry, DependIndex, Home, Homes, Key, Table, Lists, list_at, spare_at, one_if, kept_in, spare_in, is_kept_in, AreReady, KeepsLists, Puts, TakesLast, HasLast, Touch, By, Under, touches, kept, spare, number_of, IsIndexOf, HasRoomFor, GivesRoom, UsesRoom, IsLast, homes_of, Adds, Keeps, EndsWith}
 use Rattle.rd_depend.proofs.IndexKeys.{is_home, is_in, under, AreSeparate, separate}
 use Rattle.rd_depend.proofs.IndexPositions.{positions-push, positions-pop, number-append}
 

@@ -1,6 +1,5 @@
 -- The positions above a number taken out of all lists: the index is then that of the first entries.
-use Rattle.std.proofs.Common.{◌≡◌, ℕ, zero, suc, ◌+◌, ◌<◌, Bool, nat_lt, List, [], ◌∷◌, take, drop, refl, ap, arith}
-use Rattle.rd_depend.proofs.Prelude.{nat_tests, length-take-le, take-append-drop, Entry, DependIndex, AscendsFrom, before_first, Touch, positions_from, number_of, touches, IsAscending, kept, capacity, IsIndexOf, GivesRoom}
+use Rattle.rd_depend.proofs.Prelude.{◌≡◌, ℕ, zero, suc, ◌+◌, ◌<◌, Bool, nat_lt, List, [], ◌∷◌, take, drop, refl, ap, arith, nat_tests, length-take-le, take-append-drop, Entry, DependIndex, AscendsFrom, before_first, Touch, positions_from, number_of, touches, IsAscending, kept, capacity, IsIndexOf, GivesRoom}
 use Rattle.rd_depend.proofs.IndexLists.{front-cons}
 use Rattle.rd_depend.proofs.IndexPositions.{positions-ascend, number-append}
 use Rattle.rd_depend.proofs.IndexFirst.{kept-ascends}

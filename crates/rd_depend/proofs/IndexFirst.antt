@@ -1,7 +1,6 @@
 -- The first dependant, from the first later positions in an actor's list, a place's and a
 -- segment's.
-use Rattle.std.proofs.Common.{◌≡◌, ℕ, zero, suc, ◌+◌, ◌<◌, ◌≤◌, Bool, true, false, not, ◌||◌, ◌==◌, if◌then◌else◌, nat_lt, List, [], ◌∷◌, length, drop, Option, Some, None, refl, sym, ap, subst, ◌∙◌, arith}
-use Rattle.rd_depend.proofs.Prelude.{nat_tests, is_some, SegName, Place, some_overlap, is_nothing, written, interfere, Entry, Wrote, position_from, depends, depends_on_one, symmetric, DependIndex, At, In, is_under, is_under_some, own_key, value_of_place, whole_key, AscendsFrom, IsAscending, find, earlier, Touch, By, touched_or_written, is_value_written, touches, positions_from, positions, kept, IsIndexOf}
+use Rattle.rd_depend.proofs.Prelude.{◌≡◌, ℕ, zero, suc, ◌+◌, ◌<◌, ◌≤◌, Bool, true, false, not, ◌||◌, ◌==◌, if◌then◌else◌, nat_lt, List, [], ◌∷◌, length, drop, Option, Some, None, refl, sym, ap, subst, ◌∙◌, arith, nat_tests, is_some, SegName, Place, some_overlap, is_nothing, written, interfere, Entry, Wrote, position_from, depends, depends_on_one, symmetric, DependIndex, At, In, is_under, is_under_some, own_key, value_of_place, whole_key, AscendsFrom, IsAscending, find, earlier, Touch, By, touched_or_written, is_value_written, touches, positions_from, positions, kept, IsIndexOf}
 use Rattle.rd_depend.proofs.IndexPositions.{positions-ascend, positions-number, number-within, ascending}
 use Rattle.rd_cell.specs.declared.places.Place.TheVariants as place
 

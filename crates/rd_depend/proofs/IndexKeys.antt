@@ -1,7 +1,6 @@
 -- What is kept under a key, and the three keys of a place: its own, that of a cell's value half,
 -- and its segment's.
-use Rattle.std.proofs.Common.{◌≡◌, Bool, true, false, ◌&&◌, ◌||◌, Option, Some, ap, ◌∙◌, arith}
-use Rattle.rd_depend.proofs.Prelude.{and_from, or_right, Place, Entry, Home, Homes, Key, is_that, is_under, place_key, value_key, segment_key, is_kept_in, touched_or_written, homes_of, key_eq-refl}
+use Rattle.rd_depend.proofs.Prelude.{◌≡◌, Bool, true, false, ◌&&◌, ◌||◌, Option, Some, ap, ◌∙◌, arith, and_from, or_right, Place, Entry, Home, Homes, Key, is_that, is_under, place_key, value_key, segment_key, is_kept_in, touched_or_written, homes_of, key_eq-refl}
 
 -- whether a list is one of a key's, for a step that wrote there or didn't
 abbrev pub is_home : Home → Bool → Key → Bool

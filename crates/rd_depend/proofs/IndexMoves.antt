@@ -1,10 +1,6 @@
 -- A position moved after others in all lists: the index is then that of the entries with that one
 -- moved, and has the same room.
-use Rattle.std.proofs.Common.{◌≡◌, ℕ, zero, suc, ◌+◌, ◌-◌, ◌<◌, ◌≤◌, ◌==◌, Bool, false, nat_lt, if◌then◌else◌, List, [], ◌∷◌, ◌++◌, length, slice_get, take, drop, Option, Some, None, refl, sym, ap, subst, ◌∙◌, append_assoc, arith, length-append, length-drop}
-use Rattle.std.specs.Option.{option_map_or}
-use Rattle.rd_depend.proofs.Prelude.{nat_tests, drop_of_length-le, length-take-le, take_all, take-append-drop, drop-drop, Entry, numbered, without, DependIndex, AscendsFrom, AreMoved, contains, moved_position, positions_from, positions, number_of, touches, Touch, kept, capacity, IsIndexOf, KeepsRoom}
-use Rattle.rd_depend.specs.Lists.{IsMoved}
-use Rattle.rd_depend.specs.Moved.{moved_to}
+use Rattle.rd_depend.proofs.Prelude.{◌≡◌, ℕ, zero, suc, ◌+◌, ◌-◌, ◌<◌, ◌≤◌, ◌==◌, Bool, false, nat_lt, if◌then◌else◌, List, [], ◌∷◌, ◌++◌, length, slice_get, take, drop, Option, Some, None, refl, sym, ap, subst, ◌∙◌, append_assoc, arith, length-append, length-drop, option_map_or, nat_tests, drop_of_length-le, length-take-le, take_all, take-append-drop, drop-drop, Entry, numbered, without, DependIndex, AscendsFrom, AreMoved, contains, moved_position, positions_from, positions, number_of, touches, Touch, kept, capacity, IsIndexOf, KeepsRoom, IsMoved, moved_to}
 use Rattle.rd_depend.proofs.IndexPositions.{positions-ascend, ascending, number-append}
 use Rattle.rd_depend.proofs.IndexChanges.{drop_one}
 use Rattle.rd_depend.proofs.IndexRoom.{room_stays}

@@ -1,7 +1,6 @@
 -- Positions of the entries that pass a test: of a list with one more entry, of two lists one after
 -- the other.
-use Rattle.rd_depend.proofs.Prelude.{common_steps, append-nil, Entry, AscendsFrom, IsAscending, positions_from, positions, number_of}
-use Rattle.std.proofs.Common.{◌≡◌, ℕ, ◌+◌, ◌-◌, ◌≤◌, Bool, if◌then◌else◌, List, [], ◌∷◌, ◌++◌, length, take, refl, ap, arith}
+use Rattle.rd_depend.proofs.Prelude.{common_steps, append-nil, Entry, AscendsFrom, IsAscending, positions_from, positions, number_of, ◌≡◌, ℕ, ◌+◌, ◌-◌, ◌≤◌, Bool, if◌then◌else◌, List, [], ◌∷◌, ◌++◌, length, take, refl, ap, arith}
 use Rattle.rd_depend.proofs.IndexLists.{ascends_lower}
 
 -- they ascend

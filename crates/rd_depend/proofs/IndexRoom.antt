@@ -1,7 +1,5 @@
 -- How much room an index has, from what its lists can have.
-use Rattle.std.proofs.Common.{◌≡◌, ℕ, ◌+◌, ◌-◌, ◌≤◌, Bool, List, [], ◌∷◌, length, ap, ◌∙◌, arith}
-use Rattle.rd_depend.proofs.Prelude.{Entry, DependIndex, Key, list_at, kept_in, capacity_at, Touch, By, Under, touches, number_of, kept, capacity, spare, IsIndexOf, HasRoomFor, UsesRoom}
-use Rattle.rd_depend.specs.Tables.{capacity_in}
+use Rattle.rd_depend.proofs.Prelude.{◌≡◌, ℕ, ◌+◌, ◌-◌, ◌≤◌, Bool, List, [], ◌∷◌, length, ap, ◌∙◌, arith, Entry, DependIndex, Key, list_at, kept_in, capacity_at, Touch, By, Under, touches, number_of, kept, capacity, spare, IsIndexOf, HasRoomFor, UsesRoom, capacity_in}
 use Rattle.rd_depend.proofs.IndexPositions.{positions-number}
 
 -- what holds of each actor's list and of each key's holds of each list

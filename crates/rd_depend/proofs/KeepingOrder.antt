@@ -1,9 +1,6 @@
 -- Steps keep the order of dependent ones at the places where they are in another list exactly where
 -- they may be taken out of it one after another.
-use Rattle.rd_depend.proofs.Prelude.{common_steps, eqb-false, map-append, Entry, Key, Reached, is_under, last_blocking, passed, passed_over, nothing_reached, AreAlike, Placed, by_actor, all_left, with_steps, KeepsOrder}
-use Rattle.std.proofs.Common.{◌≡◌, ◌≢◌, ℕ, ◌+◌, ◌<◌, ◌≤◌, Bool, true, false, ◌==◌, if◌then◌else◌, List, [], ◌∷◌, ◌++◌, length, map, refl, sym, ap, subst, ◌∙◌, arith, eqb-true, length-append}
-use Rattle.std.proofs.lemmas.List.Elements.{filter-append}
-use Rattle.std.specs.List.{enumerate_from}
+use Rattle.rd_depend.proofs.Prelude.{common_steps, eqb-false, map-append, Entry, Key, Reached, is_under, last_blocking, passed, passed_over, nothing_reached, AreAlike, Placed, by_actor, all_left, with_steps, KeepsOrder, ◌≡◌, ◌≢◌, ℕ, ◌+◌, ◌<◌, ◌≤◌, Bool, true, false, ◌==◌, if◌then◌else◌, List, [], ◌∷◌, ◌++◌, length, map, refl, sym, ap, subst, ◌∙◌, arith, eqb-true, length-append, enumerate_from, filter-append}
 use Rattle.rd_depend.proofs.FirstOfActor.{HasNoneBy}
 use Rattle.rd_depend.proofs.TouchedKeys.{wrote_under, wrote_touched, passed_at, in_order_at, in_order_from}
 use Rattle.rd_depend.proofs.TakingOut.{touched-alike, wrote-alike, alike-sym, AreApart, IsApartFrom, TakesAll}

@@ -1,8 +1,6 @@
 -- Two steps of a run depend on each other exactly where they are of one actor, or one of them wrote
 -- under a key where the other touched.
-use Rattle.rd_depend.proofs.Prelude.{common_steps, false≢true, or_cases, or_parts, SegName, Place, segment_of, some_overlap, is_nothing, written, name_eq-refl, some_overlap-sym, Entry, depends, Key, At, In, is_under, is_under_some, own_key, value_of_place, whole_key}
-use Rattle.std.proofs.Common.{◌≡◌, Bool, true, false, ◌||◌, inl, inr, Option, Some, None, refl, sym, ◌∙◌, arith, ne_eqb}
-use Rattle.std.specs.Option.{option_map}
+use Rattle.rd_depend.proofs.Prelude.{common_steps, false≢true, or_cases, or_parts, SegName, Place, segment_of, some_overlap, is_nothing, written, name_eq-refl, some_overlap-sym, Entry, depends, Key, At, In, is_under, is_under_some, own_key, value_of_place, whole_key, ◌≡◌, Bool, true, false, ◌||◌, inl, inr, Option, Some, None, refl, sym, ◌∙◌, arith, ne_eqb, option_map}
 use Rattle.rd_depend.proofs.IndexFirst.{overlaps_under, overlaps-keys}
 use Rattle.rd_depend.proofs.TakingOut.{AreApart}
 use Rattle.rd_depend.proofs.TouchedKeys.{wrote_under, is_whole_of}

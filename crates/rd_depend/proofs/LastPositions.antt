@@ -1,6 +1,5 @@
 -- The last position in the beginning of a list, one element at a time.
-use Rattle.std.proofs.Common.{◌≡◌, ℕ, zero, suc, Bool, true, false, if◌then◌else◌, refl, ap, List, [], ◌∷◌, take, slice_get, Some, None, arith}
-use Rattle.rd_depend.proofs.Prelude.{one_further, last_position}
+use Rattle.rd_depend.proofs.Prelude.{◌≡◌, ℕ, zero, suc, Bool, true, false, if◌then◌else◌, refl, ap, List, [], ◌∷◌, take, slice_get, Some, None, arith, one_further, last_position}
 
 -- an element that passes is the last of those up to it
 pub last-found : {X : Type 0} (test : X → Bool) (xs : List X) (i : ℕ) (x : X) → slice_get xs i ≡ Some x → test x ≡ true

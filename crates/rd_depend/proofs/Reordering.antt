@@ -1,10 +1,6 @@
 -- Lists are equivalent exactly where the one is made of the other by changing places of neighbours
 -- that do not depend on each other.
-use Rattle.std.proofs.Common.{◌≡◌, ◌↔◌, false, refl, sym, ◌∙◌, ap, subst, List, [], ◌∷◌, ◌++◌, Ok}
-use Rattle.rd_depend.proofs.Prelude.{World, Ran, Stepped, run, step, Event, depends, symmetric, free_parts, IsFree, IsEquivalent, as_stepped-same, goes_first}
-use Rattle.rd_step.proofs.Commute.{commutes}
-use Rattle.rd_step.proofs.Equivalence.{as_ran-same, ran_through, reflexive, swapped_within}
-use Rattle.rd_step.proofs.Inverse.{ran_on, run-cons}
+use Rattle.rd_depend.proofs.Prelude.{◌≡◌, ◌↔◌, false, refl, sym, ◌∙◌, ap, subst, List, [], ◌∷◌, ◌++◌, Ok, World, Ran, Stepped, run, step, Event, depends, symmetric, free_parts, IsFree, IsEquivalent, as_stepped-same, goes_first, as_ran-same, ran_through, reflexive, swapped_within, commutes, ran_on, run-cons}
 use Rattle.rd_depend.specs.Reordering.{IsReordered}
 use Rattle.rd_depend.specs.Reordering.IsReordered.{unchanged, swapped}
 use Rattle.rd_depend.proofs.Converse.{equivalent_through}

@@ -1,9 +1,6 @@
 -- Of two runs from one world the events are equivalent exactly where the entries of the one may be
 -- taken out of the other.
-use Rattle.std.proofs.Common.{◌≡◌, true, false, refl, sym, ap, subst, List, [], ◌∷◌, ◌++◌, Ok, arith}
-use Rattle.std.specs.List.{list_any}
-use Rattle.std.proofs.lemmas.Bool.{or_from}
-use Rattle.rd_depend.proofs.Prelude.{depends, free_parts, World, step, IsFree, Entry, IsEquivalent, events, IsRunFrom, first_step, DecidesEquivalence}
+use Rattle.rd_depend.proofs.Prelude.{◌≡◌, true, false, refl, sym, ap, subst, List, [], ◌∷◌, ◌++◌, Ok, arith, list_any, or_from, depends, free_parts, World, step, IsFree, Entry, IsEquivalent, events, IsRunFrom, first_step, DecidesEquivalence}
 use Rattle.rd_depend.proofs.FirstOfActor.{MayComeFirst}
 use Rattle.rd_depend.proofs.Exactness.{comes_first, runs_on, equivalent_first, no_events}
 use Rattle.rd_depend.proofs.TakingOut.{alike-same, IsApartFrom, Takes, TakesAll}

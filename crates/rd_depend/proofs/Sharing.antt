@@ -1,7 +1,6 @@
 -- Two entries depend on each other exactly where they have one actor, or share a place of the map
 -- that one of them wrote.
-use Rattle.std.proofs.Common.{◌≡◌, ◌↔◌, ◌⊎◌, Bool, true, false, inl, inr, Option, Some, eq-eqb, arith}
-use Rattle.rd_depend.proofs.Prelude.{or_cases, or_left, or_right, covers-refl, both_cover, written-covers, Place, covers, overlaps, some_covers, some_overlap, written, interfere, depends, Entry, is_of_map, wrote, SharesPlace, either_wrote}
+use Rattle.rd_depend.proofs.Prelude.{◌≡◌, ◌↔◌, ◌⊎◌, Bool, true, false, inl, inr, Option, Some, eq-eqb, arith, or_cases, or_left, or_right, covers-refl, both_cover, written-covers, Place, covers, overlaps, some_covers, some_overlap, written, interfere, depends, Entry, is_of_map, wrote, SharesPlace, either_wrote}
 use Rattle.rd_cell.specs.declared.places.Place.TheVariants as place
 
 -- a place of the map that a place names

@@ -1,7 +1,6 @@
 -- Where one list may be had from a second by taking out, and the second from a third, the first may
 -- be had from the third.
-use Rattle.std.proofs.Common.{◌≡◌, ◌⊎◌, inl, inr, List, [], ◌∷◌, ◌++◌, refl, sym, ap, subst, ◌∙◌, append_assoc, arith}
-use Rattle.rd_depend.proofs.Prelude.{Entry, AreAlike}
+use Rattle.rd_depend.proofs.Prelude.{◌≡◌, ◌⊎◌, inl, inr, List, [], ◌∷◌, ◌++◌, refl, sym, ap, subst, ◌∙◌, append_assoc, arith, Entry, AreAlike}
 use Rattle.rd_depend.proofs.TakingOut.{AreApart, IsApartFrom, Takes, TakesAll}
 
 alike-trans : (x y z : Entry) → AreAlike x y → AreAlike y z → AreAlike x z

@@ -1,7 +1,6 @@
 -- Where one list may be had from another by taking out one step after another, each free of those
 -- before it, so may the other from the one.
-use Rattle.std.proofs.Common.{◌≡◌, ◌≢◌, true, List, [], ◌∷◌, ◌++◌, refl, sym, ap, subst, arith}
-use Rattle.rd_depend.proofs.Prelude.{Entry, Key, is_under, AreAlike}
+use Rattle.rd_depend.proofs.Prelude.{◌≡◌, ◌≢◌, true, List, [], ◌∷◌, ◌++◌, refl, sym, ap, subst, arith, Entry, Key, is_under, AreAlike}
 use Rattle.rd_depend.proofs.TouchedKeys.{wrote_under}
 
 -- Steps that are alike

@@ -1,9 +1,7 @@
 -- The keys under which a step touched: those of its place; what it wrote under them; and its order
 -- and how far it reached, key by key.
-use Rattle.std.proofs.Common.{◌≡◌, ◌⊎◌, ℕ, ◌<◌, Bool, true, false, not, if◌then◌else◌, Option, Some, arith}
-use Rattle.rd_depend.proofs.Prelude.{SegName, Place, Wrote, is_nothing, written, name_eq, Entry, Key, At, In, Reached, is_under, place_key, value_key, segment_key, is_value_written, is_making, last_blocking, passed, IsAfter, IsInOrder}
+use Rattle.rd_depend.proofs.Prelude.{◌≡◌, ◌⊎◌, ℕ, ◌<◌, Bool, true, false, not, if◌then◌else◌, Option, Some, arith, SegName, Place, Wrote, is_nothing, written, name_eq, Entry, Key, At, In, Reached, is_under, place_key, value_key, segment_key, is_value_written, is_making, last_blocking, passed, IsAfter, IsInOrder, passed_over}
 use Rattle.rd_cell.specs.declared.places.Place.TheVariants as place
-use Rattle.rd_depend.specs.KeepingOrder.{passed_over}
 
 -- whether a place, if there is one, is the whole of this segment
 abbrev pub is_whole_of : SegName → Option Place → Bool

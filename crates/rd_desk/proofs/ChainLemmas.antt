@@ -1,6 +1,5 @@
 -- Chains of what a gate told, and pairs of two lists.
-use Rattle.std.proofs.Common.{map, Option, Some, None, Vec, ◌≡◌, ℕ, zero, suc, List, [], ◌∷◌, ◌++◌, length, refl, subst, arith, ◌+◌, ◌<◌, get_or, take, add-one}
-use Rattle.rd_desk.proofs.Prelude.{AllByRecursion, AllZip, Answer, Command, Global, IsChain, IsDone, IsRan, ran_of, take-suc, zip}
+use Rattle.rd_desk.proofs.Prelude.{map, Option, Some, None, Vec, ◌≡◌, ℕ, zero, suc, List, [], ◌∷◌, ◌++◌, length, refl, subst, arith, ◌+◌, ◌<◌, get_or, take, add-one, AllByRecursion, AllZip, Answer, Command, Global, IsChain, IsDone, IsRan, ran_of, take-suc, zip}
 
 module _ {P : Type 0} (told : P → Command → Answer → P → Type 0) where
   -- one more command was asked

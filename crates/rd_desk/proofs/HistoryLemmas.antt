@@ -1,12 +1,8 @@
 -- One more call of a history.
-use Rattle.rd_desk.proofs.Prelude.{BookState, Call, Command, IsCapacity, IsLeftBy, IsLegal, IsObeyed, Refusal, book_state, Reply, viewer_entry, ∥∥₁_map}
-use Rattle.rd_journal.specs.Sessions.{journal}
-use Rattle.rd_marks.specs.Book.{session_of}
-use Rattle.rd_marks.specs.Commands.{AreObeyed}
+use Rattle.rd_desk.proofs.Prelude.{BookState, Call, Command, IsCapacity, IsLeftBy, IsLegal, IsObeyed, Refusal, book_state, Reply, viewer_entry, ∥∥₁_map, session_of, AreObeyed, ◌≡◌, ◌+◌, ◌*◌, ◌^◌, ◌⊎◌, inl, inr, max, suc, arith, Ok, Err, OnOk, OnErr, ℕ, List, [], ◌∷◌, ◌++◌, refl, sym, ap, map, ◌∙◌, subst, Result, journal}
 use Rattle.rd_marks.specs.declared.books.Book.{Book}
 use Rattle.rd_marks.proofs.Headlines.{book_runs}
 use Rattle.std.proofs.lemmas.Nat.{pow_pos}
-use Rattle.std.proofs.Common.{◌≡◌, ◌+◌, ◌*◌, ◌^◌, ◌⊎◌, inl, inr, max, suc, arith, Ok, Err, OnOk, OnErr, ℕ, List, [], ◌∷◌, ◌++◌, refl, sym, ap, map, ◌∙◌, subst, Result}
 
 -- the commands of these entries are answered as they record, one after another
 abbrev Obeys : BookState → List (ℕ × Call) → BookState → Type 0

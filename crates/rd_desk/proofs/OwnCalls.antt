@@ -1,6 +1,5 @@
 -- A viewer's own calls, after one call more.
-use Rattle.std.proofs.Common.{◌≡◌, ℕ, ◌+◌, List, [], ◌∷◌, ◌++◌, cond, length, refl, ap, ◌∙◌, Result, Ok, Err, arith, eq-eqb, length-append}
-use Rattle.rd_desk.proofs.Prelude.{BookState, Busy, Call, Command, DeskRefusal, HistoryFull, SeesAfter, NotRecorded, Refusal, Reply, TicketsEnded, put_by, own_grows, own_same, viewer_entry}
+use Rattle.rd_desk.proofs.Prelude.{◌≡◌, ℕ, ◌+◌, List, [], ◌∷◌, ◌++◌, cond, length, refl, ap, ◌∙◌, Result, Ok, Err, arith, eq-eqb, length-append, BookState, Busy, Call, Command, DeskRefusal, HistoryFull, SeesAfter, NotRecorded, Refusal, Reply, TicketsEnded, put_by, own_grows, own_same, viewer_entry}
 
 module _ (opened : BookState) (viewer : ℕ) (old new : List (ℕ × Call)) (command : Command) where
   pub own_answered : (answer : Result Reply Refusal) → SeesAfter opened viewer old command (Ok answer) new → put_by viewer 1 new ≡ put_by viewer 1 old ++ (length new, (viewer_entry viewer command answer).1) ∷ []

@@ -1,6 +1,5 @@
 -- What a call under the lock comes to, for the viewer who asked.
-use Rattle.std.proofs.Common.{ℕ, List, [], ◌∷◌, sym, ◌∙◌, Ok, Err, IfErr}
-use Rattle.rd_desk.proofs.Prelude.{Adds, Answer, BookState, Call, Command, Continues, Ghosts, HistoryFull, IsLegal, IsNotBusy, LeavesHistory, SeesAfter, KnowsWords, NotRecorded, Pass, append-nil, viewer_entry}
+use Rattle.rd_desk.proofs.Prelude.{ℕ, List, [], ◌∷◌, sym, ◌∙◌, Ok, Err, IfErr, Adds, Answer, BookState, Call, Command, Continues, Ghosts, HistoryFull, IsLegal, IsNotBusy, LeavesHistory, SeesAfter, KnowsWords, NotRecorded, Pass, append-nil, viewer_entry}
 
 module _ {T O : Type 0} {K : Ghosts T Call O} (opened : BookState) (viewer : ℕ) (old found new : List (ℕ × Call)) (c : Command) (pass : Pass T Call O K) where
   -- what is put back is what was found and then entries of the viewer, no refusal is about the lock,

@@ -1,10 +1,8 @@
 -- What a desk guards may cross threads. Rattle shows of each type of plain data that it does, in the
 -- module `TheSendSync` beside the type's.
-use denote.RattleType.{RattleType}
-use denote.Param.Send.{IsSend, IsSync, part_keyless, sendable, recorded_send, recorded_sync, struct_send, struct_sync}
+use Rattle.rd_desk.proofs.Prelude.{RattleType, IsSend, IsSync, part_keyless, sendable, recorded_send, recorded_sync, struct_send, struct_sync, shape, crosses, frees}
 use denote.Struct.Struct.{Struct}
 use denote.Struct.Owning.{shape as owning_shape}
-use denote.Struct.Declared.{shape}
 use Rattle.atomic_table.specs.declared.shared.TableRule.{Ghosts}
 use Rattle.atomic_table.specs.contracts.shared.Shared as Shared
 use Rattle.atomic_table.specs.contracts.shared.Seat as Seat
@@ -15,7 +13,6 @@ use Rattle.atomic_table.proofs.Rights.{right_send}
 use Rattle.std.specs.contracts.alloc.Global as Heap
 use Rattle.std.specs.contracts.option.Option as Option
 use Rattle.std.specs.contracts.impls.GlobalAllocator.TheImpl.{ghosts as heap_ghosts}
-use Rattle.std.proofs.Crossing.{crosses, frees}
 use Rattle.rd_marks.specs.contracts.books.Book as Book
 use Rattle.rd_lock.specs.contracts.locks.TicketLock as TicketLock
 use Rattle.rd_desk.specs.contracts.desks.Desk as Desk

@@ -1,8 +1,5 @@
 -- A journal in which some of the steps ahead are undone, beside the one in which all are.
-use Rattle.std.proofs.Common.{◌≡◌, ℕ, zero, suc, ◌+◌, ◌-◌, ◌≤◌, refl, sym, ◌∙◌, ap, arith, List, [], ◌∷◌, ◌++◌, length, take, drop, Result, length-drop}
-use Rattle.rd_journal.proofs.Prelude.{length-take, length-take-le, map-append, append_assoc, take-append-drop, take-take, drop-take, Refusal, World, Stepped, run, room, preceded_by, and_then, result_map, Event, Entry, first_step, Journal, events, IsRun, IsRunFrom, IsSession, IsMovedBack, IsMovedForward, IsUndoneAlone, journal}
-use Rattle.rd_step.specs.Run.{run_entries}
-use Rattle.rd_journal.specs.declared.sessions.Session.{Session}
+use Rattle.rd_journal.proofs.Prelude.{◌≡◌, ℕ, zero, suc, ◌+◌, ◌-◌, ◌≤◌, refl, sym, ◌∙◌, ap, arith, List, [], ◌∷◌, ◌++◌, length, take, drop, Result, length-drop, length-take, length-take-le, map-append, append_assoc, take-append-drop, take-take, drop-take, Refusal, World, Stepped, run, room, preceded_by, and_then, result_map, Event, Entry, first_step, Journal, events, IsRun, IsRunFrom, IsSession, IsMovedBack, IsMovedForward, IsUndoneAlone, journal, run_entries, Session}
 use Rattle.rd_journal.proofs.EntryLemmas.{take_over}
 use Rattle.rd_journal.proofs.Runs.{preceded_entries}
 use Rattle.rd_journal.proofs.Walks.{room_first}

@@ -1,8 +1,6 @@
 -- The entries of a session as one list that is cut twice: how long its parts are, and how they
 -- change.
-use Rattle.std.proofs.Common.{◌≡◌, ℕ, ◌+◌, ◌-◌, ◌<◌, ◌≤◌, List, [], ◌∷◌, ◌++◌, length, take, drop, sym, ◌∙◌, ap, arith, length-append, length-drop}
-use Rattle.rd_journal.proofs.Prelude.{take-add, length-take-le, take-take, drop-take, drop-drop, take_at, drop_at, moved_to, all_entries, live_entries, ahead_entries, kept_entries, entries_capacity}
-use Rattle.rd_journal.specs.declared.entries.Entries.{Entries}
+use Rattle.rd_journal.proofs.Prelude.{◌≡◌, ℕ, ◌+◌, ◌-◌, ◌<◌, ◌≤◌, List, [], ◌∷◌, ◌++◌, length, take, drop, sym, ◌∙◌, ap, arith, length-append, length-drop, take-add, length-take-le, take-take, drop-take, drop-drop, take_at, drop_at, moved_to, all_entries, live_entries, ahead_entries, kept_entries, entries_capacity, Entries}
 use Rattle.rd_journal.proofs.ListLemmas.{behind_from, drop_before}
 use Rattle.rd_journal.proofs.Numbers.{at-length, order_below}
 

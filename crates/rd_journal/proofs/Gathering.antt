@@ -1,8 +1,6 @@
 -- The causal closure of a step gathered after the other entries: the list cut in parts, and the run
 -- that it stays.
-use Rattle.std.proofs.Common.{◌≡◌, ℕ, zero, suc, ◌-◌, ◌<◌, ◌≤◌, Bool, true, false, if◌then◌else◌, sym, ◌∙◌, ap, subst, arith, inl, inr, List, [], ◌∷◌, ◌++◌, length, take, drop, get_or, Ok}
-use Rattle.rd_journal.proofs.Prelude.{cases_Bool, or_parts, append-nil, append_assoc, World, run, depends, depends_on_one, items_where_true, items_where_false, closure_of, without_closure, closure_from, Entry, run-cons, events, beginning}
-use Rattle.rd_step.proofs.Commute.{commutes}
+use Rattle.rd_journal.proofs.Prelude.{◌≡◌, ℕ, zero, suc, ◌-◌, ◌<◌, ◌≤◌, Bool, true, false, if◌then◌else◌, sym, ◌∙◌, ap, subst, arith, inl, inr, List, [], ◌∷◌, ◌++◌, length, take, drop, get_or, Ok, cases_Bool, or_parts, append-nil, append_assoc, World, run, depends, depends_on_one, items_where_true, items_where_false, closure_of, without_closure, closure_from, Entry, run-cons, events, beginning, commutes}
 
 -- The closure, cut at its first entry
 

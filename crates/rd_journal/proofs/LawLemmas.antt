@@ -1,8 +1,6 @@
 -- What the laws state: going back and forward again, steps undone out of their order and redone, and
 -- the old words of an entry.
-use Rattle.std.proofs.Common.{◌≡◌, ℕ, sym, ◌∙◌, Ok, arith, length-append, length-drop, ◌-◌, ◌≤◌, refl, ap, List, [], ◌∷◌, ◌++◌, length, take, drop, Option, Some, None, Result, subst, get_or, ◌+◌, ◌<◌}
-use Rattle.std.specs.Prelude.{nat_lt}
-use Rattle.rd_journal.proofs.Prelude.{append_assoc, drop-drop, drop-take, take-take, take-add, length-take-le, le-ltb, ltb-false, cond-false, take_at, drop_at, take-append-drop, Journal, IsRun, State, state_of, back, forward, length-map, first_dependant, Ran, step, unstep, Entry, IsTakenOut, taken_out, IsMovedLast, IsUndoneAlone, run_of, live_event, undo_at, and_then, Refusal, result_map, map-append, World, closure, closure_of, without_closure, Event, events, IsClosureLast, undone_where_true, roll, take-map, run, IsWellFormed, run_keeps, IsStepAfter, middle}
+use Rattle.rd_journal.proofs.Prelude.{◌≡◌, ℕ, sym, ◌∙◌, Ok, arith, length-append, length-drop, ◌-◌, ◌≤◌, refl, ap, List, [], ◌∷◌, ◌++◌, length, take, drop, Option, Some, None, Result, subst, get_or, ◌+◌, ◌<◌, append_assoc, drop-drop, drop-take, take-take, take-add, length-take-le, le-ltb, ltb-false, cond-false, take_at, drop_at, take-append-drop, Journal, IsRun, State, state_of, back, forward, length-map, first_dependant, Ran, step, unstep, Entry, IsTakenOut, taken_out, IsMovedLast, IsUndoneAlone, run_of, live_event, undo_at, and_then, Refusal, result_map, map-append, World, closure, closure_of, without_closure, Event, events, IsClosureLast, undone_where_true, roll, take-map, run, IsWellFormed, run_keeps, IsStepAfter, middle, nat_lt}
 use Rattle.rd_journal.proofs.Runs.{as_ok, as_ok-same, step_event, grown}
 use Rattle.rd_journal.proofs.ListLemmas.{nth, drop_one_less}
 use Rattle.rd_journal.proofs.LoneUndo.{IsNumber, from_it, may_undo_at, undo_at_goes}

@@ -1,7 +1,5 @@
 -- Lists cut in two, the last element of a list, and one moved after others.
-use Rattle.std.proofs.Common.{◌≡◌, ℕ, zero, suc, ◌+◌, ◌-◌, ◌<◌, ◌≤◌, List, [], ◌∷◌, ◌++◌, length, get_or, take, drop, refl, sym, ◌∙◌, ap, arith, length-append, length-drop}
-use Rattle.rd_journal.proofs.Prelude.{put_mid, mid_of, drop-cons, take_at, drop_at, append-nil, take_all, append_assoc, take-append-drop, length-take-le, take-take, drop-take, drop-append-le, drop-drop, moved_to}
-use Rattle.std.proofs.Math.ListN.{drop_of_length-le}
+use Rattle.rd_journal.proofs.Prelude.{◌≡◌, ℕ, zero, suc, ◌+◌, ◌-◌, ◌<◌, ◌≤◌, List, [], ◌∷◌, ◌++◌, length, get_or, take, drop, refl, sym, ◌∙◌, ap, arith, length-append, length-drop, put_mid, mid_of, drop-cons, take_at, drop_at, append-nil, take_all, append_assoc, take-append-drop, length-take-le, take-take, drop-take, drop-append-le, drop-drop, moved_to, drop_of_length-le}
 
 -- an element that is there
 pub nth : {X : Type 0} (l : List X) (k : ℕ) → k < length l → (x : X) × (x ≡ get_or l k x)

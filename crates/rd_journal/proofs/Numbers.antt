@@ -1,10 +1,6 @@
 -- Entries at numbers: parts of them, one more and one written over; and orders of slots, as their
 -- numbers move.
-use Rattle.std.proofs.Common.{◌≡◌, ℕ, zero, suc, ◌+◌, ◌-◌, ◌<◌, ◌≤◌, ◌==◌, nat_lt, Bool, cond, if◌then◌else◌, List, [], ◌∷◌, ◌++◌, length, get_or, map, take, drop, set, refl, sym, ◌∙◌, ap, subst, arith, length-append}
-use Rattle.rd_journal.proofs.Prelude.{All, count_by, flat_map-append, drop_more, length-map, take-map, drop-map, take-append-drop, drop-append-le, length-set, get_or-set_same, drop_at, take_all, drop_all, drop-drop, get_or_default, sum_by-append, sum_by-cons, sum_by_push, sum_by-take-drop, get_or-le-sum_by, moved_to, at_numbers, IsOrder}
-use Rattle.std.proofs.lemmas.Bool.Decides.{nat_tests}
-use Rattle.std.proofs.lemmas.List.{get_or-map}
-use Rattle.std.proofs.lemmas.List.Elements.{All-take, All-drop}
+use Rattle.rd_journal.proofs.Prelude.{◌≡◌, ℕ, zero, suc, ◌+◌, ◌-◌, ◌<◌, ◌≤◌, ◌==◌, nat_lt, Bool, cond, if◌then◌else◌, List, [], ◌∷◌, ◌++◌, length, get_or, map, take, drop, set, refl, sym, ◌∙◌, ap, subst, arith, length-append, All, count_by, flat_map-append, drop_more, length-map, take-map, drop-map, take-append-drop, drop-append-le, length-set, get_or-set_same, drop_at, take_all, drop_all, drop-drop, get_or_default, sum_by-append, sum_by-cons, sum_by_push, sum_by-take-drop, get_or-le-sum_by, moved_to, at_numbers, IsOrder, get_or-map, nat_tests, All-take, All-drop}
 use Rattle.rd_journal.proofs.ListLemmas.{nth}
 
 -- the numbers are of slots

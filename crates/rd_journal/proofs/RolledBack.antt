@@ -1,6 +1,5 @@
 -- Rolling back a live step with all that depends on it, over whole journals.
-use Rattle.std.proofs.Common.{◌≡◌, ℕ, zero, suc, ◌+◌, ◌-◌, ◌≤◌, ◌||◌, Bool, false, if◌then◌else◌, refl, sym, ◌∙◌, ap, arith, List, [], ◌∷◌, ◌++◌, length, get_or, take, drop, Some, None, ◌<◌, ◌⊎◌, true, subst, Ok, Err}
-use Rattle.rd_journal.proofs.Prelude.{depends, first_dependant, closure_of, without_closure, items_where_true, items_where_false, closure_from, position_from, Entry, Journal, IsUndoneAlone, IsRolledBack, append_assoc, map-append, take-append-drop, World, run, closure, Event, run-cons, events, IsRun, IsWithoutClosure, roll_answer, IsSession, HasRoom, state_of, undone_where_true, roll, middle}
+use Rattle.rd_journal.proofs.Prelude.{◌≡◌, ℕ, zero, suc, ◌+◌, ◌-◌, ◌≤◌, ◌||◌, Bool, false, if◌then◌else◌, refl, sym, ◌∙◌, ap, arith, List, [], ◌∷◌, ◌++◌, length, get_or, take, drop, Some, None, ◌<◌, ◌⊎◌, true, subst, Ok, Err, depends, first_dependant, closure_of, without_closure, items_where_true, items_where_false, closure_from, position_from, Entry, Journal, IsUndoneAlone, IsRolledBack, append_assoc, map-append, take-append-drop, World, run, closure, Event, run-cons, events, IsRun, IsWithoutClosure, roll_answer, IsSession, HasRoom, state_of, undone_where_true, roll, middle}
 use Rattle.rd_journal.proofs.Gathering.{cut_at, gathered_run}
 use Rattle.rd_journal.proofs.Finding.{numbered_in, scan_is}
 use Rattle.rd_journal.proofs.ListLemmas.{nth, drop_one_less}

@@ -1,8 +1,6 @@
 -- The room that redoing asks for, of the makers and in the index of dependants, which is counted for
 -- each actor, place and segment, so it does not ask in which order entries are.
-use Rattle.std.proofs.Common.{◌≡◌, true, Result, is_err, arith, ℕ, ◌+◌, ◌≤◌, List, ◌∷◌, Ok, [], ◌++◌, take, drop, ap}
-use Rattle.std.specs.Result.{OnErr}
-use Rattle.rd_journal.proofs.Prelude.{World, step, Event, Entry, makes_segment, room_used, room_returned, room_used_returned, HasRoom, take-append-drop, DependIndex, touches, number_of, GivesRoom, HasRoomFor, HasRoomInstead, LacksIndexRoom}
+use Rattle.rd_journal.proofs.Prelude.{◌≡◌, true, Result, is_err, arith, ℕ, ◌+◌, ◌≤◌, List, ◌∷◌, Ok, [], ◌++◌, take, drop, ap, World, step, Event, Entry, makes_segment, room_used, room_returned, room_used_returned, HasRoom, take-append-drop, DependIndex, touches, number_of, GivesRoom, HasRoomFor, HasRoomInstead, LacksIndexRoom, OnErr}
 use Rattle.rd_depend.proofs.IndexPositions.{number-append}
 
 -- what holds in case of an error, where there is one

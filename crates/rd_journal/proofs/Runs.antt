@@ -1,8 +1,6 @@
 -- Runs and their entries: two runs joined, the first and the last step of a run, and a journal that
 -- gains or loses a step.
-use Rattle.std.proofs.Common.{◌≡◌, refl, sym, ◌∙◌, ap, subst, List, [], ◌∷◌, ◌++◌, Result, Ok, arith, ℕ, ◌-◌, ◌<◌, ◌≤◌, ◌⊎◌, length, take, drop, get_or, slice_get, option_map, Some, None}
-use Rattle.rd_journal.proofs.Prelude.{map-append, Refusal, World, Stepped, step, unstep, Ran, run, IsFree, IsWellFormed, Event, Entry, preceded_by, and_then, result_map, WasStepped, IsTakenOut, took, undoes, ran_on, run-cons, run_keeps, Middle, middle, Journal, events, IsRun, IsRunFrom, append-nil, taken_out, take_more, slice_get-map, slice_get_past, slice_get-get_or, LeadsTo, numbered}
-use Rattle.rd_journal.specs.Journal.{run_entries}
+use Rattle.rd_journal.proofs.Prelude.{◌≡◌, refl, sym, ◌∙◌, ap, subst, List, [], ◌∷◌, ◌++◌, Result, Ok, arith, ℕ, ◌-◌, ◌<◌, ◌≤◌, ◌⊎◌, length, take, drop, get_or, slice_get, option_map, Some, None, map-append, Refusal, World, Stepped, step, unstep, Ran, run, IsFree, IsWellFormed, Event, Entry, preceded_by, and_then, result_map, WasStepped, IsTakenOut, took, undoes, ran_on, run-cons, run_keeps, Middle, middle, Journal, events, IsRun, IsRunFrom, append-nil, taken_out, take_more, slice_get-map, slice_get_past, slice_get-get_or, LeadsTo, numbered, run_entries}
 use Rattle.rd_journal.proofs.ListLemmas.{drop_one_less}
 
 -- an answer that is no refusal

@@ -1,10 +1,7 @@
 -- A session may cross threads. Rattle shows of each type of plain data that it does, in the module
 -- `TheSendSync` beside the type's; a session has the snapshot of its opened world too, which is no
 -- data.
-use denote.RattleType.{RattleType}
-use denote.Param.Send.{IsSend, sendable, struct_send}
-use denote.Struct.Declared.{shape}
-use Rattle.std.proofs.Crossing.{crosses}
+use Rattle.rd_journal.proofs.Prelude.{RattleType, IsSend, sendable, struct_send, shape, crosses}
 use Rattle.rd_journal.specs.contracts.sessions.Session as Session
 use Rattle.rd_step.proofs.worlds.World.TheSendSync as world
 use Rattle.rd_depend.proofs.index.DependIndex.TheSendSync as index

@@ -1,6 +1,5 @@
 -- Draws, by a pass that is willing to wait and by one that isn't.
-use Rattle.std.proofs.Common.{◌≡◌, ◌≢◌, ℕ, ◌+◌, ◌^◌, ◌<◌, eqb, List, [], ◌∷◌, set, sym, refl, ap, ◌∙◌, subst, arith, eq-eqb, ne_eqb, length, Option}
-use Rattle.rd_lock.proofs.Prelude.{AllByRecursion, Allows, Continues, Draws, Facts, HasTicket, Holds, IsAloneAt, IsFound, IsKept, IsPlaced, LoadsServed, Lock, LockRule, Me, MemberFits, Out, PassView, Place, Stage, StageFits, Tries, View, Waits, ℕ_discrete, after_next, away, dite, either, get_elem?, home, in_hand, keeps, knows_next, knows_served, only, set_here, some, some-ne-none, ticket, view_of}
+use Rattle.rd_lock.proofs.Prelude.{◌≡◌, ◌≢◌, ℕ, ◌+◌, ◌^◌, ◌<◌, eqb, List, [], ◌∷◌, set, sym, refl, ap, ◌∙◌, subst, arith, eq-eqb, ne_eqb, length, Option, AllByRecursion, Allows, Continues, Draws, Facts, HasTicket, Holds, IsAloneAt, IsFound, IsKept, IsPlaced, LoadsServed, Lock, LockRule, Me, MemberFits, Out, PassView, Place, Stage, StageFits, Tries, View, Waits, ℕ_discrete, after_next, away, dite, either, get_elem?, home, in_hand, keeps, knows_next, knows_served, only, set_here, some, some-ne-none, ticket, view_of}
 use Rattle.rd_lock.proofs.Lists.{inside}
 use Rattle.rd_lock.proofs.Facts.{put, put_here, put_else}
 use Rattle.rd_lock.proofs.Keeps.{alone_with, allowed, moved, Owed, place_still, single, still, takes_home, unmoved}

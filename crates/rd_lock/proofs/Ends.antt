@@ -1,6 +1,5 @@
 -- The table as it is opened, and what its last state says.
-use Rattle.std.proofs.Common.{◌≡◌, ◌≢◌, ℕ, zero, suc, ◌+◌, ◌^◌, ◌<◌, ◌≤◌, List, [], ◌∷◌, sym, refl, ap, ◌∙◌, subst, inl, inr, ⊎_elim, arith, Option, Some}
-use Rattle.rd_lock.proofs.Prelude.{AllByRecursion, Apart, AreAll, Continues, Facts, Final, IsEnded, IsEndedWith, IsIn, IsKept, Lock, LockRule, MemberFits, NamesUpTo, Out, PassView, Place, Seen, State, View, ViewFits, dite, get_elem?, home, newcomers, numbers_of, opening, opening_view, single_slot, some, some-injective, some-ne-none, view_of, ℕ_discrete}
+use Rattle.rd_lock.proofs.Prelude.{◌≡◌, ◌≢◌, ℕ, zero, suc, ◌+◌, ◌^◌, ◌<◌, ◌≤◌, List, [], ◌∷◌, sym, refl, ap, ◌∙◌, subst, inl, inr, ⊎_elim, arith, Option, Some, AllByRecursion, Apart, AreAll, Continues, Facts, Final, IsEnded, IsEndedWith, IsIn, IsKept, Lock, LockRule, MemberFits, NamesUpTo, Out, PassView, Place, Seen, State, View, ViewFits, dite, get_elem?, home, newcomers, numbers_of, opening, opening_view, single_slot, some, some-injective, some-ne-none, view_of, ℕ_discrete}
 use Rattle.rd_lock.proofs.Lists.{every_from}
 use Rattle.rd_lock.proofs.Draws.{idle_home, no_ticket, taken_by}
 

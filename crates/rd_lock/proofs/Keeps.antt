@@ -1,6 +1,5 @@
 -- How a change of one seat's view keeps the rule.
-use Rattle.std.proofs.Common.{◌≡◌, ◌≢◌, ℕ, ◌^◌, ◌<◌, ◌≤◌, List, [], ◌∷◌, get_or, set, sym, refl, ap, ◌∙◌, subst, ⊎_elim, Option, arith, Some, length}
-use Rattle.rd_lock.proofs.Prelude.{Act, Allows, Facts, HasPass, HasTicket, Holds, IsAloneAt, IsIn, IsKept, IsPlaced, Lock, LockRule, Me, NamesUpTo, Out, PassView, Place, Stage, Valid, View, ViewFits, Waits, ℕ_discrete, at_set, away, carried_after, dite, get_elem?, home, homes_after, in_hand, keeps, numbers_of, only, set_else, set_here, single_slot, some, some-injective, some-ne-none, takes, ticket, view_of}
+use Rattle.rd_lock.proofs.Prelude.{◌≡◌, ◌≢◌, ℕ, ◌^◌, ◌<◌, ◌≤◌, List, [], ◌∷◌, get_or, set, sym, refl, ap, ◌∙◌, subst, ⊎_elim, Option, arith, Some, length, Act, Allows, Facts, HasPass, HasTicket, Holds, IsAloneAt, IsIn, IsKept, IsPlaced, Lock, LockRule, Me, NamesUpTo, Out, PassView, Place, Stage, Valid, View, ViewFits, Waits, ℕ_discrete, at_set, away, carried_after, dite, get_elem?, home, homes_after, in_hand, keeps, numbers_of, only, set_else, set_here, single_slot, some, some-injective, some-ne-none, takes, ticket, view_of}
 use Rattle.rd_lock.proofs.Lists.{inside, one_of}
 
 module _ {E O : Type 0} where

@@ -1,6 +1,5 @@
 -- Histories, and facts of each element of a list.
-use Rattle.rd_lock.proofs.Prelude.{AllByRecursion, AreComparable, Continues, IsPrefix, NamesUpTo, Pairwise, append-nil, common_steps, get_elem?, put_by, only, placed, signed, some, some-injective, some-ne-none}
-use Rattle.std.proofs.Common.{◌≡◌, ◌≢◌, ℕ, zero, suc, ◌+◌, ◌<◌, ◌≤◌, ◌⊎◌, List, [], ◌∷◌, ◌++◌, map, length, sym, refl, ap, ◌∙◌, inl, inr, ⊎_elim, arith, append_assoc, add-zero, ne_eqb, eq-eqb}
+use Rattle.rd_lock.proofs.Prelude.{AllByRecursion, AreComparable, Continues, IsPrefix, NamesUpTo, Pairwise, append-nil, common_steps, get_elem?, put_by, only, placed, signed, some, some-injective, some-ne-none, ◌≡◌, ◌≢◌, ℕ, zero, suc, ◌+◌, ◌<◌, ◌≤◌, ◌⊎◌, List, [], ◌∷◌, ◌++◌, map, length, sym, refl, ap, ◌∙◌, inl, inr, ⊎_elim, arith, append_assoc, add-zero, ne_eqb, eq-eqb}
 
 module _ {A : Type 0} where
   pub one_of : (xs : List A) (one : length xs ≡ 1) → xs ≡ only xs one ∷ []

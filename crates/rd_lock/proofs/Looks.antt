@@ -1,7 +1,5 @@
 -- Loads of the words, and draws.
-use Rattle.std.proofs.Common.{◌≡◌, ◌≢◌, ℕ, ◌^◌, ◌≤◌, List, map, set, sym, refl, ap, ◌∙◌, arith, Option}
-use Rattle.std.proofs.lemmas.Simd.{map-map}
-use Rattle.rd_lock.proofs.Prelude.{Allows, AreComparable, Facts, Holds, IsAloneAt, IsKept, IsNewestNext, IsNewestServed, LoadsNext, LoadsServed, Lock, LockRule, Me, MemberFits, Out, PassView, Stage, StageFits, View, ViewFits, Waits, after_next, after_served, get_elem?, knows_next, knows_served, some, view_of}
+use Rattle.rd_lock.proofs.Prelude.{◌≡◌, ◌≢◌, ℕ, ◌^◌, ◌≤◌, List, map, set, sym, refl, ap, ◌∙◌, arith, Option, map-map, Allows, AreComparable, Facts, Holds, IsAloneAt, IsKept, IsNewestNext, IsNewestServed, LoadsNext, LoadsServed, Lock, LockRule, Me, MemberFits, Out, PassView, Stage, StageFits, View, ViewFits, Waits, after_next, after_served, get_elem?, knows_next, knows_served, some, view_of}
 use Rattle.rd_lock.proofs.Lists.{every_from, every_map, pairwise_from, pairwise_map, pairwise_all, in_order}
 use Rattle.rd_lock.proofs.Keeps.{knows_more, allowed, unmoved}
 

@@ -1,6 +1,5 @@
 -- What two passes that meet come to.
-use Rattle.std.proofs.Common.{◌≡◌, ℕ, List, [], ◌∷◌, ◌++◌, map, length, ◌∙◌, subst, inl, inr, ⊎_elim}
-use Rattle.rd_lock.proofs.Prelude.{AreComparable, IsPrefix, Pairwise, PassView, knows_served, only}
+use Rattle.rd_lock.proofs.Prelude.{◌≡◌, ℕ, List, [], ◌∷◌, ◌++◌, map, length, ◌∙◌, subst, inl, inr, ⊎_elim, AreComparable, IsPrefix, Pairwise, PassView, knows_served, only}
 use Rattle.rd_lock.proofs.Lists.{one_of}
 
 module _ {E O : Type 0} (ps qs : List (PassView E O)) (one : length ps ≡ 1) (other : length qs ≡ 1) where

@@ -1,7 +1,5 @@
 -- Lists of passes, and the members of their seats.
-use Rattle.rd_lock.proofs.Prelude.{AllByRecursion, Ghosts, Lock, LockRule, Out, Pass, PassView, Splits, View, first_of_members, me, newcomer, newcomers, numbers, other_members, view_of}
-use Rattle.std.proofs.Common.{◌≡◌, ℕ, zero, suc, ◌+◌, ◌-◌, ◌<◌, List, [], ◌∷◌, ◌++◌, map, sym, ap, ◌∙◌, subst, arith, append_assoc}
-use Rattle.std.proofs.lemmas.List.{map-append}
+use Rattle.rd_lock.proofs.Prelude.{AllByRecursion, Ghosts, Lock, LockRule, Out, Pass, PassView, Splits, View, first_of_members, me, newcomer, newcomers, numbers, other_members, view_of, ◌≡◌, ℕ, zero, suc, ◌+◌, ◌-◌, ◌<◌, List, [], ◌∷◌, ◌++◌, map, sym, ap, ◌∙◌, subst, arith, append_assoc, map-append}
 use Rattle.rd_lock.proofs.Lists.{one_of}
 use Rattle.rd_lock.proofs.Seats.{splits}
 

@@ -1,6 +1,5 @@
 -- Two seats made one, and one made two.
-use Rattle.std.proofs.Common.{◌≡◌, ◌≢◌, ℕ, cond, eqb, List, [], ◌∷◌, ◌++◌, length, set, sym, refl, ap, ◌∙◌, subst, inl, inr, ⊎_elim, eq-eqb, ne_eqb, arith}
-use Rattle.rd_lock.proofs.Prelude.{AllByRecursion, Facts, HasPass, IsIn, IsPlaced, Joins, Lock, LockRule, MemberFits, Out, PassView, Place, Splits, Stage, StageFits, View, ViewFits, at_last, at_longer, dite, get_elem?, numbers_of, set_else, set_here, some, some-injective, ticket, view_of, ℕ_discrete}
+use Rattle.rd_lock.proofs.Prelude.{◌≡◌, ◌≢◌, ℕ, cond, eqb, List, [], ◌∷◌, ◌++◌, length, set, sym, refl, ap, ◌∙◌, subst, inl, inr, ⊎_elim, eq-eqb, ne_eqb, arith, AllByRecursion, Facts, HasPass, IsIn, IsPlaced, Joins, Lock, LockRule, MemberFits, Out, PassView, Place, Splits, Stage, StageFits, View, ViewFits, at_last, at_longer, dite, get_elem?, numbers_of, set_else, set_here, some, some-injective, ticket, view_of, ℕ_discrete}
 use Rattle.rd_lock.proofs.Lists.{inside, at_end, every_append, every_both, pairwise_append, every_from}
 use Rattle.rd_lock.proofs.Facts.{put, put_here, put_else}
 use Rattle.rd_lock.proofs.Keeps.{each_set, place_still, still}

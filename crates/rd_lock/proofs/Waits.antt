@@ -1,6 +1,5 @@
 -- Loads of served by a pass that waits.
-use Rattle.std.proofs.Common.{◌≡◌, ℕ, List, [], ◌∷◌, sym, refl, ap, ◌∙◌, subst, arith, length, Option}
-use Rattle.rd_lock.proofs.Prelude.{Allows, Facts, Holds, IsKept, Lock, LockRule, Me, MemberFits, PassView, Polls, Stage, StageFits, View, Waits, ℕ_discrete, after_served, away, dite, get_elem?, home, in_hand, knows_served, only, set_here, some, ticket, view_of}
+use Rattle.rd_lock.proofs.Prelude.{◌≡◌, ℕ, List, [], ◌∷◌, sym, refl, ap, ◌∙◌, subst, arith, length, Option, Allows, Facts, Holds, IsKept, Lock, LockRule, Me, MemberFits, PassView, Polls, Stage, StageFits, View, Waits, ℕ_discrete, after_served, away, dite, get_elem?, home, in_hand, knows_served, only, set_here, some, ticket, view_of}
 use Rattle.rd_lock.proofs.Lists.{inside}
 use Rattle.rd_lock.proofs.Keeps.{allowed, moved, Owed, single, still, takes_home, unmoved}
 use Rattle.rd_lock.proofs.Looks.{others_fit, served_suits, newest_served, served_kept}

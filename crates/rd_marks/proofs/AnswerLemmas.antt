@@ -1,14 +1,6 @@
 -- What moves, events and marks are answered, from what the calls say of their results.
-use Rattle.std.proofs.Common.{◌≡◌, ◌⊎◌, ℕ, inl, inr, refl, sym, ap, ◌∙◌, subst, List, length, Option, Result, Ok, Err, OnOk, IfErr}
-use Rattle.std.specs.Result.{IsErrAnd}
-use Rattle.rd_marks.proofs.Prelude.{Refusal, OpReply, World, Event, Entry, Begins, Session, state, track, Journal, State, MayLackMemory, state_of, apply, reply_to, lists_in, here_in, AreRuns, events, Mark, BookState, with_session, Answered, answer_with, move_answer, Happened, length-map, result_map}
-use Rattle.rd_journal.specs.Sessions.{AnswersAs, GoesAlong}
-use Rattle.rd_marks.specs.Commands.{step_counts}
-use Rattle.rd_marks.specs.Events.{as_reply}
+use Rattle.rd_marks.proofs.Prelude.{◌≡◌, ◌⊎◌, ℕ, inl, inr, refl, sym, ap, ◌∙◌, subst, List, length, Option, Result, Ok, Err, OnOk, IfErr, Refusal, OpReply, World, Event, Entry, Begins, Session, state, track, Journal, State, MayLackMemory, state_of, apply, reply_to, lists_in, here_in, AreRuns, events, Mark, BookState, with_session, Answered, answer_with, move_answer, Happened, length-map, result_map, AnswersAs, GoesAlong, step_counts, as_reply, Reply, Applied, Book, IsErrAnd}
 use Rattle.rd_marks.specs.declared.replies.EventReply.{EventReply}
-use Rattle.rd_marks.specs.declared.replies.Reply.{Reply}
-use Rattle.rd_marks.specs.declared.replies.Reply.TheVariants.{Applied}
-use Rattle.rd_marks.specs.declared.books.Book.{Book}
 use Rattle.rd_marks.proofs.Starts.{answers_start}
 use Rattle.rd_cell.specs.declared.refusal.Refusal.TheVariants as refusal
 

@@ -1,7 +1,6 @@
 -- The entries of the stretches are as many as the lists that begin the events of a bookmark, the
 -- empty one apart.
-use Rattle.std.proofs.Common.{◌≡◌, ℕ, zero, suc, ◌+◌, ◌-◌, ◌<◌, ◌≤◌, inl, inr, refl, sym, ap, ◌∙◌, subst, List, [], ◌∷◌, ◌++◌, length, take, map, sum_by, Contains, length-append, length-take, arith}
-use Rattle.rd_marks.proofs.Prelude.{range_with_len, take-length, cases_lt, cases_eq, nat_tests, get_or-map, length-map, length-take-le, take-map, take-take, sum_by-cons, Contains-append_left, Contains-append_right, Contains-append_cases, Event, Entry, Begins, MarkName, Stretch, Node, marks_of, named_lists, stretch_list, shared_at, entries_at, AreNested, AreFresh, number_if_in, greatest_in, AreNeeded, IsAlong, IsDeepest, count_of, events}
+use Rattle.rd_marks.proofs.Prelude.{◌≡◌, ℕ, zero, suc, ◌+◌, ◌-◌, ◌<◌, ◌≤◌, inl, inr, refl, sym, ap, ◌∙◌, subst, List, [], ◌∷◌, ◌++◌, length, take, map, sum_by, Contains, length-append, length-take, arith, range_with_len, take-length, cases_lt, cases_eq, nat_tests, get_or-map, length-map, length-take-le, take-map, take-take, sum_by-cons, Contains-append_left, Contains-append_right, Contains-append_cases, Event, Entry, Begins, MarkName, Stretch, Node, marks_of, named_lists, stretch_list, shared_at, entries_at, AreNested, AreFresh, number_if_in, greatest_in, AreNeeded, IsAlong, IsDeepest, count_of, events}
 use Rattle.std.proofs.lemmas.List.FromFn.{length-map-range_with_len, get_or-map-range_with_len}
 use Rattle.rd_marks.specs.Beginnings.{IsBeginning, AreDistinct, CountsBeginnings, NeedsNoEntry}
 use Rattle.rd_marks.proofs.MarkLemmas.{mark_of}

@@ -1,8 +1,5 @@
 -- The entries of a session's live steps, and that they are those of a run.
-use Rattle.std.proofs.Common.{◌≡◌, ℕ, zero, suc, drop, ◌+◌, ◌≤◌, refl, sym, ap, ◌∙◌, List, [], ◌∷◌, ◌++◌, length, take, ◌-◌, ◌⊎◌, inl, Result, Ok, Err, OnOk, IfErr, length-drop, arith}
-use Rattle.rd_journal.specs.Room.{LacksRoom}
-use Rattle.rd_journal.specs.Sessions.{capacity, room, index, LacksRoomFor}
-use Rattle.rd_marks.proofs.Prelude.{take-length, Session, state, journal, Refusal, MOST_STEPS, World, Stepped, step, run, and_then, result_map, preceded_by, Event, take-append-drop, drop-map, Entry, State, state_of, switch, Journal, AreEntriesOfRun, events, run_entries, IsRunFrom}
+use Rattle.rd_marks.proofs.Prelude.{◌≡◌, ℕ, zero, suc, drop, ◌+◌, ◌≤◌, refl, sym, ap, ◌∙◌, List, [], ◌∷◌, ◌++◌, length, take, ◌-◌, ◌⊎◌, inl, Result, Ok, Err, OnOk, IfErr, length-drop, arith, capacity, room, index, LacksRoomFor, take-length, Session, state, journal, Refusal, MOST_STEPS, World, Stepped, step, run, and_then, result_map, preceded_by, Event, take-append-drop, drop-map, Entry, State, state_of, switch, Journal, AreEntriesOfRun, events, run_entries, IsRunFrom, LacksRoom}
 use Rattle.rd_cell.specs.declared.refusal.Refusal.TheVariants as refusal
 
 -- A start and its events determine the entries of a run

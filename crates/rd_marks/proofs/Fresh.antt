@@ -1,6 +1,5 @@
 -- Which lists begin alike, and how far the stretches can be followed along a list of events.
-use Rattle.std.proofs.Common.{◌≡◌, ◌⊎◌, ℕ, zero, suc, ◌<◌, ◌≤◌, refl, sym, ap, ◌∙◌, List, length, take, length-take, arith}
-use Rattle.rd_marks.proofs.Prelude.{cases_eq, length-map, take-take, take-map, Event, Entry, Stretch, stretch_list, shared_at, AreNested, AreFresh, IsAlong, IsDeepest, events}
+use Rattle.rd_marks.proofs.Prelude.{◌≡◌, ◌⊎◌, ℕ, zero, suc, ◌<◌, ◌≤◌, refl, sym, ap, ◌∙◌, List, length, take, length-take, arith, cases_eq, length-map, take-take, take-map, Event, Entry, Stretch, stretch_list, shared_at, AreNested, AreFresh, IsAlong, IsDeepest, events}
 use Rattle.rd_marks.proofs.StretchLists.{list_past, begins_shared, shared_entries}
 
 abbrev as_event : Entry → Event

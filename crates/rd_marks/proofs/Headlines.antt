@@ -1,16 +1,10 @@
 -- What a book keeps, as the headline has it.
-use Rattle.std.proofs.Common.{◌≡◌, ◌↔◌, ◌-◌, ◌≤◌, ℕ, refl, length, sym, subst, Option, Some, None, Result, Ok, Err, IsOk, arith}
-use Rattle.rd_marks.proofs.Prelude.{Refusal, Entry, State, state_of, undo_at, Journal, BookState, journal}
-use Rattle.rd_step.specs.Prelude.{numbered, first_dependant, and_then}
-use Rattle.rd_journal.specs.Journal.{IsRun, unless_depended}
+use Rattle.rd_marks.proofs.Prelude.{◌≡◌, ◌↔◌, ◌-◌, ◌≤◌, ℕ, refl, length, sym, subst, Option, Some, None, Result, Ok, Err, IsOk, arith, Refusal, Entry, State, state_of, undo_at, Journal, BookState, journal, numbered, first_dependant, and_then, IsRun, unless_depended, event_of_entry, book_state, session_of, Book}
 use Rattle.rd_journal.proofs.Ahead.{is_session}
-use Rattle.rd_journal.proofs.Calls.{event_of_entry}
 use Rattle.rd_journal.proofs.Finding.{numbered_in}
 use Rattle.rd_journal.proofs.ListLemmas.{nth}
 use Rattle.rd_journal.proofs.LoneUndo.{undo_at_found, undo_at_missing}
-use Rattle.rd_marks.specs.Book.{book_state, session_of}
 use Rattle.rd_marks.specs.Headline.{IsRunOfLive}
-use Rattle.rd_marks.specs.declared.books.Book.{Book}
 use Rattle.rd_cell.specs.declared.refusal.Refusal.TheVariants as refusal
 
 -- undoing a step alone names just the dependant that is found, and is done where none is found

@@ -1,8 +1,5 @@
 -- Where the session's track lies among the bookmarks' entries, and what each call leaves of that.
-use Rattle.std.proofs.Common.{◌≡◌, ℕ, zero, suc, ◌-◌, ◌≤◌, refl, ap, List, [], ◌∷◌, ◌++◌, length, take, drop, Ok, arith}
-use Rattle.rd_marks.proofs.Prelude.{take-append_seam, take-length, take-map, take-take, take-append-le, length-map, length-take, closure, items_where_false, Event, Entry, Begins, Session, Journal, ahead_entries, state, track, State, undo_at, roll, Node, Stretch, stretch_list, entries_at, IsWithin, IsAlong, events}
-use Rattle.rd_journal.specs.State.{live_event}
-use Rattle.rd_journal.proofs.Calls.{is_live, went_through}
+use Rattle.rd_marks.proofs.Prelude.{◌≡◌, ℕ, zero, suc, ◌-◌, ◌≤◌, refl, ap, List, [], ◌∷◌, ◌++◌, length, take, drop, Ok, arith, take-append_seam, take-length, take-map, take-take, take-append-le, length-map, length-take, closure, items_where_false, Event, Entry, Begins, Session, Journal, ahead_entries, state, track, State, undo_at, roll, Node, Stretch, stretch_list, entries_at, IsWithin, IsAlong, events, live_event, is_live, went_through}
 use Rattle.rd_journal.specs.Moves.{IsLengthened, IsUndoneAlone, IsRolledBack}
 use Rattle.rd_marks.proofs.Starting.{begins_events, begins_shorter, begins_trans, events_length, events_of_first, fewer_begin, entries_length}
 

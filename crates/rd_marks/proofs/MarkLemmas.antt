@@ -1,11 +1,6 @@
 -- The marks that a list of names with entries is: looking one up, putting one last, taking one
 -- away.
-use Rattle.std.proofs.Common.{inr, is_ok, ◌⊎◌, ◌≢◌, suc, Result, Ok, Err, IsOk, IfErr, ne_eqb, ◌≡◌, ℕ, Bool, true, false, cond, map, refl, sym, ap, ◌∙◌, subst, List, [], ◌∷◌, ◌++◌, length, is_some, option_map, ok_or, Option, Some, All, slice_get, arith}
-use Rattle.rd_marks.proofs.Prelude.{lookup, remove_entry, remove_key, All-cons, All-head, All-tail, Entry, Event, MarkName, mark_name_eq, eq-eqb, false≢true, length-map, get_or_from_slice_get, slice_get-map, slice_get_within, Refusal, World, MOST_MARKS, Begins, Mark, BookState, marked_events, mark, drop_mark, goto_mark, mark_at, mark_events, result_map, MakesSteps, AnswersSame, marks_of, events, Node, book_state, entries_in}
-use Rattle.rd_journal.specs.Sessions.{LacksRoomFor}
-use Rattle.rd_marks.specs.Book.{MayRefuseToGo}
-use Rattle.rd_marks.specs.Bookmarks.{IsInPieces}
-use Rattle.rd_marks.specs.declared.books.Book.{Book}
+use Rattle.rd_marks.proofs.Prelude.{inr, is_ok, ◌⊎◌, ◌≢◌, suc, Result, Ok, Err, IsOk, IfErr, ne_eqb, ◌≡◌, ℕ, Bool, true, false, cond, map, refl, sym, ap, ◌∙◌, subst, List, [], ◌∷◌, ◌++◌, length, is_some, option_map, ok_or, Option, Some, All, slice_get, arith, lookup, remove_entry, remove_key, All-cons, All-head, All-tail, Entry, Event, MarkName, mark_name_eq, eq-eqb, false≢true, length-map, get_or_from_slice_get, slice_get-map, slice_get_within, Refusal, World, MOST_MARKS, Begins, Mark, BookState, marked_events, mark, drop_mark, goto_mark, mark_at, mark_events, result_map, MakesSteps, AnswersSame, marks_of, events, Node, book_state, entries_in, LacksRoomFor, MayRefuseToGo, IsInPieces, Book}
 use Rattle.rd_cell.specs.declared.refusal.Refusal.TheVariants as refusal
 
 -- the mark of a name with its entries

@@ -1,6 +1,5 @@
 -- Changing what each name has, one after another, and reading it.
-use Rattle.std.proofs.Common.{◌≡◌, ℕ, zero, suc, ◌≤◌, max, refl, sym, ap, subst, List, [], ◌∷◌, ◌++◌, map, length, take, drop, slice_get, Some, All, arith}
-use Rattle.rd_marks.proofs.Prelude.{values_of, All-head, All-tail, set_value_at, MarkName, Node, nodes_of, greatest_in, number_if_in}
+use Rattle.rd_marks.proofs.Prelude.{◌≡◌, ℕ, zero, suc, ◌≤◌, max, refl, sym, ap, subst, List, [], ◌∷◌, ◌++◌, map, length, take, drop, slice_get, Some, All, arith, values_of, All-head, All-tail, set_value_at, MarkName, Node, nodes_of, greatest_in, number_if_in}
 
 module _ {K V : Type 0} (f : V → V) where
   -- the first n changed

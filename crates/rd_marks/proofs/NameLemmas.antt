@@ -1,8 +1,6 @@
 -- A name is ASCII, so it is text.
-use Rattle.std.proofs.Common.{◌≡◌, ℕ, ◌<◌, ◌==◌, true, not, nat_lt, ◌&&◌, List, [], ◌∷◌, length, arith}
-use Rattle.rd_marks.proofs.Prelude.{list_all, and_parts, nat_tests, is_mark_name, is_name_byte, MOST_NAME_BYTES}
+use Rattle.rd_marks.proofs.Prelude.{◌≡◌, ℕ, ◌<◌, ◌==◌, true, not, nat_lt, ◌&&◌, List, [], ◌∷◌, length, arith, list_all, and_parts, nat_tests, is_mark_name, is_name_byte, MOST_NAME_BYTES, IsUtf8-from_ascii}
 use Rattle.std.specs.Str.{IsAscii, IsUtf8}
-use Rattle.std.proofs.lemmas.Str.{IsUtf8-from_ascii}
 use Rattle.std.proofs.lemmas.Str.Ascii.{IsAscii-nil, IsAscii-cons}
 
 name_byte_small : (b : ℕ) → is_name_byte b ≡ true → b < 128

@@ -1,16 +1,7 @@
 -- No command moves the start, and a refused one changes nothing.
-use Rattle.std.proofs.Common.{◌≡◌, ℕ, sym, subst, List, [], ◌∷◌, ◌++◌, length, Some, None, Result, Ok, Err, OnErr, IfErr, ◌∙◌, arith}
-use Rattle.std.proofs.lemmas.Option.{same_Some}
-use Rattle.rd_journal.specs.Sessions.{MayRefuse}
-use Rattle.rd_marks.proofs.Prelude.{Refusal, Event, Session, State, apply, reply_to, undo_at, roll, back, forward, Command, BookState, MarkName, with_session, goto_mark, Answered, answer_with, Happened, IsAsDefined, NeedsNoMemory, IsObeyed, AreObeyed}
+use Rattle.rd_marks.proofs.Prelude.{◌≡◌, ℕ, sym, subst, List, [], ◌∷◌, ◌++◌, length, Some, None, Result, Ok, Err, OnErr, IfErr, ◌∙◌, arith, same_Some, MayRefuse, Refusal, Event, Session, State, apply, reply_to, undo_at, roll, back, forward, Command, BookState, MarkName, with_session, goto_mark, Answered, answer_with, Happened, IsAsDefined, NeedsNoMemory, IsObeyed, AreObeyed, Reply, Applied, MayRefuseAsGoing, step_counts, Book, as_event}
 use Rattle.rd_marks.specs.declared.commands.Command.TheVariants as command
-use Rattle.rd_marks.specs.declared.replies.Reply.{Reply}
-use Rattle.rd_marks.specs.declared.replies.Reply.TheVariants.{Applied}
 use Rattle.rd_actor.specs.declared.actors.Act.TheVariants as act
-use Rattle.rd_marks.specs.Book.{MayRefuseAsGoing}
-use Rattle.rd_marks.specs.Commands.{step_counts}
-use Rattle.rd_marks.specs.declared.books.Book.{Book}
-use Rattle.rd_marks.specs.Events.{as_event}
 use Rattle.rd_marks.proofs.Starts.{apply_start, undo_at_start, roll_start, back_start, forward_start}
 
 -- what an answer leaves: the start, and everything if it is a refusal

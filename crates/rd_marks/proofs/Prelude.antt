@@ -1,42 +1,33 @@
 -- The words that several proofs of the crate use: definitions of this crate and of those below,
 -- generated types and their variants, and lemmas of these crates and of std.
-pub use Rattle.std.proofs.Math.Seq.{drop-append-add, drop-cons, drop-length, take-add, take-append-add, take-append_seam, take-length, take-suc}
-pub use Rattle.std.proofs.lemmas.Bool.{and_parts, cases_eq, cases_lt, cases_order, eq-eqb, false≢true}
-pub use Rattle.std.proofs.lemmas.Bool.Decides.{nat_tests}
-pub use Rattle.std.proofs.lemmas.List.{append-nil, append_assoc, drop-map, drop-take, get_or-map, length-map, length-take, length-take-le, map-append, map-id, reverse-append, take-append-drop, take-append-le, take-map, take-take, take_all}
-pub use Rattle.std.proofs.lemmas.List.Elements.{All-cons, All-contains, All-head, All-map, All-nil, All-push, All-tail, Contains-append_cases, Contains-append_left, Contains-append_right}
-pub use Rattle.std.proofs.lemmas.List.Sums.{sum_by-cons, sum_by-le}
 pub use Rattle.std.proofs.lemmas.Map.Made.{lookup-map_values}
-pub use Rattle.std.proofs.lemmas.Option.{get_or_from_slice_get, slice_get-map, slice_get_read, slice_get_within}
-pub use Rattle.std.specs.List.{IsDistinct, list_all, range_with_len}
 pub use Rattle.std.specs.Map.{lookup, remove_entry, values_of}
 pub use Rattle.std.specs.Set.{remove_key}
+pub use Rattle.rd_cell.proofs.Prelude.{All, All-cons, All-contains, All-head, All-map, All-nil, All-push, All-tail, Bool, Contains, Contains-append_cases, Contains-append_left, Contains-append_right, Err, IfErr, IfOk-weaker, IsDistinct, IsErrAnd, IsOk, IsSend, IsUtf8-from_ascii, List, None, Ok, OnErr, OnOk, Option, RattleType, Result, Some, [], add-one, and_parts, ap, append-nil, append_assoc, arith, cases_eq, cases_lt, cases_order, cond, crosses, drop, drop-append-add, drop-cons, drop-length, drop-map, drop-take, eq-eqb, eqb-true, false, false≢true, get_or, get_or-map, get_or_from_slice_get, inl, inr, insert, is_ok, is_some, length, length-append, length-drop, length-map, length-set, length-take, length-take-le, list_all, lit<, map, map-append, map-id, max, nat_lt, nat_tests, ne_eqb, not, ok_or, on_err_weaker, option_map, range_with_len, recorded_send, refl, remove, reverse, reverse-append, same_Some, sendable, set, shape, slice_get, slice_get-map, slice_get_read, slice_get_within, struct_send, subst, suc, sum_by, sum_by-cons, sum_by-le, sym, take, take-add, take-append-add, take-append-drop, take-append-le, take-append_seam, take-length, take-map, take-suc, take-take, take_all, true, vec_capacity, vec_len, zero, ℕ, ◌&&◌, ◌++◌, ◌+◌, ◌-◌, ◌<◌, ◌==◌, ◌^◌, ◌↔◌, ◌∙◌, ◌∷◌, ◌≡◌, ◌≢◌, ◌≤◌, ◌⊎◌}
+pub use Rattle.rd_step.proofs.Prelude.{IsEquivalent, IsRunFrom, MOST_STEPS, OpReply, Ran, Refusal, Stepped, World, and_then, closure, events, first_dependant, items_where_false, numbered, preceded_by, result_map, run, run_entries, step}
+pub use Rattle.rd_depend.proofs.Prelude.{Begins, DecidesEquivalence, Entry, Event, NeitherBegins}
+pub use Rattle.rd_journal.proofs.Prelude.{AnswersAs, GoesAlong, IsRun, Journal, LacksRoom, LacksRoomFor, MayLackMemory, MayRefuse, State, ahead_entries, apply, back, capacity, error_passed_up, fact_passed_up, forward, index, journal, live_event, reply_to, roll, state, state_of, switch, track, undo_at, unless_depended}
 pub use Rattle.indexmap.specs.IndexMap.{set_value_at, spare}
-pub use Rattle.rd_depend.specs.Beginnings.{Begins, NeitherBegins}
-pub use Rattle.rd_depend.specs.Equivalence.{DecidesEquivalence}
-pub use Rattle.rd_journal.specs.Journal.{Journal}
-pub use Rattle.rd_journal.specs.Entries.{ahead_entries}
-pub use Rattle.rd_journal.specs.Sessions.{journal, state, track}
-pub use Rattle.rd_journal.specs.State.{State, MayLackMemory, apply, back, forward, reply_to, roll, run_of, state_of, switch, undo_at, with_event}
+pub use Rattle.rd_journal.proofs.Calls.{event_of_entry, is_live, opened_ring, went_through}
+pub use Rattle.rd_journal.specs.Sessions.{room}
 pub use Rattle.rd_journal.specs.declared.sessions.Session.{Session}
-pub use Rattle.rd_step.proofs.PassedUp.{fact_passed_up}
-pub use Rattle.rd_step.specs.Equivalence.{IsEquivalent}
-pub use Rattle.rd_step.specs.Prelude.{and_then, result_map, MOST_STEPS, OpReply, Refusal, Stepped, World, closure, run, step, items_where_false}
-pub use Rattle.rd_step.specs.Run.{events, IsRunFrom, Ran, preceded_by, run_entries}
-pub use Rattle.rd_step.specs.declared.entries.Entry.{Entry}
-pub use Rattle.rd_step.specs.declared.entries.Event.{Event}
-pub use Rattle.rd_marks.specs.Book.{book_state}
+pub use Rattle.rd_marks.specs.Book.{MayRefuseAsGoing, MayRefuseToGo, book_state, name_room, session_of}
 pub use Rattle.rd_marks.specs.BookState.{AnswersEvents, AnswersSame, BookState, MakesSteps, Mark, at_events, drop_mark, goto_mark, mark, mark_at, mark_events, marked_events, with_session}
+pub use Rattle.rd_marks.specs.Bookmarks.{IsInPieces, IsNodeIn, entries_in, here_in, lists_in, marks_of}
+pub use Rattle.rd_marks.specs.BookmarksFields.{AreEntriesOfRun, AreRuns, IsKept, IsPruned, named_lists, nodes_of}
 pub use Rattle.rd_marks.specs.Changes.{IsGrown, IsLow, IsShrunk, KeepsItsSteps, Stays, shifted}
-pub use Rattle.rd_marks.specs.Commands.{Answered, AreObeyed, Happened, IsAsDefined, IsObeyed, NeedsNoMemory, answer_with, move_answer}
-pub use Rattle.rd_marks.specs.Bookmarks.{IsNodeIn, here_in, lists_in, entries_in, marks_of}
-pub use Rattle.rd_marks.specs.BookmarksFields.{AreRuns, IsKept, IsPruned, AreEntriesOfRun, named_lists, nodes_of}
+pub use Rattle.rd_marks.specs.Commands.{Answered, AreObeyed, Happened, IsAsDefined, IsObeyed, NeedsNoMemory, answer_with, move_answer, step_counts}
+pub use Rattle.rd_marks.specs.Events.{as_event, as_reply}
 pub use Rattle.rd_marks.specs.NameBytes.{MOST_MARKS, MOST_NAME_BYTES, is_mark_name, is_name_byte}
-pub use Rattle.rd_marks.specs.Names.{mark_name_eq}
-pub use Rattle.rd_marks.specs.Stretches.{AreFresh, AreNeeded, AreNeededFrom, AreNested, IsAlong, IsDeepest, IsEnd, IsOwn, IsWithin, continued, count_of, greatest_in, list_after, list_before, lowered, needed_at, number_if_in, raised, entries_at, shared_at, stretch_list}
+pub use Rattle.rd_marks.specs.Names.{bytes_of, mark_name_eq}
+pub use Rattle.rd_marks.specs.Rules.{GoThrough, HaveDifferentNames, KeepsRules, MarksGoThrough}
+pub use Rattle.rd_marks.specs.Stretches.{AreFresh, AreInPieces, AreNeeded, AreNeededFrom, AreNested, IsAlong, IsDeepest, IsEnd, IsOwn, IsWithin, continued, count_of, entries_at, greatest_in, list_after, list_before, lowered, needed_at, number_if_in, raised, shared_at, stretch_list}
 pub use Rattle.rd_marks.specs.declared.bookmarks.Bookmarks.{Bookmarks}
+pub use Rattle.rd_marks.specs.declared.books.Book.{Book}
 pub use Rattle.rd_marks.specs.declared.commands.Command.{Command}
 pub use Rattle.rd_marks.specs.declared.names.MarkName.{MarkName}
+pub use Rattle.rd_marks.specs.declared.replies.Reply.{Reply}
+pub use Rattle.rd_marks.specs.declared.replies.Reply.TheVariants.{Applied}
 pub use Rattle.rd_marks.specs.declared.stretches.Node.{Node}
 pub use Rattle.rd_marks.specs.declared.stretches.Stretch.{Stretch}
 pub use Rattle.rd_marks.specs.declared.stretches.changes.Shift.{Shift}

@@ -1,8 +1,6 @@
 -- The rules that the bookmarks of a book keep, from how it keeps them.
-use Rattle.std.proofs.Common.{◌≡◌, ◌≤◌, refl, sym, ap, subst, List, [], ◌∷◌, map, length, Result, Ok, IsOk, arith}
-use Rattle.rd_marks.proofs.Prelude.{IsDistinct, length-map, All-head, All-tail, World, Refusal, run, Ran, Entry, MarkName, MOST_MARKS, mark_name_eq, Mark, BookState, AreRuns, AreEntriesOfRun, marks_of, run_entries, events}
+use Rattle.rd_marks.proofs.Prelude.{◌≡◌, ◌≤◌, refl, sym, ap, subst, List, [], ◌∷◌, map, length, Result, Ok, IsOk, arith, IsDistinct, length-map, All-head, All-tail, World, Refusal, run, Ran, Entry, MarkName, MOST_MARKS, mark_name_eq, Mark, BookState, AreRuns, AreEntriesOfRun, marks_of, run_entries, events, GoThrough, MarksGoThrough, KeepsRules}
 use Rattle.rd_marks.proofs.MarkLemmas.{mark_of}
-use Rattle.rd_marks.specs.Rules.{GoThrough, MarksGoThrough, KeepsRules}
 
 -- a run that leaves entries goes through
 went : (ran : Result Ran Refusal) (xs : List Entry) → run_entries ran ≡ Ok xs → IsOk ran

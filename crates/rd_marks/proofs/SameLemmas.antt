@@ -1,6 +1,5 @@
 -- Lists of which one begins the other are equivalent only if they are one.
-use Rattle.std.proofs.Common.{◌≡◌, ℕ, ◌⊎◌, Bool, ◌==◌, refl, sym, ap, List, [], ◌∷◌, ◌++◌, length, take, drop, ◌≤◌, length-append, arith, eqb-true}
-use Rattle.rd_marks.proofs.Prelude.{eq-eqb, take_all, World, IsEquivalent, Event, Entry, Begins, DecidesEquivalence, events, IsRunFrom}
+use Rattle.rd_marks.proofs.Prelude.{◌≡◌, ℕ, ◌⊎◌, Bool, ◌==◌, refl, sym, ap, List, [], ◌∷◌, ◌++◌, length, take, drop, ◌≤◌, length-append, arith, eqb-true, eq-eqb, take_all, World, IsEquivalent, Event, Entry, Begins, DecidesEquivalence, events, IsRunFrom}
 use Rattle.rd_depend.proofs.Exactness.{right_behind}
 use Rattle.rd_marks.proofs.EntryLemmas.{began, to_the_end}
 use Rattle.rd_marks.proofs.Starting.{begins_shorter, event_length}

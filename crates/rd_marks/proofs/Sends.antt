@@ -1,8 +1,5 @@
 -- A book may cross threads, since its session does.
-use denote.RattleType.{RattleType}
-use denote.Param.Send.{IsSend, sendable, recorded_send, struct_send}
-use denote.Struct.Declared.{shape}
-use Rattle.std.proofs.Crossing.{crosses}
+use Rattle.rd_marks.proofs.Prelude.{RattleType, IsSend, sendable, recorded_send, struct_send, shape, crosses}
 use Rattle.rd_journal.proofs.Sends.{session_field_send}
 use Rattle.rd_marks.specs.contracts.books.Book as Book
 use Rattle.rd_marks.proofs.bookmarks.Bookmarks.TheSendSync as bookmarks

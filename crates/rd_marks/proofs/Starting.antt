@@ -1,6 +1,5 @@
 -- Lists that begin others, and the entries up to a node.
-use Rattle.std.proofs.Common.{◌≡◌, ℕ, ◌<◌, ◌≤◌, sym, ap, ◌∙◌, List, length, take, length-take, arith}
-use Rattle.rd_marks.proofs.Prelude.{take-length, length-map, length-take-le, take-map, take-take, Entry, Begins, Node, Stretch, stretch_list, entries_at, IsWithin, events}
+use Rattle.rd_marks.proofs.Prelude.{◌≡◌, ℕ, ◌<◌, ◌≤◌, sym, ap, ◌∙◌, List, length, take, length-take, arith, take-length, length-map, length-take-le, take-map, take-take, Entry, Begins, Node, Stretch, stretch_list, entries_at, IsWithin, events}
 use Rattle.rd_marks.proofs.StretchLists.{list_past}
 
 pub begins_itself : {X : Type 0} (xs : List X) → Begins xs xs

@@ -1,8 +1,6 @@
 -- No call of a session moves its start, so the marks of a book stay runs from there.
-use Rattle.std.proofs.Common.{◌≡◌, ℕ, ap, List, [], Result, Ok, Err, OnOk, OnErr, arith}
+use Rattle.rd_marks.proofs.Prelude.{◌≡◌, ℕ, ap, List, [], Result, Ok, Err, OnOk, OnErr, arith, AnswersAs, Refusal, World, Event, Entry, Session, state, Journal, State, state_of, apply, undo_at, roll, MarkName, AreRuns}
 pub use Rattle.rd_journal.proofs.Calls.{back_start, forward_start}
-use Rattle.rd_journal.specs.Sessions.{AnswersAs}
-use Rattle.rd_marks.proofs.Prelude.{Refusal, World, Event, Entry, Session, state, Journal, State, state_of, apply, undo_at, roll, MarkName, AreRuns}
 
 pub apply_start : (s : State) (e : Event) (t : State) → apply s e ≡ Ok t → t.start ≡ s.start
 apply_start s e t h = grind arith

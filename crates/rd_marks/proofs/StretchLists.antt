@@ -1,7 +1,6 @@
 -- The lists of stretches: how each goes on from the one before, and what stays when a stretch
 -- comes, goes or changes.
-use Rattle.std.proofs.Common.{◌≡◌, ℕ, zero, suc, ◌+◌, ◌-◌, ◌<◌, ◌≤◌, refl, sym, ap, ◌∙◌, subst, List, [], ◌∷◌, ◌++◌, length, take, drop, get_or, set, insert, remove, length-append, length-set, arith}
-use Rattle.rd_marks.proofs.Prelude.{take-append-add, drop-append-add, cases_lt, cases_eq, append_assoc, take-append-le, take-take, length-take-le, Entry, Stretch, continued, list_after, stretch_list, list_before, shared_at, AreNested}
+use Rattle.rd_marks.proofs.Prelude.{◌≡◌, ℕ, zero, suc, ◌+◌, ◌-◌, ◌<◌, ◌≤◌, refl, sym, ap, ◌∙◌, subst, List, [], ◌∷◌, ◌++◌, length, take, drop, get_or, set, insert, remove, length-append, length-set, arith, take-append-add, drop-append-add, cases_lt, cases_eq, append_assoc, take-append-le, take-take, length-take-le, Entry, Stretch, continued, list_after, stretch_list, list_before, shared_at, AreNested}
 use Rattle.std.proofs.lemmas.List.Edits.{length-insert}
 
 -- the entries of the stretch of this number; none after the last

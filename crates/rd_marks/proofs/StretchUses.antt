@@ -1,6 +1,5 @@
 -- What growing a list and shrinking a stretch leave, in the words of their contracts.
-use Rattle.std.proofs.Common.{◌≡◌, ℕ, zero, suc, ◌-◌, ◌<◌, ◌≤◌, ◌^◌, refl, sym, ap, ◌∙◌, subst, List, [], ◌∷◌, ◌++◌, length, take, drop, set, insert, remove, length-take, arith}
-use Rattle.rd_marks.proofs.Prelude.{drop-length, nat_tests, append-nil, length-map, map-append, map-id, take-append-drop, take-map, take_all, MOST_STEPS, Entry, Node, Stretch, Shift, greatest_in, stretch_list, list_before, shared_at, entries_at, IsWithin, IsEnd, IsAlong, IsDeepest, AreNested, AreFresh, IsLow, IsGrown, IsShrunk, KeepsItsSteps, events, cases_order}
+use Rattle.rd_marks.proofs.Prelude.{◌≡◌, ℕ, zero, suc, ◌-◌, ◌<◌, ◌≤◌, ◌^◌, refl, sym, ap, ◌∙◌, subst, List, [], ◌∷◌, ◌++◌, length, take, drop, set, insert, remove, length-take, arith, drop-length, nat_tests, append-nil, length-map, map-append, map-id, take-append-drop, take-map, take_all, MOST_STEPS, Entry, Node, Stretch, Shift, greatest_in, stretch_list, list_before, shared_at, entries_at, IsWithin, IsEnd, IsAlong, IsDeepest, AreNested, AreFresh, IsLow, IsGrown, IsShrunk, KeepsItsSteps, events, cases_order}
 use Rattle.rd_marks.specs.declared.stretches.changes.Shift.TheVariants.{Same, Up, Down}
 use Rattle.rd_marks.proofs.StretchLists.{own_at, shared_within, inserted_at, removed_at, appended_at, cut_at}
 use Rattle.rd_marks.proofs.Fresh.{along_taken}

@@ -1,6 +1,5 @@
 -- Going to a node: what its entries have in common with the live steps.
-use Rattle.std.proofs.Common.{◌≡◌, ℕ, suc, ◌≤◌, sym, ap, ◌∙◌, List, [], length, take, drop, arith}
-use Rattle.rd_marks.proofs.Prelude.{take-length, drop-length, take-take, Event, Entry, Begins, Node, Stretch, stretch_list, entries_at, IsWithin, IsAlong, IsDeepest, events}
+use Rattle.rd_marks.proofs.Prelude.{◌≡◌, ℕ, suc, ◌≤◌, sym, ap, ◌∙◌, List, [], length, take, drop, arith, take-length, drop-length, take-take, Event, Entry, Begins, Node, Stretch, stretch_list, entries_at, IsWithin, IsAlong, IsDeepest, events}
 use Rattle.rd_marks.proofs.Starting.{begins_shorter, stretch_within, entries_length, events_length, events_of_first, first_events}
 
 module _ (ss : List Stretch) where

@@ -1,9 +1,6 @@
 -- Along a run an actor that makes no other call is in its call or idle, and a cell into which
 -- nothing is put has its value or none.
-use Rattle.std.proofs.Common.{◌≡◌, ℕ, Bool, true, false, ◌==◌, ◌&&◌, inl, inr, sym, ◌∙◌, ap, subst, eqb-true, List, [], ◌∷◌, Option, Some, None, Ok, arith}
-use Rattle.rd_origin.proofs.Prelude.{cond_both, and_parts, cond-true, Place, World, Stepped, step, run, Op, Event, Entry, took, events, is_call, puts_into, calls_by}
-use Rattle.rd_step.specs.Prelude.{Actor, after}
-use Rattle.rd_step.proofs.RunParts.{beginning}
+use Rattle.rd_origin.proofs.Prelude.{◌≡◌, ℕ, Bool, true, false, ◌==◌, ◌&&◌, inl, inr, sym, ◌∙◌, ap, subst, eqb-true, List, [], ◌∷◌, Option, Some, None, Ok, arith, cond_both, and_parts, cond-true, Place, World, Stepped, step, run, Op, Event, Entry, took, events, is_call, puts_into, calls_by, Actor, after, beginning}
 use Rattle.rd_origin.proofs.Split.{NonePasses}
 use Rattle.rd_origin.proofs.Rows.{IsStill}
 use Rattle.rd_origin.proofs.Ops.{called, after_still, after_call}

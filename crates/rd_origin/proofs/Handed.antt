@@ -1,12 +1,6 @@
 -- What is taken is the argument of the call whose put it was.
-use Rattle.std.proofs.Common.{◌≡◌, ℕ, suc, ◌-◌, true, sym, ◌∙◌, ap, subst, append_assoc, List, ◌∷◌, ◌++◌, length, take, option_and_then, Option, Some, Ok, arith}
-use Rattle.rd_origin.proofs.Prelude.{Place, Contents, OpReply, World, Stepped, Ran, run, IsWellFormed, numbered, value_to_put, Event, Entry, events, puts_into, calls_by, argument}
+use Rattle.rd_origin.proofs.Prelude.{◌≡◌, ℕ, suc, ◌-◌, true, sym, ◌∙◌, ap, subst, append_assoc, List, ◌∷◌, ◌++◌, length, take, option_and_then, Option, Some, Ok, arith, Place, Contents, OpReply, World, Stepped, Ran, run, IsWellFormed, numbered, value_to_put, Event, Entry, events, puts_into, calls_by, argument, middle, last_position, takes_value, put_of, call_of, origin_in, run_keeps, run_events}
 use Rattle.rd_step.proofs.Keeps.{keeps}
-use Rattle.rd_step.proofs.Removal.{run_keeps}
-use Rattle.rd_step.proofs.Equivalence.{run_events}
-use Rattle.rd_step.proofs.RunParts.{middle}
-use Rattle.rd_origin.specs.Positions.{last_position}
-use Rattle.rd_origin.specs.Origins.{takes_value, put_of, call_of, origin_in}
 use Rattle.rd_origin.specs.Laws.{IsHandedOver}
 use Rattle.rd_origin.proofs.Split.{at_seam, before_seam, apart, NonePasses, apart_at_last}
 use Rattle.rd_origin.proofs.Rows.{IsStill}

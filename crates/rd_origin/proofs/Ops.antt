@@ -1,10 +1,7 @@
 -- The call that an actor is in: a step keeps it or ends it, and a put is made in it.
-use Rattle.std.proofs.Common.{◌≡◌, ℕ, Bool, true, false, Option, Some, None, arith}
-use Rattle.rd_origin.proofs.Prelude.{Answer, Op, value_to_put, is_call, argument}
+use Rattle.rd_origin.proofs.Prelude.{◌≡◌, ℕ, Bool, true, false, Option, Some, None, arith, Answer, Op, value_to_put, is_call, argument, after, Actor}
 use Rattle.rd_actor.specs.declared.actors.Act.{Act}
-use Rattle.rd_actor.specs.declared.actors.Actor.{Actor}
 use Rattle.rd_actor.specs.declared.actors.Op.TheVariants as op
-use Rattle.rd_actor.specs.Table.{after}
 use Rattle.rd_origin.proofs.Rows.{IsStill}
 use Rattle.rd_actor.specs.declared.actors.Act.TheVariants as act
 

@@ -1,26 +1,11 @@
 -- The words that several proofs of the crate use: definitions of this crate and of those below,
 -- generated types and their variants, and lemmas of these crates and of std.
-pub use Rattle.std.proofs.lemmas.Bool.{and_parts, cond-false, cond-true, cond_both}
-pub use Rattle.std.proofs.lemmas.Result.{IfOk-at_ok}
-pub use Rattle.rd_actor.specs.Table.{after_at, after_take, cell_with, need_at, value_to_put}
-pub use Rattle.rd_actor.specs.Words.{array_enqueues, enqueues}
-pub use Rattle.rd_actor.specs.declared.actors.Op.{Op}
-pub use Rattle.rd_actor.specs.declared.actors.Pc.{Pc}
-pub use Rattle.rd_actor.specs.declared.actors.Pc.TheVariants.{A2, B2, E12, E8, Q5, Q6, Q7}
-pub use Rattle.rd_cell.proofs.AccessLemmas.{halves_there}
-pub use Rattle.rd_cell.proofs.CellLemmas.{cell_eq-true}
-pub use Rattle.rd_cell.specs.Access.{effect_at, make, no_access, operate}
-unfoldable pub use Rattle.rd_cell.specs.Access.{number_made}
-pub use Rattle.rd_cell.specs.Cells.{cell_eq}
-pub use Rattle.rd_cell.specs.Contents.{after_write, after_write_at, holding, share}
-pub use Rattle.rd_cell.specs.Operations.{swaps, wrote_cell}
-pub use Rattle.rd_cell.specs.Results.{result_map}
+pub use Rattle.rd_cell.proofs.Prelude.{Bool, Err, IfOk, IfOk-at_ok, IfSome, List, None, Ok, Option, Result, Some, [], after_write, after_write_at, and_parts, ap, append_assoc, arith, cases_Bool, common_steps, cond-true, cond_both, contents_after, covers, drop, effect, effect_at, eqb-true, false, holding, inl, inr, is_nothing, is_of, length, no_access, not, operand, operate, option_and_then, refl, share, slice_get, some_covers, subst, suc, sym, take, true, wrote_by, zero, ℕ, ◌&&◌, ◌++◌, ◌-◌, ◌<◌, ◌==◌, ◌∙◌, ◌∷◌, ◌≡◌, ◌⊎◌}
+pub use Rattle.rd_step.proofs.Prelude.{A2, Access, Act, Actor, Answer, B2, Content, Contents, E12, E8, Effect, IsWellFormed, Op, OpReply, Pc, Performed, Place, Q5, Ran, Refusal, Stepped, World, actor_fits, after, after_at, events, is_there, need, need_at, need_call, need_choice, numbered, perform, record_fits, result_map, run, step, step_outcome, value_to_put, words_fit_at, written}
+pub use Rattle.rd_depend.proofs.Prelude.{Entry, Event, SegName, beginning, last_position, middle, one_further, run_events}
+pub use Rattle.rd_journal.proofs.Prelude.{run_keeps, took}
+pub use Rattle.rd_cell.proofs.AccessLemmas.{after_write-inside, after_write-outside, is_cell_at, operand-covered}
+pub use Rattle.rd_cell.specs.declared.operations.Operation.{Operation}
 pub use Rattle.rd_cell.specs.declared.operations.Operation.TheVariants.{Cas2, Swap}
-pub use Rattle.rd_journal.proofs.Runs.{as_ok-same}
-pub use Rattle.rd_journal.specs.Journal.{events}
-pub use Rattle.rd_step.proofs.Steps.{took}
-pub use Rattle.rd_step.specs.Lists.{numbered}
-pub use Rattle.rd_step.specs.Prelude.{Access, Answer, ArrSlot, Cell, Content, Contents, IsWellFormed, MOST_SEGMENTS, OpReply, Performed, Place, Ran, Refusal, SLOTS, SegName, Stepped, World, Wrote, name_eq, is_nothing, is_of, place_eq, need, operand, perform, run, step}
-pub use Rattle.rd_step.specs.declared.entries.Entry.{Entry}
-pub use Rattle.rd_step.specs.declared.entries.Event.{Event}
-pub use Rattle.rd_origin.specs.Origins.{argument, calls_by, is_call, is_first_cell, puts_into}
+pub use Rattle.rd_origin.specs.Origins.{argument, call_of, calls_by, is_at, is_call, is_first_cell, origin_in, put_of, puts_at, puts_into, takes_value}
+pub use Rattle.rd_origin.specs.Positions.{IsGreatest}

@@ -1,9 +1,5 @@
 -- A put leaves the value of the enqueue that its actor is in, or none.
-use Rattle.std.proofs.Common.{◌≡◌, ℕ, true, false, sym, ◌∙◌, ap, subst, Option, Some, Ok, IfOk, arith}
-use Rattle.rd_origin.proofs.Prelude.{IfOk-at_ok, Place, Access, Contents, Performed, perform, need, World, Stepped, step, IsWellFormed, no_access, Pc, need_at, value_to_put, Event, took, puts_into}
-use Rattle.rd_step.specs.Prelude.{is_there, Actor, Act, after}
-use Rattle.rd_actor.specs.Words.{words_fit_at}
-use Rattle.rd_step.specs.WellFormed.{record_fits, actor_fits}
+use Rattle.rd_origin.proofs.Prelude.{◌≡◌, ℕ, true, false, sym, ◌∙◌, ap, subst, Option, Some, Ok, IfOk, arith, IfOk-at_ok, Place, Access, Contents, Performed, perform, need, World, Stepped, step, IsWellFormed, no_access, Pc, need_at, value_to_put, Event, took, puts_into, is_there, Actor, Act, after, words_fit_at, record_fits, actor_fits}
 use Rattle.rd_step.proofs.Fits.{words_of}
 use Rattle.rd_origin.proofs.Ops.{puts_values}
 use Rattle.rd_origin.proofs.Values.{HoldsOnly, LeavesOnly}

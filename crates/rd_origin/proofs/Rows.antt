@@ -1,8 +1,6 @@
 -- How an actor goes on at each row of the table: it keeps its call or ends it, and hands a value
 -- out where it may take one.
-use Rattle.std.proofs.Common.{◌≡◌, ◌⊎◌, ℕ, Option, Some, None, arith}
-use Rattle.rd_origin.proofs.Prelude.{Answer, OpReply, Op, Pc, Q5, B2, after_at}
-use Rattle.rd_step.specs.Prelude.{Actor}
+use Rattle.rd_origin.proofs.Prelude.{◌≡◌, ◌⊎◌, ℕ, Option, Some, None, arith, Answer, OpReply, Op, Pc, Q5, B2, after_at, Actor}
 use Rattle.rd_actor.specs.declared.actors.OpReply.TheVariants as op_reply
 
 -- this call or none

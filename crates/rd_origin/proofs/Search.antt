@@ -1,7 +1,5 @@
 -- One turn of the search: the step of a number passes, or the search goes on before it.
-use Rattle.std.proofs.Common.{◌≡◌, ℕ, zero, suc, ◌-◌, Bool, true, false, refl, ap, ◌∙◌, List, take, Some, arith}
-use Rattle.rd_origin.proofs.Prelude.{Entry, numbered}
-use Rattle.rd_origin.specs.Positions.{last_position}
+use Rattle.rd_origin.proofs.Prelude.{◌≡◌, ℕ, zero, suc, ◌-◌, Bool, true, false, refl, ap, ◌∙◌, List, take, Some, arith, Entry, numbered, last_position}
 use Rattle.rd_depend.proofs.LastPositions.{last-found, last-passed}
 
 -- the step of this number passes

@@ -1,8 +1,5 @@
 -- A list taken apart at a position, and at the last position that passes a test.
-use Rattle.rd_origin.proofs.Prelude.{numbered}
-use Rattle.std.proofs.lemmas.Grind.{common_steps}
-use Rattle.std.proofs.Common.{sym, subst, ◌<◌, ◌≡◌, ℕ, zero, suc, ◌-◌, Bool, true, false, refl, ap, ◌∙◌, List, [], ◌∷◌, ◌++◌, length, take, drop, slice_get, Option, Some, None, arith}
-use Rattle.rd_origin.specs.Positions.{last_position, one_further, IsGreatest}
+use Rattle.rd_origin.proofs.Prelude.{numbered, sym, subst, ◌<◌, ◌≡◌, ℕ, zero, suc, ◌-◌, Bool, true, false, refl, ap, ◌∙◌, List, [], ◌∷◌, ◌++◌, length, take, drop, slice_get, Option, Some, None, arith, last_position, one_further, IsGreatest, common_steps}
 
 -- the element after the beginning
 pub at_seam : {X : Type 0} (xs ys : List X) (x : X) → numbered (xs ++ x ∷ ys) (suc (length xs)) ≡ Some x

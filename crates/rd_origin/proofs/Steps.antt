@@ -1,10 +1,5 @@
 -- A step that is no put into a cell leaves the value there, or none.
-use Rattle.std.proofs.Common.{◌≡◌, ◌⊎◌, ℕ, Bool, false, not, ◌&&◌, sym, ◌∙◌, subst, Option, Result, Ok, IfOk, arith}
-use Rattle.rd_origin.proofs.Prelude.{IfOk-at_ok, Place, Access, Refusal, Contents, is_nothing, Performed, perform, OpReply, need, World, Stepped, step, no_access, Pc, E8, E12, A2, need_at, Event, took, is_first_cell, puts_into}
-use Rattle.rd_step.specs.Prelude.{Actor, Act, after}
-use Rattle.rd_actor.specs.Table.{need_call, need_choice}
-use Rattle.rd_step.specs.Step.{step_outcome}
-use Rattle.rd_origin.specs.Origins.{is_at, puts_at}
+use Rattle.rd_origin.proofs.Prelude.{◌≡◌, ◌⊎◌, ℕ, Bool, false, not, ◌&&◌, sym, ◌∙◌, subst, Option, Result, Ok, IfOk, arith, IfOk-at_ok, Place, Access, Refusal, Contents, is_nothing, Performed, perform, OpReply, need, World, Stepped, step, no_access, Pc, E8, E12, A2, need_at, Event, took, is_first_cell, puts_into, Actor, Act, after, need_call, need_choice, is_at, puts_at, step_outcome}
 use Rattle.rd_origin.proofs.Values.{HoldsOnly, LeavesOnly, AccessKeeps, kept_access}
 use Rattle.rd_actor.specs.declared.actors.Act.TheVariants as act
 

@@ -1,7 +1,5 @@
 -- A step that takes a value found it in its cell.
-use Rattle.std.proofs.Common.{◌≡◌, ℕ, inl, inr, sym, ◌∙◌, ap, Some, None, Ok, IfOk, arith}
-use Rattle.rd_origin.proofs.Prelude.{IfOk-at_ok, Place, Access, Contents, Performed, perform, need, World, Stepped, step, Pc, need_at, after_at, Event, took}
-use Rattle.rd_step.specs.Prelude.{Actor, Act, after}
+use Rattle.rd_origin.proofs.Prelude.{◌≡◌, ℕ, inl, inr, sym, ◌∙◌, ap, Some, None, Ok, IfOk, arith, IfOk-at_ok, Place, Access, Contents, Performed, perform, need, World, Stepped, step, Pc, need_at, after_at, Event, took, Actor, Act, after}
 use Rattle.rd_origin.proofs.Rows.{value_in, IsTaker, HandsOut, row_goes}
 use Rattle.rd_origin.proofs.Values.{held_at}
 use Rattle.rd_origin.proofs.Steps.{AtNone}

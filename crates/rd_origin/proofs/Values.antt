@@ -1,13 +1,6 @@
 -- The value in a cell: no step but a put gives the cell another one.
-use Rattle.std.proofs.Common.{◌≡◌, ◌⊎◌, ℕ, Bool, true, false, inl, inr, refl, sym, subst, Option, Some, None, IfSome, Result, Ok, Err, IfOk, arith}
-use Rattle.rd_origin.proofs.Prelude.{SegName, Place, Content, Access, Refusal, Contents, is_of, operand, Performed, perform, Cas2, Swap, share, after_write, after_write_at, holding, effect_at, operate, result_map}
-use Rattle.std.proofs.lemmas.Bool.{cases_Bool}
-use Rattle.rd_step.specs.Prelude.{Operation, covers, Effect, effect}
+use Rattle.rd_origin.proofs.Prelude.{◌≡◌, ◌⊎◌, ℕ, Bool, true, false, inl, inr, refl, sym, subst, Option, Some, None, IfSome, Result, Ok, Err, IfOk, arith, SegName, Place, Content, Access, Refusal, Contents, is_of, operand, Performed, perform, Cas2, Swap, share, after_write, after_write_at, holding, effect_at, operate, result_map, cases_Bool, Operation, covers, Effect, effect, wrote_by, contents_after, is_cell_at, after_write-outside, after_write-inside, operand-covered, some_covers, written}
 use Rattle.rd_cell.specs.declared.access.Access.TheVariants.{NoPlace, At, Make}
-use Rattle.rd_cell.specs.Places.{some_covers, written}
-use Rattle.rd_cell.specs.Operations.{wrote_by}
-use Rattle.rd_cell.specs.Access.{contents_after}
-use Rattle.rd_cell.proofs.AccessLemmas.{is_cell_at, after_write-outside, after_write-inside, operand-covered}
 use Rattle.rd_cell.proofs.EffectLemmas.{not_written}
 use Rattle.rd_cell.specs.declared.places.Place.TheVariants as place
 use Rattle.rd_cell.specs.declared.contents.ArrSlot.TheVariants as slot

@@ -1,10 +1,7 @@
 -- When a segment is as a fresh one: by its words and its cells.
-use Rattle.std.proofs.Common.{◌≡◌, ℕ, ◌<◌, false, true, if◌then◌else◌, nat_lt, length, get_or, slice_get, Some, None, option_map, inl, inr, refl, sym, ap, ◌∙◌, arith, lt-ltb, le-ltb}
-use Rattle.std.proofs.lemmas.Bool.{cases_lt, cond-true, cond-false}
-use Rattle.std.proofs.lemmas.Option.{slice_get-get_or, slice_get_past}
+use Rattle.rd_ring.proofs.Prelude.{◌≡◌, ℕ, ◌<◌, false, true, if◌then◌else◌, nat_lt, length, get_or, slice_get, Some, None, option_map, inl, inr, refl, sym, ap, ◌∙◌, arith, lt-ltb, le-ltb, cases_lt, cond-true, cond-false, slice_get-get_or, slice_get_past, part}
 use Rattle.rd_ring.specs.Prelude.{Cell, Place, Content, root, fresh_segment, new_cell}
 use Rattle.rd_ring.specs.declared.segments.Segment.{Segment}
-use Rattle.rd_ring.specs.Segments.{part}
 use Rattle.rd_cell.specs.declared.places.Place.TheVariants as place
 use Rattle.rd_cell.specs.declared.contents.Content.TheVariants as content
 

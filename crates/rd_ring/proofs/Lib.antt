@@ -1,3 +1,4 @@
+pub mod Prelude
 pub mod SegmentLemmas
 pub mod FreshLemmas
 pub mod OperationLemmas

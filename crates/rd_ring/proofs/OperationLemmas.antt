@@ -1,10 +1,7 @@
 -- An operation at any place of a segment.
-use Rattle.std.proofs.Common.{◌≡◌, ℕ, sym, ◌∙◌, ap, arith, ◌<◌, Option, Some, None, option_map, slice_get}
-use Rattle.std.proofs.lemmas.Option.{slice_get_past}
+use Rattle.rd_ring.proofs.Prelude.{◌≡◌, ℕ, sym, ◌∙◌, ap, arith, ◌<◌, Option, Some, None, option_map, slice_get, slice_get_past, read_answer, part, OperatesAt}
 use Rattle.rd_ring.specs.Prelude.{Cell, SegName, Place, Wrote, Content, Operation, Answer, Done, is_of, is_of_same_segment, cell_of_halves, operand, Operates}
-use Rattle.rd_cell.specs.Operations.{read_answer}
 use Rattle.rd_ring.specs.declared.segments.Segment.{Segment}
-use Rattle.rd_ring.specs.Segments.{part, OperatesAt}
 use Rattle.rd_cell.specs.declared.places.Place.TheVariants as place
 use Rattle.rd_cell.specs.declared.places.Wrote.TheVariants as wrote
 use Rattle.rd_cell.specs.declared.contents.Content.TheVariants as content

@@ -1,14 +1,9 @@
 -- What an operation leaves at each place of a segment.
-use Rattle.std.proofs.Common.{◌≡◌, ℕ, ◌<◌, Bool, true, refl, sym, ap, ap₂, arith, Option, Some, None, List, [], ◌∷◌, zero, suc, ◌↔◌, ◌∙◌, ◌==◌, ◌&&◌, length, set, eq-eqb, ne_eqb, option_map, slice_get, if◌then◌else◌, Ok}
-use Rattle.std.proofs.lemmas.Bool.{true≢false, false_from_ne_true, cond-true, cond-false, cond_both, and_from, and_right}
+use Rattle.rd_ring.proofs.Prelude.{◌≡◌, ℕ, ◌<◌, Bool, true, refl, sym, ap, ap₂, arith, Option, Some, None, List, [], ◌∷◌, zero, suc, ◌↔◌, ◌∙◌, ◌==◌, ◌&&◌, length, set, eq-eqb, ne_eqb, option_map, slice_get, if◌then◌else◌, Ok, true≢false, false_from_ne_true, cond-true, cond-false, cond_both, and_from, and_right, effect_at, result_map, slice_get-set_same, slice_get-set_other, part, swap_answer, swap_wrote, OperatesAt, RefusesAt, RestoresAt}
 use Rattle.std.specs.Bool.{OnTrue, OnFalse}
 use Rattle.rd_ring.specs.Prelude.{COUNTER_END, Cell, SegName, Place, Content, Operation, Add, Cas2, Answer, root, name_eq, is_of, is_of_cell, half, effect, wrote_cell, operate, operand}
-use Rattle.rd_cell.specs.Access.{effect_at}
-use Rattle.rd_cell.specs.Results.{result_map}
 use Rattle.rd_cell.proofs.CellLemmas.{cell_eq-true}
-use Rattle.rd_cell.proofs.ListLemmas.{slice_get-set_same, slice_get-set_other}
 use Rattle.rd_ring.specs.declared.segments.Segment.{Segment}
-use Rattle.rd_ring.specs.Segments.{part, swap_answer, swap_wrote, OperatesAt, RefusesAt, RestoresAt}
 use Rattle.rd_cell.specs.declared.places.Place.TheVariants as place
 use Rattle.rd_cell.specs.declared.places.Wrote.TheVariants as wrote
 use Rattle.rd_cell.specs.declared.contents.Content.TheVariants as content

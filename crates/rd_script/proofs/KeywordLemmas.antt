@@ -1,13 +1,11 @@
 -- The keywords and the kinds of places: each has a text of its own, by which it is found among all
 -- of them.
-use Rattle.std.proofs.Common.{◌≡◌, ◌≢◌, ◌∙◌, ℕ, suc, ◌<◌, Bool, true, false, true≢false, List, [], ◌∷◌, length, Option, Some, None, if◌then◌else◌, nat_eq, slice_index_or, refl, sym, ap, arith}
-use Rattle.rd_script.proofs.Prelude.{Keyword, PlaceKind, keyword_text, kind_text}
+use Rattle.rd_script.proofs.Prelude.{◌≡◌, ◌≢◌, ◌∙◌, ℕ, suc, ◌<◌, Bool, true, false, true≢false, List, [], ◌∷◌, length, Option, Some, None, if◌then◌else◌, nat_eq, slice_index_or, refl, sym, ap, arith, Keyword, PlaceKind, keyword_text, kind_text, unwrap_or, is_some}
 use Rattle.rd_script.specs.declared.reading.keywords.Keyword.TheVariants as keyword
 use Rattle.rd_script.specs.declared.reading.places.PlaceKind.TheVariants as kind
 use Rattle.rd_script.specs.declared.reading.keywords.TheConstants.Keyword.{ALL as keywords}
 use Rattle.rd_script.specs.declared.reading.places.TheConstants.PlaceKind.{ALL as kinds}
 use Rattle.std.specs.Cmp.Lexicographic.{pointwise, same_text}
-use Rattle.std.specs.Option.{unwrap_or, is_some}
 
 -- the first of these that has the text
 abbrev first_with : {K : Type 0} → (K → List ℕ) → List ℕ → List K → Option K

@@ -1,6 +1,5 @@
 -- Bytes that a device tells, over several calls in a row.
-use Rattle.std.proofs.Common.{ℕ, List, [], ◌++◌, Option, append_assoc, arith}
-use Rattle.rd_script.proofs.Prelude.{append-nil, Keeps, Consumes, Appends}
+use Rattle.rd_script.proofs.Prelude.{ℕ, List, [], ◌++◌, Option, append_assoc, arith, append-nil, Keeps, Consumes, Appends}
 
 -- nothing was given
 pub Consumes-nil : (a : Option (List ℕ)) → Consumes a a []

@@ -1,6 +1,5 @@
 -- A line that is being read.
-use Rattle.std.proofs.Common.{◌≡◌, ◌≢◌, ℕ, ◌+◌, Bool, false, List, [], ◌∷◌, ◌++◌, length, Option, Some, None, sym, ◌∙◌, ap, length-append, arith}
-use Rattle.rd_script.proofs.Prelude.{Consumes, Line, GivesByte, IsOneLine, Holds, ReadsLast}
+use Rattle.rd_script.proofs.Prelude.{◌≡◌, ◌≢◌, ℕ, ◌+◌, Bool, false, List, [], ◌∷◌, ◌++◌, length, Option, Some, None, sym, ◌∙◌, ap, length-append, arith, Consumes, Line, GivesByte, IsOneLine, Holds, ReadsLast}
 use Rattle.rd_script.proofs.KnownLemmas.{Consumes-join}
 
 -- these many bytes were given, all of them before the line feed, and are held by the line

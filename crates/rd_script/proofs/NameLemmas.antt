@@ -1,6 +1,5 @@
 -- The length of a bookmark's name.
-use Rattle.std.proofs.Common.{◌≡◌, ℕ, ◌≤◌, true, List, length, arith}
-use Rattle.rd_script.proofs.Prelude.{nat_tests, is_mark_name}
+use Rattle.rd_script.proofs.Prelude.{◌≡◌, ℕ, ◌≤◌, true, List, length, arith, nat_tests, is_mark_name}
 
 -- what spells a name has 16 bytes at most
 pub length_mark_name : (bytes : List ℕ) → is_mark_name bytes ≡ true → length bytes ≤ 16

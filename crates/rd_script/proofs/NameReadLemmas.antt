@@ -1,6 +1,5 @@
 -- The names after a keyword, and what is said where they are missing or bad.
-use Rattle.rd_script.proofs.Prelude.{common_steps, list_all, and_parts, is_mark_name, Command, LineFault, Keyword, keyword_of, arguments_of, argument_words, names_after, IsInRange, NamesBadly, is_word, AreNoNames, ReadsCommand}
-use Rattle.std.proofs.Common.{◌≡◌, ℕ, ◌<◌, true, true≢false, List, [], ◌∷◌, length, Err, refl, arith}
+use Rattle.rd_script.proofs.Prelude.{common_steps, list_all, and_parts, is_mark_name, Command, LineFault, Keyword, keyword_of, arguments_of, argument_words, names_after, IsInRange, NamesBadly, is_word, AreNoNames, ReadsCommand, ◌≡◌, ℕ, ◌<◌, true, true≢false, List, [], ◌∷◌, length, Err, refl, arith}
 use Rattle.rd_script.proofs.SpellingLemmas.{is_word_of_name}
 
 -- names are words

@@ -1,7 +1,5 @@
 -- Words that spell numbers, and the parts of a segment's name.
-use Rattle.std.proofs.Common.{◌≡◌, ◌≢◌, ℕ, ◌^◌, ◌<◌, ◌==◌, List, [], ◌∷◌, length, Option, Some, None, IfSome, IfNone, arith, sym, ◌∙◌, ap, append_assoc}
-use Rattle.rd_script.proofs.Prelude.{decimal, slice_split, join_with_byte, IsUtf8, IsAscii-decimal, SegName, name_words, IsSegmentInRange}
-use Rattle.std.proofs.lemmas.Str.{IsUtf8-from_ascii}
+use Rattle.rd_script.proofs.Prelude.{◌≡◌, ◌≢◌, ℕ, ◌^◌, ◌<◌, ◌==◌, List, [], ◌∷◌, length, Option, Some, None, IfSome, IfNone, arith, sym, ◌∙◌, ap, append_assoc, decimal, slice_split, join_with_byte, IsUtf8, IsAscii-decimal, SegName, name_words, IsSegmentInRange, IsUtf8-from_ascii}
 use Rattle.rd_script.proofs.SplitLemmas.{parts_of_join, join_of_parts, is_free_decimal}
 
 -- the digits of a number are UTF-8

@@ -1,9 +1,6 @@
 -- Two commands of the same words are one: after one keyword arguments are of the same shapes, and an
 -- argument is known by its shape and its word.
-use Rattle.std.proofs.Common.{◌≡◌, ℕ, Bool, ◌==◌, List, [], ◌∷◌, length, refl, sym, ◌∙◌, ap, arith, drop, slice_index_or}
-use Rattle.rd_script.proofs.Prelude.{slice_split, decimal_injective, SegName, Command, yes_or_no, name_words, Argument, Byte, Long, Segment, Choice, Name, Kind, keyword_of, word_of, argument_words, arguments_of, IsSegmentInRange, IsArgumentInRange, AreArgumentsInRange, IsInRange, AreOne}
-use Rattle.rd_step.specs.Prelude.{Place}
-use Rattle.rd_script.specs.Grammar.{kind_of, place_arguments}
+use Rattle.rd_script.proofs.Prelude.{◌≡◌, ℕ, Bool, ◌==◌, List, [], ◌∷◌, length, refl, sym, ◌∙◌, ap, arith, drop, slice_index_or, slice_split, decimal_injective, SegName, Command, yes_or_no, name_words, Argument, Byte, Long, Segment, Choice, Name, Kind, keyword_of, word_of, argument_words, arguments_of, IsSegmentInRange, IsArgumentInRange, AreArgumentsInRange, IsInRange, AreOne, Place, kind_of, place_arguments}
 use Rattle.rd_script.proofs.KeywordLemmas.{one_kind}
 use Rattle.rd_script.proofs.NumeralLemmas.{name_parts}
 

@@ -1,9 +1,7 @@
 -- A loop over the parts of a text: the chain proof comes last, since its closure is known from the
 -- loop alone.
-use Rattle.std.proofs.Common.{◌≡◌, ◌<◌, ◌≤◌, ℕ, List, ◌∷◌, map, length, drop, get_or, Bor, Option, Some, None, arith}
+use Rattle.rd_script.proofs.Prelude.{◌≡◌, ◌<◌, ◌≤◌, ℕ, List, ◌∷◌, map, length, drop, get_or, Bor, Option, Some, None, arith, YieldsList, YieldsList-turn, YieldsList-end}
 use Rattle.std.specs.Iterator.{Yields}
-use Rattle.std.proofs.lemmas.Iterator.{YieldsList}
-use Rattle.std.proofs.lemmas.Iterator.Consumers.{YieldsList-turn, YieldsList-end}
 
 -- one more part is given, so that there are more than were given before
 pub more_parts : {S A B : Type 0} {steps : S → Option A → S → Type 0} {v : A → B} {s : S} {all : List B} (xs : List A) (t : S) → Yields steps s xs t → (r : Option A) (u : S) (x : A) → r ≡ Some x → steps t r u → YieldsList steps v s all → length xs < length all

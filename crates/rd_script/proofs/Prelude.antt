@@ -1,27 +1,28 @@
 -- The words that several proofs of the crate use: definitions of this crate and of those below,
 -- generated types and their variants, and lemmas of these crates and of std.
-pub use Rattle.std.proofs.lemmas.Bool.{and_parts, eqb-true, ne_eqb}
-pub use Rattle.std.proofs.lemmas.Bool.Decides.{Decides-eqb, nat_tests}
 pub use Rattle.std.proofs.lemmas.Fmt.{IsAscii-decimal, decimal_by_steps, decimal_injective, parse-decimal}
-pub use Rattle.std.proofs.lemmas.Grind.{common_steps}
 pub use Rattle.std.proofs.lemmas.Iterator.Splits.{YieldsList-from_slice_split}
-pub use Rattle.std.proofs.lemmas.List.{append-nil, map-append, take-append-drop, take_rest}
-pub use Rattle.std.specs.Fmt.{decimal}
-pub use Rattle.std.specs.Io.KnownBytes.{Appends, Consumes, IsAtEnd, Keeps}
-pub use Rattle.std.specs.List.{join_with_byte, list_all, onto_first, slice_split}
-pub use Rattle.std.specs.Result.{IsErrAnd, IsOkAnd}
-pub use Rattle.std.specs.Str.{IsUtf8}
-pub use Rattle.rd_marks.specs.Book.{book_state}
-pub use Rattle.rd_marks.specs.NameBytes.{is_mark_name, is_name_byte}
+pub use Rattle.rd_cell.proofs.Prelude.{AllZip, Appends, Bool, Bor, Consumes, Decides-eqb, Err, IfNone, IfSome, IsAtEnd, IsErrAnd, IsOkAnd, IsUtf8, IsUtf8-from_ascii, Keeps, List, None, Ok, Option, Result, Some, YieldsList, YieldsList-end, YieldsList-turn, [], and_parts, ap, append-nil, append_assoc, arith, codes, common_steps, decimal, drop, eq-eqb, false, flat_map-append, get_or, if◌then◌else◌, inl, inr, is_some, join_with_byte, length, length-append, length-drop, length-map, list_all, list_all-append, map, map-append, nat_eq, nat_tests, ne_eqb, not, onto_first, refl, rules, slice_index_or, slice_split, strip_suffix_is, subst, suc, sym, take, take-add, take-append-drop, take_rest, tests, true, true≢false, unwrap_or, ℕ, ◌%◌, ◌&&◌, ◌++◌, ◌+◌, ◌-◌, ◌<◌, ◌==◌, ◌^◌, ◌∙◌, ◌∷◌, ◌≡◌, ◌≢◌, ◌≤◌, ◌⊎◌}
+pub use Rattle.rd_step.proofs.Prelude.{Place, Refusal}
+pub use Rattle.rd_journal.proofs.Prelude.{Journal, fact_passed_up, journal}
+pub use Rattle.rd_marks.proofs.Prelude.{AreObeyed, BookState, as_reply, book_state, is_mark_name, is_name_byte, session_of}
+pub use Rattle.rd_cell.specs.declared.places.SegName.{SegName}
+pub use Rattle.rd_marks.proofs.ObeyLemmas.{event_obeyed, one_more_obeyed}
+pub use Rattle.rd_marks.specs.declared.books.Book.{Book}
 pub use Rattle.rd_marks.specs.declared.commands.Command.{Command}
-pub use Rattle.rd_step.specs.Prelude.{SegName}
+pub use Rattle.rd_marks.specs.declared.replies.Reply.{Reply}
+pub use Rattle.rd_script.specs.Answers.{AnswersSaid, AreObeyedLines, commands_of, line_answer, line_answers, report_of}
 pub use Rattle.rd_script.specs.Contents.{name_words}
 pub use Rattle.rd_script.specs.Device.{GivesByte, TakesBeginning}
-pub use Rattle.rd_script.specs.Grammar.{AreArgumentsInRange, Argument, Byte, Choice, IsArgumentInRange, IsSegmentInRange, Kind, Long, Name, Segment, arguments_of, keyword_of, keyword_text, kind_text, names_after, word_of, argument_words}
-pub use Rattle.rd_script.specs.Lines.{Holds, IsOneLine, ReadsLast, ReadsLine, ReadsNext, ReadsPart, ended_lines_of, lines_of, with_first_byte}
+pub use Rattle.rd_script.specs.Grammar.{AreArgumentsInRange, Argument, Byte, Choice, IsArgumentInRange, IsSegmentInRange, Kind, Long, Name, Segment, argument_words, arguments_of, keyword_of, keyword_text, kind_of, kind_text, names_after, place_arguments, word_of}
+pub use Rattle.rd_script.specs.Lines.{Holds, IsOneLine, ReadsLast, ReadsNext, ReadsPart, ended_lines_of, lines_of, with_first_byte}
 pub use Rattle.rd_script.specs.Reading.{AreNoNames, ReadsCommand, ReadsNameless}
+pub use Rattle.rd_script.specs.Replies.{LineAnswer, text_of}
+pub use Rattle.rd_script.specs.Script.{RanToEnd, RunsScript, StoppedAtRead, StoppedAtWrite}
 pub use Rattle.rd_script.specs.Spelling.{AreOne, IsInRange, IsMisnamed, NamesBadly, Says, is_word, most_line_bytes, spelling}
+pub use Rattle.rd_script.specs.Streams.{Devices, devices}
 pub use Rattle.rd_script.specs.Texts.{yes_or_no}
+pub use Rattle.rd_script.specs.declared.answers.AnyRefusal.TheVariants.{Unread}
 pub use Rattle.rd_script.specs.declared.faults.LineFault.{LineFault}
 pub use Rattle.rd_script.specs.declared.reading.keywords.Keyword.{Keyword}
 pub use Rattle.rd_script.specs.declared.reading.lines.Line.{Line}

@@ -1,6 +1,5 @@
 -- Results that are known to be errors.
-use Rattle.std.proofs.Common.{◌≡◌, Result, Err, arith}
-use Rattle.rd_script.proofs.Prelude.{IsErrAnd}
+use Rattle.rd_script.proofs.Prelude.{◌≡◌, Result, Err, arith, IsErrAnd}
 
 -- a result whose error is known
 pub Err-from_error : {T E : Type 0} (x : E) (r : Result T E) → IsErrAnd r (λ e. e ≡ x) → r ≡ Err x

@@ -1,6 +1,5 @@
 -- What the words of a line say, the line says; and what is said of a line that spells a command.
-use Rattle.std.proofs.Common.{◌≡◌, ◌≢◌, ℕ, ◌<◌, ◌≤◌, ◌==◌, List, [], ◌∷◌, length, drop, Result, Ok, Err, sym, ◌∙◌, ap, subst, arith, slice_index_or}
-use Rattle.rd_script.proofs.Prelude.{slice_split, IsOkAnd, Command, LineFault, Keyword, keyword_text, keyword_of, arguments_of, argument_words, names_after, most_line_bytes, spelling, IsInRange, AreOne, NamesBadly, IsMisnamed, Says, ReadsCommand}
+use Rattle.rd_script.proofs.Prelude.{◌≡◌, ◌≢◌, ℕ, ◌<◌, ◌≤◌, ◌==◌, List, [], ◌∷◌, length, drop, Result, Ok, Err, sym, ◌∙◌, ap, subst, arith, slice_index_or, slice_split, IsOkAnd, Command, LineFault, Keyword, keyword_text, keyword_of, arguments_of, argument_words, names_after, most_line_bytes, spelling, IsInRange, AreOne, NamesBadly, IsMisnamed, Says, ReadsCommand}
 use Rattle.rd_script.specs.declared.faults.LineFault.TheVariants as fault
 use Rattle.rd_script.proofs.KeywordLemmas.{one_keyword}
 use Rattle.rd_script.proofs.NameReadLemmas.{not_badly_named}

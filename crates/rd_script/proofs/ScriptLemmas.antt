@@ -1,25 +1,7 @@
 -- A script that runs: the bytes that were given so far, their lines, and their report.
-use Rattle.std.proofs.Common.{◌≡◌, ◌≢◌, ◌⊎◌, ℕ, suc, map, ◌+◌, ◌-◌, ◌^◌, ◌≤◌, Bool, true, false, List, [], ◌∷◌, ◌++◌, length, Option, refl, sym, ◌∙◌, ap, subst, arith, inl, inr, append_assoc, length-append, Result, Ok, Err}
-use Rattle.std.proofs.lemmas.Grind.{flat_map-append}
-use Rattle.std.proofs.lemmas.List.{length-map}
-use Rattle.std.specs.List.{AllZip}
-use Rattle.rd_cell.specs.declared.refusal.Refusal.{Refusal}
-use Rattle.rd_journal.specs.Journal.{Journal}
-use Rattle.rd_journal.specs.Sessions.{journal}
-use Rattle.rd_marks.specs.Book.{session_of}
-use Rattle.rd_marks.specs.Commands.{AreObeyed}
-use Rattle.rd_marks.specs.declared.books.Book.{Book}
-use Rattle.rd_marks.specs.declared.replies.Reply.{Reply}
+use Rattle.rd_script.proofs.Prelude.{◌≡◌, ◌≢◌, ◌⊎◌, ℕ, suc, map, ◌+◌, ◌-◌, ◌^◌, ◌≤◌, Bool, true, false, List, [], ◌∷◌, ◌++◌, length, Option, refl, sym, ◌∙◌, ap, subst, arith, inl, inr, append_assoc, length-append, Result, Ok, Err, flat_map-append, length-map, AllZip, session_of, one_more_obeyed, Unread, map-append, book_state, Command, LineFault, Says, ne_eqb, append-nil, Consumes, Appends, IsAtEnd, IsErrAnd, TakesBeginning, with_first_byte, lines_of, ended_lines_of, IsOneLine, ReadsPart, AnswersSaid, AreObeyedLines, commands_of, line_answer, line_answers, report_of, Devices, Refusal, Journal, journal, AreObeyed, Book, Reply, BookState, LineAnswer, text_of, RanToEnd, StoppedAtRead, StoppedAtWrite, RunsScript}
 use Rattle.rd_marks.proofs.Headlines.{book_runs}
-use Rattle.rd_marks.proofs.ObeyLemmas.{one_more_obeyed}
-use Rattle.rd_script.specs.declared.answers.AnyRefusal.TheVariants.{Unread}
-use Rattle.rd_script.proofs.Prelude.{map-append, book_state, Command, LineFault, Says, ne_eqb, append-nil, Consumes, Appends, IsAtEnd, IsErrAnd, TakesBeginning, with_first_byte, lines_of, ended_lines_of, IsOneLine, ReadsPart}
-use Rattle.rd_marks.specs.BookState.{BookState}
 use Rattle.rd_script.specs.declared.faults.ScriptFault.{ScriptFault}
-use Rattle.rd_script.specs.Replies.{LineAnswer, text_of}
-use Rattle.rd_script.specs.Answers.{AnswersSaid, AreObeyedLines, commands_of, line_answer, line_answers, report_of}
-use Rattle.rd_script.specs.Streams.{Devices}
-use Rattle.rd_script.specs.Script.{RanToEnd, StoppedAtRead, StoppedAtWrite, RunsScript}
 use Rattle.rd_script.proofs.ResultLemmas.{Err-from_error}
 use Rattle.rd_script.proofs.KnownLemmas.{Consumes-nil, Consumes-join, Appends-nil, Appends-join}
 

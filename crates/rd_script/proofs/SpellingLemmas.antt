@@ -1,7 +1,6 @@
 -- No word of a command has a space, and there are four at most: so the line that spells a command
 -- is cut into just its words.
-use Rattle.std.proofs.Common.{◌≡◌, ℕ, ◌≤◌, ◌==◌, Bool, true, not, List, [], ◌∷◌, ◌++◌, length, codes, refl, ◌∙◌, ap, arith, tests}
-use Rattle.rd_script.proofs.Prelude.{and_parts, decimal, list_all, slice_split, SegName, is_mark_name, is_name_byte, Command, Keyword, PlaceKind, name_words, yes_or_no, Argument, keyword_text, keyword_of, kind_text, word_of, argument_words, arguments_of, IsSegmentInRange, IsArgumentInRange, AreArgumentsInRange, spelling, IsInRange, is_word}
+use Rattle.rd_script.proofs.Prelude.{◌≡◌, ℕ, ◌≤◌, ◌==◌, Bool, true, not, List, [], ◌∷◌, ◌++◌, length, codes, refl, ◌∙◌, ap, arith, tests, and_parts, decimal, list_all, slice_split, SegName, is_mark_name, is_name_byte, Command, Keyword, PlaceKind, name_words, yes_or_no, Argument, keyword_text, keyword_of, kind_text, word_of, argument_words, arguments_of, IsSegmentInRange, IsArgumentInRange, AreArgumentsInRange, spelling, IsInRange, is_word}
 use Rattle.std.specs.Char.{is_ascii_graphic}
 use Rattle.rd_script.proofs.SplitLemmas.{is_free, AreFree, parts_of_join, is_free_decimal, is_free_both}
 

@@ -1,7 +1,5 @@
 -- Parts that are joined by a byte that is in none of them, and cut there again.
-use Rattle.std.proofs.Common.{◌≡◌, ℕ, ◌+◌, ◌%◌, ◌<◌, ◌^◌, ◌==◌, Bool, true, false, ◌&&◌, not, ne_eqb, eq-eqb, List, [], ◌∷◌, ◌++◌, refl, sym, ◌∙◌, ap, arith}
-use Rattle.rd_script.proofs.Prelude.{list_all, slice_split, onto_first, join_with_byte, decimal, and_parts, decimal_by_steps}
-use Rattle.std.proofs.lemmas.List.Folds.{list_all-append}
+use Rattle.rd_script.proofs.Prelude.{◌≡◌, ℕ, ◌+◌, ◌%◌, ◌<◌, ◌^◌, ◌==◌, Bool, true, false, ◌&&◌, not, ne_eqb, eq-eqb, List, [], ◌∷◌, ◌++◌, refl, sym, ◌∙◌, ap, arith, list_all, slice_split, onto_first, join_with_byte, decimal, and_parts, decimal_by_steps, list_all-append}
 use Rattle.std.proofs.lemmas.List.Splits.{slice_split-cons_yes, slice_split-cons_no, join_with_byte-slice_split}
 
 -- the byte is not in the part

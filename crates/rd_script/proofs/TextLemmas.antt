@@ -1,7 +1,5 @@
 -- The lines of a whole text, as the parts between its line feeds, and what they say.
-use Rattle.std.specs.List.{AllZip}
-use Rattle.std.proofs.Common.{◌≡◌, ◌≢◌, ℕ, Bool, ◌==◌, if◌then◌else◌, List, [], ◌∷◌, ◌++◌, refl, ap, Result, arith}
-use Rattle.rd_script.proofs.Prelude.{ne_eqb, slice_split, onto_first, Command, LineFault, Says, with_first_byte, lines_of}
+use Rattle.rd_script.proofs.Prelude.{AllZip, ◌≡◌, ◌≢◌, ℕ, Bool, ◌==◌, if◌then◌else◌, List, [], ◌∷◌, ◌++◌, refl, ap, Result, arith, ne_eqb, slice_split, onto_first, Command, LineFault, Says, with_first_byte, lines_of}
 
 -- one byte more before the text
 one-more : (ends : Bool) (x : ℕ) (parts lines : List (List ℕ)) → parts ≡ lines

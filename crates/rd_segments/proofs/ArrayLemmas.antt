@@ -1,11 +1,5 @@
 -- The array's map after an operation on one of its places.
-use Rattle.std.proofs.Common.{◌≡◌, ℕ, ◌<◌, false, nat_lt, inl, inr, refl, sym, ◌∙◌, ap, subst, List, length, set, get_or, Some, None, option_map, slice_get, Result, IfOk, lt-ltb, le-ltb, arith}
-use Rattle.rd_segments.proofs.Prelude.{cases_lt, cond-true, cond-false, slice_get_past, slice_get-get_or, SLOTS, Place, Operation, Read, Done, Refusal, place_eq, effect, everywhere, Operates, OperatesOn, slice_get-set_same, slice_get-set_other, read_on, place_operates, fresh_array}
-use Rattle.std.proofs.Math.ListN.{replicate}
-use Rattle.std.proofs.lemmas.Bool.{eqb-false}
-use Rattle.std.proofs.lemmas.List.{get_or-replicate}
-use Rattle.rd_ring.specs.Prelude.{ArrSlot}
-use Rattle.rd_segments.specs.Array.{array_of}
+use Rattle.rd_segments.proofs.Prelude.{◌≡◌, ℕ, ◌<◌, false, nat_lt, inl, inr, refl, sym, ◌∙◌, ap, subst, List, length, set, get_or, Some, None, option_map, slice_get, Result, IfOk, lt-ltb, le-ltb, arith, cases_lt, cond-true, cond-false, slice_get_past, slice_get-get_or, SLOTS, Place, Operation, Read, Done, Refusal, place_eq, effect, everywhere, Operates, OperatesOn, slice_get-set_same, slice_get-set_other, read_on, place_operates, fresh_array, eqb-false, get_or-replicate, ArrSlot, array_of, replicate}
 use Rattle.rd_cell.specs.declared.places.Place.TheVariants as place
 use Rattle.rd_cell.specs.declared.places.Wrote.TheVariants as wrote
 use Rattle.rd_cell.specs.declared.contents.ArrSlot.TheVariants as slot

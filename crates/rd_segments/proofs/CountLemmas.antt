@@ -1,9 +1,5 @@
 -- How many segments a maker has made, counted in the map and in its list.
-use Rattle.std.proofs.Common.{◌≡◌, ℕ, zero, suc, ◌+◌, ◌<◌, ◌≤◌, true, false, inl, inr, ◌∙◌, ap, arith, List, Vec, Global, length, Option, is_some, slice_get}
-use Rattle.rd_segments.proofs.Prelude.{cases_lt, cond-true, cond-false, slice_get_past, MOST_SEGMENTS, SegName, Segment, ArrayParts, ListOf, by_number, part_of, count_in, count, contents_of}
-use Rattle.std.proofs.lemmas.Option.{slice_get_cases}
-use Rattle.rd_ring.specs.Prelude.{is_there}
-use Rattle.rd_cell.specs.Access.{number_made_from, number_made}
+use Rattle.rd_segments.proofs.Prelude.{◌≡◌, ℕ, zero, suc, ◌+◌, ◌<◌, ◌≤◌, true, false, inl, inr, ◌∙◌, ap, arith, List, Vec, Global, length, Option, is_some, slice_get, cases_lt, cond-true, cond-false, slice_get_past, MOST_SEGMENTS, SegName, Segment, ArrayParts, ListOf, by_number, part_of, count_in, count, contents_of, slice_get_cases, is_there, number_made_from, number_made}
 use Rattle.rd_cell.specs.declared.places.Place.TheVariants as place
 
 pub in_list : {X : Type 0} (xs : List X) (n : ℕ) → n < length xs → is_some (slice_get xs n) ≡ true

@@ -1,6 +1,5 @@
 -- An operation on a name at one of the queue's ends.
-use Rattle.std.proofs.Common.{◌≡◌, ap, Some}
-use Rattle.rd_segments.proofs.Prelude.{SegName, Place, Operation, Read, Done, effect, OperatesOn, read_on}
+use Rattle.rd_segments.proofs.Prelude.{◌≡◌, ap, Some, SegName, Place, Operation, Read, Done, effect, OperatesOn, read_on}
 use Rattle.rd_cell.specs.declared.places.Wrote.TheVariants as wrote
 use Rattle.rd_cell.specs.declared.contents.Content.TheVariants as content
 use Rattle.rd_cell.specs.declared.operations.Answer.TheVariants as answer

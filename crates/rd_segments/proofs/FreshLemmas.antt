@@ -1,8 +1,5 @@
 -- When a space is as a fresh one: by its ends, its array and its makers' lists.
-use Rattle.std.proofs.Common.{◌≡◌, ℕ, zero, suc, ◌-◌, ◌<◌, ◌≤◌, ◌&&◌, ◌==◌, if◌then◌else◌, nat_lt, All, List, [], ◌∷◌, length, get_or, take, drop, slice_get, Option, Some, None, option_map, inl, inr, refl, sym, ap, ◌∙◌, arith, lt-ltb, le-ltb, ne_eqb}
-use Rattle.rd_segments.proofs.Prelude.{common_steps, cases_Bool, cases_lt, cond-true, cond-false, and_left, and_right, slice_get-get_or, slice_get_past, fun_ext, name_eq-true, SLOTS, SegName, Place, Content, root, name_eq, Contents, fresh_segment, Segment, part, ListOf, by_number, by_name, part_of, IsFresh, IsFreshAlone, ArrayParts, array_part, fresh_array, contents_of, fresh_space}
-use Rattle.std.proofs.lemmas.List.Elements.{All-head, All-tail}
-use Rattle.std.proofs.lemmas.List.{take_rest}
+use Rattle.rd_segments.proofs.Prelude.{◌≡◌, ℕ, zero, suc, ◌-◌, ◌<◌, ◌≤◌, ◌&&◌, ◌==◌, if◌then◌else◌, nat_lt, All, List, [], ◌∷◌, length, get_or, take, drop, slice_get, Option, Some, None, option_map, inl, inr, refl, sym, ap, ◌∙◌, arith, lt-ltb, le-ltb, ne_eqb, common_steps, cases_Bool, cases_lt, cond-true, cond-false, and_left, and_right, slice_get-get_or, slice_get_past, fun_ext, name_eq-true, SLOTS, SegName, Place, Content, root, name_eq, Contents, fresh_segment, Segment, part, ListOf, by_number, by_name, part_of, IsFresh, IsFreshAlone, ArrayParts, array_part, fresh_array, contents_of, fresh_space, take_rest, All-head, All-tail}
 use Rattle.rd_cell.specs.declared.places.Place.TheVariants as place
 use Rattle.rd_cell.specs.declared.contents.ArrSlot.TheVariants as slot
 use Rattle.rd_cell.specs.declared.contents.Content.TheVariants as content

@@ -1,11 +1,6 @@
 -- The makers' lists after a change of one segment.
-use Rattle.std.proofs.Common.{◌≡◌, ◌≢◌, ℕ, ◌+◌, ◌-◌, ◌<◌, ◌≤◌, Bool, true, ◌==◌, ◌&&◌, if◌then◌else◌, ◌⊎◌, sym, ◌∙◌, ap, subst, arith, List, [], ◌∷◌, ◌++◌, take, length, set, get_or, Option, Some, None, is_some, slice_get, eq-eqb, ne_eqb, Result, OnErr, OnOk}
-use Rattle.rd_segments.proofs.Prelude.{with_item, cond-true, cond-false, and_left, and_right, slice_get_past, slice_get-get_or, SegName, Place, root, name_eq, operand, slice_get-set_same, slice_get-set_other, Segment, ListOf, by_number, by_name, part_of, count_in, count, Changes, IsLengthened, spare_in, spare}
-use Rattle.std.proofs.lemmas.Bool.{and_from}
-use Rattle.std.proofs.lemmas.Option.{slice_get_cases, slice_get_within}
+use Rattle.rd_segments.proofs.Prelude.{◌≡◌, ◌≢◌, ℕ, ◌+◌, ◌-◌, ◌<◌, ◌≤◌, Bool, true, ◌==◌, ◌&&◌, if◌then◌else◌, ◌⊎◌, sym, ◌∙◌, ap, subst, arith, List, [], ◌∷◌, ◌++◌, take, length, set, get_or, Option, Some, None, is_some, slice_get, eq-eqb, ne_eqb, Result, OnErr, OnOk, with_item, cond-true, cond-false, and_left, and_right, slice_get_past, slice_get-get_or, SegName, Place, root, name_eq, operand, slice_get-set_same, slice_get-set_other, Segment, ListOf, by_number, by_name, part_of, count_in, count, Changes, IsLengthened, spare_in, spare, and_from, slice_get_cases, slice_get_within, slice_get-push_same, slice_get-push_other, slice_get-take_same, slice_get-take_other, room_used}
 use Rattle.std.specs.declared.alloc.AllocError.{AllocError}
-use Rattle.rd_cell.proofs.ListLemmas.{slice_get-push_same, slice_get-push_other, slice_get-take_same, slice_get-take_other}
-use Rattle.rd_segments.specs.Room.{room_used}
 
 -- a maker's list was changed at one number
 pub list_changed : {R : ℕ} (old : List (ListOf (Segment R))) (m n : ℕ) (was now : ListOf (Segment R)) (o : Option (Segment R)) → slice_get old m ≡ Some was

@@ -1,8 +1,5 @@
 -- The segments' places after a change of one segment.
-use Rattle.std.proofs.Common.{◌≡◌, ℕ, ◌-◌, ◌<◌, true, false, nat_lt, if◌then◌else◌, inl, inr, refl, sym, ◌∙◌, ap, arith, List, take, length, set, get_or, Option, Some, None, is_some, slice_get, Result, Ok, Err, IfOk, IfErr, OnErr, lt-ltb, vec_len, vec_capacity}
-use Rattle.rd_segments.proofs.Prelude.{common_steps, with_item, cases_Bool, cond-true, cond-false, fun_ext, MOST_SEGMENTS, SegName, Place, Content, Operation, Done, Refusal, name_eq, is_of, segment_of, Contents, operand, operate, everywhere, Operates, Makes, Restores, name_eq-refl, Agrees, operand_agrees, lift_operates, lift_restore, Segment, part, ListOf, by_name, segments_of, count, Changes, IsLengthened, spare}
-use Rattle.rd_ring.specs.Prelude.{is_of_same_segment, holding, RefusesMaking}
-use Rattle.rd_cell.proofs.EffectLemmas.{beside_is_of, not_covered_outside}
+use Rattle.rd_segments.proofs.Prelude.{◌≡◌, ℕ, ◌-◌, ◌<◌, true, false, nat_lt, if◌then◌else◌, inl, inr, refl, sym, ◌∙◌, ap, arith, List, take, length, set, get_or, Option, Some, None, is_some, slice_get, Result, Ok, Err, IfOk, IfErr, OnErr, lt-ltb, vec_len, vec_capacity, common_steps, with_item, cases_Bool, cond-true, cond-false, fun_ext, MOST_SEGMENTS, SegName, Place, Content, Operation, Done, Refusal, name_eq, is_of, segment_of, Contents, operand, operate, everywhere, Operates, Makes, Restores, name_eq-refl, Agrees, operand_agrees, lift_operates, lift_restore, Segment, part, ListOf, by_name, segments_of, count, Changes, IsLengthened, spare, is_of_same_segment, holding, RefusesMaking, beside_is_of, not_covered_outside}
 use Rattle.rd_segments.proofs.ListsLemmas.{named_is, segment_written, list_read, list_lengthened, list_same, last_taken}
 use Rattle.rd_cell.specs.declared.places.Place.TheVariants as place
 use Rattle.rd_cell.specs.declared.places.Wrote.TheVariants as wrote

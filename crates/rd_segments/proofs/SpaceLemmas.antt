@@ -1,10 +1,5 @@
 -- The space's map after a change of its segments, of one of the queue's ends, or of the array.
-use Rattle.std.proofs.Common.{◌≡◌, ℕ, true, false, Bool, if◌then◌else◌, refl, sym, ap, subst, List, Some, None, Result, Ok, Err, IfOk, OnErr, arith}
-use Rattle.rd_segments.proofs.Prelude.{fun_ext, SegName, Place, Content, Operation, Done, Refusal, root, name_eq, is_of, place_eq, segment_of, Contents, fresh_segment, operand, operate, everywhere, Operates, OperatesOn, Makes, Restores, Agrees, lift_operates, lift_restore, place_operates, Segment, ListOf, by_name, part_of, segments_of, IsFresh, ArrayParts, array_part, fresh_array, contents_of, fresh_space}
-use Rattle.rd_ring.specs.Prelude.{is_array, restore, make, holding}
-use Rattle.rd_cell.proofs.AccessLemmas.{place-make}
-use Rattle.rd_cell.proofs.EffectLemmas.{lift, narrow}
-use Rattle.rd_segments.specs.SpaceFields.{contents_by}
+use Rattle.rd_segments.proofs.Prelude.{◌≡◌, ℕ, true, false, Bool, if◌then◌else◌, refl, sym, ap, subst, List, Some, None, Result, Ok, Err, IfOk, OnErr, arith, fun_ext, SegName, Place, Content, Operation, Done, Refusal, root, name_eq, is_of, place_eq, segment_of, Contents, fresh_segment, operand, operate, everywhere, Operates, OperatesOn, Makes, Restores, Agrees, lift_operates, lift_restore, place_operates, Segment, ListOf, by_name, part_of, segments_of, IsFresh, ArrayParts, array_part, fresh_array, contents_of, fresh_space, is_array, restore, make, holding, lift, narrow, contents_by, place-make}
 use Rattle.rd_cell.specs.declared.places.Place.TheVariants as place
 use Rattle.rd_cell.specs.declared.contents.Content.TheVariants as content
 

@@ -1,7 +1,5 @@
 -- Lists of actors.
-use Rattle.std.proofs.Common.{◌≡◌, ℕ, suc, ◌-◌, ◌<◌, arith, Option, None, List, length, set, slice_get, IsSome, eq-eqb, ne_eqb}
-use Rattle.rd_step.proofs.Prelude.{cond-true, cond-false, slice_get_past, Actor, with_actor, numbered}
-use Rattle.rd_cell.proofs.ListLemmas.{slice_get-set_same, slice_get-set_other}
+use Rattle.rd_step.proofs.Prelude.{◌≡◌, ℕ, suc, ◌-◌, ◌<◌, arith, Option, None, List, length, set, slice_get, IsSome, eq-eqb, ne_eqb, cond-true, cond-false, slice_get_past, Actor, with_actor, numbered, slice_get-set_same, slice_get-set_other}
 
 -- a list with one record written has that record for the actor, and the others' as they were
 pub numbered-set : (xs : List Actor) (n : ℕ) (a : Actor) → n < length xs

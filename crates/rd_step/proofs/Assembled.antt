@@ -1,8 +1,5 @@
 -- Parts without a flaw are a well-formed world.
-use Rattle.std.proofs.Common.{◌≡◌, ℕ, zero, suc, ◌<◌, ◌≤◌, Bool, true, false, not, ◌==◌, ◌&&◌, nat_lt, nat_le, if◌then◌else◌, inl, inr, refl, sym, ◌∙◌, ap, subst, arith, List, [], ◌∷◌, length, slice_get, Option, Some, None, is_some, option_map, lt-ltb, le-ltb, leb-true, eqb-true, eq-eqb}
-use Rattle.rd_step.proofs.Prelude.{list_all, cases_lt, and_parts, and_from, both_ways, slice_get_past, fun_ext, MOST_ACTORS, SLOTS, MOST_SEGMENTS, Cell, SegName, Place, ArrSlot, is_there, SegmentParts, counters_fit, by_number, by_name, count_in, count, Space, contents, ListOf, part_of_parts, contents_of_parts, each_segment, in_list, numbered_there, Actor, words_fit, Parts, Flaw, world_of_fields, numbered, Presence, belongs, place_fits, next_fits, names_fit, numbers_within, actor_fits, is_actor, IsNumbered, AreMade, IsWellFormed, world_of_parts, has, indexes_fit, first_flaw, index_end}
-use Rattle.rd_ring.specs.Segments.{part_from}
-use Rattle.rd_segments.proofs.CountLemmas.{numbered_absent}
+use Rattle.rd_step.proofs.Prelude.{◌≡◌, ℕ, zero, suc, ◌<◌, ◌≤◌, Bool, true, false, not, ◌==◌, ◌&&◌, nat_lt, nat_le, if◌then◌else◌, inl, inr, refl, sym, ◌∙◌, ap, subst, arith, List, [], ◌∷◌, length, slice_get, Option, Some, None, is_some, option_map, lt-ltb, le-ltb, leb-true, eqb-true, eq-eqb, list_all, cases_lt, and_parts, and_from, both_ways, slice_get_past, fun_ext, MOST_ACTORS, SLOTS, MOST_SEGMENTS, Cell, SegName, Place, ArrSlot, is_there, SegmentParts, counters_fit, by_number, by_name, count_in, count, Space, contents, ListOf, part_of_parts, contents_of_parts, each_segment, in_list, numbered_there, Actor, words_fit, Parts, Flaw, world_of_fields, numbered, Presence, belongs, place_fits, next_fits, names_fit, numbers_within, actor_fits, is_actor, IsNumbered, AreMade, IsWellFormed, world_of_parts, has, indexes_fit, first_flaw, index_end, part_from, numbered_absent}
 use Rattle.rd_cell.specs.declared.places.Place.TheVariants as place
 use Rattle.rd_cell.specs.declared.contents.Content.TheVariants as content
 

@@ -1,7 +1,5 @@
 -- A step that does not depend on the one before it may go first.
-use Rattle.std.proofs.Common.{◌≡◌, ◌≢◌, ℕ, false, ◌==◌, refl, sym, ◌∙◌, subst, Option, Some, Ok, arith}
-use Rattle.rd_step.proofs.Prelude.{eqb-false, or_parts, Access, Performed, contents_after, perform, Actor, need, after, World, Event, Stepped, with_actor, step_outcome, step, depends, CommutingSquare}
-use Rattle.rd_cell.proofs.AccessLemmas.{interferes, interferes-sym, perform_around, after_swap}
+use Rattle.rd_step.proofs.Prelude.{◌≡◌, ◌≢◌, ℕ, false, ◌==◌, refl, sym, ◌∙◌, subst, Option, Some, Ok, arith, eqb-false, or_parts, Access, Performed, contents_after, perform, Actor, need, after, World, Event, Stepped, with_actor, step_outcome, step, depends, CommutingSquare, interferes, interferes-sym, perform_around, after_swap}
 use Rattle.rd_step.proofs.Steps.{Took, took, step_of, with_actor-other}
 
 -- the records of two actors may be set in either order

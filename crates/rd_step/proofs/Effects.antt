@@ -1,7 +1,6 @@
 -- An operation that fits, on a content that fits its place, writes one that fits there, and answers
 -- what fits.
-use Rattle.std.proofs.Common.{◌≡◌, ℕ, ◌+◌, ◌<◌, Bool, true, nat_le, arith, Option, Some, None, IfSome, IfOk, le-leb}
-use Rattle.rd_step.proofs.Prelude.{SLOTS, COUNTER_END, Cell, SegName, Place, ArrSlot, Content, Operation, Effect, effect, Presence, content_fits, index_end}
+use Rattle.rd_step.proofs.Prelude.{◌≡◌, ℕ, ◌+◌, ◌<◌, Bool, true, nat_le, arith, Option, Some, None, IfSome, IfOk, le-leb, SLOTS, COUNTER_END, Cell, SegName, Place, ArrSlot, Content, Operation, Effect, effect, Presence, content_fits, index_end}
 use Rattle.rd_step.proofs.Fits.{op_fits, answer_fits, has_slot}
 use Rattle.rd_cell.specs.declared.places.Place.TheVariants as place
 use Rattle.rd_cell.specs.declared.contents.Content.TheVariants as content

@@ -1,11 +1,6 @@
 -- A step that depends on no earlier one may go first in its run, and equivalent lists of events
 -- reach one world.
-use Rattle.std.proofs.Common.{◌≡◌, false, refl, sym, ◌∙◌, ap, subst, List, [], ◌∷◌, ◌++◌, Result, Ok, arith}
-use Rattle.rd_step.proofs.Prelude.{Refusal, World, Event, Entry, Stepped, step, Ran, run, events, depends, IsFree}
-use Rattle.std.specs.Prelude.{IsPermutation}
-use Rattle.std.proofs.lemmas.Bool.{or_from}
-use Rattle.std.proofs.lemmas.List.Sorted.{IsPermutation-sym, IsPermutation-cons, IsPermutation-trans, IsPermutation-middle}
-use Rattle.rd_step.specs.Equivalence.{IsIndependentOf, IsEquivalent, ReachesTheSame}
+use Rattle.rd_step.proofs.Prelude.{◌≡◌, false, refl, sym, ◌∙◌, ap, subst, List, [], ◌∷◌, ◌++◌, Result, Ok, arith, Refusal, World, Event, Entry, Stepped, step, Ran, run, events, depends, IsFree, or_from, IsPermutation, IsPermutation-sym, IsPermutation-cons, IsPermutation-trans, IsPermutation-middle, IsIndependentOf, IsEquivalent, ReachesTheSame}
 use Rattle.rd_step.proofs.Steps.{took}
 use Rattle.rd_step.proofs.Commute.{commutes}
 use Rattle.rd_step.proofs.Symmetry.{symmetric}

@@ -1,6 +1,5 @@
 -- Which accesses and answers fit, and that an actor whose record fits asks for an access that fits.
-use Rattle.std.proofs.Common.{nat_lt, ◌≡◌, ℕ, Bool, true, not, ◌&&◌, nat_le, arith, Option, Some, IfOk}
-use Rattle.rd_step.proofs.Prelude.{and_parts, SLOTS, COUNTER_END, SegName, Place, Access, NoPlace, At, Make, Answer, Operation, Add, AddArray, CasName, CasNext, CasTail, Cas2, is_array, Act, Actor, Pc, need, need_at, need_call, need_choice, words_fit, Presence, names_fit, numbers_within, record_fits, actor_fits, index_end}
+use Rattle.rd_step.proofs.Prelude.{nat_lt, ◌≡◌, ℕ, Bool, true, not, ◌&&◌, nat_le, arith, Option, Some, IfOk, and_parts, SLOTS, COUNTER_END, SegName, Place, Access, NoPlace, At, Make, Answer, Operation, Add, AddArray, CasName, CasNext, CasTail, Cas2, is_array, Act, Actor, Pc, need, need_at, need_call, need_choice, words_fit, Presence, names_fit, numbers_within, record_fits, actor_fits, index_end}
 use Rattle.rd_cell.specs.declared.contents.Content.TheVariants as content
 use Rattle.rd_cell.specs.declared.operations.Answer.TheVariants as answer
 

@@ -1,7 +1,5 @@
 -- A cell, as the name of its two halves, in a well-formed world.
-use Rattle.std.proofs.Common.{◌≡◌, ℕ, true, false, ◌&&◌, nat_lt, Bool, ◌∙◌, ap₂, Option, Some, None, is_some, IfSome, arith}
-use Rattle.rd_step.proofs.Prelude.{Cell, SegName, Place, Content, covers, share, operand, Contents, is_there, is_cell_at, World, Presence, belongs, content_fits, place_fits, IsWellFormed}
-use Rattle.rd_ring.specs.Prelude.{half, cell_of_halves}
+use Rattle.rd_step.proofs.Prelude.{◌≡◌, ℕ, true, false, ◌&&◌, nat_lt, Bool, ◌∙◌, ap₂, Option, Some, None, is_some, IfSome, arith, Cell, SegName, Place, Content, covers, share, operand, Contents, is_there, is_cell_at, World, Presence, belongs, content_fits, place_fits, IsWellFormed, half, cell_of_halves}
 use Rattle.rd_cell.specs.declared.places.Place.TheVariants as place
 use Rattle.rd_cell.specs.declared.contents.Content.TheVariants as content
 

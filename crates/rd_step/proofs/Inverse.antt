@@ -1,10 +1,6 @@
 -- The words that an entry keeps give the world before its step back, and a step on which no later
 -- one depends may be taken out of a run.
-use Rattle.std.proofs.Common.{◌≡◌, ℕ, zero, suc, ◌+◌, ◌<◌, true, false, nat_lt, inl, inr, refl, sym, ◌∙◌, ap, subst, arith, List, ◌∷◌, Option, Some, None, Result, Ok, Err, IfOk, ltb-true}
-use Rattle.rd_step.proofs.Prelude.{cases_Bool, cond-true, cond-false, cond_both, IfOk-at_ok, fun_ext, MOST_SEGMENTS, SegName, Place, Content, Access, NoPlace, At, Make, Operation, Refusal, is_of, covers, written, wrote_by, share, Contents, after_write, operand, restore, is_there, holding, Effect, Performed, contents_after, operate, make, perform, effect_at, number_made_from, result_map, is_cell_at, after_write-outside, Actor, after, World, Event, Stepped, with_actor, step, unstep, Ran, run, Presence, belongs, IsWellFormed}
-use Rattle.rd_cell.specs.Access.{number_made}
-use Rattle.rd_cell.proofs.AccessLemmas.{operand-covered}
-use Rattle.rd_cell.proofs.EffectLemmas.{not_written}
+use Rattle.rd_step.proofs.Prelude.{◌≡◌, ℕ, zero, suc, ◌+◌, ◌<◌, true, false, nat_lt, inl, inr, refl, sym, ◌∙◌, ap, subst, arith, List, ◌∷◌, Option, Some, None, Result, Ok, Err, IfOk, ltb-true, cases_Bool, cond-true, cond-false, cond_both, IfOk-at_ok, fun_ext, MOST_SEGMENTS, SegName, Place, Content, Access, NoPlace, At, Make, Operation, Refusal, is_of, covers, written, wrote_by, share, Contents, after_write, operand, restore, is_there, holding, Effect, Performed, contents_after, operate, make, perform, effect_at, number_made_from, result_map, is_cell_at, after_write-outside, Actor, after, World, Event, Stepped, with_actor, step, unstep, Ran, run, Presence, belongs, IsWellFormed, number_made, operand-covered, not_written}
 use Rattle.rd_step.proofs.Halves.{nothing_there, bare_cell}
 use Rattle.rd_step.proofs.Steps.{took}
 use Rattle.rd_cell.specs.declared.places.Place.TheVariants as place

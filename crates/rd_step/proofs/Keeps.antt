@@ -1,9 +1,5 @@
 -- A step keeps a world well-formed.
-use Rattle.std.proofs.Common.{◌≡◌, ℕ, Bool, true, ◌==◌, nat_lt, inl, inr, refl, sym, ◌∙◌, ap, subst, subst₂, Option, Some, None, is_some, IfSome, Result, Ok, Err, IfOk, arith}
-use Rattle.rd_step.proofs.Prelude.{holding, cases_Bool, cond_both, IfOk-at_ok, fun_ext, SegName, Place, Content, Access, NoPlace, At, Make, Operation, Refusal, MOST_SEGMENTS, root, some_covers, written, share, wrote_by, operand, contents_after, Contents, is_there, Effect, effect, Performed, operate, make, perform, effect_at, result_map, name_eq-refl, written-covers, after_write-outside, Actor, need, after, World, Event, Stepped, with_actor, step_outcome, step, Presence, belongs, content_fits, place_fits, record_fits, actor_fits, is_actor, IsNumbered, AreMade, IsWellFormed}
-use Rattle.rd_ring.specs.Prelude.{number_made}
-use Rattle.rd_cell.specs.Contents.{after_write_at}
-use Rattle.rd_cell.proofs.AccessLemmas.{after_write-inside, after-is_some}
+use Rattle.rd_step.proofs.Prelude.{◌≡◌, ℕ, Bool, true, ◌==◌, nat_lt, inl, inr, refl, sym, ◌∙◌, ap, subst, subst₂, Option, Some, None, is_some, IfSome, Result, Ok, Err, IfOk, arith, holding, cases_Bool, cond_both, IfOk-at_ok, fun_ext, SegName, Place, Content, Access, NoPlace, At, Make, Operation, Refusal, MOST_SEGMENTS, root, some_covers, written, share, wrote_by, operand, contents_after, Contents, is_there, Effect, effect, Performed, operate, make, perform, effect_at, result_map, name_eq-refl, written-covers, after_write-outside, Actor, need, after, World, Event, Stepped, with_actor, step_outcome, step, Presence, belongs, content_fits, place_fits, record_fits, actor_fits, is_actor, IsNumbered, AreMade, IsWellFormed, number_made, after_write-inside, after-is_some, after_write_at}
 use Rattle.rd_step.proofs.Halves.{bare_cell, operand_fits, share_fits, same_kinds}
 use Rattle.rd_step.proofs.Steps.{took}
 use Rattle.rd_step.proofs.Fits.{op_fits, access_fits, record_grows, actor_grows, need_fits}

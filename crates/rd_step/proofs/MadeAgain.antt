@@ -1,6 +1,5 @@
 -- The step of an entry, made again by what the entry keeps.
-use Rattle.std.proofs.Common.{◌≡◌, ℕ, ◌≤◌, true, inl, inr, refl, sym, ◌∙◌, ap, subst, arith, List, Option, Some, IsTrue, Result, Ok, Err, IfOk, IfErr}
-use Rattle.rd_step.proofs.Prelude.{fun_ext, Access, Done, Refusal, is_nothing, Performed, contents_after, perform, everywhere, HasEffect, Space, contents, room, Actor, OpReply, need, after, World, Entry, Stepped, with_actor, step, world_of_fields, numbered, makes, makes_segment, IsRefused, IsWellFormed}
+use Rattle.rd_step.proofs.Prelude.{◌≡◌, ℕ, ◌≤◌, true, inl, inr, refl, sym, ◌∙◌, ap, subst, arith, List, Option, Some, IsTrue, Result, Ok, Err, IfOk, IfErr, fun_ext, Access, Done, Refusal, is_nothing, Performed, contents_after, perform, everywhere, HasEffect, Space, contents, room, Actor, OpReply, need, after, World, Entry, Stepped, with_actor, step, world_of_fields, numbered, makes, makes_segment, IsRefused, IsWellFormed}
 use Rattle.rd_step.proofs.Keeps.{keeps}
 use Rattle.rd_step.proofs.Progress.{changes_only}
 use Rattle.rd_step.proofs.Steps.{took}

@@ -1,8 +1,6 @@
 -- A making keeps a world well-formed: the new segment is its maker's next one, and its places are
 -- just those that belong there.
-use Rattle.std.proofs.Common.{◌≡◌, ℕ, zero, suc, ◌+◌, ◌<◌, ◌≤◌, Bool, true, false, not, ◌==◌, nat_lt, inl, inr, sym, ◌∙◌, ap, subst, arith, Some, is_some, eqb-true}
-use Rattle.rd_step.proofs.Prelude.{cases_eq, cases_Bool, cond-true, cond-false, and_parts, MOST_SEGMENTS, SegName, Place, root, name_eq, Contents, is_there, after_write, holding, number_made_from, name_eq-true, belongs, place_fits, maker_fits, AreMade}
-use Rattle.rd_cell.specs.Access.{number_made}
+use Rattle.rd_step.proofs.Prelude.{◌≡◌, ℕ, zero, suc, ◌+◌, ◌<◌, ◌≤◌, Bool, true, false, not, ◌==◌, nat_lt, inl, inr, sym, ◌∙◌, ap, subst, arith, Some, is_some, eqb-true, cases_eq, cases_Bool, cond-true, cond-false, and_parts, MOST_SEGMENTS, SegName, Place, root, name_eq, Contents, is_there, after_write, holding, number_made_from, name_eq-true, belongs, place_fits, maker_fits, AreMade, number_made}
 use Rattle.rd_step.proofs.Fits.{Grows}
 use Rattle.rd_cell.specs.declared.places.Place.TheVariants as place
 use Rattle.rd_cell.specs.declared.contents.Content.TheVariants as content

@@ -1,8 +1,5 @@
 -- The old words of a step's entry are the words from before the step.
-use Rattle.std.proofs.Common.{◌≡◌, ℕ, refl, subst, Option, Some, Ok, IfOk, arith}
-use Rattle.rd_step.proofs.Prelude.{holding, IfOk-at_ok, SegName, Place, Content, Access, NoPlace, At, Make, Operation, Contents, operand, Performed, operate, make, perform, World, Event, Stepped, step, IsWellFormed}
-use Rattle.rd_ring.specs.Prelude.{number_made}
-use Rattle.rd_step.specs.Laws.{KeepsOldWords}
+use Rattle.rd_step.proofs.Prelude.{◌≡◌, ℕ, refl, subst, Option, Some, Ok, IfOk, arith, holding, IfOk-at_ok, SegName, Place, Content, Access, NoPlace, At, Make, Operation, Contents, operand, Performed, operate, make, perform, World, Event, Stepped, step, IsWellFormed, number_made, KeepsOldWords}
 use Rattle.rd_step.proofs.Steps.{took}
 
 -- an access notes the content that was at its place

@@ -1,6 +1,5 @@
 -- What a `?` passes up.
-use Rattle.std.proofs.Common.{◌≡◌, Result, Err, arith}
-use Rattle.std.specs.Result.{OnErr, IfErr, IsErrAnd}
+use Rattle.rd_step.proofs.Prelude.{◌≡◌, Result, Err, arith, OnErr, IfErr, IsErrAnd}
 
 -- what holds of the error that is passed up holds of the answer
 pub error_passed_up : {T E : Type 0} (P : E → Type 0) (x : E) (r : Result T E) → IsErrAnd r (λ e. e ≡ x) → P x → IfErr r P

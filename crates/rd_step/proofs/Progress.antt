@@ -1,10 +1,6 @@
 -- Progress: what an actor of a well-formed world asks for suits what is there, and the answer leads
 -- it to another control point.
-use Rattle.std.proofs.Common.{◌≡◌, ◌≢◌, ℕ, ◌≤◌, Bool, true, false, if◌then◌else◌, nat_lt, nat_le, refl, sym, ◌∙◌, ap, subst, arith, Option, Some, None, is_some, is_none, ok_or, Result, Ok, Err, IfOk}
-use Rattle.rd_step.proofs.Prelude.{holding, common_steps, cond_both, and_parts, IfOk-at_ok, fun_ext, MOST_SEGMENTS, Cell, SegName, Place, Wrote, ArrSlot, Content, Operation, Access, NoPlace, At, Make, Refusal, some_covers, is_nothing, written, Contents, is_there, operand, Effect, effect, Performed, operate, make, perform, swaps, adds, effect_at, result_map, after_write-outside, written-covers, ok_or_ok, Act, Actor, Pc, Idle, E4, E11, Q5, A2, B2, need, need_at, need_call, need_choice, after_take, after_at, after, words_fit_at, World, Event, Stepped, step, Presence, content_fits, record_fits, actor_fits, IsWellFormed}
-use Rattle.rd_ring.specs.Prelude.{number_made}
-use Rattle.rd_cell.proofs.ResultLemmas.{and_then_err}
-use Rattle.rd_step.specs.Laws.{IsStepRefusal, SuitsContent, MovesOn, ChangesOnly}
+use Rattle.rd_step.proofs.Prelude.{◌≡◌, ◌≢◌, ℕ, ◌≤◌, Bool, true, false, if◌then◌else◌, nat_lt, nat_le, refl, sym, ◌∙◌, ap, subst, arith, Option, Some, None, is_some, is_none, ok_or, Result, Ok, Err, IfOk, holding, common_steps, cond_both, and_parts, IfOk-at_ok, fun_ext, MOST_SEGMENTS, Cell, SegName, Place, Wrote, ArrSlot, Content, Operation, Access, NoPlace, At, Make, Refusal, some_covers, is_nothing, written, Contents, is_there, operand, Effect, effect, Performed, operate, make, perform, swaps, adds, effect_at, result_map, after_write-outside, written-covers, ok_or_ok, Act, Actor, Pc, Idle, E4, E11, Q5, A2, B2, need, need_at, need_call, need_choice, after_take, after_at, after, words_fit_at, World, Event, Stepped, step, Presence, content_fits, record_fits, actor_fits, IsWellFormed, number_made, and_then_err, IsStepRefusal, SuitsContent, MovesOn, ChangesOnly}
 use Rattle.rd_step.proofs.Halves.{has_place, has_operand}
 use Rattle.rd_step.proofs.Fits.{PartsFit, parts_of, words_of}
 use Rattle.rd_step.proofs.Steps.{took, with_actor-same, with_actor-other}

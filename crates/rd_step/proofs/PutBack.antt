@@ -1,10 +1,6 @@
 -- A step takes nothing away, makes no segment of another actor, and what its entry keeps may be put
 -- back after it.
-use Rattle.std.proofs.Common.{◌≡◌, ◌≢◌, ℕ, suc, ◌+◌, ◌<◌, ◌≤◌, Bool, true, false, not, ◌==◌, nat_lt, refl, ◌∙◌, ap, subst, arith, Option, Some, None, is_some, Result, Ok, IfOk, ltb-true}
-use Rattle.rd_step.proofs.Prelude.{holding, cond_both, and_right, both_ways, IfOk-at_ok, MOST_SEGMENTS, operand, SegName, Place, Content, Access, NoPlace, At, Make, Operation, Refusal, is_of, Contents, is_there, Effect, effect, Performed, contents_after, operate, make, perform, effect_at, result_map, name_eq-refl, is_cell_at, Actor, World, Event, Stepped, step, CanPutBack, content_fits, place_fits, IsWellFormed}
-use Rattle.std.proofs.lemmas.Bool.{ne_eqb, false_from_ne_true}
-use Rattle.rd_ring.specs.Prelude.{number_made}
-use Rattle.rd_cell.proofs.AccessLemmas.{keeps-operate}
+use Rattle.rd_step.proofs.Prelude.{◌≡◌, ◌≢◌, ℕ, suc, ◌+◌, ◌<◌, ◌≤◌, Bool, true, false, not, ◌==◌, nat_lt, refl, ◌∙◌, ap, subst, arith, Option, Some, None, is_some, Result, Ok, IfOk, ltb-true, holding, cond_both, and_right, both_ways, IfOk-at_ok, MOST_SEGMENTS, operand, SegName, Place, Content, Access, NoPlace, At, Make, Operation, Refusal, is_of, Contents, is_there, Effect, effect, Performed, contents_after, operate, make, perform, effect_at, result_map, name_eq-refl, is_cell_at, Actor, World, Event, Stepped, step, CanPutBack, content_fits, place_fits, IsWellFormed, ne_eqb, false_from_ne_true, number_made, keeps-operate}
 use Rattle.rd_step.proofs.Halves.{bare_cell, operand_fits}
 use Rattle.rd_step.proofs.Steps.{took}
 use Rattle.rd_step.proofs.Making.{laid_new, laid_other}

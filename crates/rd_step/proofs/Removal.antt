@@ -1,7 +1,5 @@
 -- A step on which no later one depends may be taken out of a run, and go last.
-use Rattle.std.proofs.Common.{◌≡◌, ℕ, true, ◌==◌, sym, ◌∙◌, ap, subst, List, [], ◌∷◌, is_some, Ok, arith}
-use Rattle.rd_step.proofs.Prelude.{or_parts, Place, is_there, interfere, World, Event, Entry, Stepped, step, unstep, CanPutBack, Ran, run, IsFree, CommutingSquare, place_fits, IsWellFormed}
-use Rattle.rd_step.specs.Laws.{IsRemovable, WasStepped, IsTakenOut}
+use Rattle.rd_step.proofs.Prelude.{◌≡◌, ℕ, true, ◌==◌, sym, ◌∙◌, ap, subst, List, [], ◌∷◌, is_some, Ok, arith, or_parts, Place, is_there, interfere, World, Event, Entry, Stepped, step, unstep, CanPutBack, Ran, run, IsFree, CommutingSquare, place_fits, IsWellFormed, IsRemovable, WasStepped, IsTakenOut}
 use Rattle.rd_step.proofs.Steps.{took, with_actor-same}
 use Rattle.rd_step.proofs.Commute.{commutes}
 use Rattle.rd_step.proofs.Keeps.{keeps}

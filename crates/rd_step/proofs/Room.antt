@@ -1,7 +1,5 @@
 -- The room that a step uses is the room that its undoing gives back.
-use Rattle.std.proofs.Common.{◌≡◌, ℕ, true, arith, Ok}
-use Rattle.rd_step.proofs.Prelude.{is_nothing, Performed, room_used, World, Event, Stepped, step, makes_segment}
-use Rattle.rd_segments.specs.Room.{room_returned}
+use Rattle.rd_step.proofs.Prelude.{◌≡◌, ℕ, true, arith, Ok, is_nothing, Performed, room_used, World, Event, Stepped, step, makes_segment, room_returned}
 
 -- the room that a step uses is what undoing it gives back
 pub room_used_returned : (w : World) (e : Event) (s : Stepped) (m : ℕ) → step w e ≡ Ok s

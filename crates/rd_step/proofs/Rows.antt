@@ -1,11 +1,7 @@
 -- An actor whose record fits goes on, with an answer that fits, to a record that fits: one clause a
 -- row of the table.
-use Rattle.std.proofs.Common.{◌≡◌, ℕ, Bool, true, ◌&&◌, if◌then◌else◌, nat_lt, refl, arith, Option, Some, None, Ok, le-leb}
-use Rattle.rd_step.proofs.Prelude.{and_parts, SLOTS, ArrSlot, Access, Answer, root, Act, Actor, Pc, E1, E2, E3, E4, E5, E6, E7, E8, E9, E11, E12, E13, E14, Q1, Q2, Q3, Q4, Q5, Q6, Q7, Q8, Q9, Q10, Q11, Q12, Q13, Q14, A1, A2, B1, B2, B3, idle, need, need_at, after_take, after_at, after, words_fit, words_fit_at, Presence, record_fits, index_end}
-use Rattle.rd_actor.specs.declared.actors.Op.{Op}
+use Rattle.rd_step.proofs.Prelude.{◌≡◌, ℕ, Bool, true, ◌&&◌, if◌then◌else◌, nat_lt, refl, arith, Option, Some, None, Ok, le-leb, and_parts, SLOTS, ArrSlot, Access, Answer, root, Act, Actor, Pc, E1, E2, E3, E4, E5, E6, E7, E8, E9, E11, E12, E13, E14, Q1, Q2, Q3, Q4, Q5, Q6, Q7, Q8, Q9, Q10, Q11, Q12, Q13, Q14, A1, A2, B1, B2, B3, idle, need, need_at, after_take, after_at, after, words_fit, words_fit_at, Presence, record_fits, index_end, calling, enqueue_fits, Op}
 use Rattle.rd_actor.specs.declared.actors.Op.TheVariants as op
-use Rattle.rd_actor.specs.Actors.{calling}
-use Rattle.rd_actor.specs.Words.{enqueue_fits}
 use Rattle.rd_step.proofs.Fits.{PartsFit, parts_of, words_of, together, answer_fits, drew_slot}
 use Rattle.rd_cell.specs.declared.contents.Content.TheVariants as content
 use Rattle.rd_cell.specs.declared.operations.Answer.TheVariants as answer

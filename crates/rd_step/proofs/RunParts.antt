@@ -1,8 +1,5 @@
 -- Runs whose entries are known, taken apart at their first step and at one in their middle.
-use Rattle.std.proofs.Common.{◌≡◌, false, refl, ◌∙◌, ap, List, [], ◌∷◌, ◌++◌, Result, Ok, Err, arith}
-use Rattle.rd_step.proofs.Prelude.{Refusal, World, Entry, step, Ran, run, events, or_parts, depends, IsFree}
-use Rattle.std.specs.List.{list_any}
-use Rattle.rd_step.specs.Run.{run_entries, IsRunFrom}
+use Rattle.rd_step.proofs.Prelude.{◌≡◌, false, refl, ◌∙◌, ap, List, [], ◌∷◌, ◌++◌, Result, Ok, Err, arith, Refusal, World, Entry, step, Ran, run, events, or_parts, depends, IsFree, list_any, run_entries, IsRunFrom}
 use Rattle.rd_step.proofs.Inverse.{run-cons}
 
 -- if none of some entries depends on x, then neither the first one does nor any other

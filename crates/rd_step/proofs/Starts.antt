@@ -1,9 +1,5 @@
 -- The worlds that a session may begin with are well-formed.
-use Rattle.std.proofs.Common.{◌≡◌, ◌↔◌, ℕ, suc, ◌<◌, ◌≤◌, Bool, true, false, if◌then◌else◌, nat_lt, inl, inr, refl, sym, ◌∙◌, ap, arith, List, length, get_or, slice_get, All, IsSome, Option, Some, None, is_some, le-leb, lt-ltb, le-ltb}
-use Rattle.rd_step.proofs.Prelude.{common_steps, cases_lt, cond-true, cond-false, and_from, both_ways, slice_get_past, MOST_ACTORS, SegName, Place, root, is_there, Space, contents, Actor, idle, poised, World, world_of_fields, numbered, Presence, belongs, place_fits, record_fits, actor_fits, is_actor, IsNumbered, AreMade, IsWellFormed, index_end}
-use Rattle.std.proofs.lemmas.Option.{slice_get-get_or}
-use Rattle.rd_segments.specs.SpaceFields.{fresh_space}
-use Rattle.rd_step.specs.Starts.{actors_by, fresh_world, poised_world}
+use Rattle.rd_step.proofs.Prelude.{◌≡◌, ◌↔◌, ℕ, suc, ◌<◌, ◌≤◌, Bool, true, false, if◌then◌else◌, nat_lt, inl, inr, refl, sym, ◌∙◌, ap, arith, List, length, get_or, slice_get, All, IsSome, Option, Some, None, is_some, le-leb, lt-ltb, le-ltb, common_steps, cases_lt, cond-true, cond-false, and_from, both_ways, slice_get_past, MOST_ACTORS, SegName, Place, root, is_there, Space, contents, Actor, idle, poised, World, world_of_fields, numbered, Presence, belongs, place_fits, record_fits, actor_fits, is_actor, IsNumbered, AreMade, IsWellFormed, index_end, slice_get-get_or, fresh_space, actors_by, fresh_world, poised_world}
 
 -- a list of this many actors, each with the record that its number gives
 pub list_actors : (xs : List Actor) (each : ℕ → Actor) (count : ℕ) → length xs ≡ count

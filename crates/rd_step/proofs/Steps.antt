@@ -1,6 +1,5 @@
 -- A step that was not refused, taken apart.
-use Rattle.std.proofs.Common.{◌≡◌, ℕ, ◌==◌, refl, arith, Option, Some, ok_or, Ok, Err, ne_eqb, eq-eqb}
-use Rattle.rd_step.proofs.Prelude.{cond-true, cond-false, and_then_ok, ok_or_ok, Access, Refusal, Performed, perform, Actor, need, after, World, Event, Stepped, with_actor, step_outcome, step}
+use Rattle.rd_step.proofs.Prelude.{◌≡◌, ℕ, ◌==◌, refl, arith, Option, Some, ok_or, Ok, Err, ne_eqb, eq-eqb, cond-true, cond-false, and_then_ok, ok_or_ok, Access, Refusal, Performed, perform, Actor, need, after, World, Event, Stepped, with_actor, step_outcome, step}
 use Rattle.rd_cell.specs.declared.refusal.Refusal.TheVariants as refusal
 
 -- the step of e from w: the actor's record, its access and what that did

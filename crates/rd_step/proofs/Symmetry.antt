@@ -1,6 +1,5 @@
 -- Dependence is the same either way round.
-use Rattle.std.proofs.Common.{◌≡◌, ℕ, ◌==◌, ◌||◌, Option, arith}
-use Rattle.rd_step.proofs.Prelude.{Place, Wrote, interfere, depends, Entry}
+use Rattle.rd_step.proofs.Prelude.{◌≡◌, ℕ, ◌==◌, ◌||◌, Option, arith, Place, Wrote, interfere, depends, Entry}
 
 same_either_way : (m n : ℕ) → (m == n) ≡ (n == m)
 same_either_way m n = grind arith

@@ -1,9 +1,5 @@
 -- The parts that a world is taken apart into.
-use Rattle.std.proofs.Common.{◌≡◌, ℕ, suc, ◌≤◌, ◌∙◌, sym, ap, subst, List, Vec, length, None}
-use Rattle.rd_step.proofs.Prelude.{SegmentParts, MOST_CELLS, SegName, Actor, Space, contents, lists, ListOf, contents_of_parts, Parts, World, world_of_fields, numbered, IsWellFormed, world_of_parts, first_flaw}
-use Rattle.std.specs.declared.alloc.Global.{Global}
-use Rattle.rd_segments.specs.declared.array.ArrayParts.{ArrayParts}
-use Rattle.rd_segments.specs.Space.{head_name, tail_name, array_words}
+use Rattle.rd_step.proofs.Prelude.{◌≡◌, ℕ, suc, ◌≤◌, ◌∙◌, sym, ap, subst, List, Vec, length, None, SegmentParts, MOST_CELLS, SegName, Actor, Space, contents, lists, ListOf, contents_of_parts, Parts, World, world_of_fields, numbered, IsWellFormed, world_of_parts, first_flaw, head_name, tail_name, array_words, Global, ArrayParts}
 use Rattle.rd_step.proofs.Accepted.{accepted}
 
 -- these segments and actors are those of a space and of a world's actors

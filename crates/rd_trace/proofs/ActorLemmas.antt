@@ -1,8 +1,6 @@
 -- Actors as values: what is written of each part, and what is read again.
-use Rattle.std.proofs.Common.{◌≡◌, ℕ, List, [], ◌∷◌, length, Option, Some, None, refl, arith}
-use Rattle.rd_trace.proofs.Prelude.{unsigned, items_view, Actor, name_of, name_data, byte_number, value_of, value_data, op_of_items, IsActor, actor_data}
+use Rattle.rd_trace.proofs.Prelude.{◌≡◌, ℕ, List, [], ◌∷◌, length, Option, Some, None, refl, arith, unsigned, items_view, Actor, name_of, name_data, byte_number, value_of, value_data, op_of_items, IsActor, actor_data, Value}
 use Rattle.serde_json.specs.Data.{number}
-use Rattle.serde_json.specs.declared.value.Value.{Value}
 
 -- a list of another length spells no call
 pub no_op : (vs : List Value) → (length vs ≡ 1 → ⊥) → (length vs ≡ 2 → ⊥) → op_of_items (items_view vs) ≡ None

@@ -1,7 +1,5 @@
 -- The array as a value: which slots are read, whose positions rise, and its value, which spells it.
-use Rattle.std.proofs.Common.{◌≡◌, ℕ, zero, suc, ◌+◌, ◌<◌, ◌≤◌, List, [], ◌∷◌, ◌++◌, length, set, replicate, take, get_or, Some, None, refl, sym, ap, ap₂, ◌∙◌, subst, arith, append-nil, length-take}
-use Rattle.rd_trace.proofs.Prelude.{length-set, take_more, take_all, Data, view, items_view, SLOTS, ArrSlot, ArrayParts, Gives, SpellEach, items_by, slot_of_items, slot_of, filled_slots, slot_data, IsArray, array_data}
-use Rattle.serde_json.specs.declared.value.Value.{Value}
+use Rattle.rd_trace.proofs.Prelude.{◌≡◌, ℕ, zero, suc, ◌+◌, ◌<◌, ◌≤◌, List, [], ◌∷◌, ◌++◌, length, set, replicate, take, get_or, Some, None, refl, sym, ap, ap₂, ◌∙◌, subst, arith, append-nil, length-take, length-set, take_more, take_all, Data, view, items_view, SLOTS, ArrSlot, ArrayParts, Gives, SpellEach, items_by, slot_of_items, slot_of, filled_slots, slot_data, IsArray, array_data, Value}
 use Rattle.rd_trace.proofs.SpellLemmas.{one_given, same_each, spelled_at, spell_each-more, spell_each-none, items_written}
 use Rattle.rd_cell.specs.declared.contents.ArrSlot.TheVariants as slot
 

@@ -1,7 +1,5 @@
 -- Events as values.
-use Rattle.std.proofs.Common.{◌≡◌, List, [], ◌∷◌, length, None, refl}
-use Rattle.rd_trace.proofs.Prelude.{items_view, event_of_items}
-use Rattle.serde_json.specs.declared.value.Value.{Value}
+use Rattle.rd_trace.proofs.Prelude.{◌≡◌, List, [], ◌∷◌, length, None, refl, items_view, event_of_items, Value}
 
 -- a list of another length spells no event
 pub other_length : (vs : List Value) → (length vs ≡ 2 → ⊥) → (length vs ≡ 3 → ⊥) → event_of_items (items_view vs) ≡ None

@@ -1,7 +1,6 @@
 -- A line feed after printed tokens changes none of them, so that the text of a value is read the
 -- same with one after it.
-use Rattle.std.proofs.Common.{◌≡◌, ℕ, Bool, true, false, cond, ◌&&◌, List, [], ◌∷◌, ◌++◌, refl, sym, ap, ap₂, ◌∙◌, append_assoc, append-nil, arith}
-use Rattle.rd_trace.proofs.Prelude.{Token, begin_object, end_object, begin_array, end_array, key, bad, Lexeme, token, comma, string_token, lex, between, fresh, punctuate, tokens, escape, quoted, token_text, begins, ends, print_from, print, IsPrintable, ArePrintable, content-escape, lex-escape, ArePrintableOrBad}
+use Rattle.rd_trace.proofs.Prelude.{◌≡◌, ℕ, Bool, true, false, cond, ◌&&◌, List, [], ◌∷◌, ◌++◌, refl, sym, ap, ap₂, ◌∙◌, append_assoc, append-nil, arith, Token, begin_object, end_object, begin_array, end_array, key, bad, Lexeme, token, comma, string_token, lex, between, fresh, punctuate, tokens, escape, quoted, token_text, begins, ends, print_from, print, IsPrintable, ArePrintable, content-escape, lex-escape, ArePrintableOrBad}
 use Rattle.json.specs.Token.{string, number, boolean, null}
 use Rattle.json.specs.Word.{ends_word, word}
 use Rattle.json.proofs.Printed.Numbers.{lex-number, in_word-ended}

@@ -1,11 +1,6 @@
 -- What loading a text gives.
-use Rattle.std.proofs.Common.{◌≡◌, ◌≤◌, ◌<◌, ◌+◌, inl, inr, ℕ, List, [], ◌∷◌, length, codes, Option, Some, None, option_map, Result, Err, refl, sym, subst, arith}
-use Rattle.std.specs.Option.{option_or}
-use Rattle.rd_trace.proofs.Prelude.{IsDistinct, Data, World, Refusal, Mark, book_state, loaded_state, first_refused, first_refused_mark, Replays, MOST_MARKS, HaveDifferentNames, LoadTraceFault, BadTrace, Flawed, TraceMark, TraceStep, Start, number_at, IsStart, HasActorCount, Trace, IsEitherVersion, HasValue, IsTraceText, IsTraceRing, LoadsValue, LoadsTrace}
-use Rattle.serde_json.specs.Read.{read}
+use Rattle.rd_trace.proofs.Prelude.{◌≡◌, ◌≤◌, ◌<◌, ◌+◌, inl, inr, ℕ, List, [], ◌∷◌, length, codes, Option, Some, None, option_map, Result, Err, refl, sym, subst, arith, option_or, IsDistinct, Data, World, Refusal, Mark, book_state, loaded_state, first_refused, first_refused_mark, Replays, MOST_MARKS, HaveDifferentNames, LoadTraceFault, BadTrace, Flawed, TraceMark, TraceStep, Start, number_at, IsStart, HasActorCount, Trace, IsEitherVersion, HasValue, IsTraceText, IsTraceRing, LoadsValue, LoadsTrace, read, Book, NoMemory}
 use Rattle.serde_json.proofs.OnLiterals.{serde_json_on_literals}
-use Rattle.rd_marks.specs.declared.books.Book.{Book}
-use Rattle.rd_trace.specs.declared.faults.LoadTraceFault.TheVariants.{NoMemory}
 
 -- What a session that is spelled keeps
 

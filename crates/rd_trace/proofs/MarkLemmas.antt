@@ -1,11 +1,6 @@
 -- Bookmarks as values.
-use Rattle.std.proofs.Common.{◌≡◌, ℕ, nat_eq, nat_lt, suc, ◌+◌, ◌<◌, ◌≤◌, true, false, ◌||◌, List, [], ◌∷◌, ◌++◌, map, Bool, length, get_or, take, drop, slice_get, codes, Decides, Option, Some, None, ok_or, option_map, IfSome, Ok, inl, inr, refl, sym, ap, ap₂, ◌∙◌, subst, arith}
-use Rattle.rd_trace.proofs.Prelude.{AllByRecursion, list_any, list_all, IsDistinct, and_parts, or_cases, eqb-true, true≢false, false≢true, same_Some, map_push, take_all, IsDistinct-head, IsDistinct-tail, IsDistinct-push, escape, escape_byte, escape_byte_plain, Data, view, items_view, compact_text, comma_if, MarkName, Event, MOST_MARKS, is_name_byte, is_mark_name, bytes_of, mark_name_eq, HaveDifferentNames, Mark, BookState, mark_at, mark_events, result_map, Gives, SpellEach, items_by, event_of, event_data, IsMark, AreMarks, saved_mark, mark_data, AreAppended, IsMarkAppended, SavedMark}
-use Rattle.rd_marks.proofs.MarkLemmas.{name_and_length}
+use Rattle.rd_trace.proofs.Prelude.{◌≡◌, ℕ, nat_eq, nat_lt, suc, ◌+◌, ◌<◌, ◌≤◌, true, false, ◌||◌, List, [], ◌∷◌, ◌++◌, map, Bool, length, get_or, take, drop, slice_get, codes, Decides, Option, Some, None, ok_or, option_map, IfSome, Ok, inl, inr, refl, sym, ap, ap₂, ◌∙◌, subst, arith, AllByRecursion, list_any, list_all, IsDistinct, and_parts, or_cases, eqb-true, true≢false, false≢true, same_Some, map_push, take_all, IsDistinct-head, IsDistinct-tail, IsDistinct-push, escape, escape_byte, escape_byte_plain, Data, view, items_view, compact_text, comma_if, MarkName, Event, MOST_MARKS, is_name_byte, is_mark_name, bytes_of, mark_name_eq, HaveDifferentNames, Mark, BookState, mark_at, mark_events, result_map, Gives, SpellEach, items_by, event_of, event_data, IsMark, AreMarks, saved_mark, mark_data, AreAppended, IsMarkAppended, SavedMark, name_and_length, slice_get_within, Value, bytes_eq-Decides}
 use Rattle.std.specs.Cmp.{IsEquivalence}
-use Rattle.std.proofs.lemmas.Option.{slice_get_within}
-use Rattle.std.proofs.lemmas.Slice.Eq.{bytes_eq-Decides}
-use Rattle.serde_json.specs.declared.value.Value.{Value}
 use Rattle.rd_trace.proofs.SpellLemmas.{split_at, take_got, some_got, spelled_at, spelled_length, spell_each-more}
 use Rattle.rd_trace.proofs.TextLemmas.{each_spelled, list_back, one_more_appended, two_parts, mark_text}
 use Rattle.rd_cell.specs.declared.refusal.Refusal.TheVariants as refusal

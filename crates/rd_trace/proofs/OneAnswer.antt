@@ -1,8 +1,5 @@
 -- Loading a text has one answer, memory aside.
-use Rattle.std.proofs.Common.{◌≡◌, ◌⊎◌, inl, inr, ℕ, ◌+◌, List, [], ◌∷◌, ◌++◌, map, Option, None, option_map, Result, Ok, Err, refl, sym, ap, ap₂, ◌∙◌, subst, subst₂, arith}
-use Rattle.rd_trace.proofs.Prelude.{World, Refusal, Event, Mark, Trace, IsTraceText, loaded_state, seen_mark, IsSameBook, first_refused, first_refused_mark, trace_fault, IsBookIn, Replays, LoadsTrace, IsSameAnswer, AnyBook, LoadTraceFault, BadTrace, Flawed, TraceMark, TraceStep, LoadsAgain, BookState, IsTextOf, IsTraceRing}
-use Rattle.std.specs.Option.{option_or}
-use Rattle.rd_trace.specs.declared.faults.LoadTraceFault.TheVariants.{NoMemory}
+use Rattle.rd_trace.proofs.Prelude.{◌≡◌, ◌⊎◌, inl, inr, ℕ, ◌+◌, List, [], ◌∷◌, ◌++◌, map, Option, None, option_map, Result, Ok, Err, refl, sym, ap, ap₂, ◌∙◌, subst, subst₂, arith, World, Refusal, Event, Mark, Trace, IsTraceText, loaded_state, seen_mark, IsSameBook, first_refused, first_refused_mark, trace_fault, IsBookIn, Replays, LoadsTrace, IsSameAnswer, AnyBook, LoadTraceFault, BadTrace, Flawed, TraceMark, TraceStep, LoadsAgain, BookState, IsTextOf, IsTraceRing, option_or, NoMemory}
 use Rattle.rd_trace.proofs.OneTrace.{seen, same_trace, same_book}
 
 -- bookmarks that are the same have the same fault

@@ -1,18 +1,8 @@
 -- A text is one trace at most.
-use Rattle.std.proofs.Common.{◌≡◌, ◌≢◌, ℕ, suc, ◌+◌, ◌≤◌, Bool, not, ◌&&◌, ◌==◌, nat_le, if◌then◌else◌, List, [], ◌∷◌, map, length, slice_get, codes, Option, Some, None, is_some, option_map, Vec, Global, inl, inr, refl, sym, ap, ◌∙◌, subst, arith}
-use Rattle.rd_trace.proofs.Prelude.{length-map, slice_get-map, list_all, Data, get, as_array, read, SegName, ArrSlot, Actor, SLOTS, SegmentParts, ArrayParts, World, MOST_ACTORS, Event, fresh_world, numbered, world_of_parts, first_flaw, indexes_fit, array_fits, Parts, Flaw, bytes_of, Mark, member_count, items_at, Gives, SpellEachAt, elements, event_of, IsActor, slot_of, filled_slots, IsArray, cell_of, IsSegment, IsSegmentList, IsMark, IsParts, IsStart, start_world, start_flaw, Start, Trace, IsVersion1, IsVersion2, IsEitherVersion, IsTraceText, loaded_state, seen_mark, IsSameBook}
+use Rattle.rd_trace.proofs.Prelude.{◌≡◌, ◌≢◌, ℕ, suc, ◌+◌, ◌≤◌, Bool, not, ◌&&◌, ◌==◌, nat_le, if◌then◌else◌, List, [], ◌∷◌, map, length, slice_get, codes, Option, Some, None, is_some, option_map, Vec, Global, inl, inr, refl, sym, ap, ◌∙◌, subst, arith, length-map, slice_get-map, list_all, Data, get, as_array, read, SegName, ArrSlot, Actor, SLOTS, SegmentParts, ArrayParts, World, MOST_ACTORS, Event, fresh_world, numbered, world_of_parts, first_flaw, indexes_fit, array_fits, Parts, Flaw, bytes_of, Mark, member_count, items_at, Gives, SpellEachAt, elements, event_of, IsActor, slot_of, filled_slots, IsArray, cell_of, IsSegment, IsSegmentList, IsMark, IsParts, IsStart, start_world, start_flaw, Start, Trace, IsVersion1, IsVersion2, IsEitherVersion, IsTraceText, loaded_state, seen_mark, IsSameBook, list_all-map, COUNTER_END, MOST_SEGMENTS, MOST_CELLS, counters_fit, array_part, by_number, by_name, count_in, count, segments_by, part_of_parts, contents_by, words_fit, next_fits, names_fit, numbers_within}
 use Rattle.std.proofs.Props.{props}
-use Rattle.std.proofs.lemmas.List.Folds.{list_all-map}
 use mathlib.Core.HLevel.{is_prop→PathP}
 use Rattle.rd_cell.specs.declared.contents.ArrSlot.TheVariants as slot
-use Rattle.rd_ring.specs.Prelude.{COUNTER_END, MOST_SEGMENTS, MOST_CELLS}
-use Rattle.rd_ring.specs.Segments.{counters_fit}
-use Rattle.rd_segments.specs.Array.{array_part}
-use Rattle.rd_segments.specs.Lists.{by_number, by_name, count_in, count, segments_by}
-use Rattle.rd_segments.specs.Parts.{part_of_parts}
-use Rattle.rd_segments.specs.SpaceFields.{contents_by}
-use Rattle.rd_actor.specs.Words.{words_fit}
-use Rattle.rd_step.specs.WellFormed.{next_fits, names_fit, numbers_within}
 use Rattle.rd_step.specs.declared.flaws.Flaw.TheVariants.{Makers, PlaceNames, ActorNames, Counters, Indexes, ArrayCounters, ActorNumbers, ActorWords}
 use Rattle.rd_trace.proofs.LoadLemmas.{ring_of}
 use Rattle.rd_trace.proofs.SpellLemmas.{one_given, same_each_at, same_seen_at}

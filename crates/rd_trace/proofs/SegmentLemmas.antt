@@ -1,7 +1,5 @@
 -- Segments as values: which cells are read, and what is written is read again.
-use Rattle.std.proofs.Common.{◌≡◌, ℕ, ◌+◌, ◌<◌, ◌≤◌, List, [], ◌∷◌, length, take, set, get_or, Some, None, option_map, refl, ap, ◌∙◌, arith, add-one}
-use Rattle.rd_trace.proofs.Prelude.{take-suc-set, length-set, take_all, none-some, view, items_view, Cell, SegmentParts, Gives, SpellEach, items_by, next_of, next_data, cell_of_items, cell_of, cell_data, IsSegment, segment_data}
-use Rattle.serde_json.specs.declared.value.Value.{Value}
+use Rattle.rd_trace.proofs.Prelude.{◌≡◌, ℕ, ◌+◌, ◌<◌, ◌≤◌, List, [], ◌∷◌, length, take, set, get_or, Some, None, option_map, refl, ap, ◌∙◌, arith, add-one, take-suc-set, length-set, take_all, none-some, view, items_view, Cell, SegmentParts, Gives, SpellEach, items_by, next_of, next_data, cell_of_items, cell_of, cell_data, IsSegment, segment_data, Value}
 use Rattle.rd_trace.proofs.SpellLemmas.{spell_each-more, spell_each-none}
 use Rattle.rd_trace.proofs.ActorLemmas.{value_spelled}
 

@@ -1,6 +1,5 @@
 -- The start of a session as a value, and when it is the fresh world.
-use Rattle.std.proofs.Common.{◌≡◌, ℕ, ◌≤◌, Some, None, Result, inl, inr, refl, sym, ap, ◌∙◌, subst, arith}
-use Rattle.rd_trace.proofs.Prelude.{IfOk, OnOk, Data, MOST_ACTORS, World, fresh_world, world_of_parts, first_flaw, Parts, SpellEach, items_by, name_of, name_data, IsActor, actor_data, array_data, IsSegmentList, list_data, IsFreshStart, IsParts, IsStartValue, fresh_data, parts_data}
+use Rattle.rd_trace.proofs.Prelude.{◌≡◌, ℕ, ◌≤◌, Some, None, Result, inl, inr, refl, sym, ap, ◌∙◌, subst, arith, IfOk, OnOk, Data, MOST_ACTORS, World, fresh_world, world_of_parts, first_flaw, Parts, SpellEach, items_by, name_of, name_data, IsActor, actor_data, array_data, IsSegmentList, list_data, IsFreshStart, IsParts, IsStartValue, fresh_data, parts_data}
 use Rattle.rd_trace.proofs.ArrayLemmas.{array_spelled}
 use Rattle.rd_trace.specs.declared.starts.Start.TheVariants as start
 

@@ -1,7 +1,6 @@
 -- Texts that are put together: of lists, of events, of bookmarks and of a book; and that the text of
 -- a value is read as that value.
-use Rattle.std.proofs.Common.{◌≡◌, ℕ, ◌+◌, ◌^◌, ◌<◌, ◌≤◌, nat_lt, Bool, true, false, List, [], ◌∷◌, ◌++◌, length, take, codes, decimal, Option, Some, option_map, option_and_then, refl, sym, ap, ◌∙◌, subst, arith, append_assoc, append-nil, suc, max, ap₂, lt-ltb, if◌then◌else◌, is_ok, Result, OnOk}
-use Rattle.rd_trace.proofs.Prelude.{length-take-le, Token, tokens, escape, escape_byte, ArePrintableOrBad, Data, array, object, unsigned, Items, no_items, item, Members, no_members, member, depth, items_depth, members_depth, of_json, read, max_depth, outline, items_outline, members_outline, compact_text, items_text, members_text, comma_if, has_float, IsInOrder, SpellEach, items_by, Act, Event, short_data, long_data, act_data, event_data, mark_object, book_object, joined_text, IsReadBack, IsSpelledBack, AreAppended}
+use Rattle.rd_trace.proofs.Prelude.{◌≡◌, ℕ, ◌+◌, ◌^◌, ◌<◌, ◌≤◌, nat_lt, Bool, true, false, List, [], ◌∷◌, ◌++◌, length, take, codes, decimal, Option, Some, option_map, option_and_then, refl, sym, ap, ◌∙◌, subst, arith, append_assoc, append-nil, suc, max, ap₂, lt-ltb, if◌then◌else◌, is_ok, Result, OnOk, length-take-le, Token, tokens, escape, escape_byte, ArePrintableOrBad, Data, array, object, unsigned, Items, no_items, item, Members, no_members, member, depth, items_depth, members_depth, of_json, read, max_depth, outline, items_outline, members_outline, compact_text, items_text, members_text, comma_if, has_float, IsInOrder, SpellEach, items_by, Act, Event, short_data, long_data, act_data, event_data, mark_object, book_object, joined_text, IsReadBack, IsSpelledBack, AreAppended}
 use Rattle.std.specs.Fmt.{digits}
 use Rattle.json.specs.Json as json
 use Rattle.json.specs.Tree as tree

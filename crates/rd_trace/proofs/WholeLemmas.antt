@@ -1,6 +1,5 @@
 -- The value of a book has no float, and is not deep.
-use Rattle.std.proofs.Common.{◌≡◌, ℕ, suc, ◌≤◌, false, ◌||◌, List, [], ◌∷◌, Vec, Global, inl, inr, refl, sym, ap₂, subst, arith}
-use Rattle.rd_trace.proofs.Prelude.{Data, Items, depth, items_depth, max_depth, has_float, items_have_float, Cell, ArrSlot, SegmentParts, ArrayParts, Actor, World, Event, Parts, Mark, BookState, items_by, event_data, actor_data, cell_data, segment_data, list_data, filled_slots, slot_data, array_data, IsStartData, parts_data, mark_data, book_data}
+use Rattle.rd_trace.proofs.Prelude.{◌≡◌, ℕ, suc, ◌≤◌, false, ◌||◌, List, [], ◌∷◌, Vec, Global, inl, inr, refl, sym, ap₂, subst, arith, Data, Items, depth, items_depth, max_depth, has_float, items_have_float, Cell, ArrSlot, SegmentParts, ArrayParts, Actor, World, Event, Parts, Mark, BookState, items_by, event_data, actor_data, cell_data, segment_data, list_data, filled_slots, slot_data, array_data, IsStartData, parts_data, mark_data, book_data}
 
 -- a value has no float, and is at most so deep; so are items
 record IsPlain (n : ℕ) (d : Data) : Type 0 where

@@ -1,6 +1,5 @@
 -- The text of a book is a trace of it.
-use Rattle.std.proofs.Common.{◌≡◌, ℕ, ◌^◌, ◌<◌, ◌≤◌, false, List, ◌++◌, Some, IsUtf8, inr, sym, ap, ◌∙◌, subst}
-use Rattle.rd_trace.proofs.Prelude.{Data, depth, read, max_depth, has_float, compact_text, IsInOrder, World, BookState, KeepsRules, Gives, SpellEach, items_by, event_of, event_data, IsStartValue, IsMark, mark_data, book_data, IsReadBack, IsSpelledBack, IsStartAppended, GoThrough, MarksGoThrough, IsTextOf}
+use Rattle.rd_trace.proofs.Prelude.{◌≡◌, ℕ, ◌^◌, ◌<◌, ◌≤◌, false, List, ◌++◌, Some, IsUtf8, inr, sym, ap, ◌∙◌, subst, Data, depth, read, max_depth, has_float, compact_text, IsInOrder, World, BookState, KeepsRules, Gives, SpellEach, items_by, event_of, event_data, IsStartValue, IsMark, mark_data, book_data, IsReadBack, IsSpelledBack, IsStartAppended, GoThrough, MarksGoThrough, IsTextOf}
 use Rattle.rd_trace.proofs.ReplayLemmas.{no_fault}
 use Rattle.rd_trace.proofs.SavedLemmas.{book_spelled}
 use Rattle.rd_trace.proofs.WholeLemmas.{whole_start, shallow_start, shallow_book}

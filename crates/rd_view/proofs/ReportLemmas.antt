@@ -1,6 +1,5 @@
 -- The next part of a report, and of a view.
-use Rattle.rd_view.proofs.Prelude.{OnOk, drop-cons}
-use Rattle.std.proofs.Common.{◌≡◌, ◌∙◌, ℕ, List, ◌∷◌, ◌++◌, ◌+◌, ◌<◌, Result, Ok, Err, sym, ap, append_assoc, length, drop, get_or, add-one, refl}
+use Rattle.rd_view.proofs.Prelude.{OnOk, drop-cons, ◌≡◌, ◌∙◌, ℕ, List, ◌∷◌, ◌++◌, ◌+◌, ◌<◌, Result, Ok, Err, sym, ap, append_assoc, length, drop, get_or, add-one, refl}
 
 -- a part that was left was put after the text
 pub one_part_more : (old new part left rest whole : List ℕ) → new ≡ old ++ part → left ≡ part ++ rest → old ++ left ≡ whole → new ++ rest ≡ whole

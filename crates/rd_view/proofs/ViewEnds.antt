@@ -1,6 +1,5 @@
 -- How a view ends.
-use Rattle.std.proofs.Common.{◌≡◌, ◌∙◌, ℕ, suc, Bool, true, false, List, [], ◌∷◌, Option, Result, Ok, Err, Vec, length, refl, sym, ap, subst}
-use Rattle.rd_view.proofs.Prelude.{Answer, AreAnswered, AreRead, BookState, Call, Command, Global, History, IsErrAnd, IsUnviewed, IsViewed, LineFault, TakesBeginning, ViewFault, Views, ViewsScripts, text_of_views, view_text}
+use Rattle.rd_view.proofs.Prelude.{◌≡◌, ◌∙◌, ℕ, suc, Bool, true, false, List, [], ◌∷◌, Option, Result, Ok, Err, Vec, length, refl, sym, ap, subst, Answer, AreAnswered, AreRead, BookState, Call, Command, Global, History, IsErrAnd, IsUnviewed, IsViewed, LineFault, TakesBeginning, ViewFault, Views, ViewsScripts, text_of_views, view_text}
 use Rattle.rd_view.specs.declared.faults.ViewFault.TheVariants as view
 
 module _ (opened : BookState) where

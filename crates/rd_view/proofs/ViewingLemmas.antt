@@ -1,6 +1,5 @@
 -- What passes know after a chain of calls, and how that stands to the history that leaves the desk.
-use Rattle.std.proofs.Common.{◌≡◌, ◌∙◌, ◌^◌, ℕ, zero, suc, List, [], ◌∷◌, ◌++◌, Result, Ok, Err, IfErr, Option, Some, None, Vec, map, length, refl, sym, ap, subst, append_assoc}
-use Rattle.rd_view.proofs.Prelude.{AllByRecursion, AllZip, Answer, AreAnswered, Book, BookState, BookWithHistory, Call, Command, Continues, Desk, Ghosts, Global, History, IsChain, IsNewViewer, IsNotBusy, IsDone, SeesAfter, IsViewerOf, KnowsAfterCall, KnowsWords, LineFault, Pass, StaysEnded, TicketsEnded, WasAnswered, append-nil, calls_of, commands_of, entries, map-append, put_by, next_seen, number, numbers, opened_state, own_answered, own_refused, own_same, seen}
+use Rattle.rd_view.proofs.Prelude.{◌≡◌, ◌∙◌, ◌^◌, ℕ, zero, suc, List, [], ◌∷◌, ◌++◌, Result, Ok, Err, IfErr, Option, Some, None, Vec, map, length, refl, sym, ap, subst, append_assoc, AllByRecursion, AllZip, Answer, AreAnswered, Book, BookState, BookWithHistory, Call, Command, Continues, Desk, Ghosts, Global, History, IsChain, IsNewViewer, IsNotBusy, IsDone, SeesAfter, IsViewerOf, KnowsAfterCall, KnowsWords, LineFault, Pass, StaysEnded, TicketsEnded, WasAnswered, append-nil, calls_of, commands_of, entries, map-append, put_by, next_seen, number, numbers, opened_state, own_answered, own_refused, own_same, seen}
 
 module _ (opened : BookState) where
   -- after a chain of calls the viewer's own calls grew by those that were recorded

@@ -1,5 +1,4 @@
-use Rattle.std.proofs.Common.{◌≡◌, ◌+◌, drop}
-use Rattle.rd_depend.proofs.Prelude.{depends, position_from, first_dependant}
+use Rattle.rd_depend.proofs.Prelude.{◌≡◌, ◌+◌, drop, depends, position_from, first_dependant}
 use Rattle.rd_depend.proofs.dependence.first_dependant.Given as goal
 
 abbrev pub invariant-loop-later : goal.invariant-loop-later

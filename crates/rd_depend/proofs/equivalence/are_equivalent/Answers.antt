@@ -1,6 +1,4 @@
-use Rattle.std.proofs.Common.{arith}
-use Rattle.std.proofs.lemmas.List.{length-map, take-map}
-use Rattle.rd_depend.proofs.Prelude.{IfOk-weaker, DecidesEquivalence, events}
+use Rattle.rd_depend.proofs.Prelude.{arith, length-map, take-map, IfOk-weaker, DecidesEquivalence, events}
 use Rattle.rd_depend.proofs.CommonBeginning.{neither_begins}
 use Rattle.rd_depend.proofs.Exactness.{right_behind}
 use Rattle.rd_depend.proofs.equivalence.are_equivalent.Goals as goal

@@ -1,5 +1,4 @@
-use Rattle.std.proofs.Common.{arith, rules}
-use Rattle.rd_depend.proofs.Prelude.{reached_of, left_of}
+use Rattle.rd_depend.proofs.Prelude.{arith, rules, reached_of, left_of}
 use Rattle.rd_depend.proofs.ComparingLemmas.{left_over_one, differs_here, decided_at_end, some_and_none}
 use Rattle.rd_depend.proofs.equivalence.compare.Goals as goal
 

@@ -1,5 +1,4 @@
-use Rattle.std.proofs.Common.{◌≡◌, ℕ, [], length}
-use Rattle.rd_depend.proofs.Prelude.{list_at}
+use Rattle.rd_depend.proofs.Prelude.{◌≡◌, ℕ, [], length, list_at}
 use Rattle.rd_depend.proofs.keeping_order.empty_lists.Given as goal
 
 abbrev pub invariant-loop-actor : goal.invariant-loop-actor

@@ -1,5 +1,4 @@
-use Rattle.std.proofs.Common.{arith}
-use Rattle.rd_desk.proofs.Prelude.{common_steps}
+use Rattle.rd_desk.proofs.Prelude.{arith, common_steps}
 use Rattle.rd_desk.proofs.ChainLemmas.{one_more_told}
 use Rattle.rd_desk.proofs.threads.ask_all.Goals as goal
 

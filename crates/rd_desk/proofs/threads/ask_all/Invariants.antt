@@ -1,5 +1,4 @@
-use Rattle.std.proofs.Common.{◌≡◌, ◌≤◌, length, vec_len, vec_capacity}
-use Rattle.rd_desk.proofs.Prelude.{IsChain}
+use Rattle.rd_desk.proofs.Prelude.{◌≡◌, ◌≤◌, length, vec_len, vec_capacity, IsChain}
 use Rattle.rd_desk.proofs.threads.ask_all.Given as goal
 
 abbrev pub invariant-loop-command : goal.invariant-loop-command

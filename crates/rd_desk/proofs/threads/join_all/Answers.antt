@@ -1,5 +1,4 @@
-use Rattle.std.proofs.Common.{arith, subst}
-use Rattle.rd_desk.proofs.Prelude.{IsDone, IsJoined, common_steps}
+use Rattle.rd_desk.proofs.Prelude.{arith, subst, IsDone, IsJoined, common_steps}
 use Rattle.rd_desk.proofs.ChainLemmas.{one_more_pair}
 use Rattle.rd_desk.proofs.threads.join_all.Goals as goal
 use Rattle.rd_desk.proofs.threads.join_all.Goals.{in-Err, in-Ok}

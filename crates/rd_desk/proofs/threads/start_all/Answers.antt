@@ -1,5 +1,4 @@
-use Rattle.std.proofs.Common.{◌∙◌, ap, arith, length, subst, sym, map-id}
-use Rattle.rd_desk.proofs.Prelude.{AllZip, IsRoomFor, IsStarted, YieldsList-end, YieldsList-from_vec, YieldsList-from_zip, YieldsList-turn, common_steps, sendable}
+use Rattle.rd_desk.proofs.Prelude.{◌∙◌, ap, arith, length, subst, sym, map-id, AllZip, IsRoomFor, IsStarted, YieldsList-end, YieldsList-from_vec, YieldsList-from_zip, YieldsList-turn, common_steps, sendable}
 use Rattle.rd_desk.proofs.ChainLemmas.{one_more_pair, pair_at, with_each, of_firsts}
 use Rattle.rd_desk.proofs.threads.start_all.Goals as goal
 use Rattle.rd_desk.proofs.threads.start_all.Goals.{in-Ok, in-Err}

@@ -1,5 +1,4 @@
-use Rattle.std.proofs.Common.{◌≡◌, ◌≤◌, length, vec_len, vec_capacity}
-use Rattle.rd_desk.proofs.Prelude.{AllZip, IsStarted}
+use Rattle.rd_desk.proofs.Prelude.{◌≡◌, ◌≤◌, length, vec_len, vec_capacity, AllZip, IsStarted}
 use Rattle.rd_desk.proofs.threads.start_all.Given as goal
 
 abbrev pub invariant-loop-pass : goal.invariant-loop-pass

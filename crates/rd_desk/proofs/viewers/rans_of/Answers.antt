@@ -1,6 +1,4 @@
-use Rattle.std.proofs.Common.{◌≡◌, arith, refl}
-use Rattle.rd_desk.proofs.Prelude.{common_steps, ran_of}
-use Rattle.std.proofs.lemmas.List.{map-append}
+use Rattle.rd_desk.proofs.Prelude.{◌≡◌, arith, refl, common_steps, ran_of, map-append}
 use Rattle.rd_desk.proofs.viewers.rans_of.Goals as goal
 use Rattle.rd_desk.proofs.viewers.rans_of.Goals.{in-Some-answers, in-None-answers}
 

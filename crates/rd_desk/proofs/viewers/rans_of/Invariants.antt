@@ -1,5 +1,4 @@
-use Rattle.std.proofs.Common.{◌≡◌, ◌≤◌, length, map, vec_len, vec_capacity}
-use Rattle.rd_desk.proofs.Prelude.{ran_of}
+use Rattle.rd_desk.proofs.Prelude.{◌≡◌, ◌≤◌, length, map, vec_len, vec_capacity, ran_of}
 use Rattle.rd_desk.proofs.viewers.rans_of.Given as goal
 
 -- what became of the viewers so far

@@ -1,5 +1,4 @@
-use Rattle.std.proofs.Common.{arith}
-use Rattle.rd_desk.proofs.Prelude.{AllZip-long}
+use Rattle.rd_desk.proofs.Prelude.{arith, AllZip-long}
 use Rattle.rd_desk.proofs.ChainLemmas.{all_ran}
 use Rattle.rd_desk.proofs.viewers.run_viewers.Goals as goal
 

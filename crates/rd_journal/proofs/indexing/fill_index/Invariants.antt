@@ -1,5 +1,4 @@
-use Rattle.std.proofs.Common.{◌≤◌, length, take, drop}
-use Rattle.rd_journal.proofs.Prelude.{IsIndexOf, HasRoomFor, kept_entries}
+use Rattle.rd_journal.proofs.Prelude.{◌≤◌, length, take, drop, IsIndexOf, HasRoomFor, kept_entries}
 use Rattle.rd_journal.proofs.indexing.fill_index.Given as goal
 
 abbrev pub invariant-loop-next : goal.invariant-loop-next

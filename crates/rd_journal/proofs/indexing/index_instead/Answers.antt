@@ -1,5 +1,4 @@
-use Rattle.std.proofs.Common.{◌≡◌, ◌∙◌, ℕ, take, drop, sym, subst, arith}
-use Rattle.rd_journal.proofs.Prelude.{length-take-le, HasRoomFor, HasRoomInstead, not_refused, kept_entries}
+use Rattle.rd_journal.proofs.Prelude.{◌≡◌, ◌∙◌, ℕ, take, drop, sym, subst, arith, length-take-le, HasRoomFor, HasRoomInstead, not_refused, kept_entries}
 use Rattle.rd_journal.proofs.RoomLemmas.{err_then, in_error}
 use Rattle.rd_journal.proofs.indexing.index_instead.Goals as goal
 

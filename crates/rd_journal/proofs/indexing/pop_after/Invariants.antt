@@ -1,5 +1,4 @@
-use Rattle.std.proofs.Common.{◌≤◌, length, take, drop}
-use Rattle.rd_journal.proofs.Prelude.{IsIndexOf, GivesRoom, kept_entries}
+use Rattle.rd_journal.proofs.Prelude.{◌≤◌, length, take, drop, IsIndexOf, GivesRoom, kept_entries}
 use Rattle.rd_journal.proofs.indexing.pop_after.Given as goal
 
 abbrev pub invariant-loop-last : goal.invariant-loop-last

@@ -1,7 +1,5 @@
-use Rattle.std.proofs.Common.{◌≡◌, [], ◌∷◌, ◌++◌, map, sym, ap, ◌∙◌, subst, arith}
-use Rattle.std.proofs.lemmas.List.{map-append}
+use Rattle.rd_lock.proofs.Prelude.{◌≡◌, [], ◌∷◌, ◌++◌, map, sym, ap, ◌∙◌, subst, arith, map-append, AllByRecursion, IsEndedWith, IsOut, in_hand, lock_of, me}
 use Rattle.std.specs.Mem.Slots.{slots_items}
-use Rattle.rd_lock.proofs.Prelude.{AllByRecursion, IsEndedWith, IsOut, in_hand, lock_of, me}
 use Rattle.rd_lock.proofs.Ends.{ends, ends_alone}
 use Rattle.rd_lock.proofs.Lists.{one_of}
 use Rattle.rd_lock.proofs.PassLists.{every_back, every_front, popped}

@@ -1,5 +1,4 @@
-use Rattle.std.proofs.Common.{◌≡◌, [], ◌++◌, map, vec_len}
-use Rattle.rd_lock.proofs.Prelude.{AllByRecursion, IsOut, Out, me}
+use Rattle.rd_lock.proofs.Prelude.{◌≡◌, [], ◌++◌, map, vec_len, AllByRecursion, IsOut, Out, me}
 use Rattle.rd_lock.proofs.tables.close_table.Given as goal
 
 abbrev pub invariant-loop-pass : goal.invariant-loop-pass

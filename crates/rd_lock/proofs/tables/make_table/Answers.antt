@@ -1,5 +1,4 @@
-use Rattle.std.proofs.Common.{rules, ◌≡◌, [], ◌∷◌, Some, sym, ap, subst}
-use Rattle.rd_lock.proofs.Prelude.{LockRule, lock_of, opening, opening_view}
+use Rattle.rd_lock.proofs.Prelude.{rules, ◌≡◌, [], ◌∷◌, Some, sym, ap, subst, LockRule, lock_of, opening, opening_view}
 use Rattle.rd_lock.proofs.Ends.{opens}
 use Rattle.rd_lock.proofs.tables.make_table.Goals as goal
 

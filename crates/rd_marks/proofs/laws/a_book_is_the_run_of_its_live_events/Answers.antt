@@ -1,8 +1,4 @@
-use Rattle.std.proofs.Common.{refl, subst}
-use Rattle.rd_journal.specs.Journal.{IsRun}
-use Rattle.rd_journal.specs.Sessions.{journal}
-use Rattle.rd_journal.specs.declared.sessions.Session.{Session}
-use Rattle.rd_marks.specs.Book.{book_state, session_of}
+use Rattle.rd_marks.proofs.Prelude.{refl, subst, IsRun, journal, Session, book_state, session_of}
 use Rattle.rd_marks.proofs.Headlines.{run_of_live}
 use Rattle.rd_marks.proofs.laws.a_book_is_the_run_of_its_live_events.Goals as goal
 

@@ -1,7 +1,5 @@
-use Rattle.std.proofs.Common.{◌≡◌, ◌-◌, Bool, take}
+use Rattle.rd_origin.proofs.Prelude.{◌≡◌, ◌-◌, Bool, take, Entry, last_position}
 use Rattle.std.specs.Fn.{FnReturnsAt}
-use Rattle.rd_origin.proofs.Prelude.{Entry}
-use Rattle.rd_origin.specs.Positions.{last_position}
 use Rattle.rd_origin.proofs.searches.last_below.Given as goal
 
 abbrev pub invariant-loop-number : goal.invariant-loop-number

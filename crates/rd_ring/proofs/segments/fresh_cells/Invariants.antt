@@ -1,5 +1,4 @@
-use Rattle.std.proofs.Common.{◌≡◌, ℕ, ◌<◌, length, slice_get, Some, None}
-use Rattle.rd_ring.specs.Prelude.{new_cell}
+use Rattle.rd_ring.proofs.Prelude.{◌≡◌, ℕ, ◌<◌, length, slice_get, Some, None, new_cell}
 use Rattle.rd_ring.proofs.segments.fresh_cells.Given as goal
 
 abbrev pub invariant-loop-i : goal.invariant-loop-i

@@ -1,5 +1,4 @@
-use Rattle.std.proofs.Common.{Ok, Err}
-use Rattle.rd_marks.specs.Events.{as_reply}
+use Rattle.rd_script.proofs.Prelude.{Ok, Err, as_reply}
 use Rattle.rd_script.proofs.script.answer_event.Goals as goal
 
 pub returns-in-Err-clause-answers : goal.returns-in-Err-clause-answers

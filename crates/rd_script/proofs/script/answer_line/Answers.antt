@@ -1,8 +1,4 @@
-use Rattle.std.proofs.Common.{Err, Ok, refl, sym, ◌∙◌}
-use Rattle.rd_marks.proofs.ObeyLemmas.{event_obeyed}
-use Rattle.rd_script.proofs.Prelude.{book_state}
-use Rattle.rd_script.specs.Answers.{line_answer}
-use Rattle.rd_script.specs.declared.answers.AnyRefusal.TheVariants.{Unread}
+use Rattle.rd_script.proofs.Prelude.{Err, Ok, refl, sym, ◌∙◌, event_obeyed, book_state, line_answer, Unread}
 use Rattle.rd_script.proofs.script.answer_line.Goals as goal
 
 pub returns-in-Err-clause-answers : goal.returns-in-Err-clause-answers

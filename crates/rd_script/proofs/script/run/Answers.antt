@@ -1,5 +1,4 @@
-use Rattle.std.proofs.Common.{Ok, subst, arith, ◌∙◌}
-use Rattle.rd_script.proofs.Prelude.{ReadsNext}
+use Rattle.rd_script.proofs.Prelude.{Ok, subst, arith, ◌∙◌, ReadsNext}
 use Rattle.rd_script.specs.declared.faults.ScriptFault.TheVariants.{Read, Write}
 use Rattle.rd_script.proofs.ScriptLemmas.{starts, ran_to_end, stopped_at_read, stopped_endless, goes_on, ran_to_last, RunsScript-at_fault, stopped_at_write, stopped_at_last_write}
 use Rattle.rd_script.proofs.script.run.Goals as goal

@@ -1,5 +1,4 @@
-use Rattle.rd_script.proofs.Prelude.{book_state}
-use Rattle.rd_script.specs.Streams.{devices}
+use Rattle.rd_script.proofs.Prelude.{book_state, devices}
 use Rattle.rd_script.proofs.ScriptLemmas.{IsGoingOn}
 use Rattle.rd_script.proofs.script.run.Given as goal
 

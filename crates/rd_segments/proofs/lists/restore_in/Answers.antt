@@ -1,5 +1,4 @@
-use Rattle.std.proofs.Common.{arith}
-use Rattle.rd_segments.proofs.Prelude.{common_steps}
+use Rattle.rd_segments.proofs.Prelude.{arith, common_steps}
 use Rattle.rd_segments.proofs.ListsLemmas.{segment_there, spare_written, maker_within}
 use Rattle.rd_segments.proofs.SegmentsLemmas.{restores_in}
 use Rattle.rd_segments.proofs.lists.restore_in.Goals as goal

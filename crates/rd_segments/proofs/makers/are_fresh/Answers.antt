@@ -1,6 +1,4 @@
-use Rattle.std.proofs.Common.{◌≡◌, ◌-◌, List, ◌∷◌, length, take, drop, sym, subst, arith}
-use Rattle.rd_segments.proofs.Prelude.{false≢true, Segment, both_tests, first_test, ListOf, IsFresh, IsFreshAlone}
-use Rattle.std.proofs.lemmas.List.{nil_from_length}
+use Rattle.rd_segments.proofs.Prelude.{◌≡◌, ◌-◌, List, ◌∷◌, length, take, drop, sym, subst, arith, false≢true, Segment, both_tests, first_test, ListOf, IsFresh, IsFreshAlone, nil_from_length}
 use Rattle.rd_segments.proofs.FreshLemmas.{first_and_others, fresh_lists, no_lists, first_alone, others_empty}
 use Rattle.rd_segments.proofs.makers.are_fresh.Goals as goal
 

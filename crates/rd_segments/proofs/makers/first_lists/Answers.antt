@@ -1,5 +1,4 @@
-use Rattle.std.proofs.Common.{◌≡◌, List, ◌++◌, ◌∷◌, [], ◌∙◌, ap, arith}
-use Rattle.rd_segments.proofs.Prelude.{Segment, ListOf, by_name}
+use Rattle.rd_segments.proofs.Prelude.{◌≡◌, List, ◌++◌, ◌∷◌, [], ◌∙◌, ap, arith, Segment, ListOf, by_name}
 use Rattle.rd_segments.proofs.ListsLemmas.{first_list, empty_pushed}
 use Rattle.rd_segments.proofs.makers.first_lists.Goals as goal
 

@@ -1,5 +1,4 @@
-use Rattle.std.proofs.Common.{◌≡◌, ◌+◌, vec_len, vec_capacity}
-use Rattle.rd_segments.proofs.Prelude.{SegName, by_name}
+use Rattle.rd_segments.proofs.Prelude.{◌≡◌, ◌+◌, vec_len, vec_capacity, SegName, by_name}
 use Rattle.rd_segments.proofs.makers.first_lists.Given as goal
 
 abbrev pub invariant-loop : goal.invariant-loop

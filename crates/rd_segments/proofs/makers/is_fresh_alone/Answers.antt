@@ -1,5 +1,4 @@
-use Rattle.std.proofs.Common.{◌≡◌, List, [], ◌∷◌, sym, subst, arith}
-use Rattle.rd_segments.proofs.Prelude.{false≢true, Segment, IsFreshAlone}
+use Rattle.rd_segments.proofs.Prelude.{◌≡◌, List, [], ◌∷◌, sym, subst, arith, false≢true, Segment, IsFreshAlone}
 use Rattle.rd_segments.proofs.FreshLemmas.{one_alone, alone_one, only_one, not_alone}
 use Rattle.rd_segments.proofs.makers.is_fresh_alone.Goals as goal
 

@@ -1,5 +1,4 @@
-use Rattle.std.proofs.Common.{◌≡◌, ℕ, ◌<◌, slice_get, length, vec_len, vec_capacity}
-use Rattle.rd_segments.proofs.Prelude.{Place, by_number, part_of, part_of_parts}
+use Rattle.rd_segments.proofs.Prelude.{◌≡◌, ℕ, ◌<◌, slice_get, length, vec_len, vec_capacity, Place, by_number, part_of, part_of_parts}
 use Rattle.rd_segments.proofs.parts.lists_from_parts.Given as goal
 
 abbrev pub invariant-loop-m : goal.invariant-loop-m

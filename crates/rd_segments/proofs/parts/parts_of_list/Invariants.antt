@@ -1,5 +1,4 @@
-use Rattle.std.proofs.Common.{◌≡◌, ℕ, ◌<◌, slice_get, length, vec_len, vec_capacity}
-use Rattle.rd_segments.proofs.Prelude.{Place, part_of, part_of_parts}
+use Rattle.rd_segments.proofs.Prelude.{◌≡◌, ℕ, ◌<◌, slice_get, length, vec_len, vec_capacity, Place, part_of, part_of_parts}
 use Rattle.rd_segments.proofs.parts.parts_of_list.Given as goal
 
 abbrev pub invariant-loop-n : goal.invariant-loop-n

@@ -1,5 +1,4 @@
-use Rattle.std.proofs.Common.{refl, arith}
-use Rattle.rd_step.proofs.Prelude.{contents}
+use Rattle.rd_step.proofs.Prelude.{refl, arith, contents}
 use Rattle.rd_step.proofs.PassedUp.{error_passed_up}
 use Rattle.rd_step.proofs.WorldLemmas.{makes_access, refuses_access}
 use Rattle.rd_step.proofs.fields.make.Goals as goal

@@ -1,5 +1,4 @@
-use Rattle.std.proofs.Common.{ap, arith}
-use Rattle.rd_step.proofs.Prelude.{makes}
+use Rattle.rd_step.proofs.Prelude.{ap, arith, makes}
 use Rattle.rd_step.proofs.fields.perform.Goals as goal
 
 pub returns-in-NoPlace-clause-ok : goal.returns-in-NoPlace-clause-ok

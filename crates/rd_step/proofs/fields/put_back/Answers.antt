@@ -1,5 +1,4 @@
-use Rattle.std.proofs.Common.{sym, ◌∙◌}
-use Rattle.rd_step.proofs.Prelude.{restore, contents}
+use Rattle.rd_step.proofs.Prelude.{sym, ◌∙◌, restore, contents}
 use Rattle.rd_step.proofs.fields.put_back.Goals as goal
 
 pub returns-in-Some-Some-clause-done : goal.returns-in-Some-Some-clause-done

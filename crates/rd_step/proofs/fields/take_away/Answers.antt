@@ -1,5 +1,4 @@
-use Rattle.std.proofs.Common.{sym, ◌∙◌, subst, arith, Some, None}
-use Rattle.rd_step.proofs.Prelude.{Place, restore, CanPutBack, contents}
+use Rattle.rd_step.proofs.Prelude.{sym, ◌∙◌, subst, arith, Some, None, Place, restore, CanPutBack, contents}
 use Rattle.rd_step.proofs.WorldLemmas.{made_whole, last_some, last_taken}
 use Rattle.rd_step.proofs.fields.take_away.Goals as goal
 

@@ -1,5 +1,4 @@
-use Rattle.std.proofs.Common.{rules, ◌≡◌, codes, ap, ap₂, ◌∙◌, arith}
-use Rattle.rd_trace.proofs.Prelude.{object, put, view, members_view, view-Object, value_data}
+use Rattle.rd_trace.proofs.Prelude.{rules, ◌≡◌, codes, ap, ap₂, ◌∙◌, arith, object, put, view, members_view, view-Object, value_data}
 use Rattle.rd_trace.proofs.ActorLemmas.{actor_spelled}
 use Rattle.rd_trace.proofs.actors.actor_value.Goals as goal
 

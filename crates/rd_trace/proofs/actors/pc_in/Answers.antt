@@ -1,5 +1,4 @@
-use Rattle.std.proofs.Common.{◌≡◌, ◌≢◌, ℕ, List, Option, Some, IfSome, IfNone, arith}
-use Rattle.rd_actor.specs.declared.actors.Pc.{Pc}
+use Rattle.rd_trace.proofs.Prelude.{◌≡◌, ◌≢◌, ℕ, List, Option, Some, IfSome, IfNone, arith, Pc}
 use Rattle.rd_actor.specs.Labels.{label}
 use Rattle.rd_trace.proofs.actors.pc_in.Goals as goal
 

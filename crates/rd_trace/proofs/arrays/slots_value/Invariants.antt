@@ -1,5 +1,4 @@
-use Rattle.std.proofs.Common.{◌≡◌, take}
-use Rattle.rd_trace.proofs.Prelude.{items_view, items_by, slot_data, filled_slots}
+use Rattle.rd_trace.proofs.Prelude.{◌≡◌, take, items_view, items_by, slot_data, filled_slots}
 use Rattle.rd_trace.proofs.arrays.slots_value.Given as goal
 
 -- the values of the slots before this one

@@ -1,5 +1,4 @@
-use Rattle.std.proofs.Common.{codes}
-use Rattle.rd_trace.proofs.Prelude.{view, Gives, SpellEachAt, elements, event_of, IsMark, saved_mark}
+use Rattle.rd_trace.proofs.Prelude.{codes, view, Gives, SpellEachAt, elements, event_of, IsMark, saved_mark}
 use Rattle.rd_trace.proofs.SpellLemmas.{part_passed_up}
 use Rattle.rd_trace.proofs.bookmarks.mark_in.Goals as goal
 

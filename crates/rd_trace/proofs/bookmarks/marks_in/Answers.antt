@@ -1,6 +1,4 @@
-use Rattle.rd_trace.proofs.Prelude.{common_steps, list_any, view, items_view, mark_name_eq, IsMark, AreMarks, saved_mark, saved_marks, SavedMark}
-use Rattle.std.proofs.Common.{◌≡◌, ◌+◌, true, false, List, length, sym, ap, ◌∙◌, subst, arith}
-use Rattle.serde_json.specs.declared.value.Value.{Value}
+use Rattle.rd_trace.proofs.Prelude.{common_steps, list_any, view, items_view, mark_name_eq, IsMark, AreMarks, saved_mark, saved_marks, SavedMark, ◌≡◌, ◌+◌, true, false, List, length, sym, ap, ◌∙◌, subst, arith, Value}
 use Rattle.rd_trace.proofs.SpellLemmas.{part_passed_up}
 use Rattle.rd_trace.proofs.MarkLemmas.{AreRead, none_read, mark_here, name_taken, one_more_mark, all_read, too_many}
 use Rattle.rd_trace.proofs.bookmarks.marks_in.Goals as goal

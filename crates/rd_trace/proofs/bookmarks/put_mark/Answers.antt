@@ -1,6 +1,4 @@
-use Rattle.std.proofs.Common.{List, codes, Option, Ok, IfSome, Vec, string_bytes, ap, ◌∙◌, ◌++◌, subst, arith}
-use Rattle.rd_trace.proofs.Prelude.{Event, book_state, mark_events, AnswersEvents, Gives, event_of, event_data, AreAppended, IsMarkAppended}
-use Rattle.std.specs.Global.{Global}
+use Rattle.rd_trace.proofs.Prelude.{List, codes, Option, Ok, IfSome, Vec, string_bytes, ap, ◌∙◌, ◌++◌, subst, arith, Event, book_state, mark_events, AnswersEvents, Gives, event_of, event_data, AreAppended, IsMarkAppended, Global}
 use Rattle.rd_trace.proofs.MarkLemmas.{mark_appended}
 use Rattle.rd_trace.proofs.TextLemmas.{last_appended}
 use Rattle.rd_trace.proofs.bookmarks.put_mark.Goals as goal

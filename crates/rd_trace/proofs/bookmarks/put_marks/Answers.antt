@@ -1,5 +1,4 @@
-use Rattle.std.proofs.Common.{◌+◌, ◌++◌, string_bytes, refl, sym, ap, ◌∙◌, arith}
-use Rattle.rd_trace.proofs.Prelude.{take_all, book_state, IsMark, mark_data}
+use Rattle.rd_trace.proofs.Prelude.{◌+◌, ◌++◌, string_bytes, refl, sym, ap, ◌∙◌, arith, take_all, book_state, IsMark, mark_data}
 use Rattle.rd_trace.proofs.TextLemmas.{none_appended}
 use Rattle.rd_trace.proofs.MarkLemmas.{next_appended, some_mark}
 use Rattle.rd_trace.proofs.bookmarks.put_marks.Goals as goal

@@ -1,5 +1,4 @@
-use Rattle.std.proofs.Common.{take, string_bytes}
-use Rattle.rd_trace.proofs.Prelude.{book_state, IsMark, mark_data, AreAppended}
+use Rattle.rd_trace.proofs.Prelude.{take, string_bytes, book_state, IsMark, mark_data, AreAppended}
 use Rattle.rd_trace.proofs.bookmarks.put_marks.Given as goal
 
 -- the texts of the bookmarks before this one

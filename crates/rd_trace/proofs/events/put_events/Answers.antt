@@ -1,5 +1,4 @@
-use Rattle.std.proofs.Common.{string_bytes, refl, arith}
-use Rattle.rd_trace.proofs.Prelude.{take_all, Gives, event_of, event_data, get_or_default}
+use Rattle.rd_trace.proofs.Prelude.{string_bytes, refl, arith, take_all, Gives, event_of, event_data, get_or_default}
 use Rattle.rd_trace.proofs.SpellLemmas.{take_item}
 use Rattle.rd_trace.proofs.TextLemmas.{none_appended, one_more_appended}
 use Rattle.rd_trace.proofs.events.put_events.Goals as goal

@@ -1,5 +1,4 @@
-use Rattle.std.proofs.Common.{take, string_bytes}
-use Rattle.rd_trace.proofs.Prelude.{Gives, event_of, event_data, AreAppended}
+use Rattle.rd_trace.proofs.Prelude.{take, string_bytes, Gives, event_of, event_data, AreAppended}
 use Rattle.rd_trace.proofs.events.put_events.Given as goal
 
 -- the texts of the events before this one

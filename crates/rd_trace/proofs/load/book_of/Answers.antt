@@ -1,5 +1,4 @@
-use Rattle.std.proofs.Common.{◌≤◌, subst, arith}
-use Rattle.rd_trace.proofs.Prelude.{length-map, view, MOST_MARKS, saved_mark, saved_trace}
+use Rattle.rd_trace.proofs.Prelude.{◌≤◌, subst, arith, length-map, view, MOST_MARKS, saved_mark, saved_trace}
 use Rattle.rd_trace.proofs.LoadLemmas.{counted, names_differ, few_marks, loads_value}
 use Rattle.rd_trace.proofs.load.book_of.Goals as goal
 

@@ -1,5 +1,4 @@
-use Rattle.std.proofs.Common.{◌≡◌, take, arith}
-use Rattle.rd_trace.proofs.Prelude.{common_steps, book_state}
+use Rattle.rd_trace.proofs.Prelude.{◌≡◌, take, arith, common_steps, book_state}
 use Rattle.rd_trace.proofs.ReplayLemmas.{rest_of, goes_to}
 use Rattle.rd_trace.proofs.replay.go_to.Goals as goal
 

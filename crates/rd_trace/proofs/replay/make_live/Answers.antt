@@ -1,5 +1,4 @@
-use Rattle.std.proofs.Common.{arith}
-use Rattle.rd_trace.proofs.Prelude.{book_state, MakesLive}
+use Rattle.rd_trace.proofs.Prelude.{arith, book_state, MakesLive}
 use Rattle.rd_trace.proofs.ReplayLemmas.{live_refused, undone_refused, enough_live, made_live}
 use Rattle.rd_trace.proofs.SpellLemmas.{passed_up}
 use Rattle.rd_trace.proofs.replay.make_live.Goals as goal

@@ -1,6 +1,4 @@
-use Rattle.std.proofs.Common.{◌≡◌, ◌++◌, map, Ok, Err, ap, ap₂, subst, ◌∙◌, arith}
-use Rattle.rd_trace.proofs.Prelude.{State, book_state, saved_mark, saved_trace, loaded_state, Replays, RefusesOne, SetsMarks}
-use Rattle.rd_marks.specs.declared.books.Book.{Book}
+use Rattle.rd_trace.proofs.Prelude.{◌≡◌, ◌++◌, map, Ok, Err, ap, ap₂, subst, ◌∙◌, arith, State, book_state, saved_mark, saved_trace, loaded_state, Replays, RefusesOne, SetsMarks, Book}
 use Rattle.rd_trace.proofs.ReplayLemmas.{no_marks, no_steps, plays}
 use Rattle.rd_trace.proofs.SpellLemmas.{passed_up}
 use Rattle.rd_trace.proofs.replay.replay.Goals as goal

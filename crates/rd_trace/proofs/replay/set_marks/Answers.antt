@@ -1,5 +1,4 @@
-use Rattle.std.proofs.Common.{◌≡◌, ◌⊎◌, Ok, Err, IsOk, ap, sym, subst, ◌∙◌, arith}
-use Rattle.rd_trace.proofs.Prelude.{book_state, get_or_default, mark, SavedMark, RefusesOne, GoesTo}
+use Rattle.rd_trace.proofs.Prelude.{◌≡◌, ◌⊎◌, Ok, Err, IsOk, ap, sym, subst, ◌∙◌, arith, book_state, get_or_default, mark, SavedMark, RefusesOne, GoesTo}
 use Rattle.rd_trace.proofs.ReplayLemmas.{none_set, one_set, can_mark, mark_refused, all_set}
 use Rattle.rd_trace.proofs.replay.set_marks.Goals as goal
 use Rattle.rd_cell.specs.declared.refusal.Refusal.TheVariants as refusal

@@ -1,5 +1,4 @@
-use Rattle.std.proofs.Common.{map, take}
-use Rattle.rd_trace.proofs.Prelude.{book_state, saved_mark}
+use Rattle.rd_trace.proofs.Prelude.{map, take, book_state, saved_mark}
 use Rattle.rd_trace.proofs.ReplayLemmas.{HasSet}
 use Rattle.rd_trace.proofs.replay.set_marks.Given as goal
 

@@ -1,5 +1,4 @@
-use Rattle.std.proofs.Common.{◌≡◌, ◌+◌, length, ap, ◌∙◌, arith}
-use Rattle.rd_trace.proofs.Prelude.{get_or_default, State, BookState, book_state}
+use Rattle.rd_trace.proofs.Prelude.{◌≡◌, ◌+◌, length, ap, ◌∙◌, arith, get_or_default, State, BookState, book_state}
 use Rattle.rd_trace.proofs.ReplayLemmas.{none_stepped, one_stepped, one_refused, all_of, happened, not_happened}
 use Rattle.rd_trace.proofs.replay.step_all.Goals as goal
 

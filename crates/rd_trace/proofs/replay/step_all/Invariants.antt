@@ -1,5 +1,4 @@
-use Rattle.std.proofs.Common.{take, ◌++◌, Ok}
-use Rattle.rd_trace.proofs.Prelude.{book_state, GoesTo}
+use Rattle.rd_trace.proofs.Prelude.{take, ◌++◌, Ok, book_state, GoesTo}
 use Rattle.rd_trace.proofs.replay.step_all.Given as goal
 
 -- the events before this one happened

@@ -1,5 +1,4 @@
-use Rattle.std.proofs.Common.{sym, ap, ◌∙◌}
-use Rattle.rd_trace.proofs.Prelude.{Start, start_world, start_flaw}
+use Rattle.rd_trace.proofs.Prelude.{sym, ap, ◌∙◌, Start, start_world, start_flaw}
 use Rattle.rd_trace.proofs.replay.world_of.Goals as goal
 
 pub returns-in-Ok : goal.returns-in-Ok

@@ -1,5 +1,4 @@
-use Rattle.std.proofs.Common.{codes}
-use Rattle.rd_trace.proofs.Prelude.{view, Gives, SpellEachAt, elements, event_of, saved_trace, IsVersion1}
+use Rattle.rd_trace.proofs.Prelude.{codes, view, Gives, SpellEachAt, elements, event_of, saved_trace, IsVersion1}
 use Rattle.rd_trace.proofs.SpellLemmas.{part_passed_up}
 use Rattle.rd_trace.proofs.saved.first_session_in.Goals as goal
 

@@ -1,5 +1,4 @@
-use Rattle.std.proofs.Common.{◌≡◌, ◌+◌, ◌++◌, ◌∷◌, [], List, length, take, string_bytes, refl, ap, subst, arith}
-use Rattle.rd_trace.proofs.Prelude.{take_all, length-map, Event, state, Gives, event_of, event_data}
+use Rattle.rd_trace.proofs.Prelude.{◌≡◌, ◌+◌, ◌++◌, ◌∷◌, [], List, length, take, string_bytes, refl, ap, subst, arith, take_all, length-map, Event, state, Gives, event_of, event_data}
 use Rattle.rd_trace.proofs.SavedLemmas.{live_next}
 use Rattle.rd_trace.proofs.TextLemmas.{none_appended, one_more_appended}
 use Rattle.rd_trace.proofs.saved.put_live.Goals as goal

@@ -1,5 +1,4 @@
-use Rattle.std.proofs.Common.{string_bytes, ap, ◌∙◌, ◌++◌}
-use Rattle.rd_trace.proofs.Prelude.{view, state}
+use Rattle.rd_trace.proofs.Prelude.{string_bytes, ap, ◌∙◌, ◌++◌, view, state}
 use Rattle.rd_trace.proofs.TextLemmas.{last_appended}
 use Rattle.rd_trace.proofs.WriteLemmas.{start_appended}
 use Rattle.rd_trace.proofs.saved.put_start.Goals as goal

@@ -1,5 +1,4 @@
-use Rattle.std.proofs.Common.{◌+◌, string_bytes, refl, sym, ◌∙◌, arith}
-use Rattle.rd_trace.proofs.Prelude.{take_all, state, Gives, event_of, event_data}
+use Rattle.rd_trace.proofs.Prelude.{◌+◌, string_bytes, refl, sym, ◌∙◌, arith, take_all, state, Gives, event_of, event_data}
 use Rattle.rd_trace.proofs.SavedLemmas.{undone_next, some_undone}
 use Rattle.rd_trace.proofs.TextLemmas.{none_appended, one_more_appended}
 use Rattle.rd_trace.proofs.saved.put_undone.Goals as goal

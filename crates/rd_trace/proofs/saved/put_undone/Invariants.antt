@@ -1,5 +1,4 @@
-use Rattle.std.proofs.Common.{take, string_bytes}
-use Rattle.rd_trace.proofs.Prelude.{state, Gives, event_of, event_data, AreAppended}
+use Rattle.rd_trace.proofs.Prelude.{take, string_bytes, state, Gives, event_of, event_data, AreAppended}
 use Rattle.rd_trace.proofs.saved.put_undone.Given as goal
 
 -- the texts of the undone events before this one

@@ -1,5 +1,4 @@
-use Rattle.std.proofs.Common.{codes, ◌∙◌, arith}
-use Rattle.rd_trace.proofs.Prelude.{none-some, view, Gives, SpellEachAt, elements, event_of, saved_trace, IsVersion2}
+use Rattle.rd_trace.proofs.Prelude.{codes, ◌∙◌, arith, none-some, view, Gives, SpellEachAt, elements, event_of, saved_trace, IsVersion2}
 use Rattle.rd_trace.proofs.SpellLemmas.{part_passed_up}
 use Rattle.rd_trace.proofs.saved.second_session_in.Goals as goal
 

@@ -1,5 +1,4 @@
-use Rattle.std.proofs.Common.{IfOk, subst}
-use Rattle.rd_trace.proofs.Prelude.{view, World, IsStartValue}
+use Rattle.rd_trace.proofs.Prelude.{IfOk, subst, view, World, IsStartValue}
 use Rattle.rd_trace.proofs.saved.start_of.Goals as goal
 
 pub returns : goal.returns

@@ -1,6 +1,4 @@
-use Rattle.std.proofs.Common.{decimal, string_bytes, sym, ap, ◌∙◌, ◌++◌, ◌<◌, ◌^◌, subst, arith}
-use Rattle.rd_trace.proofs.Prelude.{state, State, book_state, BookState, KeepsRules, items_by, event_data, mark_data, IsTextOf}
-use Rattle.rd_journal.proofs.Calls.{opened_ring}
+use Rattle.rd_trace.proofs.Prelude.{decimal, string_bytes, sym, ap, ◌∙◌, ◌++◌, ◌<◌, ◌^◌, subst, arith, state, State, book_state, BookState, KeepsRules, items_by, event_data, mark_data, IsTextOf, opened_ring}
 use Rattle.rd_trace.proofs.TextLemmas.{whole_text, put_together}
 use Rattle.rd_trace.proofs.WriteLemmas.{text_of_book}
 use Rattle.rd_trace.proofs.saved.text_of.Goals as goal

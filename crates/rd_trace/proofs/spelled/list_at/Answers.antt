@@ -1,5 +1,4 @@
-use Rattle.std.proofs.Common.{sym, ◌∙◌}
-use Rattle.rd_trace.proofs.Prelude.{none-some, view, items_view}
+use Rattle.rd_trace.proofs.Prelude.{sym, ◌∙◌, none-some, view, items_view}
 use Rattle.rd_trace.proofs.SpellLemmas.{list_read}
 use Rattle.rd_trace.proofs.spelled.list_at.Goals as goal
 

@@ -1,5 +1,4 @@
-use Rattle.std.proofs.Common.{arith}
-use Rattle.rd_trace.proofs.Prelude.{take_all}
+use Rattle.rd_trace.proofs.Prelude.{arith, take_all}
 use Rattle.rd_trace.proofs.SpellLemmas.{spell_each-more, spelled_at, part_passed_up}
 use Rattle.rd_trace.proofs.spelled.list_in.Goals as goal
 

@@ -1,5 +1,4 @@
-use Rattle.std.proofs.Common.{◌≡◌, ◌≤◌, take, length, vec_len, vec_capacity}
-use Rattle.rd_trace.proofs.Prelude.{items_view, SpellEach}
+use Rattle.rd_trace.proofs.Prelude.{◌≡◌, ◌≤◌, take, length, vec_len, vec_capacity, items_view, SpellEach}
 use Rattle.rd_trace.proofs.spelled.list_in.Given as goal
 
 -- the values before this one spell the things so far

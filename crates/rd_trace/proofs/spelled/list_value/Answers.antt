@@ -1,5 +1,4 @@
-use Rattle.std.proofs.Common.{take, arith}
-use Rattle.rd_trace.proofs.Prelude.{take_all}
+use Rattle.rd_trace.proofs.Prelude.{take, arith, take_all}
 use Rattle.rd_trace.proofs.SpellLemmas.{take_item, none_written, one_more_written}
 use Rattle.rd_trace.proofs.spelled.list_value.Goals as goal
 

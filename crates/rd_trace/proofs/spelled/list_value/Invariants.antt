@@ -1,5 +1,4 @@
-use Rattle.std.proofs.Common.{◌≡◌, ◌≤◌, take, length, vec_len, vec_capacity}
-use Rattle.rd_trace.proofs.Prelude.{AreSpelled}
+use Rattle.rd_trace.proofs.Prelude.{◌≡◌, ◌≤◌, take, length, vec_len, vec_capacity, AreSpelled}
 use Rattle.rd_trace.proofs.spelled.list_value.Given as goal
 
 -- the values so far are those of the things before this one

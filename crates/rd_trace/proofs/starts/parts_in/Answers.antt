@@ -1,5 +1,4 @@
-use Rattle.std.proofs.Common.{codes}
-use Rattle.rd_trace.proofs.Prelude.{view, SpellEachAt, itself, elements, IsActor, IsSegmentList, IsParts}
+use Rattle.rd_trace.proofs.Prelude.{codes, view, SpellEachAt, itself, elements, IsActor, IsSegmentList, IsParts}
 use Rattle.rd_trace.proofs.SpellLemmas.{part_passed_up}
 use Rattle.rd_trace.proofs.starts.parts_in.Goals as goal
 

@@ -1,8 +1,4 @@
-use Rattle.std.proofs.Common.{◌≡◌, ap, ◌∙◌, arith}
-use Rattle.rd_trace.proofs.Prelude.{both_ways, view, IsStartValue, fresh_data, parts_data}
-use Rattle.std.proofs.lemmas.Result.{IfOk-weaker}
-use Rattle.serde_json.specs.declared.value.Value.{Value}
-use Rattle.rd_step.specs.CodeWorld.{model}
+use Rattle.rd_trace.proofs.Prelude.{◌≡◌, ap, ◌∙◌, arith, both_ways, view, IsStartValue, fresh_data, parts_data, Value, IfOk-weaker, model}
 use Rattle.rd_step.proofs.Starts.{one_count}
 use Rattle.rd_trace.proofs.StartLemmas.{both_ok, fresh_start, other_start}
 use Rattle.rd_trace.proofs.starts.start_value.Goals as goal

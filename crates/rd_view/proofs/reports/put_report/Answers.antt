@@ -1,5 +1,4 @@
-use Rattle.std.proofs.Common.{◌≡◌, [], ◌++◌, ◌+◌, arith, refl, drop}
-use Rattle.rd_view.proofs.Prelude.{append-nil, drop_of_length-le, nil_from_length, report_text, text_of}
+use Rattle.rd_view.proofs.Prelude.{◌≡◌, [], ◌++◌, ◌+◌, arith, refl, drop, append-nil, drop_of_length-le, nil_from_length, report_text, text_of}
 use Rattle.rd_view.proofs.ReportLemmas.{line_at, one_part_more}
 use Rattle.rd_view.proofs.reports.put_report.Goals.{in-Err, in-Ok+in-Some}
 use Rattle.rd_view.proofs.reports.put_report.Goals as goal

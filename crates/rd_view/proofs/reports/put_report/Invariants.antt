@@ -1,5 +1,4 @@
-use Rattle.std.proofs.Common.{◌≡◌, ◌++◌, drop}
-use Rattle.rd_view.proofs.Prelude.{report_text}
+use Rattle.rd_view.proofs.Prelude.{◌≡◌, ◌++◌, drop, report_text}
 use Rattle.rd_view.proofs.reports.put_report.Given as goal
 
 -- the answers to the lines before this one are in the text

@@ -1,5 +1,4 @@
-use Rattle.std.proofs.Common.{◌≡◌, ◌∙◌, ◌++◌, ap, subst}
-use Rattle.rd_view.proofs.Prelude.{OnOk, Viewer, heading_text, replies_text, report_text}
+use Rattle.rd_view.proofs.Prelude.{◌≡◌, ◌∙◌, ◌++◌, ap, subst, OnOk, Viewer, heading_text, replies_text, report_text}
 use Rattle.rd_view.proofs.ReportLemmas.{both_parts}
 use Rattle.rd_view.proofs.reports.put_viewer.Goals as goal
 

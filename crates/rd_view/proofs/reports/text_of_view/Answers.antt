@@ -1,5 +1,4 @@
-use Rattle.std.proofs.Common.{◌≡◌, ◌∙◌, ◌+◌, ◌++◌, arith, ap, refl, sym, subst, drop}
-use Rattle.rd_view.proofs.Prelude.{drop_of_length-le, view_text, viewer_text}
+use Rattle.rd_view.proofs.Prelude.{◌≡◌, ◌∙◌, ◌+◌, ◌++◌, arith, ap, refl, sym, subst, drop, drop_of_length-le, view_text, viewer_text}
 use Rattle.rd_view.proofs.ReportLemmas.{line_at, one_part_more}
 use Rattle.rd_view.proofs.reports.text_of_view.Goals as goal
 

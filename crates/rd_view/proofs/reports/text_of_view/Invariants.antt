@@ -1,5 +1,4 @@
-use Rattle.std.proofs.Common.{◌≡◌, ◌+◌, ◌++◌, drop}
-use Rattle.rd_view.proofs.Prelude.{view_text}
+use Rattle.rd_view.proofs.Prelude.{◌≡◌, ◌+◌, ◌++◌, drop, view_text}
 use Rattle.rd_view.proofs.reports.text_of_view.Given as goal
 
 -- the viewers before this one are in the text

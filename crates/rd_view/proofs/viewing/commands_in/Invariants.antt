@@ -1,5 +1,4 @@
-use Rattle.std.proofs.Common.{◌≡◌, ◌++◌, drop}
-use Rattle.rd_view.proofs.Prelude.{commands_of}
+use Rattle.rd_view.proofs.Prelude.{◌≡◌, ◌++◌, drop, commands_of}
 use Rattle.rd_view.proofs.viewing.commands_in.Given as goal
 
 -- the commands so far, and those of the lines after them

@@ -1,5 +1,4 @@
-use Rattle.std.proofs.Common.{arith, subst}
-use Rattle.rd_view.proofs.Prelude.{AllZip, Says, lines_of}
+use Rattle.rd_view.proofs.Prelude.{arith, subst, AllZip, Says, lines_of}
 use Rattle.rd_desk.proofs.ChainLemmas.{next_pair}
 use Rattle.rd_view.proofs.viewing.lines_of_all.Goals as goal
 

@@ -1,5 +1,4 @@
-use Rattle.std.proofs.Common.{take}
-use Rattle.rd_view.proofs.Prelude.{AreRead}
+use Rattle.rd_view.proofs.Prelude.{take, AreRead}
 use Rattle.rd_view.proofs.viewing.lines_of_all.Given as goal
 
 -- the scripts before this one were read

@@ -1,5 +1,4 @@
-use Rattle.std.proofs.Common.{◌≡◌, map, take, length}
-use Rattle.rd_view.proofs.Prelude.{commands_of}
+use Rattle.rd_view.proofs.Prelude.{◌≡◌, map, take, length, commands_of}
 use Rattle.rd_view.proofs.viewing.passes_with_commands.Given as goal
 
 -- the viewers so far

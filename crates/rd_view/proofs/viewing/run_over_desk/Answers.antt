@@ -1,5 +1,4 @@
-use Rattle.rd_view.proofs.Prelude.{AllByRecursion, AreAnswered, Continues, IsLegal, IsNewViewer, IsViewerOf, NamesUpTo, book_state, book_with_history_send, crosses, desk_sync, entries, length-map, number, number_of, opened_state, seat_send, seen, sendable, ∥∥₁_map}
-use Rattle.std.proofs.Common.{◌≡◌, ◌∙◌, length, map, ap, sym, subst, arith}
+use Rattle.rd_view.proofs.Prelude.{AllByRecursion, AreAnswered, Continues, IsLegal, IsNewViewer, IsViewerOf, NamesUpTo, book_state, book_with_history_send, crosses, desk_sync, entries, length-map, number, number_of, opened_state, seat_send, seen, sendable, ∥∥₁_map, ◌≡◌, ◌∙◌, length, map, ap, sym, subst, arith}
 use Rattle.rd_desk.specs.contracts.recording.BookWithHistoryRecorded.TheImpl as Recorded
 use Rattle.rd_view.proofs.ViewingLemmas.{all_answered, new_may_ask, own_passes, length-numbers}
 use Rattle.rd_view.proofs.viewing.run_over_desk.Goals as goal

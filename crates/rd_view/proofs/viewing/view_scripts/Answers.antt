@@ -1,5 +1,4 @@
-use Rattle.std.proofs.Common.{◌∙◌, arith, refl, sym, ap, length, subst}
-use Rattle.rd_view.proofs.Prelude.{AllZip-long, Appends, TakesBeginning, book_state, entries}
+use Rattle.rd_view.proofs.Prelude.{◌∙◌, arith, refl, sym, ap, length, subst, AllZip-long, Appends, TakesBeginning, book_state, entries}
 use Rattle.rd_view.proofs.ViewEnds.{as_many, not_viewed, not_written, text_is}
 use Rattle.rd_view.proofs.viewing.view_scripts.Goals as goal
 

@@ -1,5 +1,4 @@
-use Rattle.std.proofs.Common.{sym, ap, ◌∙◌}
-use Rattle.rd_depend.proofs.Prelude.{is_some, By}
+use Rattle.rd_depend.proofs.Prelude.{sym, ap, ◌∙◌, is_some, By}
 use Rattle.rd_depend.proofs.IndexFirst.{found_in, found_of_actor, found-after, found-on}
 use Rattle.rd_depend.proofs.index.DependIndex.depends_after.Goals as goal
 

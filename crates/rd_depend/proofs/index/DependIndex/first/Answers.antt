@@ -1,5 +1,4 @@
-use Rattle.std.proofs.Common.{◌∙◌}
-use Rattle.rd_depend.proofs.Prelude.{earlier, By}
+use Rattle.rd_depend.proofs.Prelude.{◌∙◌, earlier, By}
 use Rattle.rd_depend.proofs.IndexFirst.{found_in, found_by, found_either, first-after}
 use Rattle.rd_depend.proofs.index.DependIndex.first.Goals as goal
 

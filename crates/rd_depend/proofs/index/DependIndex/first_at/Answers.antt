@@ -1,5 +1,4 @@
-use Rattle.std.proofs.Common.{not, ap, ◌∙◌}
-use Rattle.rd_depend.proofs.Prelude.{nat_lt, is_under, is_under_some, find, positions, touched_or_written}
+use Rattle.rd_depend.proofs.Prelude.{not, ap, ◌∙◌, nat_lt, is_under, is_under_some, find, positions, touched_or_written}
 use Rattle.rd_depend.proofs.IndexFirst.{found_at}
 use Rattle.rd_depend.proofs.index.DependIndex.first_at.Goals as goal
 

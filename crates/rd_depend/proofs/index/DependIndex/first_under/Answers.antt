@@ -1,6 +1,4 @@
-use Rattle.std.proofs.Common.{◌≡◌, ◌<◌, ℕ, List, length, sym, ap, subst, ◌∙◌, Option}
-use Rattle.rd_depend.proofs.Prelude.{nat_lt, Key, is_under_some, IsAscending, find, Under, positions, touched_or_written}
-use Rattle.rd_depend.specs.Tables.{is_writes}
+use Rattle.rd_depend.proofs.Prelude.{◌≡◌, ◌<◌, ℕ, List, length, sym, ap, subst, ◌∙◌, Option, nat_lt, Key, is_under_some, IsAscending, find, Under, positions, touched_or_written, is_writes}
 use Rattle.rd_depend.proofs.IndexFirst.{found_in, none_found}
 use Rattle.rd_depend.proofs.index.DependIndex.first_under.Goals as goal
 

@@ -1,5 +1,4 @@
-use Rattle.std.proofs.Common.{◌≡◌, ◌<◌, ℕ, List, length, true, take, sym, ap, subst, ◌∙◌, Option, None}
-use Rattle.rd_depend.proofs.Prelude.{nat_lt, Key, is_under_some, IsAscending, last_or, before_first, Under, touched_or_written, last_position}
+use Rattle.rd_depend.proofs.Prelude.{◌≡◌, ◌<◌, ℕ, List, length, true, take, sym, ap, subst, ◌∙◌, Option, None, nat_lt, Key, is_under_some, IsAscending, last_or, before_first, Under, touched_or_written, last_position}
 use Rattle.rd_depend.proofs.IndexWriters.{last_in, none_last}
 use Rattle.rd_depend.proofs.index.DependIndex.last_under.Goals as goal
 

@@ -1,5 +1,4 @@
-use Rattle.std.proofs.Common.{true, take, ◌∙◌}
-use Rattle.rd_depend.proofs.Prelude.{is_under, is_under_some, touched_or_written, last_position}
+use Rattle.rd_depend.proofs.Prelude.{true, take, ◌∙◌, is_under, is_under_some, touched_or_written, last_position}
 use Rattle.rd_depend.proofs.IndexWriters.{last_at}
 use Rattle.rd_depend.proofs.index.DependIndex.last_writer.Goals as goal
 

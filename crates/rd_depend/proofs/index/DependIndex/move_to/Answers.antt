@@ -1,5 +1,4 @@
-use Rattle.std.proofs.Common.{refl}
-use Rattle.rd_depend.proofs.Prelude.{DependIndex, IsMoved}
+use Rattle.rd_depend.proofs.Prelude.{refl, DependIndex, IsMoved}
 use Rattle.rd_depend.proofs.IndexMoves.{moved_index, moved_room}
 use Rattle.rd_depend.proofs.IndexRoom.{each, each_capacity}
 use Rattle.rd_depend.proofs.index.DependIndex.move_to.Goals as goal

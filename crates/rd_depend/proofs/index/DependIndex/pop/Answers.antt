@@ -1,5 +1,4 @@
-use Rattle.std.proofs.Common.{◌≡◌, ◌+◌, ◌-◌, ◌≤◌, length, arith, rules}
-use Rattle.rd_depend.proofs.Prelude.{DependIndex, list_at, By}
+use Rattle.rd_depend.proofs.Prelude.{◌≡◌, ◌+◌, ◌-◌, ◌≤◌, length, arith, rules, DependIndex, list_at, By}
 use Rattle.rd_depend.proofs.IndexKeys.{separate, value_other, segment_other, in_place, in_value, in_segment}
 use Rattle.rd_depend.proofs.IndexChanges.{dropped, drops, gives_room, last_after, last_len, last_touched, last_under, touched_by}
 use Rattle.rd_depend.proofs.index.DependIndex.pop.Goals as goal

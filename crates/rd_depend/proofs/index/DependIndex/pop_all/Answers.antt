@@ -1,5 +1,4 @@
-use Rattle.std.proofs.Common.{◌≡◌, ◌-◌, ◌<◌, suc, length, arith}
-use Rattle.rd_depend.proofs.Prelude.{slice_get-get_or}
+use Rattle.rd_depend.proofs.Prelude.{◌≡◌, ◌-◌, ◌<◌, suc, length, arith, slice_get-get_or}
 use Rattle.rd_depend.proofs.IndexChanges.{last_left, one_dropped}
 use Rattle.rd_depend.proofs.index.DependIndex.pop_all.Goals as goal
 

@@ -1,5 +1,4 @@
-use Rattle.std.proofs.Common.{◌≤◌, [], length, take, sym, ◌∙◌, arith, length-append}
-use Rattle.rd_depend.proofs.Prelude.{length-take-le, slice_get-get_or}
+use Rattle.rd_depend.proofs.Prelude.{◌≤◌, [], length, take, sym, ◌∙◌, arith, length-append, length-take-le, slice_get-get_or}
 use Rattle.rd_depend.proofs.IndexChanges.{one_added, room_next, ok_then, not_refused}
 use Rattle.rd_depend.proofs.index.DependIndex.push_some.Goals as goal
 

@@ -1,5 +1,4 @@
-use Rattle.std.proofs.Common.{subst, arith}
-use Rattle.rd_depend.proofs.Prelude.{without, IsIndexOf}
+use Rattle.rd_depend.proofs.Prelude.{subst, arith, without, IsIndexOf}
 use Rattle.rd_depend.proofs.IndexMoves.{moved_last}
 use Rattle.rd_depend.proofs.index.DependIndex.remove.Goals as goal
 

@@ -1,5 +1,4 @@
-use Rattle.std.proofs.Common.{◌<◌, ◌≤◌, length, arith}
-use Rattle.rd_depend.proofs.Prelude.{false≢true, spare_at, spare_in, By}
+use Rattle.rd_depend.proofs.Prelude.{◌<◌, ◌≤◌, length, arith, false≢true, spare_at, spare_in, By}
 use Rattle.rd_depend.proofs.IndexKeys.{in_place, in_value, in_segment}
 use Rattle.rd_depend.proofs.IndexChanges.{within_spare, touched_by, spare_under, ready_kept}
 use Rattle.rd_depend.proofs.index.DependIndex.reserve.Goals as goal

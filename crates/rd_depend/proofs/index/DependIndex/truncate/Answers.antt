@@ -1,5 +1,4 @@
-use Rattle.rd_depend.proofs.Prelude.{common_steps, nat_lt, before_first, DependIndex, IsAscending}
-use Rattle.std.proofs.Common.{◌≡◌, refl, arith}
+use Rattle.rd_depend.proofs.Prelude.{common_steps, nat_lt, before_first, DependIndex, IsAscending, ◌≡◌, refl, arith}
 use Rattle.rd_depend.proofs.IndexCuts.{cut_index, cut_room}
 use Rattle.rd_depend.proofs.IndexRoom.{each, each_capacity}
 use Rattle.rd_depend.proofs.index.DependIndex.truncate.Goals as goal

@@ -1,6 +1,4 @@
-use Rattle.std.proofs.Common.{rules, arith}
-use Rattle.std.specs.Prelude.{leb}
-use Rattle.std.proofs.lemmas.List.Sorted.{IsPartitionPoint-from_clause, IsPartitionedBy-leb}
+use Rattle.rd_depend.proofs.Prelude.{rules, arith, leb, IsPartitionPoint-from_clause, IsPartitionedBy-leb}
 use Rattle.rd_depend.proofs.IndexLists.{non_decreasing, number-all, number-none, point-is}
 use Rattle.rd_depend.proofs.index.lists.count_up_to.Goals as goal
 use Rattle.rd_depend.proofs.index.lists.count_up_to.Goals.{then-len-eq0-via-then-len-eq0, then-len-eq0-via-else-len-eq0+then-positions-len}

@@ -1,5 +1,4 @@
-use Rattle.std.proofs.Common.{◌≡◌, ℕ, ◌≤◌, length}
-use Rattle.rd_depend.proofs.Prelude.{list_at, spare_at}
+use Rattle.rd_depend.proofs.Prelude.{◌≡◌, ℕ, ◌≤◌, length, list_at, spare_at}
 use Rattle.rd_depend.proofs.index.lists.grow.Given as goal
 
 abbrev pub invariant-loop-count : goal.invariant-loop-count

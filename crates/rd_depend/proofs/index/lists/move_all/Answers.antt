@@ -1,5 +1,4 @@
-use Rattle.std.proofs.Common.{arith}
-use Rattle.rd_depend.proofs.Prelude.{slice_get_past}
+use Rattle.rd_depend.proofs.Prelude.{arith, slice_get_past}
 use Rattle.rd_depend.proofs.IndexLists.{none_moved}
 use Rattle.rd_depend.proofs.index.lists.move_all.Goals as goal
 

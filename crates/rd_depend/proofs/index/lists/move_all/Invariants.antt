@@ -1,5 +1,4 @@
-use Rattle.std.proofs.Common.{◌≡◌, ℕ, ◌<◌, ◌≤◌, length}
-use Rattle.rd_depend.proofs.Prelude.{list_at, capacity_at, IsMoved}
+use Rattle.rd_depend.proofs.Prelude.{◌≡◌, ℕ, ◌<◌, ◌≤◌, length, list_at, capacity_at, IsMoved}
 use Rattle.rd_depend.proofs.index.lists.move_all.Given as goal
 
 abbrev pub invariant-loop-index : goal.invariant-loop-index

@@ -1,5 +1,4 @@
-use Rattle.std.proofs.Common.{◌≡◌, ℕ, ◌<◌, ◌≤◌, length}
-use Rattle.rd_depend.proofs.Prelude.{nat_lt, list_at, capacity_at, before_first, IsAscending}
+use Rattle.rd_depend.proofs.Prelude.{◌≡◌, ℕ, ◌<◌, ◌≤◌, length, nat_lt, list_at, capacity_at, before_first, IsAscending}
 use Rattle.rd_depend.proofs.index.lists.truncate_all.Given as goal
 
 abbrev pub invariant-loop-index : goal.invariant-loop-index

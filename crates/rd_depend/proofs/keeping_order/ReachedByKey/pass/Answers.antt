@@ -1,6 +1,4 @@
-use Rattle.std.proofs.Common.{◌∙◌, arith}
-use Rattle.rd_depend.proofs.Prelude.{passed_under, reached_of}
-use Rattle.rd_depend.specs.KeepingOrder.{passed_over}
+use Rattle.rd_depend.proofs.Prelude.{◌∙◌, arith, passed_under, reached_of, passed_over}
 use Rattle.rd_depend.proofs.ComparedSteps.{all_after}
 use Rattle.rd_depend.proofs.keeping_order.ReachedByKey.pass.Goals as goal
 

@@ -1,5 +1,4 @@
-use Rattle.std.proofs.Common.{◌≡◌, Option, Some, None, IsSome, cond, refl, sym, ap, subst, ◌∙◌}
-use Rattle.rd_depend.proofs.Prelude.{Key, Reached, key_eq, passed, passed_under, reached_of, reached_or_nothing}
+use Rattle.rd_depend.proofs.Prelude.{◌≡◌, Option, Some, None, IsSome, cond, refl, sym, ap, subst, ◌∙◌, Key, Reached, key_eq, passed, passed_under, reached_of, reached_or_nothing}
 use Rattle.indexmap.specs.IndexMap.{get}
 use Rattle.rd_depend.proofs.ComparedSteps.{written_down}
 use Rattle.rd_depend.proofs.keeping_order.ReachedByKey.pass_under.Goals as goal

@@ -1,5 +1,4 @@
-use Rattle.std.proofs.Common.{◌≡◌, ℕ, ◌<◌, []}
-use Rattle.rd_depend.proofs.Prelude.{left_of}
+use Rattle.rd_depend.proofs.Prelude.{◌≡◌, ℕ, ◌<◌, [], left_of}
 use Rattle.rd_depend.proofs.keeping_order.StepsByActor.is_empty.Given as goal
 
 abbrev pub invariant-loop-steps : goal.invariant-loop-steps

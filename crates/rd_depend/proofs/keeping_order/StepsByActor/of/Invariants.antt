@@ -1,6 +1,4 @@
-use Rattle.std.proofs.Common.{◌≡◌, ℕ, ◌+◌, ◌≤◌, length, drop}
-use Rattle.rd_depend.proofs.Prelude.{by_actor, left_of}
-use Rattle.std.specs.List.{enumerate_from}
+use Rattle.rd_depend.proofs.Prelude.{◌≡◌, ℕ, ◌+◌, ◌≤◌, length, drop, by_actor, left_of, enumerate_from}
 use Rattle.rd_depend.proofs.keeping_order.StepsByActor.of.Given as goal
 
 abbrev pub invariant-loop-index : goal.invariant-loop-index

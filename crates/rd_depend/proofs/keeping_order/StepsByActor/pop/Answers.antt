@@ -1,5 +1,4 @@
-use Rattle.std.proofs.Common.{arith}
-use Rattle.rd_depend.proofs.Prelude.{slice_get-get_or}
+use Rattle.rd_depend.proofs.Prelude.{arith, slice_get-get_or}
 use Rattle.rd_depend.proofs.ComparedSteps.{popped_or_none}
 use Rattle.rd_depend.proofs.keeping_order.StepsByActor.pop.Goals as goal
 

@@ -1,5 +1,4 @@
-use Rattle.std.proofs.Common.{ℕ, ◌≡◌, ◌<◌, ◌++◌, ◌∷◌, [], List, length, Vec, Global, get_or, ap, sym, ◌∙◌, arith}
-use Rattle.rd_depend.proofs.Prelude.{set, slice_get-get_or, PlacedStep, list_at, items_of}
+use Rattle.rd_depend.proofs.Prelude.{ℕ, ◌≡◌, ◌<◌, ◌++◌, ◌∷◌, [], List, length, Vec, Global, get_or, ap, sym, ◌∙◌, arith, set, slice_get-get_or, PlacedStep, list_at, items_of}
 use Rattle.rd_depend.proofs.ComparedSteps.{left_in, pushed}
 use Rattle.rd_depend.proofs.keeping_order.StepsByActor.push.Goals as goal
 

@@ -1,5 +1,4 @@
-use Rattle.std.proofs.Common.{sym, subst}
-use Rattle.rd_desk.proofs.Prelude.{IsLeftBy, book_state, entries}
+use Rattle.rd_desk.proofs.Prelude.{sym, subst, IsLeftBy, book_state, entries}
 use Rattle.rd_desk.proofs.desks.Desk.close.Goals as goal
 
 pub returns-clause-leaves : goal.returns-clause-leaves

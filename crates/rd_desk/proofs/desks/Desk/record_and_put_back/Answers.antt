@@ -1,5 +1,4 @@
-use Rattle.std.proofs.Common.{subst, ◌∙◌}
-use Rattle.rd_desk.proofs.Prelude.{IsLegal, book_state, entries, number, opened_state, seen}
+use Rattle.rd_desk.proofs.Prelude.{subst, ◌∙◌, IsLegal, book_state, entries, number, opened_state, seen}
 use Rattle.rd_desk.proofs.HistoryLemmas.{is_legal}
 use Rattle.rd_desk.proofs.PassLemmas.{recorded_by}
 use Rattle.rd_desk.proofs.desks.Desk.record_and_put_back.Goals as goal

@@ -1,5 +1,4 @@
-use Rattle.std.proofs.Common.{sym, ap, ◌∙◌}
-use Rattle.rd_desk.proofs.Prelude.{book_state}
+use Rattle.rd_desk.proofs.Prelude.{sym, ap, ◌∙◌, book_state}
 use Rattle.rd_desk.proofs.HistoryLemmas.{nothing_yet}
 use Rattle.rd_desk.proofs.recording.BookWithHistory.new.Goals as goal
 

@@ -1,5 +1,4 @@
-use Rattle.std.proofs.Common.{arith, rules, subst, sym, ◌≡◌, ◌≤◌, ◌++◌, ◌∷◌, [], ap, ◌∙◌, length, vec_len, vec_capacity}
-use Rattle.rd_desk.proofs.Prelude.{IsCapacity, IsLeftBy, book_state, entries, viewer_entry}
+use Rattle.rd_desk.proofs.Prelude.{arith, rules, subst, sym, ◌≡◌, ◌≤◌, ◌++◌, ◌∷◌, [], ap, ◌∙◌, length, vec_len, vec_capacity, IsCapacity, IsLeftBy, book_state, entries, viewer_entry}
 use Rattle.rd_desk.proofs.HistoryLemmas.{one_recorded}
 use Rattle.rd_desk.proofs.recording.BookWithHistory.record.Goals as goal
 

@@ -1,5 +1,4 @@
-use Rattle.std.proofs.Common.{arith, subst}
-use Rattle.rd_desk.proofs.Prelude.{AllZip, IsRoomFor, take_all}
+use Rattle.rd_desk.proofs.Prelude.{arith, subst, AllZip, IsRoomFor, take_all}
 use Rattle.rd_desk.proofs.ChainLemmas.{next_pair}
 use Rattle.rd_desk.proofs.rooms.Room.for_viewers.Goals as goal
 

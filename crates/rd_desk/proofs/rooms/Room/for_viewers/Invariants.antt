@@ -1,5 +1,4 @@
-use Rattle.std.proofs.Common.{◌≡◌, ◌≤◌, take, length, vec_len, vec_capacity}
-use Rattle.rd_desk.proofs.Prelude.{AllZip, IsRoomFor}
+use Rattle.rd_desk.proofs.Prelude.{◌≡◌, ◌≤◌, take, length, vec_len, vec_capacity, AllZip, IsRoomFor}
 use Rattle.rd_desk.proofs.rooms.Room.for_viewers.Given as goal
 
 abbrev pub invariant-loop-i : goal.invariant-loop-i

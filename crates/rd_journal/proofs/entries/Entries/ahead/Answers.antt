@@ -1,5 +1,4 @@
-use Rattle.std.proofs.Common.{arith}
-use Rattle.rd_journal.proofs.Prelude.{drop-take, length-take-le, take-take}
+use Rattle.rd_journal.proofs.Prelude.{arith, drop-take, length-take-le, take-take}
 use Rattle.rd_journal.proofs.EntryLemmas.{all-length, ahead-length}
 use Rattle.rd_journal.proofs.entries.Entries.ahead.Goals as goal
 

@@ -1,5 +1,4 @@
-use Rattle.std.proofs.Common.{◌≡◌, ◌++◌, [], take}
-use Rattle.rd_journal.proofs.Prelude.{live_entries, ahead_entries, entries_capacity}
+use Rattle.rd_journal.proofs.Prelude.{◌≡◌, ◌++◌, [], take, live_entries, ahead_entries, entries_capacity}
 use Rattle.rd_journal.proofs.entries.Entries.exchange.Given as goal
 
 abbrev pub invariant-loop-entry : goal.invariant-loop-entry

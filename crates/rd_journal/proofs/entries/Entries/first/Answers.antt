@@ -1,5 +1,4 @@
-use Rattle.rd_journal.proofs.Prelude.{common_steps, all_entries}
-use Rattle.std.proofs.Common.{arith}
+use Rattle.rd_journal.proofs.Prelude.{common_steps, all_entries, arith}
 use Rattle.rd_journal.proofs.Numbers.{at-take, order_below}
 use Rattle.rd_journal.proofs.entries.Entries.first.Goals as goal
 

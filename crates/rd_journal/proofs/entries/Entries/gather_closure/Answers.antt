@@ -1,5 +1,4 @@
-use Rattle.std.proofs.Common.{◌-◌, List, take, drop, sym, subst, arith, length-take-le}
-use Rattle.rd_journal.proofs.Prelude.{Entry, HasRoomFor, all_entries, live_entries, ahead_entries, at_numbers}
+use Rattle.rd_journal.proofs.Prelude.{◌-◌, List, take, drop, sym, subst, arith, length-take-le, Entry, HasRoomFor, all_entries, live_entries, ahead_entries, at_numbers}
 use Rattle.rd_journal.proofs.RoomLemmas.{fits_first}
 use Rattle.rd_journal.proofs.Numbers.{at-length, order_below}
 use Rattle.rd_journal.proofs.EntryLemmas.{live-length}

@@ -1,5 +1,4 @@
-use Rattle.std.proofs.Common.{arith}
-use Rattle.rd_journal.proofs.Prelude.{all_entries}
+use Rattle.rd_journal.proofs.Prelude.{arith, all_entries}
 use Rattle.rd_journal.proofs.EntryLemmas.{all-length, live-length, none_ahead, put_last}
 use Rattle.rd_journal.proofs.entries.Entries.push.Goals as goal
 

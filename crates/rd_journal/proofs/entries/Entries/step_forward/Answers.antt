@@ -1,5 +1,4 @@
-use Rattle.std.proofs.Common.{arith}
-use Rattle.rd_journal.proofs.Prelude.{all_entries}
+use Rattle.rd_journal.proofs.Prelude.{arith, all_entries}
 use Rattle.rd_journal.proofs.EntryLemmas.{ahead-length, cut_on, cut_on_rest, border_moved}
 use Rattle.rd_journal.proofs.entries.Entries.step_forward.Goals as goal
 

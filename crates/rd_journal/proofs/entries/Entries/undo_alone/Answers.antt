@@ -1,5 +1,4 @@
-use Rattle.std.proofs.Common.{arith}
-use Rattle.rd_journal.proofs.Prelude.{all_entries}
+use Rattle.rd_journal.proofs.Prelude.{arith, all_entries}
 use Rattle.rd_journal.proofs.ListLemmas.{behind_before, moved_to-length}
 use Rattle.rd_journal.proofs.Numbers.{at-moved_to, count-moved_to, order_below, order_moved}
 use Rattle.rd_journal.proofs.EntryLemmas.{all-length, live-length, taken_out, moved_among}

@@ -1,5 +1,4 @@
-use Rattle.rd_journal.proofs.Prelude.{put_mid, vec_capacity, append-nil, drop-drop, drop_at, length-take-le, depends_on_one, Entry, HasRoomFor, at_numbers}
-use Rattle.std.proofs.Common.{◌≡◌, ◌∙◌, ◌+◌, ◌-◌, ◌<◌, ◌≤◌, ℕ, List, [], ◌∷◌, ◌++◌, length, take, drop, set, Bool, refl, sym, ap, subst, arith, rules, length-append, length-drop}
+use Rattle.rd_journal.proofs.Prelude.{put_mid, vec_capacity, append-nil, drop-drop, drop_at, length-take-le, depends_on_one, Entry, HasRoomFor, at_numbers, ◌≡◌, ◌∙◌, ◌+◌, ◌-◌, ◌<◌, ◌≤◌, ℕ, List, [], ◌∷◌, ◌++◌, length, take, drop, set, Bool, refl, sym, ap, subst, arith, rules, length-append, length-drop}
 use Rattle.rd_journal.proofs.GatheringLoop.{live_of, live-length, UnderWay, next_one, first_gathered, before_next, joined, stayed, ended, carried}
 use Rattle.rd_journal.proofs.RoomLemmas.{fits_one, fits_between}
 use Rattle.rd_journal.proofs.ListLemmas.{overwritten}

@@ -1,5 +1,4 @@
-use Rattle.std.proofs.Common.{◌≡◌}
-use Rattle.rd_journal.proofs.Prelude.{vec_capacity}
+use Rattle.rd_journal.proofs.Prelude.{◌≡◌, vec_capacity}
 use Rattle.rd_journal.proofs.GatheringLoop.{UnderWay}
 use Rattle.rd_journal.proofs.entries.gathering.gather.Given as goal
 

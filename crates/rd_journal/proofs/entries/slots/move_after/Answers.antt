@@ -1,5 +1,4 @@
-use Rattle.std.proofs.Common.{◌≡◌, ℕ, ◌-◌, ◌≤◌, List, ◌++◌, length, take, drop, arith}
-use Rattle.rd_journal.proofs.Prelude.{put_mid, mid_of, moved_to}
+use Rattle.rd_journal.proofs.Prelude.{◌≡◌, ℕ, ◌-◌, ◌≤◌, List, ◌++◌, length, take, drop, arith, put_mid, mid_of, moved_to}
 use Rattle.rd_journal.proofs.ListLemmas.{moved_to-length, turned, overwritten}
 use Rattle.rd_journal.proofs.entries.slots.move_after.Goals as goal
 

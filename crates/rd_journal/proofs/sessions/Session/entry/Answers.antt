@@ -1,5 +1,4 @@
-use Rattle.std.proofs.Common.{◌-◌, inl, inr, arith}
-use Rattle.rd_journal.proofs.Prelude.{journal}
+use Rattle.rd_journal.proofs.Prelude.{◌-◌, inl, inr, arith, journal}
 use Rattle.rd_journal.proofs.Ahead.{is_session}
 use Rattle.rd_journal.proofs.Calls.{entry_missing, entry_found}
 use Rattle.rd_journal.proofs.LawLemmas.{step_after}

@@ -1,5 +1,4 @@
-use Rattle.std.proofs.Common.{◌≡◌, ◌∙◌, ◌≤◌, ℕ, List, ◌++◌, length, take, drop, refl, ap, subst, arith}
-use Rattle.rd_journal.proofs.Prelude.{opened_with, append-nil, length-take-le, take-append-le, drop_at, drop-append-le, error_passed_up, HasRoomInstead, model, room, Entry, IsIndexOf, whole_journal, live_entries, ahead_entries, journal}
+use Rattle.rd_journal.proofs.Prelude.{◌≡◌, ◌∙◌, ◌≤◌, ℕ, List, ◌++◌, length, take, drop, refl, ap, subst, arith, opened_with, append-nil, length-take-le, take-append-le, drop_at, drop-append-le, error_passed_up, HasRoomInstead, model, room, Entry, IsIndexOf, whole_journal, live_entries, ahead_entries, journal}
 use Rattle.rd_journal.proofs.Ahead.{with_undone, is_session}
 use Rattle.rd_journal.proofs.RoomLemmas.{lacks_fewer}
 use Rattle.rd_journal.proofs.Runs.{live_lead}

@@ -1,5 +1,4 @@
-use Rattle.std.proofs.Common.{◌∙◌, sym, ap, arith, length-append}
-use Rattle.rd_journal.proofs.Prelude.{live_entries, ahead_entries}
+use Rattle.rd_journal.proofs.Prelude.{◌∙◌, sym, ap, arith, length-append, live_entries, ahead_entries}
 use Rattle.rd_journal.proofs.Finding.{if_live, within_live, behind_live, found_live}
 use Rattle.rd_journal.proofs.sessions.Session.first_dependant.Goals as goal
 

@@ -1,5 +1,4 @@
-use Rattle.rd_journal.proofs.Prelude.{common_steps}
-use Rattle.std.proofs.Common.{arith}
+use Rattle.rd_journal.proofs.Prelude.{common_steps, arith}
 use Rattle.rd_journal.proofs.Calls.{back_start}
 use Rattle.rd_journal.proofs.sessions.Session.go_along.Goals as goal
 

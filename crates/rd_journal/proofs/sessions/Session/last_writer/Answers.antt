@@ -1,6 +1,4 @@
-use Rattle.std.proofs.Common.{ℕ, ◌∙◌, ◌++◌, length, take, refl, ap}
-use Rattle.rd_journal.proofs.Prelude.{take_at, live_entries, ahead_entries, kept_entries}
-use Rattle.rd_depend.specs.Writers.{last_position, writes_to}
+use Rattle.rd_journal.proofs.Prelude.{ℕ, ◌∙◌, ◌++◌, length, take, refl, ap, take_at, live_entries, ahead_entries, kept_entries, last_position, writes_to}
 use Rattle.rd_journal.proofs.sessions.Session.last_writer.Goals as goal
 
 pub returns : goal.returns

@@ -1,5 +1,4 @@
-use Rattle.std.proofs.Common.{List, refl, ◌∙◌, ap, subst, arith, drop, OnOk}
-use Rattle.rd_journal.proofs.Prelude.{model, room, Entry, HasRoomForAll, room_without}
+use Rattle.rd_journal.proofs.Prelude.{List, refl, ◌∙◌, ap, subst, arith, drop, OnOk, model, room, Entry, HasRoomForAll, room_without}
 use Rattle.rd_journal.proofs.Calls.{still, unchanged}
 use Rattle.rd_journal.proofs.sessions.Session.make_room_to_switch.Goals as goal
 

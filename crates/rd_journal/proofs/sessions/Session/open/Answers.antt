@@ -1,5 +1,4 @@
-use Rattle.std.proofs.Common.{List, [], ◌++◌, sym, subst, arith}
-use Rattle.rd_journal.proofs.Prelude.{model, room, Entry, IsIndexOf, opened_with, whole_journal, events}
+use Rattle.rd_journal.proofs.Prelude.{List, [], ◌++◌, sym, subst, arith, model, room, Entry, IsIndexOf, opened_with, whole_journal, events}
 use Rattle.rd_journal.proofs.Calls.{opened_is, opened_session}
 use Rattle.rd_journal.proofs.sessions.Session.open.Goals as goal
 

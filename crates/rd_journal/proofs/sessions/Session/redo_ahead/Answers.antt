@@ -1,5 +1,4 @@
-use Rattle.rd_journal.proofs.Prelude.{common_steps, length-take-le}
-use Rattle.std.proofs.Common.{arith}
+use Rattle.rd_journal.proofs.Prelude.{common_steps, length-take-le, arith}
 use Rattle.rd_journal.proofs.Calls.{forward_start}
 use Rattle.rd_journal.proofs.sessions.Session.redo_ahead.Goals as goal
 

@@ -1,5 +1,4 @@
-use Rattle.rd_journal.proofs.Prelude.{opened_with, common_steps, length-take, model, room, Entry, IsIndexOf, whole_journal, IsMovedForward, journal}
-use Rattle.std.proofs.Common.{List, refl, length, sym, ap, subst, arith, length-drop}
+use Rattle.rd_journal.proofs.Prelude.{opened_with, common_steps, length-take, model, room, Entry, IsIndexOf, whole_journal, IsMovedForward, journal, List, refl, length, sym, ap, subst, arith, length-drop}
 use Rattle.rd_journal.proofs.Ahead.{first_run, forward_undone}
 use Rattle.rd_journal.proofs.Walks.{moved_forward, room_first, state_forward}
 use Rattle.rd_journal.proofs.sessions.Session.redo_many.Goals as goal

@@ -1,5 +1,4 @@
-use Rattle.std.proofs.Common.{inl, inr, refl, arith}
-use Rattle.rd_journal.proofs.Prelude.{journal}
+use Rattle.rd_journal.proofs.Prelude.{inl, inr, refl, arith, journal}
 use Rattle.rd_journal.proofs.Ahead.{is_session}
 use Rattle.rd_journal.proofs.RolledBack.{roll_missing, roll_goes, rolled_run}
 use Rattle.rd_journal.proofs.sessions.Session.roll.Goals as goal

@@ -1,5 +1,4 @@
-use Rattle.std.proofs.Common.{◌≡◌, None, sym, ◌∙◌}
-use Rattle.rd_journal.proofs.Prelude.{first_dependant, journal}
+use Rattle.rd_journal.proofs.Prelude.{◌≡◌, None, sym, ◌∙◌, first_dependant, journal}
 use Rattle.rd_journal.proofs.RolledBack.{alone_rolled}
 use Rattle.rd_journal.proofs.sessions.Session.roll_back.Goals as goal
 

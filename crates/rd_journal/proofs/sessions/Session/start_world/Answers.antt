@@ -1,5 +1,4 @@
-use Rattle.std.proofs.Common.{sym, subst, arith}
-use Rattle.rd_journal.proofs.Prelude.{World, model, LeadsTo, journal}
+use Rattle.rd_journal.proofs.Prelude.{sym, subst, arith, World, model, LeadsTo, journal}
 use Rattle.rd_journal.proofs.Ahead.{is_session}
 use Rattle.rd_journal.proofs.Runs.{live_lead, led_nowhere}
 use Rattle.rd_journal.proofs.sessions.Session.start_world.Goals as goal

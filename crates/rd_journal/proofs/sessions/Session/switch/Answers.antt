@@ -1,6 +1,4 @@
-use Rattle.std.proofs.Common.{◌++◌, ◌≤◌, length, take, sym, ◌∙◌, ap, subst, arith}
-use Rattle.rd_journal.proofs.Prelude.{fact_passed_up, Journal, events, IsRunFrom, state_of, switch}
-use Rattle.std.proofs.lemmas.Result.{on_ok_weaker, on_err_weaker}
+use Rattle.rd_journal.proofs.Prelude.{◌++◌, ◌≤◌, length, take, sym, ◌∙◌, ap, subst, arith, fact_passed_up, Journal, events, IsRunFrom, state_of, switch, on_ok_weaker, on_err_weaker}
 use Rattle.rd_journal.proofs.sessions.Session.switch.Goals as goal
 
 pub returns-in_err-make_room_to_switch-clause-unchanged : goal.returns-in_err-make_room_to_switch-clause-unchanged

@@ -1,5 +1,4 @@
-use Rattle.std.proofs.Common.{ℕ, refl, ◌∙◌, List, ap, sym, subst, arith, length}
-use Rattle.rd_journal.proofs.Prelude.{opened_with, model, room, Entry, IsIndexOf, moved_to, kept_entries, IsUndoneAlone, whole_journal}
+use Rattle.rd_journal.proofs.Prelude.{ℕ, refl, ◌∙◌, List, ap, sym, subst, arith, length, opened_with, model, room, Entry, IsIndexOf, moved_to, kept_entries, IsUndoneAlone, whole_journal}
 use Rattle.rd_journal.proofs.Ahead.{out_undone}
 use Rattle.rd_journal.proofs.LoneUndo.{IsNumber, may_undo_at, taken_out_front, taken_out_few}
 use Rattle.rd_journal.proofs.RoomLemmas.{given_back}

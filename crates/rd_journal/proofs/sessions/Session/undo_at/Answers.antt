@@ -1,5 +1,4 @@
-use Rattle.std.proofs.Common.{◌∙◌, sym, inl, inr, refl, arith}
-use Rattle.rd_journal.proofs.Prelude.{journal}
+use Rattle.rd_journal.proofs.Prelude.{◌∙◌, sym, inl, inr, refl, arith, journal}
 use Rattle.rd_journal.proofs.Ahead.{is_session}
 use Rattle.rd_journal.proofs.LoneUndo.{undo_at_missing, undo_at_goes, undo_at_refused, undone_run}
 use Rattle.rd_journal.proofs.sessions.Session.undo_at.Goals as goal

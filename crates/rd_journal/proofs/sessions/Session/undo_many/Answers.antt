@@ -1,5 +1,4 @@
-use Rattle.std.proofs.Common.{◌-◌, ℕ, length, drop, refl, sym, ap, subst, arith, length-append, length-drop, List}
-use Rattle.rd_journal.proofs.Prelude.{opened_with, model, room, Entry, IsIndexOf, whole_journal, IsMovedBack, journal}
+use Rattle.rd_journal.proofs.Prelude.{◌-◌, ℕ, length, drop, refl, sym, ap, subst, arith, length-append, length-drop, List, opened_with, model, room, Entry, IsIndexOf, whole_journal, IsMovedBack, journal}
 use Rattle.rd_journal.proofs.Ahead.{back_undone, track_back}
 use Rattle.rd_journal.proofs.Runs.{live_lead}
 use Rattle.rd_journal.proofs.Walks.{moved_back, state_back}

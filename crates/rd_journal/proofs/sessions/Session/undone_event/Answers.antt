@@ -1,5 +1,4 @@
-use Rattle.std.proofs.Common.{◌-◌, ◌<◌, ◌∙◌, sym, arith}
-use Rattle.rd_journal.proofs.Prelude.{length-take, get_or-take, ahead_entries, journal}
+use Rattle.rd_journal.proofs.Prelude.{◌-◌, ◌<◌, ◌∙◌, sym, arith, length-take, get_or-take, ahead_entries, journal}
 use Rattle.rd_journal.proofs.Runs.{event_missing, event_found}
 use Rattle.rd_journal.proofs.sessions.Session.undone_event.Goals as goal
 use Rattle.rd_journal.proofs.sessions.Session.undone_event.Goals.{then-i-eq0-via-then-i-eq0, then-i-eq0-via-else-i-eq0+then-i-undone_len}

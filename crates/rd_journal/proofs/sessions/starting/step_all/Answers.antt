@@ -1,5 +1,4 @@
-use Rattle.std.proofs.Common.{◌≡◌, ◌∙◌, ◌+◌, ◌<◌, List, [], ◌∷◌, ◌++◌, Ok, take, drop, length, refl, sym, ap, subst, arith}
-use Rattle.rd_journal.proofs.Prelude.{drop_all, take_all, take_more, World, Stepped, model, room, run, Entry, first_step, events, IsRunFrom}
+use Rattle.rd_journal.proofs.Prelude.{◌≡◌, ◌∙◌, ◌+◌, ◌<◌, List, [], ◌∷◌, ◌++◌, Ok, take, drop, length, refl, sym, ap, subst, arith, drop_all, take_all, take_more, World, Stepped, model, room, run, Entry, first_step, events, IsRunFrom}
 use Rattle.rd_journal.proofs.ListLemmas.{drop_one_less}
 use Rattle.rd_journal.proofs.RoomLemmas.{redo_room, redone_room}
 use Rattle.rd_journal.proofs.Runs.{ran_more}

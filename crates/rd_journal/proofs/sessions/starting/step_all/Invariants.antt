@@ -1,5 +1,4 @@
-use Rattle.std.proofs.Common.{◌≡◌, ◌++◌, List, Ok, take, drop}
-use Rattle.rd_journal.proofs.Prelude.{model, room, run, Entry, events, IsRunFrom, HasRoom}
+use Rattle.rd_journal.proofs.Prelude.{◌≡◌, ◌++◌, List, Ok, take, drop, model, room, run, Entry, events, IsRunFrom, HasRoom}
 use Rattle.rd_journal.proofs.sessions.starting.step_all.Given as goal
 
 abbrev pub invariant-loop-next : goal.invariant-loop-next

@@ -1,5 +1,4 @@
-use Rattle.std.proofs.Common.{ℕ, ◌+◌, ◌≤◌, length, take, drop}
-use Rattle.rd_journal.proofs.Prelude.{World, model, room, LeadsTo, room_returned_by}
+use Rattle.rd_journal.proofs.Prelude.{ℕ, ◌+◌, ◌≤◌, length, take, drop, World, model, room, LeadsTo, room_returned_by}
 use Rattle.rd_journal.proofs.sessions.starting.undo_after.Given as goal
 
 abbrev pub invariant-loop-last : goal.invariant-loop-last

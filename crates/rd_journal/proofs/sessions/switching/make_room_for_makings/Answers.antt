@@ -1,5 +1,4 @@
-use Rattle.std.proofs.Common.{◌≡◌, ℕ, zero, suc, ◌+◌, ◌-◌, ◌<◌, ◌∙◌, IsSome, List, get_or, subst, sym, ap, arith, rules}
-use Rattle.rd_journal.proofs.Prelude.{World, model, room, Entry, error_passed_up, room_returned_by, room_without}
+use Rattle.rd_journal.proofs.Prelude.{◌≡◌, ℕ, zero, suc, ◌+◌, ◌-◌, ◌<◌, ◌∙◌, IsSome, List, get_or, subst, sym, ap, arith, rules, World, model, room, Entry, error_passed_up, room_returned_by, room_without}
 use Rattle.rd_journal.proofs.Switching.{room_for_one_more, room_for_actors}
 use Rattle.rd_journal.proofs.sessions.switching.make_room_for_makings.Goals as goal
 

@@ -1,5 +1,4 @@
-use Rattle.std.proofs.Common.{◌≡◌, ℕ, suc, ◌<◌, ◌≤◌}
-use Rattle.rd_journal.proofs.Prelude.{model, room, room_returned_by, room_without}
+use Rattle.rd_journal.proofs.Prelude.{◌≡◌, ℕ, suc, ◌<◌, ◌≤◌, model, room, room_returned_by, room_without}
 use Rattle.rd_journal.proofs.sessions.switching.make_room_for_makings.Given as goal
 
 abbrev pub invariant-loop-number : goal.invariant-loop-number

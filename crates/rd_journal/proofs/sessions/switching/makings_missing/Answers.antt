@@ -1,5 +1,4 @@
-use Rattle.std.proofs.Common.{set, arith}
-use Rattle.rd_journal.proofs.Prelude.{length-set, take_all}
+use Rattle.rd_journal.proofs.Prelude.{set, arith, length-set, take_all}
 use Rattle.rd_journal.proofs.Switching.{making_missed, no_making_missed}
 use Rattle.rd_journal.proofs.sessions.switching.makings_missing.Goals as goal
 use Rattle.rd_journal.proofs.sessions.switching.makings_missing.Goals.{in-Some, in_default}

@@ -1,5 +1,4 @@
-use Rattle.std.proofs.Common.{◌≡◌, ◌-◌, ◌<◌, ℕ, length, take, get_or}
-use Rattle.rd_journal.proofs.Prelude.{room_returned_by}
+use Rattle.rd_journal.proofs.Prelude.{◌≡◌, ◌-◌, ◌<◌, ℕ, length, take, get_or, room_returned_by}
 use Rattle.rd_journal.proofs.sessions.switching.makings_missing.Given as goal
 
 abbrev pub invariant-loop-position : goal.invariant-loop-position

@@ -1,5 +1,4 @@
-use Rattle.std.proofs.Common.{arith, refl}
-use Rattle.rd_journal.proofs.Prelude.{get_or-replicate, length-set}
+use Rattle.rd_journal.proofs.Prelude.{arith, refl, get_or-replicate, length-set}
 use Rattle.rd_journal.proofs.Switching.{few_makings, making_counted, no_making_counted}
 use Rattle.rd_journal.proofs.sessions.switching.makings_of.Goals as goal
 use Rattle.rd_journal.proofs.sessions.switching.makings_of.Goals.{in-Some, in_default}

@@ -1,5 +1,4 @@
-use Rattle.std.proofs.Common.{◌≡◌, ◌<◌, ℕ, length, take, get_or}
-use Rattle.rd_journal.proofs.Prelude.{room_returned_by}
+use Rattle.rd_journal.proofs.Prelude.{◌≡◌, ◌<◌, ℕ, length, take, get_or, room_returned_by}
 use Rattle.rd_journal.proofs.sessions.switching.makings_of.Given as goal
 
 abbrev pub invariant-loop-entry : goal.invariant-loop-entry

@@ -1,6 +1,4 @@
-use Rattle.std.proofs.Common.{◌≡◌, sym, subst, arith}
-use Rattle.std.proofs.lemmas.Simd.{map-map}
-use Rattle.rd_lock.proofs.Prelude.{AreAll, IsClosedOver, me}
+use Rattle.rd_lock.proofs.Prelude.{◌≡◌, sym, subst, arith, map-map, AreAll, IsClosedOver, me}
 use Rattle.rd_lock.proofs.Lists.{every_from}
 use Rattle.rd_lock.proofs.PassLists.{of_each}
 use Rattle.rd_lock.proofs.locks.TicketLock.close.Goals as goal

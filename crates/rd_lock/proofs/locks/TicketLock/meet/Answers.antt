@@ -1,5 +1,4 @@
-use Rattle.std.proofs.Common.{rules, map, ap, ◌∙◌, subst}
-use Rattle.rd_lock.proofs.Prelude.{AreComparable, Pairwise, in_hand, knows_served, lock_of}
+use Rattle.rd_lock.proofs.Prelude.{rules, map, ap, ◌∙◌, subst, AreComparable, Pairwise, in_hand, knows_served, lock_of}
 use Rattle.rd_lock.proofs.Looks.{looks_served}
 use Rattle.rd_lock.proofs.PassLists.{splits_it}
 use Rattle.rd_lock.proofs.Seats.{joins}

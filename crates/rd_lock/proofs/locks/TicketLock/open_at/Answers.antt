@@ -1,6 +1,4 @@
-use Rattle.std.proofs.Common.{rules, ap, ◌∙◌, arith}
-use Rattle.std.proofs.lemmas.List.{map-append}
-use Rattle.rd_lock.proofs.Prelude.{lock_of}
+use Rattle.rd_lock.proofs.Prelude.{rules, ap, ◌∙◌, arith, map-append, lock_of}
 use Rattle.rd_lock.proofs.Lists.{every_append, every_from}
 use Rattle.rd_lock.proofs.PassLists.{next_new, numbers_more, splits_it}
 use Rattle.rd_lock.proofs.locks.TicketLock.open_at.Goals as goal

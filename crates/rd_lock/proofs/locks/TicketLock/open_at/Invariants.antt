@@ -1,5 +1,4 @@
-use Rattle.std.proofs.Common.{◌≡◌, ◌≤◌, ◌+◌, ◌-◌, [], map, vec_len, vec_capacity}
-use Rattle.rd_lock.proofs.Prelude.{AllByRecursion, IsOut, Out, me, newcomer, newcomers, number, numbers, view_of}
+use Rattle.rd_lock.proofs.Prelude.{◌≡◌, ◌≤◌, ◌+◌, ◌-◌, [], map, vec_len, vec_capacity, AllByRecursion, IsOut, Out, me, newcomer, newcomers, number, numbers, view_of}
 use Rattle.rd_lock.proofs.locks.TicketLock.open_at.Given as goal
 
 abbrev pub invariant-loop-number : goal.invariant-loop-number

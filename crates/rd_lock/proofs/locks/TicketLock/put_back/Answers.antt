@@ -1,5 +1,4 @@
-use Rattle.std.proofs.Common.{rules}
-use Rattle.rd_lock.proofs.Prelude.{lock_of}
+use Rattle.rd_lock.proofs.Prelude.{rules, lock_of}
 use Rattle.rd_lock.proofs.Releases.{releases}
 use Rattle.rd_lock.proofs.locks.TicketLock.put_back.Goals as goal
 

@@ -1,5 +1,4 @@
-use Rattle.std.proofs.Common.{rules, arith}
-use Rattle.rd_lock.proofs.Prelude.{lock_of}
+use Rattle.rd_lock.proofs.Prelude.{rules, arith, lock_of}
 use Rattle.rd_lock.proofs.Looks.{looks_next}
 use Rattle.rd_lock.proofs.Draws.{draws}
 use Rattle.rd_lock.proofs.locks.TicketLock.take.Goals as goal

@@ -1,5 +1,4 @@
-use Rattle.std.proofs.Common.{◌≡◌, ◌≤◌, ◌^◌}
-use Rattle.rd_lock.proofs.Prelude.{IsOut, IsPassOf, IsSamePass, next_seen}
+use Rattle.rd_lock.proofs.Prelude.{◌≡◌, ◌≤◌, ◌^◌, IsOut, IsPassOf, IsSamePass, next_seen}
 use Rattle.rd_lock.proofs.locks.TicketLock.take.Given as goal
 
 abbrev pub invariant-draws : goal.invariant-draws

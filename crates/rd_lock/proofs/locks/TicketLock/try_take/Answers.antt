@@ -1,5 +1,4 @@
-use Rattle.std.proofs.Common.{rules, arith, Some}
-use Rattle.rd_lock.proofs.Prelude.{lock_of}
+use Rattle.rd_lock.proofs.Prelude.{rules, arith, Some, lock_of}
 use Rattle.rd_lock.proofs.Looks.{looks_served}
 use Rattle.rd_lock.proofs.Draws.{tries}
 use Rattle.rd_lock.proofs.locks.TicketLock.try_take.Goals as goal

@@ -1,5 +1,4 @@
-use Rattle.std.proofs.Common.{rules, Some}
-use Rattle.rd_lock.proofs.Prelude.{lock_of}
+use Rattle.rd_lock.proofs.Prelude.{rules, Some, lock_of}
 use Rattle.rd_lock.proofs.Waits.{polls}
 use Rattle.rd_lock.proofs.locks.TicketLock.wait_for.Goals as goal
 

@@ -1,6 +1,4 @@
-use Rattle.std.proofs.Common.{◌≡◌, ◌∙◌, ℕ, ◌≤◌, take, arith}
-use Rattle.rd_marks.proofs.Prelude.{fact_passed_up, NeitherBegins, DecidesEquivalence, Bookmarks, Node, entries_in, IsNodeIn, events}
-use Rattle.std.proofs.lemmas.Result.{IfOk-weaker}
+use Rattle.rd_marks.proofs.Prelude.{◌≡◌, ◌∙◌, ℕ, ◌≤◌, take, arith, fact_passed_up, NeitherBegins, DecidesEquivalence, Bookmarks, Node, entries_in, IsNodeIn, events, IfOk-weaker}
 use Rattle.rd_marks.proofs.Starting.{entries_length}
 use Rattle.rd_marks.proofs.SameLemmas.{decided_by_length, decided_behind, not_begun}
 use Rattle.rd_marks.proofs.bookmarks.Bookmarks.are_same.Goals.{then-shared-one-via-then-shared-one, then-shared-one-via-else-shared-one+then-shared-other}

@@ -1,5 +1,4 @@
-use Rattle.std.proofs.Common.{option_map, arith}
-use Rattle.rd_marks.proofs.Prelude.{lookup-map_values, MarkName, Node, entries_in, mark_name_eq, IsWithin}
+use Rattle.rd_marks.proofs.Prelude.{option_map, arith, lookup-map_values, MarkName, Node, entries_in, mark_name_eq, IsWithin}
 use Rattle.rd_marks.proofs.MarkLemmas.{all_without, removed_mapped}
 use Rattle.rd_marks.proofs.bookmarks.Bookmarks.drop.Goals as goal
 

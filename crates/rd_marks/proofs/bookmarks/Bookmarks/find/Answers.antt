@@ -1,5 +1,4 @@
-use Rattle.std.proofs.Common.{sym, option_map, arith}
-use Rattle.rd_marks.proofs.Prelude.{lookup-map_values, entries_in, mark_name_eq, IsWithin}
+use Rattle.rd_marks.proofs.Prelude.{sym, option_map, arith, lookup-map_values, entries_in, mark_name_eq, IsWithin}
 use Rattle.rd_marks.proofs.MarkLemmas.{all_found}
 use Rattle.rd_marks.proofs.bookmarks.Bookmarks.find.Goals as goal
 

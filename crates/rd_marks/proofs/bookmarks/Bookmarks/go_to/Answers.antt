@@ -1,6 +1,4 @@
-use Rattle.std.proofs.Common.{sym, ◌≡◌, ◌≤◌, [], ℕ, List, length, take, lit<, refl, subst, ap, ◌∙◌, arith}
-use Rattle.rd_marks.proofs.Prelude.{fact_passed_up, Event, Begins, state, track, Bookmarks, Node, here_in, entries_in, IsNodeIn, events}
-use Rattle.rd_marks.proofs.Prelude.{entries_at, length-take, take-length}
+use Rattle.rd_marks.proofs.Prelude.{sym, ◌≡◌, ◌≤◌, [], ℕ, List, length, take, lit<, refl, subst, ap, ◌∙◌, arith, fact_passed_up, Event, Begins, state, track, Bookmarks, Node, here_in, entries_in, IsNodeIn, events, entries_at, length-take, take-length}
 use Rattle.rd_marks.proofs.Here.{along_to}
 use Rattle.rd_marks.proofs.Starting.{events_length}
 use Rattle.rd_marks.proofs.bookmarks.Bookmarks.go_to.Goals as goal

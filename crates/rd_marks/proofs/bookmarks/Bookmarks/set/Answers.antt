@@ -1,5 +1,4 @@
-use Rattle.std.proofs.Common.{◌≡◌, ◌++◌, ◌∙◌, [], ◌∷◌, List, sym, ap, subst, arith}
-use Rattle.rd_marks.proofs.Prelude.{length-map, lookup-map_values, fact_passed_up, Entry, Begins, state, track, MarkName, IsLow, lists_in, here_in, AreRuns, IsKept, named_lists, mark_name_eq, entries_at, IsWithin, events}
+use Rattle.rd_marks.proofs.Prelude.{◌≡◌, ◌++◌, ◌∙◌, [], ◌∷◌, List, sym, ap, subst, arith, length-map, lookup-map_values, fact_passed_up, Entry, Begins, state, track, MarkName, IsLow, lists_in, here_in, AreRuns, IsKept, named_lists, mark_name_eq, entries_at, IsWithin, events}
 use Rattle.rd_marks.proofs.Counting.{all_along}
 use Rattle.rd_marks.proofs.Here.{live_along, live_begin}
 use Rattle.rd_marks.proofs.Putting.{IsSet, each, is_set, kept_same, none_named}

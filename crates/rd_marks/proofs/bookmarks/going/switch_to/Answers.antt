@@ -1,7 +1,4 @@
-use Rattle.std.proofs.Common.{List, ◌++◌, ◌≤◌, take, lit<, ap, subst, length, ◌∙◌, arith}
-use Rattle.std.proofs.lemmas.Result.{on_err_weaker}
-use Rattle.rd_marks.proofs.Prelude.{length-map, Entry, journal, state, entries_at, events, IsRunFrom}
-use Rattle.rd_marks.specs.Stretches.{AreInPieces}
+use Rattle.rd_marks.proofs.Prelude.{List, ◌++◌, ◌≤◌, take, lit<, ap, subst, length, ◌∙◌, arith, on_err_weaker, length-map, Entry, journal, state, entries_at, events, IsRunFrom, AreInPieces}
 use Rattle.rd_marks.proofs.Here.{live_along}
 use Rattle.rd_marks.proofs.Starting.{entries_length}
 use Rattle.rd_marks.proofs.EntryLemmas.{switched, joined_events, lacked, may_switch, few_enough}

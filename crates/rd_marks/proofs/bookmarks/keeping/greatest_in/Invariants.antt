@@ -1,5 +1,4 @@
-use Rattle.std.proofs.Common.{◌≡◌, max, drop}
-use Rattle.rd_marks.proofs.Prelude.{nodes_of, greatest_in}
+use Rattle.rd_marks.proofs.Prelude.{◌≡◌, max, drop, nodes_of, greatest_in}
 use Rattle.rd_marks.proofs.bookmarks.keeping.greatest_in.Given as goal
 
 abbrev pub invariant-loop-index : goal.invariant-loop-index

@@ -1,5 +1,4 @@
-use Rattle.std.proofs.Common.{◌∙◌, List, sym, ap, slice_get, arith}
-use Rattle.rd_marks.proofs.Prelude.{values_of, MarkName, Node, shifted, IsLow}
+use Rattle.rd_marks.proofs.Prelude.{◌∙◌, List, sym, ap, slice_get, arith, values_of, MarkName, Node, shifted, IsLow}
 use Rattle.rd_marks.proofs.Moving.{changed_next, value_next, all_changed}
 use Rattle.rd_marks.proofs.bookmarks.keeping.move_all.Goals as goal
 

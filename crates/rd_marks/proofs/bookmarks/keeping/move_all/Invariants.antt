@@ -1,5 +1,4 @@
-use Rattle.std.proofs.Common.{◌≡◌}
-use Rattle.rd_marks.proofs.Prelude.{spare, shifted}
+use Rattle.rd_marks.proofs.Prelude.{◌≡◌, spare, shifted}
 use Rattle.rd_marks.proofs.Moving.{changed}
 use Rattle.rd_marks.proofs.bookmarks.keeping.move_all.Given as goal
 

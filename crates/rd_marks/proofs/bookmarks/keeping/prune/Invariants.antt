@@ -1,5 +1,4 @@
-use Rattle.std.proofs.Common.{◌≡◌, ◌≤◌, length}
-use Rattle.rd_marks.proofs.Prelude.{spare, IsPruned}
+use Rattle.rd_marks.proofs.Prelude.{◌≡◌, ◌≤◌, length, spare, IsPruned}
 use Rattle.rd_marks.proofs.bookmarks.keeping.prune.Given as goal
 
 abbrev pub invariant-loop-i : goal.invariant-loop-i

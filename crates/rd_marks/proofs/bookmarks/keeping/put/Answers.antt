@@ -1,5 +1,4 @@
-use Rattle.std.proofs.Common.{option_map, arith}
-use Rattle.rd_marks.proofs.Prelude.{lookup-map_values, shifted, mark_name_eq}
+use Rattle.rd_marks.proofs.Prelude.{option_map, arith, lookup-map_values, shifted, mark_name_eq}
 use Rattle.indexmap.proofs.CallerLemmas.{insert_entry-new}
 use Rattle.rd_marks.proofs.bookmarks.keeping.put.Goals as goal
 

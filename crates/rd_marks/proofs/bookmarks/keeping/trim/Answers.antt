@@ -1,5 +1,4 @@
-use Rattle.std.proofs.Common.{◌≡◌, arith}
-use Rattle.rd_marks.proofs.Prelude.{IsLow, nodes_of, needed_at, IsWithin}
+use Rattle.rd_marks.proofs.Prelude.{◌≡◌, arith, IsLow, nodes_of, needed_at, IsWithin}
 use Rattle.rd_marks.proofs.Putting.{each, pruned}
 use Rattle.rd_marks.proofs.bookmarks.keeping.trim.Goals as goal
 

@@ -1,5 +1,4 @@
-use Rattle.std.proofs.Common.{refl}
-use Rattle.rd_marks.proofs.Prelude.{state, marks_of, lists_in}
+use Rattle.rd_marks.proofs.Prelude.{refl, state, marks_of, lists_in}
 use Rattle.rd_marks.proofs.AnswerLemmas.{kept_along, move_answered}
 use Rattle.rd_marks.proofs.Starts.{forward_start}
 use Rattle.rd_marks.proofs.books.Book.answer_forward.Goals as goal

@@ -1,7 +1,4 @@
-use Rattle.std.proofs.Common.{◌≡◌, Err, IsOk, sym, subst}
-use Rattle.rd_marks.proofs.Prelude.{Command, Refusal}
-use Rattle.rd_marks.specs.Book.{MayRefuseAsGoing, MayRefuseToGo, book_state, name_room}
-use Rattle.rd_marks.specs.Commands.{NeedsNoMemory}
+use Rattle.rd_marks.proofs.Prelude.{◌≡◌, Err, IsOk, sym, subst, Command, Refusal, MayRefuseAsGoing, MayRefuseToGo, book_state, name_room, NeedsNoMemory}
 use Rattle.rd_marks.proofs.MarkLemmas.{if_then_for}
 use Rattle.rd_marks.proofs.books.Book.answer_to.Goals as goal
 

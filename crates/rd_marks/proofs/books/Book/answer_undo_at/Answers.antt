@@ -1,5 +1,4 @@
-use Rattle.std.proofs.Common.{ap, arith}
-use Rattle.rd_marks.proofs.Prelude.{length-map, Entry, journal, state, track, book_state, marks_of, lists_in}
+use Rattle.rd_marks.proofs.Prelude.{ap, arith, length-map, Entry, journal, state, track, book_state, marks_of, lists_in}
 use Rattle.rd_marks.proofs.Here.{track_cut, undone_alone_leaves, undone_within}
 use Rattle.rd_marks.proofs.AnswerLemmas.{move_made, move_refused}
 use Rattle.rd_marks.proofs.Starts.{undo_at_start, answers_start, runs_stay}

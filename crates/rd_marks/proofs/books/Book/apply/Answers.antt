@@ -1,10 +1,7 @@
-use Rattle.std.proofs.Common.{[], ◌∷◌, length, length-append, refl, ap, arith}
-use Rattle.rd_marks.proofs.Prelude.{fact_passed_up, ahead_entries, Journal, journal, state, state_of, events, marks_of, lists_in}
+use Rattle.rd_marks.proofs.Prelude.{[], ◌∷◌, length, length-append, refl, ap, arith, fact_passed_up, ahead_entries, Journal, journal, state, state_of, events, marks_of, lists_in, on_err_weaker, error_passed_up}
 use Rattle.rd_marks.proofs.Here.{track_cut, added_leaves}
 use Rattle.rd_marks.proofs.AnswerLemmas.{event_made, event_refused}
 use Rattle.rd_marks.proofs.Starts.{apply_start, start_stays, runs_stay}
-use Rattle.std.proofs.lemmas.Result.{on_err_weaker}
-use Rattle.rd_step.proofs.PassedUp.{error_passed_up}
 use Rattle.rd_marks.proofs.books.Book.apply.Goals as goal
 
 pub invariant_of-self : goal.invariant_of-self

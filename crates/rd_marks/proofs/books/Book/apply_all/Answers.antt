@@ -1,8 +1,4 @@
-use Rattle.std.proofs.Common.{subst, List, ◌≡◌, ◌+◌, sym, [], ◌∷◌, ◌++◌, take, get_or, add-one, arith}
-use Rattle.rd_marks.proofs.Prelude.{take-suc, book_state}
-use Rattle.std.proofs.lemmas.List.{take_all}
-use Rattle.rd_marks.specs.Commands.{AreObeyed}
-use Rattle.rd_marks.specs.declared.commands.Command.{Command}
+use Rattle.rd_marks.proofs.Prelude.{subst, List, ◌≡◌, ◌+◌, sym, [], ◌∷◌, ◌++◌, take, get_or, add-one, arith, take-suc, book_state, take_all, AreObeyed, Command}
 use Rattle.rd_marks.proofs.ObeyLemmas.{one_more_obeyed}
 use Rattle.rd_marks.proofs.books.Book.apply_all.Goals as goal
 

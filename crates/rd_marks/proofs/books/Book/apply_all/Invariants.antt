@@ -1,5 +1,4 @@
-use Rattle.std.proofs.Common.{◌≡◌, take, length, vec_len, vec_capacity}
-use Rattle.rd_marks.proofs.Prelude.{book_state, AreObeyed}
+use Rattle.rd_marks.proofs.Prelude.{◌≡◌, take, length, vec_len, vec_capacity, book_state, AreObeyed}
 use Rattle.rd_marks.proofs.books.Book.apply_all.Given as goal
 
 abbrev pub invariant-loop-i : goal.invariant-loop-i

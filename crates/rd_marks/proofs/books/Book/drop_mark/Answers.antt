@@ -1,5 +1,4 @@
-use Rattle.std.proofs.Common.{◌∙◌, List, refl, sym, arith}
-use Rattle.rd_marks.proofs.Prelude.{Entry, state, MarkName, book_state, lists_in, AreEntriesOfRun, mark_name_eq}
+use Rattle.rd_marks.proofs.Prelude.{◌∙◌, List, refl, sym, arith, Entry, state, MarkName, book_state, lists_in, AreEntriesOfRun, mark_name_eq}
 use Rattle.rd_marks.proofs.Here.{still_begins}
 use Rattle.rd_marks.proofs.MarkLemmas.{all_without, drop_goes, drop_missing, none_removed}
 use Rattle.rd_marks.proofs.books.Book.drop_mark.Goals as goal

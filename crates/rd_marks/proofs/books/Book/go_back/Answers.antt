@@ -1,5 +1,4 @@
-use Rattle.std.proofs.Common.{arith}
-use Rattle.rd_marks.proofs.Prelude.{false≢true, length-map, Entry, journal, state}
+use Rattle.rd_marks.proofs.Prelude.{arith, false≢true, length-map, Entry, journal, state}
 use Rattle.rd_marks.proofs.AnswerLemmas.{kept_along}
 use Rattle.rd_marks.proofs.Starts.{back_start}
 use Rattle.rd_marks.proofs.books.Book.go_back.Goals as goal

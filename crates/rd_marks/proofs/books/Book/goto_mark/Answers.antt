@@ -1,5 +1,4 @@
-use Rattle.std.proofs.Common.{List, sym, ap, ◌∙◌, option_map, arith}
-use Rattle.rd_marks.proofs.Prelude.{Entry, state, book_state, lists_in, entries_in, AreEntriesOfRun, mark_name_eq, events}
+use Rattle.rd_marks.proofs.Prelude.{List, sym, ap, ◌∙◌, option_map, arith, Entry, state, book_state, lists_in, entries_in, AreEntriesOfRun, mark_name_eq, events}
 use Rattle.rd_marks.proofs.MarkLemmas.{all_found, found_events, goto_not_done}
 use Rattle.rd_marks.proofs.Starts.{runs_stay, start_kept}
 use Rattle.rd_marks.proofs.books.Book.goto_mark.Goals as goal

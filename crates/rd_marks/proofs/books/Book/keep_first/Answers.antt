@@ -1,5 +1,4 @@
-use Rattle.std.proofs.Common.{ap, arith}
-use Rattle.rd_marks.proofs.Prelude.{take-append-le, State}
+use Rattle.rd_marks.proofs.Prelude.{ap, arith, take-append-le, State}
 use Rattle.rd_marks.proofs.books.Book.keep_first.Goals as goal
 
 pub invariant_of-self : goal.invariant_of-self

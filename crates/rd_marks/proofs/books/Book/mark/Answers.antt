@@ -1,5 +1,4 @@
-use Rattle.std.proofs.Common.{◌≢◌, ◌∙◌, inr, refl, sym, ap, List, Ok, length, arith}
-use Rattle.rd_marks.proofs.Prelude.{length-map, map-append, Mark, book_state, lists_in, entries_in, marks_of, MOST_MARKS}
+use Rattle.rd_marks.proofs.Prelude.{◌≢◌, ◌∙◌, inr, refl, sym, ap, List, Ok, length, arith, length-map, map-append, Mark, book_state, lists_in, entries_in, marks_of, MOST_MARKS}
 use Rattle.rd_marks.proofs.MarkLemmas.{mark_of, with_marks, found_at, mark_goes, mark_refused, mark_taken, mark_too_many}
 use Rattle.rd_marks.proofs.books.Book.mark.Goals as goal
 

@@ -1,5 +1,4 @@
-use Rattle.std.proofs.Common.{◌-◌, None, Some, refl, sym, ◌∙◌, arith}
-use Rattle.rd_marks.proofs.Prelude.{book_state, lists_in, entries_in}
+use Rattle.rd_marks.proofs.Prelude.{◌-◌, None, Some, refl, sym, ◌∙◌, arith, book_state, lists_in, entries_in}
 use Rattle.rd_marks.proofs.Starting.{entries_length}
 use Rattle.rd_marks.proofs.MarkLemmas.{mark_said, length_said}
 use Rattle.rd_marks.proofs.books.Book.mark_at.Goals as goal

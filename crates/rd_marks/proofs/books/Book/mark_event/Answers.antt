@@ -1,5 +1,4 @@
-use Rattle.std.proofs.Common.{◌-◌, None, refl, sym, arith}
-use Rattle.rd_marks.proofs.Prelude.{book_state, lists_in}
+use Rattle.rd_marks.proofs.Prelude.{◌-◌, None, refl, sym, arith, book_state, lists_in}
 use Rattle.rd_marks.proofs.MarkLemmas.{events_said}
 use Rattle.rd_marks.proofs.books.Book.mark_event.Goals as goal
 

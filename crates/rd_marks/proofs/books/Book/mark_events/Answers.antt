@@ -1,5 +1,4 @@
-use Rattle.std.proofs.Common.{◌-◌, Some, None, refl, sym, arith}
-use Rattle.rd_marks.proofs.Prelude.{book_state, lists_in, entries_in}
+use Rattle.rd_marks.proofs.Prelude.{◌-◌, Some, None, refl, sym, arith, book_state, lists_in, entries_in}
 use Rattle.rd_marks.proofs.Starting.{events_length}
 use Rattle.rd_marks.proofs.MarkLemmas.{events_said}
 use Rattle.rd_marks.proofs.books.Book.mark_events.Goals as goal

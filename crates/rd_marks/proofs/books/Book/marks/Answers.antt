@@ -1,5 +1,4 @@
-use Rattle.std.proofs.Common.{refl, arith}
-use Rattle.rd_marks.proofs.Prelude.{book_state, lists_in}
+use Rattle.rd_marks.proofs.Prelude.{refl, arith, book_state, lists_in}
 use Rattle.rd_marks.proofs.RulesLemmas.{keeps_rules}
 use Rattle.rd_marks.proofs.books.Book.marks.Goals as goal
 

@@ -1,5 +1,4 @@
-use Rattle.std.proofs.Common.{sym, ◌∙◌}
-use Rattle.rd_marks.proofs.Prelude.{book_state}
+use Rattle.rd_marks.proofs.Prelude.{sym, ◌∙◌, book_state}
 use Rattle.rd_marks.proofs.ObeyLemmas.{happened_leaves, event_obeyed, refused_event}
 use Rattle.rd_marks.proofs.books.Book.obey.Goals as goal
 

@@ -1,5 +1,4 @@
-use Rattle.std.proofs.Common.{Ok, List, sym, ap, ◌∙◌, option_map}
-use Rattle.rd_marks.proofs.Prelude.{Entry, state, AreEntriesOfRun, mark_name_eq, events}
+use Rattle.rd_marks.proofs.Prelude.{Ok, List, sym, ap, ◌∙◌, option_map, Entry, state, AreEntriesOfRun, mark_name_eq, events}
 use Rattle.rd_marks.proofs.MarkLemmas.{all_found, found_events, both_there}
 use Rattle.rd_marks.proofs.books.Book.same.Goals as goal
 

@@ -1,5 +1,4 @@
-use Rattle.std.proofs.Common.{ap}
-use Rattle.rd_marks.proofs.Prelude.{State}
+use Rattle.rd_marks.proofs.Prelude.{ap, State}
 use Rattle.rd_marks.proofs.books.Book.to_start.Goals as goal
 
 pub invariant_of-self : goal.invariant_of-self

@@ -1,5 +1,4 @@
-use Rattle.std.proofs.Common.{◌≡◌, ◌<◌, ◌≤◌, ℕ, take}
-use Rattle.rd_marks.proofs.Prelude.{stretch_list, shared_at}
+use Rattle.rd_marks.proofs.Prelude.{◌≡◌, ◌<◌, ◌≤◌, ℕ, take, stretch_list, shared_at}
 use Rattle.rd_marks.proofs.stretches.Stretches.common_up.Given as goal
 
 abbrev pub invariant-loop-i : goal.invariant-loop-i

@@ -1,5 +1,4 @@
-use Rattle.std.proofs.Common.{◌≡◌, ◌++◌, ◌-◌, ◌+◌, ◌≤◌, reverse, vec_len, vec_capacity}
-use Rattle.rd_marks.proofs.Prelude.{entries_at, IsWithin}
+use Rattle.rd_marks.proofs.Prelude.{◌≡◌, ◌++◌, ◌-◌, ◌+◌, ◌≤◌, reverse, vec_len, vec_capacity, entries_at, IsWithin}
 use Rattle.rd_marks.proofs.stretches.Stretches.copy.Given as goal
 
 abbrev pub invariant-loop-at : goal.invariant-loop-at

@@ -1,5 +1,4 @@
-use Rattle.std.proofs.Common.{◌≡◌, ◌+◌, drop}
-use Rattle.rd_marks.proofs.Prelude.{count_of}
+use Rattle.rd_marks.proofs.Prelude.{◌≡◌, ◌+◌, drop, count_of}
 use Rattle.rd_marks.proofs.stretches.Stretches.entries.Given as goal
 
 abbrev pub invariant-loop-i : goal.invariant-loop-i

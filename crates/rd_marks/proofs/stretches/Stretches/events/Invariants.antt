@@ -1,5 +1,4 @@
-use Rattle.std.proofs.Common.{◌≡◌, ◌≤◌, take, length, vec_len, vec_capacity}
-use Rattle.rd_marks.proofs.Prelude.{events}
+use Rattle.rd_marks.proofs.Prelude.{◌≡◌, ◌≤◌, take, length, vec_len, vec_capacity, events}
 use Rattle.std.specs.Cow.{cow_slice_items}
 use Rattle.rd_marks.proofs.stretches.Stretches.events.Given as goal
 

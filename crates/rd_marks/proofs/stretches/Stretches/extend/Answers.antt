@@ -1,5 +1,4 @@
-use Rattle.std.proofs.Common.{◌<◌, ◌^◌, length, refl, arith}
-use Rattle.rd_marks.proofs.Prelude.{fact_passed_up, Stretch}
+use Rattle.rd_marks.proofs.Prelude.{◌<◌, ◌^◌, length, refl, arith, fact_passed_up, Stretch}
 use Rattle.rd_marks.proofs.Reading.{stretch_at}
 use Rattle.rd_marks.proofs.StretchUses.{extended, same_left}
 use Rattle.rd_marks.proofs.stretches.Stretches.extend.Goals as goal

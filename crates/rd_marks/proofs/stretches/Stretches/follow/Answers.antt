@@ -1,5 +1,4 @@
-use Rattle.std.proofs.Common.{◌≡◌, ◌⊎◌, ◌+◌, ◌≤◌, suc, arith}
-use Rattle.rd_marks.proofs.Prelude.{shared_at, events}
+use Rattle.rd_marks.proofs.Prelude.{◌≡◌, ◌⊎◌, ◌+◌, ◌≤◌, suc, arith, shared_at, events}
 use Rattle.rd_marks.proofs.Fresh.{Follows, along_taken, follows_start, follows_here, follows_stopped}
 use Rattle.rd_marks.proofs.Reading.{own_number, own_cases, step_compared, step_skipped}
 use Rattle.rd_marks.proofs.stretches.Stretches.follow.Goals.{else-i-at-via-then-i-at+else-shared-at, else-i-at-via-else-i-at, then-shared-at-2, else-shared-at-2}

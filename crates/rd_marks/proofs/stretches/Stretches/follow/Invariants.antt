@@ -1,5 +1,4 @@
-use Rattle.std.proofs.Common.{◌≡◌, ◌≤◌}
-use Rattle.rd_marks.proofs.Prelude.{shared_at, events}
+use Rattle.rd_marks.proofs.Prelude.{◌≡◌, ◌≤◌, shared_at, events}
 use Rattle.rd_marks.proofs.Fresh.{Follows}
 use Rattle.rd_marks.proofs.stretches.Stretches.follow.Given as goal
 

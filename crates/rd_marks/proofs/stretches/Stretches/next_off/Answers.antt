@@ -1,5 +1,4 @@
-use Rattle.std.proofs.Common.{◌≡◌, ◌⊎◌, ◌+◌, ◌<◌, suc, arith}
-use Rattle.rd_marks.proofs.Prelude.{shared_at}
+use Rattle.rd_marks.proofs.Prelude.{◌≡◌, ◌⊎◌, ◌+◌, ◌<◌, suc, arith, shared_at}
 use Rattle.rd_marks.proofs.StretchLists.{shared_past}
 use Rattle.rd_marks.proofs.Reading.{reaches_on, reaches_end}
 use Rattle.rd_marks.proofs.stretches.Stretches.next_off.Goals.{else-shared-at-via-then-shared-at+else-i-at, else-shared-at-via-else-shared-at}

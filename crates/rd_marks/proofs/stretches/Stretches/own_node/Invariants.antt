@@ -1,5 +1,4 @@
-use Rattle.std.proofs.Common.{◌≡◌}
-use Rattle.rd_marks.proofs.Prelude.{entries_at, IsWithin}
+use Rattle.rd_marks.proofs.Prelude.{◌≡◌, entries_at, IsWithin}
 use Rattle.rd_marks.proofs.stretches.Stretches.own_node.Given as goal
 
 abbrev pub invariant-loop-at : goal.invariant-loop-at

@@ -1,5 +1,4 @@
-use Rattle.std.proofs.Common.{◌-◌, ◌∙◌, refl, sym, take, arith}
-use Rattle.rd_marks.proofs.Prelude.{Stretch}
+use Rattle.rd_marks.proofs.Prelude.{◌-◌, ◌∙◌, refl, sym, take, arith, Stretch}
 use Rattle.rd_marks.proofs.Reading.{stretch_at}
 use Rattle.rd_marks.proofs.StretchUses.{gone, left}
 use Rattle.rd_marks.proofs.stretches.Stretches.shrink.Goals as goal

@@ -1,6 +1,4 @@
-use Rattle.std.proofs.Common.{◌≡◌, ◌<◌, ℕ, false, None, refl, sym, ◌∙◌, ap, arith, length, set, get_or, Some}
-use Rattle.std.proofs.lemmas.Option.{slice_get-get_or}
-use Rattle.rd_ring.specs.Prelude.{Cell}
+use Rattle.rd_ring.proofs.Prelude.{◌≡◌, ◌<◌, ℕ, false, None, refl, sym, ◌∙◌, ap, arith, length, set, get_or, Some, slice_get-get_or, Cell}
 use Rattle.rd_ring.proofs.SegmentLemmas.{cell_swapped}
 use Rattle.rd_ring.proofs.segments.Segment.cas2_cell.Goals as goal
 

@@ -1,6 +1,4 @@
-use Rattle.std.proofs.Common.{◌∙◌, sym, ap}
-use Rattle.rd_ring.specs.Prelude.{operand}
-use Rattle.rd_ring.specs.Segments.{part}
+use Rattle.rd_ring.proofs.Prelude.{◌∙◌, sym, ap, operand, part}
 use Rattle.rd_ring.proofs.segments.Segment.content.Goals as goal
 
 pub returns-in-Some : goal.returns-in-Some

@@ -1,6 +1,4 @@
-use Rattle.std.proofs.Common.{sym, ◌∙◌, ap, arith, refl, Some, if◌then◌else◌}
-use Rattle.rd_ring.specs.Prelude.{Content, Wrote, operand}
-use Rattle.rd_ring.specs.Segments.{part}
+use Rattle.rd_ring.proofs.Prelude.{sym, ◌∙◌, ap, arith, refl, Some, if◌then◌else◌, Content, Wrote, operand, part}
 use Rattle.rd_ring.proofs.OperationLemmas.{reads_at, does_at, cell_is_within}
 use Rattle.rd_ring.proofs.segments.Segment.operate.Goals as goal
 use Rattle.rd_cell.specs.declared.places.Place.TheVariants as place

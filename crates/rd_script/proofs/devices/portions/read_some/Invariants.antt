@@ -1,5 +1,4 @@
-use Rattle.std.proofs.Common.{◌≡◌, length}
-use Rattle.rd_script.proofs.Prelude.{Keeps}
+use Rattle.rd_script.proofs.Prelude.{◌≡◌, length, Keeps}
 use Rattle.rd_script.proofs.devices.portions.read_some.Given as goal
 
 -- nothing was read yet

@@ -1,8 +1,5 @@
-use Rattle.rd_script.proofs.Prelude.{common_steps, Appends, take-append-drop, take_rest, append-nil, TakesBeginning}
-use Rattle.std.proofs.Common.{[], take, drop, subst, arith, length-drop}
-use Rattle.std.proofs.Math.Seq.{take-add}
+use Rattle.rd_script.proofs.Prelude.{common_steps, Appends, take-append-drop, take_rest, append-nil, TakesBeginning, [], take, drop, subst, arith, length-drop, take-add, fact_passed_up}
 use Rattle.rd_script.proofs.KnownLemmas.{Appends-join, Appends-from_keeps}
-use Rattle.rd_step.proofs.PassedUp.{fact_passed_up}
 use Rattle.rd_script.proofs.devices.sinks.write_all.Goals as goal
 
 pub loop-done-preserved : goal.loop-done-preserved

@@ -1,5 +1,4 @@
-use Rattle.std.proofs.Common.{◌≡◌, ◌-◌, ◌≤◌, false, length, take}
-use Rattle.rd_script.proofs.Prelude.{Appends}
+use Rattle.rd_script.proofs.Prelude.{◌≡◌, ◌-◌, ◌≤◌, false, length, take, Appends}
 use Rattle.rd_script.proofs.devices.sinks.write_all.Given as goal
 
 -- this many bytes were taken

@@ -1,5 +1,4 @@
-use Rattle.rd_script.proofs.Prelude.{common_steps, take_rest}
-use Rattle.std.proofs.Common.{arith}
+use Rattle.rd_script.proofs.Prelude.{common_steps, take_rest, arith}
 use Rattle.rd_script.proofs.PartLemmas.{first_and_others}
 use Rattle.rd_script.proofs.SayLemmas.{too_many_words, says_words, one_said}
 use Rattle.rd_script.proofs.reading.commands.command_in.Goals as goal

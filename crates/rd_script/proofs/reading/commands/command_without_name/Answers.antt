@@ -1,5 +1,4 @@
-use Rattle.std.proofs.Common.{◌≡◌, ◌≢◌, ℕ, ◌<◌, Bool, true, false, List, [], ◌∷◌, map, None, sym, subst, arith}
-use Rattle.rd_script.proofs.Prelude.{decimal, Command, Keyword, yes_or_no, keyword_of, arguments_of, argument_words, IsInRange, ReadsNameless}
+use Rattle.rd_script.proofs.Prelude.{◌≡◌, ◌≢◌, ℕ, ◌<◌, Bool, true, false, List, [], ◌∷◌, map, None, sym, subst, arith, decimal, Command, Keyword, yes_or_no, keyword_of, arguments_of, argument_words, IsInRange, ReadsNameless}
 use Rattle.rd_script.specs.declared.reading.keywords.Keyword.TheVariants as keyword
 use Rattle.rd_script.proofs.reading.commands.command_without_name.Goals as goal
 

@@ -1,5 +1,4 @@
-use Rattle.std.proofs.Common.{◌≡◌, ℕ, List, Result, Err, arith}
-use Rattle.rd_script.proofs.Prelude.{IsErrAnd, Command, LineFault, Keyword, ReadsCommand}
+use Rattle.rd_script.proofs.Prelude.{◌≡◌, ℕ, List, Result, Err, arith, IsErrAnd, Command, LineFault, Keyword, ReadsCommand}
 use Rattle.rd_script.proofs.NameReadLemmas.{names_refused}
 use Rattle.rd_script.proofs.reading.commands.read_command.Goals as goal
 

@@ -1,5 +1,4 @@
-use Rattle.rd_script.proofs.Prelude.{common_steps, GivesByte}
-use Rattle.std.proofs.Common.{subst, arith}
+use Rattle.rd_script.proofs.Prelude.{common_steps, GivesByte, subst, arith}
 use Rattle.rd_script.proofs.LineLemmas.{goes_on, is_last}
 use Rattle.rd_script.proofs.reading.lines.next_line.Goals as goal
 

@@ -1,5 +1,4 @@
-use Rattle.std.proofs.Common.{sym, ◌∙◌, subst}
-use Rattle.rd_script.proofs.Prelude.{IsUtf8, parse-decimal}
+use Rattle.rd_script.proofs.Prelude.{sym, ◌∙◌, subst, IsUtf8, parse-decimal}
 use Rattle.rd_script.proofs.NumeralLemmas.{IsUtf8-decimal}
 use Rattle.rd_script.proofs.reading.numbers.std_number_in.Goals as goal
 

@@ -1,6 +1,4 @@
-use Rattle.std.specs.List.{AllZip}
-use Rattle.std.proofs.Common.{rules, tests, ◌≡◌, ◌==◌, List, [], ◌∷◌, ◌++◌, map, refl, ◌∙◌, subst, Bor, ℕ}
-use Rattle.rd_script.proofs.Prelude.{map-append, YieldsList-from_slice_split, Says}
+use Rattle.rd_script.proofs.Prelude.{AllZip, rules, tests, ◌≡◌, ◌==◌, List, [], ◌∷◌, ◌++◌, map, refl, ◌∙◌, subst, Bor, ℕ, map-append, YieldsList-from_slice_split, Says}
 use Rattle.rd_script.proofs.PartLemmas.{all_parts}
 use Rattle.rd_script.proofs.TextLemmas.{said_more}
 use Rattle.rd_script.proofs.reading.whole_texts.lines.Goals as goal

@@ -1,6 +1,4 @@
-use Rattle.std.proofs.Common.{map}
-use Rattle.std.specs.List.{AllZip}
-use Rattle.rd_script.proofs.Prelude.{Says}
+use Rattle.rd_script.proofs.Prelude.{map, AllZip, Says}
 use Rattle.rd_script.proofs.reading.whole_texts.lines.Given as goal
 
 -- what the lines say that were given so far

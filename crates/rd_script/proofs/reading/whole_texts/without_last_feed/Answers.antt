@@ -1,6 +1,4 @@
-use Rattle.std.proofs.Common.{Some, None, [], ◌∷◌, ap, ◌∙◌, sym}
-use Rattle.rd_script.proofs.Prelude.{Decides-eqb, lines_of}
-use Rattle.std.proofs.lemmas.Slice.Eq.{strip_suffix_is}
+use Rattle.rd_script.proofs.Prelude.{Some, None, [], ◌∷◌, ap, ◌∙◌, sym, Decides-eqb, lines_of, strip_suffix_is}
 use Rattle.rd_script.proofs.TextLemmas.{parts-of_ended, parts-of_unended}
 use Rattle.rd_script.proofs.reading.whole_texts.without_last_feed.Goals as goal
 

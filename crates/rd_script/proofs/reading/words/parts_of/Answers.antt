@@ -1,5 +1,4 @@
-use Rattle.std.proofs.Common.{rules, tests, map, length, ap, ◌∙◌, ◌==◌, ◌≡◌, refl, arith}
-use Rattle.rd_script.proofs.Prelude.{YieldsList-from_slice_split}
+use Rattle.rd_script.proofs.Prelude.{rules, tests, map, length, ap, ◌∙◌, ◌==◌, ◌≡◌, refl, arith, YieldsList-from_slice_split}
 use Rattle.rd_script.proofs.PartLemmas.{more_parts, all_parts}
 use Rattle.rd_script.proofs.reading.words.parts_of.Goals as goal
 

@@ -1,5 +1,4 @@
-use Rattle.std.proofs.Common.{List, sym, subst}
-use Rattle.rd_segments.proofs.Prelude.{both_tests, first_test, Segment, ListOf, IsFresh}
+use Rattle.rd_segments.proofs.Prelude.{List, sym, subst, both_tests, first_test, Segment, ListOf, IsFresh}
 use Rattle.rd_segments.proofs.space.Space.has_fresh_array_and_root.Goals as goal
 
 pub returns-then-is_fresh : goal.returns-then-is_fresh

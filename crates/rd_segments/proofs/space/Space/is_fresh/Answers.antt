@@ -1,5 +1,4 @@
-use Rattle.std.proofs.Common.{◌∙◌}
-use Rattle.rd_segments.proofs.Prelude.{both_tests, first_test, contents_of}
+use Rattle.rd_segments.proofs.Prelude.{◌∙◌, both_tests, first_test, contents_of}
 use Rattle.rd_segments.proofs.SpaceLemmas.{space_fresh}
 use Rattle.rd_segments.proofs.FreshLemmas.{fresh_ends, fresh_inside}
 use Rattle.rd_segments.proofs.space.Space.is_fresh.Goals as goal

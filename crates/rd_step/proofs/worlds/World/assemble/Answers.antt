@@ -1,5 +1,4 @@
-use Rattle.std.proofs.Common.{sym, ◌∙◌, subst}
-use Rattle.rd_step.proofs.Prelude.{World, IsWellFormed}
+use Rattle.rd_step.proofs.Prelude.{sym, ◌∙◌, subst, World, IsWellFormed}
 use Rattle.rd_step.proofs.Assembled.{assembled, lists_right, parts_make}
 use Rattle.rd_step.proofs.worlds.World.assemble.Goals as goal
 

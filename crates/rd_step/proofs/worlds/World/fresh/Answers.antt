@@ -1,5 +1,4 @@
-use Rattle.std.proofs.Common.{◌≡◌, ◌∙◌, ℕ, suc, ap, subst, sym, length, arith}
-use Rattle.rd_step.proofs.Prelude.{idle, World, IsWellFormed}
+use Rattle.rd_step.proofs.Prelude.{◌≡◌, ◌∙◌, ℕ, suc, ap, subst, sym, length, arith, idle, World, IsWellFormed}
 use Rattle.rd_step.proofs.Starts.{fields_make, fresh_formed}
 use Rattle.rd_step.proofs.worlds.World.fresh.Goals as goal
 

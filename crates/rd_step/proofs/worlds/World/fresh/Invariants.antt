@@ -1,5 +1,4 @@
-use Rattle.std.proofs.Common.{◌≡◌, ℕ, ◌<◌, slice_get, Some, vec_len, vec_capacity}
-use Rattle.rd_step.proofs.Prelude.{idle}
+use Rattle.rd_step.proofs.Prelude.{◌≡◌, ℕ, ◌<◌, slice_get, Some, vec_len, vec_capacity, idle}
 use Rattle.rd_step.proofs.worlds.World.fresh.Given as goal
 
 abbrev pub invariant-loop : goal.invariant-loop

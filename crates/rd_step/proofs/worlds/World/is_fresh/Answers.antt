@@ -1,6 +1,4 @@
-use Rattle.std.proofs.Common.{◌≡◌, List, All, length, sym, ap, subst}
-use Rattle.rd_step.proofs.Prelude.{Actor, idle, World}
-use Rattle.rd_cell.proofs.TestLemmas.{both_tests, first_test}
+use Rattle.rd_step.proofs.Prelude.{◌≡◌, List, All, length, sym, ap, subst, Actor, idle, World, both_tests, first_test}
 use Rattle.rd_step.proofs.Starts.{idle_actors, all_idle}
 use Rattle.rd_step.proofs.worlds.World.is_fresh.Goals as goal
 

@@ -1,5 +1,4 @@
-use Rattle.std.proofs.Common.{◌∙◌, sym, subst, arith}
-use Rattle.rd_step.proofs.Prelude.{World, IsWellFormed}
+use Rattle.rd_step.proofs.Prelude.{◌∙◌, sym, subst, arith, World, IsWellFormed}
 use Rattle.rd_step.proofs.WorldLemmas.{some_maker, same_world}
 use Rattle.rd_step.proofs.worlds.World.make_room.Goals as goal
 

@@ -1,5 +1,4 @@
-use Rattle.std.proofs.Common.{◌≡◌, ◌∙◌, ℕ, suc, ap, subst, sym, length, arith}
-use Rattle.rd_step.proofs.Prelude.{poised, World, IsWellFormed}
+use Rattle.rd_step.proofs.Prelude.{◌≡◌, ◌∙◌, ℕ, suc, ap, subst, sym, length, arith, poised, World, IsWellFormed}
 use Rattle.rd_step.proofs.Starts.{fields_make, poised_formed}
 use Rattle.rd_step.proofs.worlds.World.poised.Goals as goal
 

@@ -1,5 +1,4 @@
-use Rattle.std.proofs.Common.{◌≡◌, ℕ, suc, ◌<◌, slice_get, Some, vec_len, vec_capacity}
-use Rattle.rd_step.proofs.Prelude.{poised}
+use Rattle.rd_step.proofs.Prelude.{◌≡◌, ℕ, suc, ◌<◌, slice_get, Some, vec_len, vec_capacity, poised}
 use Rattle.rd_step.proofs.worlds.World.poised.Given as goal
 
 abbrev pub invariant-loop-number : goal.invariant-loop-number

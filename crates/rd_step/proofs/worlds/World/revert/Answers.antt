@@ -1,5 +1,4 @@
-use Rattle.std.proofs.Common.{sym, ◌∙◌, ap, subst, suc, ℕ}
-use Rattle.rd_step.proofs.Prelude.{World, IsWellFormed}
+use Rattle.rd_step.proofs.Prelude.{sym, ◌∙◌, ap, subst, suc, ℕ, World, IsWellFormed}
 use Rattle.rd_step.proofs.worlds.World.revert.Goals as goal
 
 pub invariant_of-self : goal.invariant_of-self

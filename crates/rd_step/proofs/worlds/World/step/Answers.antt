@@ -1,5 +1,4 @@
-use Rattle.std.proofs.Common.{Bool, suc, ◌∙◌, ◌≤◌, ◌+◌, refl, sym, ap, subst, inl, arith, Ok, Err}
-use Rattle.rd_step.proofs.Prelude.{room_used, room, world_of_fields}
+use Rattle.rd_step.proofs.Prelude.{Bool, suc, ◌∙◌, ◌≤◌, ◌+◌, refl, sym, ap, subst, inl, arith, Ok, Err, room_used, room, world_of_fields}
 use Rattle.rd_step.proofs.PassedUp.{error_passed_up, same_passed_up, fact_passed_up}
 use Rattle.rd_step.proofs.Steps.{step_not_needed}
 use Rattle.rd_step.proofs.WorldLemmas.{representable_here, actor_maker, few_made, need_suits, step_refuses, step_goes, makes_by, still_well_formed, same_world}

@@ -1,6 +1,4 @@
-use Rattle.std.proofs.Common.{Bool, suc, ◌∙◌, ◌≤◌, ◌+◌, sym, ap, subst, arith}
-use Rattle.rd_step.proofs.Prelude.{room_used, room, world_of_fields}
-use Rattle.rd_step.specs.CodeWorld.{model}
+use Rattle.rd_step.proofs.Prelude.{Bool, suc, ◌∙◌, ◌≤◌, ◌+◌, sym, ap, subst, arith, room_used, room, world_of_fields, model}
 use Rattle.rd_step.proofs.MadeAgain.{leaves, not_refused, read_again, access_again}
 use Rattle.rd_step.proofs.WorldLemmas.{representable_here, actor_maker, few_made, need_suits, makes_by}
 use Rattle.rd_step.proofs.worlds.World.step_again.Goals as goal

@@ -1,10 +1,4 @@
-use Rattle.std.proofs.Common.{sym, subst}
-use Rattle.rd_journal.specs.Sessions.{journal}
-use Rattle.rd_marks.specs.Book.{book_state, session_of}
-use Rattle.rd_script.specs.Script.{RunsScript}
-use Rattle.rd_script.specs.Streams.{devices}
-use Rattle.rd_trace.specs.Loading.{any_state}
-use Rattle.rd_trace.specs.declared.any_book.AnyBook.{AnyBook}
+use Rattle.rd_trace.proofs.Prelude.{sym, subst, journal, book_state, session_of, any_state, AnyBook, RunsScript, devices}
 use Rattle.rd_trace.proofs.any_book.AnyBook.run.Goals as goal
 
 pub returns-in-Two-clause-runs : goal.returns-in-Two-clause-runs

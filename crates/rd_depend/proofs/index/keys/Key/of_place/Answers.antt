@@ -1,5 +1,4 @@
-use Rattle.std.proofs.Common.{◌≡◌, ap, ◌∙◌, arith}
-use Rattle.rd_depend.proofs.Prelude.{SegName, Place, index_half, At, own_key}
+use Rattle.rd_depend.proofs.Prelude.{◌≡◌, ap, ◌∙◌, arith, SegName, Place, index_half, At, own_key}
 use Rattle.rd_depend.proofs.index.keys.Key.of_place.Goals as goal
 use Rattle.rd_cell.specs.declared.places.Place.TheVariants as place
 

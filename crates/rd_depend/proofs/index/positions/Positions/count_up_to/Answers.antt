@@ -1,5 +1,4 @@
-use Rattle.std.proofs.Common.{arith}
-use Rattle.std.proofs.lemmas.List.Sums.{prefix_len-le-length}
+use Rattle.rd_depend.proofs.Prelude.{arith, prefix_len-le-length}
 use Rattle.rd_depend.proofs.IndexLists.{halved, number-above, number-below}
 use Rattle.rd_depend.proofs.index.positions.Positions.count_up_to.Goals as goal
 

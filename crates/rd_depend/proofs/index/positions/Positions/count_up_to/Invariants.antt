@@ -1,5 +1,4 @@
-use Rattle.std.proofs.Common.{◌+◌, ◌-◌, ◌^◌, ◌<◌, ◌≤◌, length}
-use Rattle.rd_depend.proofs.Prelude.{nat_lt, IsAscending, position_or_len}
+use Rattle.rd_depend.proofs.Prelude.{◌+◌, ◌-◌, ◌^◌, ◌<◌, ◌≤◌, length, nat_lt, IsAscending, position_or_len}
 use Rattle.rd_depend.proofs.index.positions.Positions.count_up_to.Given as goal
 
 abbrev pub invariant-loop-round : goal.invariant-loop-round

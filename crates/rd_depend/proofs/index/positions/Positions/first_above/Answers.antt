@@ -1,5 +1,4 @@
-use Rattle.std.proofs.Common.{arith}
-use Rattle.rd_depend.proofs.Prelude.{find_at, slice_get-get_or, slice_get_past}
+use Rattle.rd_depend.proofs.Prelude.{arith, find_at, slice_get-get_or, slice_get_past}
 use Rattle.rd_depend.proofs.index.positions.Positions.first_above.Goals as goal
 
 pub returns-then-index-len-clause-first : goal.returns-then-index-len-clause-first

@@ -1,5 +1,4 @@
-use Rattle.std.proofs.Common.{◌<◌, ◌≤◌, true, false, refl, arith}
-use Rattle.rd_depend.proofs.Prelude.{false≢true, spare_in}
+use Rattle.rd_depend.proofs.Prelude.{◌<◌, ◌≤◌, true, false, refl, arith, false≢true, spare_in}
 use Rattle.rd_depend.proofs.IndexTable.{spare_there}
 use Rattle.rd_depend.proofs.index.table.Table.reserve_under.Goals as goal
 

@@ -1,5 +1,4 @@
-use Rattle.std.proofs.Common.{◌≡◌, ℕ, true, false, length, Option, None, refl, sym, ap, ◌∙◌, arith}
-use Rattle.rd_depend.proofs.Prelude.{slot_in, list_of, kept_in}
+use Rattle.rd_depend.proofs.Prelude.{◌≡◌, ℕ, true, false, length, Option, None, refl, sym, ap, ◌∙◌, arith, slot_in, list_of, kept_in}
 use Rattle.rd_depend.proofs.IndexTable.{takes_last, last_there}
 use Rattle.rd_depend.proofs.index.table.Table.take_last_under.Goals as goal
 

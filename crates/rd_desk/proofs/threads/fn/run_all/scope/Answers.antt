@@ -1,5 +1,4 @@
-use Rattle.std.proofs.Common.{arith}
-use Rattle.rd_desk.proofs.Prelude.{AllZip-long, IsDone, IsJoined, IsStarted}
+use Rattle.rd_desk.proofs.Prelude.{arith, AllZip-long, IsDone, IsJoined, IsStarted}
 use Rattle.rd_desk.proofs.ChainLemmas.{composed}
 use Rattle.rd_desk.proofs.threads.fn.run_all.scope.Goals as goal
 

@@ -1,5 +1,4 @@
-use Rattle.std.proofs.Common.{◌≢◌, ℕ, ◌<◌, slice_index_or}
-use Rattle.rd_script.proofs.Prelude.{keyword_text}
+use Rattle.rd_script.proofs.Prelude.{◌≢◌, ℕ, ◌<◌, slice_index_or, keyword_text}
 use Rattle.rd_script.specs.declared.reading.keywords.Keyword.TheVariants as keyword
 use Rattle.rd_script.proofs.reading.keywords.Keyword.of.Given as goal
 

@@ -1,5 +1,4 @@
-use Rattle.std.proofs.Common.{◌≢◌, ℕ, ◌<◌, slice_index_or}
-use Rattle.rd_script.proofs.Prelude.{kind_text}
+use Rattle.rd_script.proofs.Prelude.{◌≢◌, ℕ, ◌<◌, slice_index_or, kind_text}
 use Rattle.rd_script.specs.declared.reading.places.PlaceKind.TheVariants as kind
 use Rattle.rd_script.proofs.reading.places.PlaceKind.of.Given as goal
 
