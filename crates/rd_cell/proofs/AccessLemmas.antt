@@ -1,5 +1,5 @@
 -- Accesses that do not interfere commute.
-use Rattle.rd_cell.proofs.Prelude.{◌≡◌, ℕ, zero, suc, ◌+◌, Bool, true, false, ◌==◌, if◌then◌else◌, inl, inr, refl, sym, ◌∙◌, ap, ap₂, subst, Option, Some, None, is_some, IfSome, Result, Ok, Err, IfOk, arith, cases_Bool, both_ways, and_left, or_parts, ne_eqb, IfOk-at_ok, fun_ext, SegName, Cell, Content, Operation, Refusal, name_eq, covers, some_covers, some_overlap, written, interfere, Contents, half, cell_of_halves, share, after_write_at, operand, holding, Effect, effect, wrote_by, Performed, contents_after, number_made_from, number_made, effect_at, operate, make, perform, result_map}
+use Rattle.rd_cell.proofs.Prelude.{◌≡◌, ℕ, zero, suc, ◌+◌, Bool, true, false, if◌then◌else◌, inl, inr, refl, sym, ◌∙◌, ap, ap₂, subst, Option, Some, None, is_some, IfSome, Result, Ok, Err, IfOk, arith, cases_Bool, both_ways, or_parts, IfOk-at_ok, fun_ext, SegName, Cell, Content, Operation, Refusal, covers, some_covers, some_overlap, written, interfere, Contents, cell_of_halves, share, after_write_at, operand, holding, Effect, effect, wrote_by, Performed, contents_after, number_made_from, number_made, effect_at, operate, make, perform, result_map}
 use Rattle.rd_cell.specs.declared.limits.TheConstants.{MOST_SEGMENTS}
 use Rattle.rd_cell.specs.declared.places.Place.{Place}
 use Rattle.rd_cell.specs.declared.places.Place.TheVariants as place
@@ -126,9 +126,6 @@ KeepsKind p c q e = IfSome e.writes (λ d. is_some (share p (Some d) q) ≡ is_s
 plain_kind : (r : Result Effect Refusal) → IfOk r (λ e. IfSome e.writes (λ d. true ≡ true))
 plain_kind r = grind arith
 
-halves_kind : (x y : Cell) (q : Place) → is_some (half y q) ≡ is_some (half x q)
-halves_kind x y q = grind arith
-
 cell_kind : (s : SegName) (i : ℕ) (op : Operation) (x : Cell) (q : Place) → IfOk (effect op (content.Cell x)) (KeepsKind (place.Cell s i) (content.Cell x) q)
 cell_kind s i op x q = grind arith
 
@@ -145,9 +142,6 @@ keeps-effect p c (Ok e) at q h bare kind = after-is_some p c e at q h bare kind
 pub keeps-operate : (p : Place) (op : Operation) (o : Option Content) (at : Contents) (q : Place) → operand at p ≡ o → (is_cell_at q ≡ true → at q ≡ None)
     → IfOk (operate p op o) (λ did. is_some (contents_after did at q) ≡ is_some (at q))
 keeps-operate p op o at q h bare = grind (arith, keeps-effect, effect_kind)
-
-other_maker : (a b m n : ℕ) → (a ≡ b → ⊥) → name_eq (record { maker = a; n = m }) (record { maker = b; n = n }) ≡ false
-other_maker a b m n ne = and_left (a == b) (m == n) (ne_eqb a b ne)
 
 keeps-make : (actor n : ℕ) (given at : Contents) (maker k : ℕ) → (actor ≡ maker → ⊥)
     → IfOk (make (record { maker = actor; n = n }) given) (λ did. is_some (contents_after did at (place.Head (record { maker = maker; n = k }))) ≡ is_some (at (place.Head (record { maker = maker; n = k }))))

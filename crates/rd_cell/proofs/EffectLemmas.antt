@@ -67,17 +67,6 @@ narrow looked_at does done old new h = grind arith
 
 -- One place
 
--- a content that is none of a cell
-abbrev pub is_cell_content : Content → Bool
-is_cell_content (content.Cell x) = true
-is_cell_content _ = false
-
--- an operation that wrote this content, which is none of a cell
-pub wrote_on : (p : Place) (op : Operation) (old new : Content) (answer : Answer) (done : Done) → is_cell_content new ≡ false
-    → effect op old ≡ Ok (record { answer = answer; writes = Some new }) → done ≡ record { place = Some p; old = Some old; answer = answer; wrote = wrote.Place }
-    → OperatesOn p op done old new
-wrote_on p op old new answer done plain does notes = grind arith
-
 -- an operation that wrote nothing
 pub read_on : (p : Place) (op : Operation) (old : Content) (answer : Answer) (done : Done)
     → effect op old ≡ Ok (record { answer = answer; writes = None }) → done ≡ record { place = Some p; old = Some old; answer = answer; wrote = wrote.Nothing }

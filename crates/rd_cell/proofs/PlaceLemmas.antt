@@ -1,5 +1,5 @@
 -- Equality and overlap of places.
-use Rattle.rd_cell.proofs.Prelude.{◌≡◌, ℕ, true, false, ◌==◌, refl, sym, subst, eq-eqb, Option, Some, None, arith, and_from, or_left, or_right, SegName, Wrote, name_eq, is_of, is_of_cell, place_eq, covers, overlaps, some_covers, some_overlap, written, interfere}
+use Rattle.rd_cell.proofs.Prelude.{◌≡◌, ℕ, true, false, ◌==◌, refl, eq-eqb, Option, Some, None, arith, and_from, or_left, or_right, SegName, Wrote, name_eq, is_of, is_of_cell, place_eq, covers, overlaps, some_covers, some_overlap, written, interfere}
 use Rattle.rd_cell.specs.declared.places.Place.{Place}
 use Rattle.rd_cell.specs.declared.places.Place.TheVariants as place
 
@@ -16,9 +16,6 @@ place_eq-true p q h = grind arith
 
 pub place_eq-refl : (p : Place) → place_eq p p ≡ true
 place_eq-refl p = grind arith
-
-one_name : (s t u : SegName) → name_eq s u ≡ true → name_eq t u ≡ true → name_eq s t ≡ true
-one_name s t u h k = subst (λ (x : SegName). name_eq s x ≡ true) (sym (name_eq-true t u k)) h
 
 -- one segment has two names only if they are equal
 pub is_of-name : (s t : SegName) (q : Place) → is_of s q ≡ true → is_of t q ≡ true → name_eq s t ≡ true

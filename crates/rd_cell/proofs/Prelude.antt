@@ -1,5 +1,5 @@
--- The words that several proofs of the crate use: definitions of this crate and of those below,
--- generated types and their variants, and lemmas of these crates and of std.
+-- The words that several proofs use, of this crate and of those above: lemmas and definitions of
+-- std and of this crate, and generated types.
 pub use Rattle.std.proofs.Common.{All, BTreeMap, Bool, Bor, Contains, Decides, Err, Global, IfErr, IfNone, IfOk, IfSome, IsOk, IsSome, IsTrue, IsUtf8, List, MatchOption, None, Ok, OnErr, OnOk, Option, Result, Some, String, Vec, [], add-one, ap, append_assoc, ap₂, arith, codes, cond, decimal, drop, eq-eqb, eqb-true, false, get_or, if◌then◌else◌, inl, inr, insert, is_err, is_none, is_ok, is_some, le-leb, le-ltb, leb-true, length, length-append, length-drop, length-set, length-take, lit<, lt-ltb, ltb-true, map, map-id, max, nat_eq, nat_le, nat_lt, ne_eqb, not, ok_or, option_and_then, option_map, position, refl, remove, replicate, reverse, rules, set, slice_get, slice_index_or, string_bytes, subst, subst₂, suc, sum_by, sym, take, tests, true, true≢false, vec_capacity, vec_len, zero, ℕ, ◌%◌, ◌&&◌, ◌*◌, ◌++◌, ◌+◌, ◌-◌, ◌/◌, ◌<◌, ◌==◌, ◌^◌, ◌||◌, ◌↔◌, ◌∙◌, ◌∷◌, ◌≡◌, ◌≢◌, ◌≤◌, ◌⊎◌}
 pub use Rattle.std.proofs.Crossing.{crosses, frees}
 pub use Rattle.std.proofs.Math.ListN.{drop_of_length-le}
@@ -21,7 +21,7 @@ pub use Rattle.std.proofs.lemmas.Slice.Eq.{bytes_eq-Decides, strip_suffix_is}
 pub use Rattle.std.proofs.lemmas.Slice.Zip.{AllZip-long}
 pub use Rattle.std.proofs.lemmas.Str.{IsUtf8-from_ascii}
 pub use Rattle.std.specs.Io.KnownBytes.{Appends, Consumes, IsAtEnd, Keeps}
-pub use Rattle.std.specs.List.{AllByRecursion, AllZip, IsDistinct, before_first, count_by, enumerate_from, find, items_where_true, join_with_byte, last_or, list_all, list_any, onto_first, position_from, position_or_len, range_with_len, slice_split, zip}
+pub use Rattle.std.specs.List.{AllByRecursion, AllZip, before_first, count_by, enumerate_from, find, items_where_true, join_with_byte, last_or, list_all, list_any, onto_first, position_from, position_or_len, range_with_len, slice_split, zip}
 unfoldable pub use Rattle.std.specs.List.{IsDistinct}
 pub use Rattle.std.specs.Option.{option_map_or, option_or, option_to_list, unwrap_or}
 pub use Rattle.std.specs.Prelude.{IsPermutation, leb}
@@ -33,7 +33,7 @@ pub use mathlib.Core.Logic.{∥∥₁_map}
 pub use mathlib.Core.Path.{fun_ext}
 pub use Rattle.rd_cell.specs.Access.{HasEffect, Operates, OperatesOn, Performed, Restores, contents_after, effect_at, everywhere, make, no_access, operate, perform}
 unfoldable pub use Rattle.rd_cell.specs.Access.{number_made, number_made_from}
-pub use Rattle.rd_cell.specs.Contents.{Contents, after_write, after_write_at, cell_of_halves, half, holding, operand, restore, share}
+pub use Rattle.rd_cell.specs.Contents.{Contents, after_write, after_write_at, cell_of_halves, holding, operand, restore, share}
 pub use Rattle.rd_cell.specs.Operations.{Effect, adds, effect, read_answer, swaps, wrote_by}
 pub use Rattle.rd_cell.specs.Places.{covers, index_half, interfere, is_nothing, is_of, is_of_cell, is_of_same_segment, name_eq, overlaps, place_eq, segment_of, some_covers, some_overlap, written}
 pub use Rattle.rd_cell.specs.Results.{and_then, result_map}

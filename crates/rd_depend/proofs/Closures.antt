@@ -49,14 +49,10 @@ marks_are_closed : (es : List Entry) (k i j : ℕ) (x y : Entry) → i < j → s
 marks_are_closed [] k i j x y low m at_i at_j h = cc
 marks_are_closed (e ∷ es) zero i j x y low m at_i at_j h = cc
 marks_are_closed (e ∷ es) (suc k) i zero x y low m at_i at_j h = absurd (omega arith)
-marks_are_closed (e ∷ es) (suc zero) zero (suc j) x y low m at_i at_j h =
-    let same : e ≡ x = some_same e x at_i in
-    covered_is_marked (e ∷ []) es j x y (λ z d. or_left (depends e z) false (ap (λ (u : Entry). depends u z) same ∙ d)) at_j h
-marks_are_closed (e ∷ es) (suc zero) (suc i) (suc j) x y low m at_i at_j h =
-    dependant_is_marked (e ∷ []) es i j x y (omega arith) m at_i at_j h
+marks_are_closed (e ∷ es) (suc zero) zero (suc j) x y low m at_i at_j h = grind (arith, some_same, covered_is_marked, or_left)
+marks_are_closed (e ∷ es) (suc zero) (suc i) (suc j) x y low m at_i at_j h = grind (arith, dependant_is_marked)
 marks_are_closed (e ∷ es) (suc (suc k)) zero (suc j) x y low m at_i at_j h = let no : false ≡ true = some_same false true m in cc
-marks_are_closed (e ∷ es) (suc (suc k)) (suc i) (suc j) x y low m at_i at_j h =
-    marks_are_closed es (suc k) i j x y (omega arith) m at_i at_j h
+marks_are_closed (e ∷ es) (suc (suc k)) (suc i) (suc j) x y low m at_i at_j h = grind (arith, marks_are_closed es (suc k) i j x y (omega arith) m at_i at_j h)
 
 mark_of_itself : (es : List Entry) (k : ℕ) → 1 ≤ k → k ≤ length es → numbered (closure es k) k ≡ Some true
 mark_of_itself es zero some within = absurd (omega arith)
@@ -70,8 +66,7 @@ dependant_marked es k i j x y low m at_i at_j h = grind (arith, marks_are_closed
 
 pub members_are_marked : (es : List Entry) (k j : ℕ) → 1 ≤ k → k ≤ length es → IsInClosure es k j → numbered (closure es k) j ≡ Some true
 members_are_marked es k _ some within itself = mark_of_itself es k some within
-members_are_marked es k j some within (dependant i _ x y h low at_i at_j d) =
-    dependant_marked es k i j x y low (members_are_marked es k i some within h) at_i at_j d
+members_are_marked es k j some within (dependant i _ x y h low at_i at_j d) = grind (arith, dependant_marked, members_are_marked es k i some within h)
 
 -- Only members are marked
 

@@ -1,5 +1,5 @@
 -- What is kept of two runs while they are compared goes on over one more step as it should.
-use Rattle.rd_depend.proofs.Prelude.{common_steps, slice_get-get_or, slice_get_past, and_from, and_parts, map-append, reverse-append, nil_from_length, option_to_list, set, is_nothing, slice_get-set_same, slice_get-set_other, Entry, Key, PlacedStep, Reached, is_value_written, key_eq, is_that, place_key, value_key, segment_key, key_eq-true, key_eq-refl, key_eq-sym, is_making, last_blocking, passed, passed_under, IsInOrder, IsAfter, Placed, reached_or_nothing, with_first, list_at, items_of, ◌≡◌, ◌↔◌, ℕ, ◌+◌, ◌<◌, ◌≤◌, Bool, true, false, not, ◌&&◌, ◌==◌, if◌then◌else◌, cond, IsTrue, List, [], ◌∷◌, ◌++◌, length, map, get_or, reverse, Vec, Global, Option, Some, None, IsSome, MatchOption, refl, sym, ap, subst, ◌∙◌, arith}
+use Rattle.rd_depend.proofs.Prelude.{common_steps, slice_get-get_or, slice_get_past, and_from, and_parts, map-append, reverse-append, nil_from_length, option_to_list, set, is_nothing, slice_get-set_same, slice_get-set_other, Entry, Key, PlacedStep, Reached, is_value_written, key_eq, is_that, place_key, value_key, segment_key, key_eq-true, key_eq-sym, is_making, passed, passed_under, IsInOrder, IsAfter, Placed, reached_or_nothing, with_first, list_at, items_of, ◌≡◌, ◌↔◌, ℕ, ◌+◌, ◌<◌, ◌≤◌, Bool, true, false, not, ◌&&◌, ◌==◌, if◌then◌else◌, cond, IsTrue, List, [], ◌∷◌, ◌++◌, length, map, get_or, reverse, Vec, Global, Option, Some, IsSome, MatchOption, refl, sym, ap, ◌∙◌, arith}
 use Rattle.rd_depend.proofs.IndexKeys.{place_value, place_segment, value_segment}
 
 -- How far steps reached, under one key and under all
@@ -20,28 +20,14 @@ written_down old new key r w i news its = λ j k. (ap (reached_or_nothing k) (ne
 -- a step under another key changes nothing
 after_other : (s : Key → Reached) (a b : Option Key) (w v : Bool) (i j : ℕ) → ((q : Key) → (is_that q a && is_that q b) ≡ false)
     → IsAfter (passed_under a w i s) b v j ↔ IsAfter s b v j
-after_other s a None w v i j apart = (λ h. tt, λ h. tt)
-after_other s a (Some k) w v i j apart = subst (λ (r : Reached). (last_blocking r v < j) ↔ (last_blocking (s k) v < j)) (sym same) (λ h. h, λ h. h)
-  where
-    same : passed_under a w i s k ≡ s k
-    same = grind (arith, key_eq-refl)
+after_other s a b w v i j h1 = grind arith
 
 -- the keys of one step, gone over one after another
 pub all_after : (s : Key → Reached) (x : Entry) (i : ℕ) (p v g : Bool) → IsTrue p ↔ IsAfter s (place_key x.place) (not (is_nothing x.wrote)) i
     → IsTrue v ↔ IsAfter (passed_under (place_key x.place) (not (is_nothing x.wrote)) i s) (value_key x.place) (is_value_written x.wrote) i
     → IsTrue g ↔ IsAfter (passed_under (value_key x.place) (is_value_written x.wrote) i (passed_under (place_key x.place) (not (is_nothing x.wrote)) i s)) (segment_key x.place) (is_making x.place) i
     → IsTrue (p && v && g) ↔ IsInOrder s x i
-all_after s x i p v g by_place by_value by_segment =
-    let one = passed_under (place_key x.place) (not (is_nothing x.wrote)) i s in
-    let second = after_other s (place_key x.place) (value_key x.place) (not (is_nothing x.wrote)) (is_value_written x.wrote) i i (λ q. place_value q x.place) in
-    let mid = after_other s (place_key x.place) (segment_key x.place) (not (is_nothing x.wrote)) (is_making x.place) i i (λ q. place_segment q x.place) in
-    let last = after_other one (value_key x.place) (segment_key x.place) (is_value_written x.wrote) (is_making x.place) i i (λ q. value_segment q x.place) in (
-      λ all.
-          let parts = and_parts (p && v) g all in
-          let both = and_parts p v parts.0 in
-          record { place = by_place.0 both.0; value = second.0 (by_value.0 both.1); segment = mid.0 (last.0 (by_segment.0 parts.1)) },
-      λ order. and_from (p && v) g (and_from p v (by_place.1 order.place) (by_value.1 (second.1 order.value))) (by_segment.1 (last.1 (mid.1 order.segment))),
-    )
+all_after s x i p v g by_place by_value by_segment = grind (arith, after_other, place_value, place_segment, value_segment, and_parts, and_from)
 
 -- The lists by actor, each with its first step last
 

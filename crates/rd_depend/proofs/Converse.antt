@@ -1,5 +1,5 @@
 -- Equivalence is symmetric and transitive, as taking out is.
-use Rattle.rd_depend.proofs.Prelude.{◌≡◌, sym, ◌∙◌, ap, refl, subst, List, Ok, arith, World, Ran, run, Event, Entry, IsEquivalent, events, run_entries, IsRunFrom, run_events}
+use Rattle.rd_depend.proofs.Prelude.{◌≡◌, sym, ◌∙◌, ap, subst, List, Ok, arith, World, Ran, run, Event, Entry, IsEquivalent, events, run_entries, IsRunFrom, run_events}
 use Rattle.rd_depend.proofs.TakingOut.{takes_back}
 use Rattle.rd_depend.proofs.TakingOn.{takes_on}
 use Rattle.rd_depend.proofs.RunsAgree.{equivalent_taken, taken_equivalent}
@@ -10,8 +10,7 @@ converse w es fs runs_e runs_f k = grind (arith, taken_equivalent, takes_back, e
 
 through : (w : World) (es fs gs : List Entry) → IsRunFrom w es → IsRunFrom w fs → IsRunFrom w gs → IsEquivalent w (events es) (events fs)
     → IsEquivalent w (events fs) (events gs) → IsEquivalent w (events es) (events gs)
-through w es fs gs runs_e runs_f runs_g h k =
-    (taken_equivalent es gs (takes_on es fs gs (equivalent_taken w es fs runs_e runs_f h) (equivalent_taken w fs gs runs_f runs_g k)) w runs_e runs_g).0 refl
+through w es fs gs runs_e runs_f runs_g h k = grind (arith, taken_equivalent, takes_on, equivalent_taken)
 
 as_run : (w : World) (es : List Event) (r : Ran) → run w es ≡ Ok r → IsRunFrom w r.entries
 as_run w es r h = ap run_entries (ap (run w) (run_events w es r h) ∙ h)
@@ -30,8 +29,7 @@ equivalent_either_way w es fs r q h k same =
 -- lists that are equivalent are so as the events of their entries
 of_entries : (w : World) (es fs : List Event) (xs ys : List Entry) → events xs ≡ es → events ys ≡ fs → IsEquivalent w es fs
     → IsEquivalent w (events xs) (events ys)
-of_entries w es fs xs ys e f h =
-    subst (λ (l : List Event). IsEquivalent w (events xs) l) (sym f) (subst (λ (l : List Event). IsEquivalent w l fs) (sym e) h)
+of_entries w es fs xs ys e f h = grind arith
 
 pub equivalent_through : (w : World) (es fs gs : List Event) (r q p : Ran) → run w es ≡ Ok r → run w fs ≡ Ok q → run w gs ≡ Ok p
     → IsEquivalent w es fs → IsEquivalent w fs gs → IsEquivalent w es gs

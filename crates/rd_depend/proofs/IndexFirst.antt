@@ -87,9 +87,7 @@ abbrev pub overlaps_under : Place → Option Place → Bool
 overlaps_under p o = is_under_some (value_of_place p) o || (is_under (own_key p) o || is_under_some (whole_key p) o)
 
 pub overlaps-keys : (p : Place) (o : Option Place) → some_overlap (Some p) o ≡ overlaps_under p o
-overlaps-keys (place.Whole s) o = grind (arith, overlaps-whole)
-overlaps-keys (place.Cell s i) o = grind (arith, overlaps-cell)
-overlaps-keys p o = grind arith
+overlaps-keys p o = grind (arith, overlaps-whole, overlaps-cell)
 
 -- the lists of an index
 

@@ -1,6 +1,6 @@
 -- A position moved after others in all lists: the index is then that of the entries with that one
 -- moved, and has the same room.
-use Rattle.rd_depend.proofs.Prelude.{◌≡◌, ℕ, zero, suc, ◌+◌, ◌-◌, ◌<◌, ◌≤◌, ◌==◌, Bool, false, nat_lt, if◌then◌else◌, List, [], ◌∷◌, ◌++◌, length, slice_get, take, drop, Option, Some, None, refl, sym, ap, subst, ◌∙◌, append_assoc, arith, length-append, length-drop, option_map_or, nat_tests, drop_of_length-le, length-take-le, take_all, take-append-drop, drop-drop, Entry, numbered, without, DependIndex, AscendsFrom, AreMoved, contains, moved_position, positions_from, positions, number_of, touches, Touch, kept, capacity, IsIndexOf, KeepsRoom, IsMoved, moved_to}
+use Rattle.rd_depend.proofs.Prelude.{◌≡◌, ℕ, zero, suc, ◌+◌, ◌-◌, ◌<◌, ◌≤◌, ◌==◌, Bool, false, nat_lt, if◌then◌else◌, List, [], ◌∷◌, ◌++◌, length, slice_get, take, drop, Option, Some, None, refl, sym, ap, ◌∙◌, append_assoc, arith, length-append, length-drop, option_map_or, nat_tests, drop_of_length-le, length-take-le, take_all, take-append-drop, drop-drop, Entry, numbered, without, DependIndex, AscendsFrom, AreMoved, contains, moved_position, positions_from, positions, number_of, touches, Touch, kept, capacity, IsIndexOf, KeepsRoom, IsMoved, moved_to}
 use Rattle.rd_depend.proofs.IndexPositions.{positions-ascend, ascending, number-append}
 use Rattle.rd_depend.proofs.IndexChanges.{drop_one}
 use Rattle.rd_depend.proofs.IndexRoom.{room_stays}
@@ -125,12 +125,7 @@ MovesAll k n old new = (t : Touch) → IsMoved k n (kept old t) (kept new t)
 
 pub moved_index : (old new : DependIndex) (k n : ℕ) → 1 ≤ k → k ≤ n → n ≤ old.len → MovesAll k n old new → new.len ≡ old.len → (es : List Entry) → IsIndexOf old es
     → IsIndexOf new (moved_to es k n)
-moved_index old new k n some order within moves len es is =
-    let c = cut es k n some order (omega arith) in
-    record {
-      lists = λ t. positions-moved (touches t) k n es (kept new t) some order c (subst (λ (l : List ℕ). IsMoved k n l (kept new t)) (is.lists t) (moves t));
-      len = len ∙ is.len ∙ sym (length-moved es k n c);
-    }
+moved_index old new k n some order within moves len es is = grind (arith, cut, positions-moved, length-moved)
 
 pub moved_room : (old new : DependIndex) (k n : ℕ) → 1 ≤ k → k ≤ n → n ≤ old.len → ((es : List Entry) → IsIndexOf old es → IsIndexOf new (moved_to es k n))
     → ((t : Touch) → capacity new t ≡ capacity old t) → (es : List Entry) → IsIndexOf old es → KeepsRoom old new

@@ -26,8 +26,7 @@ kept-number index es is t = ap length (is.lists t) ∙ positions-number (touches
 -- where the capacities stay, what one index has less in its lists it has more room for
 pub room_stays : (old new : DependIndex) (es fs : List Entry) → IsIndexOf old es → IsIndexOf new fs → ((t : Touch) → capacity new t ≡ capacity old t)
     → (t : Touch) → spare new t + number_of (touches t) fs ≡ spare old t + number_of (touches t) es
-room_stays old new es fs was is stays t =
-    omega (arith, spare_is new t, spare_is old t, kept-number new fs is t, kept-number old es was t, fits new t, fits old t, stays t)
+room_stays old new es fs was is stays t = grind (arith, spare_is, kept-number, fits)
 
 -- what one entry needed of the room, the others did not
 pub room_left : (old new : DependIndex) (x : Entry) → UsesRoom old new (x ∷ []) → (rest : List Entry) → HasRoomFor old (x ∷ rest) → HasRoomFor new rest

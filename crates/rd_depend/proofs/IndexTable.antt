@@ -182,17 +182,4 @@ takes_last old new k wrote i keys all writes room_all room_writes slot = record 
 pub moves : (old new : Table) (k n : ℕ) → new.keys.keys ≡ old.keys.keys → ((i : ℕ) → IsMoved k n (list_at old.all.items i) (list_at new.all.items i))
     → ((i : ℕ) → IsMoved k n (list_at old.writes.items i) (list_at new.writes.items i)) → ((i : ℕ) → capacity_at new.all.items i ≡ capacity_at old.all.items i)
     → ((i : ℕ) → capacity_at new.writes.items i ≡ capacity_at old.writes.items i) → Moves k n old new
-moves old new k n keys all writes room_all room_writes = record {
-  lists = λ w q. subst (λ (ks : List Key). IsMoved k n (kept_in old w q) (list_of (lists_of new w) (slot_in ks q))) (sym keys) (lists w (slot_in old.keys.keys q));
-  capacity = λ w q. ap (λ (ks : List Key). capacity_of (lists_of new w) (slot_in ks q)) keys ∙ capacity w (slot_in old.keys.keys q);
-}
-  where
-    lists : (w : Bool) (o : Option ℕ) → IsMoved k n (list_of (lists_of old w) o) (list_of (lists_of new w) o)
-    lists w None = none_moved k n
-    lists false (Some i) = all i
-    lists true (Some i) = writes i
-
-    capacity : (w : Bool) (o : Option ℕ) → capacity_of (lists_of new w) o ≡ capacity_of (lists_of old w) o
-    capacity w None = refl
-    capacity false (Some i) = room_all i
-    capacity true (Some i) = room_writes i
+moves old new k n keys all writes room_all room_writes = grind (arith, none_moved)

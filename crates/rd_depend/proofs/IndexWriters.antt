@@ -1,6 +1,6 @@
 -- The last writer of a place, from the last positions up to a number in a place's list and a
 -- segment's.
-use Rattle.rd_depend.proofs.Prelude.{nat_lt, common_steps, Place, some_overlap, Entry, DependIndex, is_under, is_under_some, own_key, value_of_place, whole_key, IsAscending, before_first, last_or, later, Touch, touched_or_written, touches, positions_from, positions, kept, IsIndexOf, one_further, last_position, writes_to, ◌≡◌, ℕ, zero, suc, ◌+◌, ◌-◌, ◌<◌, ◌≤◌, Bool, true, false, ◌||◌, List, [], ◌∷◌, length, get_or, take, Option, Some, None, refl, sym, ap, ◌∙◌, arith}
+use Rattle.rd_depend.proofs.Prelude.{nat_lt, common_steps, Place, some_overlap, Entry, DependIndex, is_under, is_under_some, own_key, value_of_place, whole_key, IsAscending, before_first, last_or, later, Touch, touched_or_written, touches, positions_from, positions, kept, IsIndexOf, one_further, last_position, writes_to, ◌≡◌, ℕ, zero, suc, ◌+◌, ◌-◌, ◌<◌, ◌≤◌, Bool, true, false, ◌||◌, List, [], ◌∷◌, length, get_or, take, Option, Some, None, refl, ap, ◌∙◌, arith}
 use Rattle.rd_depend.proofs.IndexCuts.{positions-up_to}
 use Rattle.rd_depend.proofs.IndexFirst.{kept-ascends, kept-short, overlaps-keys}
 
@@ -12,9 +12,7 @@ last-taken o (p ∷ ps) (suc i) d within = last-taken (Some p) ps i d (omega ari
 
 pub last-among : (ps : List ℕ) (number look found : ℕ) → 0 < number → number ≤ length ps → look ≡ get_or ps (number - 1) look → found ≡ look
     → Some found ≡ last_or None (take number ps)
-last-among ps zero look found some within at is = absurd (omega arith)
-last-among ps (suc i) look found some within at is =
-    let e : suc i - 1 ≡ i = omega arith in ap (λ (p : ℕ). Some p) (is ∙ at ∙ ap (λ (j : ℕ). get_or ps j look) e) ∙ sym (last-taken None ps i look within)
+last-among ps number look found h1 h2 h3 h4 = grind (arith, last-taken)
 
 -- the last of the positions that pass a test is the last position
 

@@ -62,11 +62,7 @@ never true f = absurd (f refl)
 never false f = refl
 
 never_overlap : (x y : Entry) → AreApart x y → some_overlap (written x.place x.wrote) y.place ≡ false
-never_overlap x y apart = by (written x.place x.wrote) refl
-  where
-    by : (o : Option Place) → written x.place x.wrote ≡ o → some_overlap o y.place ≡ false
-    by None e = refl
-    by (Some p) e = overlaps-keys p y.place ∙ never (overlaps_under p y.place) (never_meet x y p apart e)
+never_overlap x y apart = grind (arith, overlaps-keys, never, overlaps_under, never_meet)
 
 turned : (x y : Entry) → AreApart x y → AreApart y x
 turned x y h = grind arith

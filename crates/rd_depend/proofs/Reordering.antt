@@ -1,6 +1,6 @@
 -- Lists are equivalent exactly where the one is made of the other by changing places of neighbours
 -- that do not depend on each other.
-use Rattle.rd_depend.proofs.Prelude.{◌≡◌, ◌↔◌, false, refl, sym, ◌∙◌, ap, subst, List, [], ◌∷◌, ◌++◌, Ok, World, Ran, Stepped, run, step, Event, depends, symmetric, free_parts, IsFree, IsEquivalent, as_stepped-same, goes_first, as_ran-same, ran_through, reflexive, swapped_within, commutes, ran_on, run-cons}
+use Rattle.rd_depend.proofs.Prelude.{◌≡◌, ◌↔◌, false, refl, sym, ◌∙◌, ap, subst, List, [], ◌∷◌, ◌++◌, Ok, World, Ran, Stepped, run, step, Event, depends, symmetric, free_parts, IsFree, IsEquivalent, as_stepped-same, goes_first, as_ran-same, ran_through, reflexive, swapped_within, commutes, ran_on, run-cons, arith}
 use Rattle.rd_depend.specs.Reordering.{IsReordered}
 use Rattle.rd_depend.specs.Reordering.IsReordered.{unchanged, swapped}
 use Rattle.rd_depend.proofs.Converse.{equivalent_through}
@@ -44,11 +44,10 @@ reordered w (e ∷ es) fs h =
 
 -- And back
 
-run_joined : (w : World) (es fs : List Event) (r q : Ran) → run w es ≡ Ok r → run r.world fs ≡ Ok q
+-- a run and one that goes on from its last world are one run
+pub run_joined : (w : World) (es fs : List Event) (r q : Ran) → run w es ≡ Ok r → run r.world fs ≡ Ok q
     → run w (es ++ fs) ≡ Ok (record { world = q.world; entries = r.entries ++ q.entries })
-run_joined w [] fs r q h k =
-    let none : record { world = w; entries = [] } ≡ r = as_ran-same _ _ h in
-    ap (λ (y : Ran). run y.world fs) none ∙ k ∙ ap (λ (y : Ran). Ok (record { world = q.world; entries = y.entries ++ q.entries })) none
+run_joined w [] fs r q h k = grind arith
 run_joined w (e ∷ es) fs r q h k =
     let ran = ran_on w e es r h in
     let rest : Ran = record { world = q.world; entries = ran.rest.entries ++ q.entries } in

@@ -82,5 +82,4 @@ pub nobody_wrote : (x y : Entry) → either_wrote x y ≡ false → interfere x.
 nobody_wrote x y = not_so (interfere x.place x.wrote y.place y.wrote) (either_wrote x y) (λ h. by_one x y (shares x y h))
 
 pub apart : (x y : Entry) → some_overlap x.place y.place ≡ false → interfere x.place x.wrote y.place y.wrote ≡ false
-apart x y = not_so (interfere x.place x.wrote y.place y.wrote) (some_overlap x.place y.place)
-    (λ h. let s = shares x y h in both_cover x.place y.place s.common s.first s.second)
+apart x y = grind (arith, not_so, shares, both_cover)

@@ -7,15 +7,7 @@ alike-trans : (x y z : Entry) → AreAlike x y → AreAlike y z → AreAlike x z
 alike-trans x y z h g = record { event = h.event ∙ g.event; place = h.place ∙ g.place; wrote = h.wrote ∙ g.wrote }
 
 takes-alike : (x y : Entry) (entries left : List Entry) → AreAlike x y → Takes y entries left → Takes x entries left
-takes-alike x y entries left h t = record {
-  earlier = t.earlier;
-  entry = t.entry;
-  later = t.later;
-  stands = t.stands;
-  alike = alike-trans x y t.entry h t.alike;
-  apart = t.apart;
-  leaves = t.leaves;
-}
+takes-alike x y entries left h t = grind (arith, alike-trans)
 
 -- steps like two that are apart are apart
 apart-alike : (x y u v : Entry) → AreAlike x u → AreAlike y v → AreApart x y → AreApart u v
@@ -46,10 +38,7 @@ record StandsInSecond (xs ys earlier : List Entry) (x : Entry) (later : List Ent
 in_either : (xs ys earlier : List Entry) (x : Entry) (later : List Entry) → xs ++ ys ≡ earlier ++ x ∷ later
     → StandsInFirst xs ys earlier x later ⊎ StandsInSecond xs ys earlier x later
 in_either [] ys earlier x later h = inr (record { middle = earlier; first = refl; second = h })
-in_either (z ∷ xs) ys [] x later h =
-    let head : z ≡ x = cc in
-    let tail : xs ++ ys ≡ later = cc in
-    inl (record { middle = xs; first = ap (λ (e : Entry). e ∷ xs) head; second = sym tail })
+in_either (z ∷ xs) ys [] x later h = grind arith
 in_either (z ∷ xs) ys (w ∷ earlier) x later h =
     let head : z ≡ w = cc in
     let tail : xs ++ ys ≡ earlier ++ x ∷ later = cc in

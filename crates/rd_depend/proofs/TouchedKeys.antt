@@ -51,8 +51,4 @@ after_at : (s : Key → Reached) (o : Option Key) (w : Bool) (i : ℕ) → ((k :
 after_at s o w i h = grind arith
 
 pub in_order_from : (s : Key → Reached) (x : Entry) (i : ℕ) → ((k : Key) → is_under k x.place ≡ true → last_blocking (s k) (wrote_under k x.place x.wrote) < i) → IsInOrder s x i
-in_order_from s x i h = record {
-  place = after_at s (place_key x.place) _ i (λ k e. grind (arith, one_under, wrote_place));
-  value = after_at s (value_key x.place) _ i (λ k e. grind (arith, one_under, wrote_value));
-  segment = after_at s (segment_key x.place) _ i (λ k e. grind (arith, one_under, wrote_segment));
-}
+in_order_from s x i h = grind (arith, after_at, one_under, wrote_place, wrote_value, wrote_segment)

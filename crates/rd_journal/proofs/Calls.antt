@@ -1,5 +1,5 @@
 -- What the calls of a session answer, over its journal.
-use Rattle.rd_journal.proofs.Prelude.{◌≡◌, ℕ, zero, suc, ◌+◌, ◌-◌, ◌<◌, ◌≤◌, ◌⊎◌, refl, sym, ◌∙◌, ap, subst, List, [], ◌∷◌, ◌++◌, length, take, get_or, slice_get, Option, None, Some, option_map, ok_or, Result, Ok, Err, IsOk, IfErr, inl, inr, arith, ne_eqb, length-append, opened_with, and_then, result_map, cond-false, map-append, length-map, take-map, slice_get_past, slice_get-get_or, slice_get-map, Refusal, Stepped, step, IsWellFormed, MOST_STEPS, Event, Entry, model, room, live_entries, ahead_entries, kept_entries, IsIndexOf, whole_journal, journal, state, MayLackMemory, Journal, events, IsRun, entry_of, IsSession, HasRoom, State, state_of, with_event, apply, back, forward, live_event, IsLengthened, IsMovedBack, IsBeforeLast, IsOutOfMemory, Entries, slice_get_cases, Session}
+use Rattle.rd_journal.proofs.Prelude.{◌≡◌, ℕ, ◌+◌, ◌-◌, ◌<◌, ◌≤◌, ◌⊎◌, refl, sym, ◌∙◌, ap, subst, List, [], ◌∷◌, ◌++◌, length, get_or, ok_or, Result, Ok, Err, IsOk, IfErr, inl, inr, arith, ne_eqb, length-append, opened_with, and_then, result_map, cond-false, map-append, length-map, take-map, slice_get_past, slice_get-get_or, slice_get-map, Refusal, Stepped, step, IsWellFormed, MOST_STEPS, Event, Entry, model, room, live_entries, ahead_entries, kept_entries, IsIndexOf, whole_journal, journal, state, MayLackMemory, Journal, events, IsRun, entry_of, IsSession, HasRoom, State, state_of, with_event, apply, back, forward, live_event, IsLengthened, IsMovedBack, IsBeforeLast, IsOutOfMemory, Entries, slice_get_cases, Session}
 use Rattle.rd_journal.specs.Sessions.{KeepsItsSteps, MayRefuse, capacity, room as session_room, index}
 use Rattle.std.specs.declared.snapshot.Snapshot.{Snapshot}
 use Rattle.rd_step.specs.declared.worlds.World.{World as CodeWorld}
@@ -51,22 +51,15 @@ entry_found j k x some within here = grind (arith, ok_or, slice_get-get_or)
 
 -- the live event of a number is that of the entry
 pub event_of_entry : (j : Journal) (k : ℕ) → live_event (state_of j) k ≡ result_map (λ x. x.event) (entry_of j k)
-event_of_entry j zero = grind (arith, live_len)
-event_of_entry j (suc i) = by (slice_get j.live i) (slice_get-map (λ (x : Entry). x.event) j.live i)
-  where
-    by : (o : Option Entry) → slice_get (events j.live) i ≡ option_map (λ x. x.event) o → ok_or (slice_get (events j.live) i) (refusal.NoSuchStep (length (events j.live))) ≡ result_map (λ x. x.event) (ok_or o (refusal.NoSuchStep (length j.live)))
-    by None h = grind (arith, live_len)
-    by (Some x) h = grind arith
+event_of_entry j k = grind (arith, live_len, slice_get-map)
 
 -- the number of a live event is that of one
 pub is_live : (s : State) (k : ℕ) (e : Event) → live_event s k ≡ Ok e → (1 ≤ k) × (k ≤ length s.live)
-is_live s zero e h = absurd cc
-is_live s (suc i) e h = grind (arith, slice_get_cases)
+is_live s k e h1 = grind (arith, slice_get_cases)
 
 -- a chain that went through, through its first link
 pub went_through : {T U : Type 0} (r : Result T Refusal) (f : T → Result U Refusal) (y : U) → and_then r f ≡ Ok y → (x : T) × (r ≡ Ok x) × (f x ≡ Ok y)
-went_through (Ok x) f y h = (x, refl, h)
-went_through (Err e) f y h = absurd cc
+went_through r f y h1 = grind arith
 
 -- One more step
 
@@ -117,10 +110,7 @@ still old world entries same live ahead more = record {
 -- a session with the world and the entries from before is unchanged
 pub unchanged : {R : ℕ} (old new : Session R) → opened_with new.opened ≡ opened_with old.opened → model new.world ≡ model old.world → live_entries new.entries ≡ live_entries old.entries
     → ahead_entries new.entries ≡ ahead_entries old.entries → new.undone ≡ old.undone → KeepsItsSteps old new
-unchanged old new start world live ahead count = record {
-  journal = λ i. record { start = start i; world = world i; live = live i; undone = take (count i) (ahead i) };
-  track = λ i. events (live i) ++ events (ahead i);
-}
+unchanged old new start world live ahead count = grind arith
 
 -- the event is answered as its step is, since the live events run to the world
 applied : (j : Journal) (e : Event) (r : Result Stepped Refusal) → IsRun j → length j.live < MOST_STEPS → step j.world e ≡ r

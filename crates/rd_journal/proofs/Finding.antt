@@ -42,28 +42,17 @@ cut_before l others k some within =
 -- found in the first part
 found_before : (x : Entry) (n j : ℕ) (a b : List Entry) → position_from (depends x) n a ≡ Some j → position_from (depends x) n (a ++ b) ≡ Some j
 found_before x n j [] b h = absurd cc
-found_before x n j (y ∷ a) b h = by (depends x y) (found_before x (n + 1) j a b) h
-  where
-    by : (d : Bool) → (position_from (depends x) (n + 1) a ≡ Some j → position_from (depends x) (n + 1) (a ++ b) ≡ Some j) → (if d then Some n else position_from (depends x) (n + 1) a) ≡ Some j → (if d then Some n else position_from (depends x) (n + 1) (a ++ b)) ≡ Some j
-    by d later g = grind arith
+found_before x n j (y ∷ a) b h = grind (arith, found_before x (n + 1) j a b)
 
 -- not found in the first part
 found_behind : (x : Entry) (n : ℕ) (a b : List Entry) → position_from (depends x) n a ≡ None → position_from (depends x) n (a ++ b) ≡ position_from (depends x) (n + length a) b
 found_behind x n [] b h = let e : n ≡ n + 0 = omega arith in ap (λ (m : ℕ). position_from (depends x) m b) e
-found_behind x n (y ∷ a) b h = by (depends x y) (found_behind x (n + 1) a b) h
-  where
-    by : (d : Bool) → (position_from (depends x) (n + 1) a ≡ None → position_from (depends x) (n + 1) (a ++ b) ≡ position_from (depends x) (n + 1 + length a) b)
-        → (if d then Some n else position_from (depends x) (n + 1) a) ≡ None
-        → (if d then Some n else position_from (depends x) (n + 1) (a ++ b)) ≡ position_from (depends x) (n + suc (length a)) b
-    by d later g = grind arith
+found_behind x n (y ∷ a) b h = grind (arith, found_behind x (n + 1) a b)
 
 -- where it is
 found_within : (x : Entry) (n j : ℕ) (a : List Entry) → position_from (depends x) n a ≡ Some j → (n ≤ j) × (j < n + length a)
 found_within x n j [] h = absurd cc
-found_within x n j (y ∷ a) h = by (depends x y) (found_within x (n + 1) j a) h
-  where
-    by : (d : Bool) → (position_from (depends x) (n + 1) a ≡ Some j → (n + 1 ≤ j) × (j < n + 1 + length a)) → (if d then Some n else position_from (depends x) (n + 1) a) ≡ Some j → (n ≤ j) × (j < n + suc (length a))
-    by d later g = grind arith
+found_within x n j (y ∷ a) h = grind (arith, found_within x (n + 1) j a)
 
 -- the number of what is found among live and other ones, if it is that of a live one
 abbrev pub if_live : List Entry → Option ℕ → Option ℕ
@@ -86,7 +75,4 @@ among x live others k position = grind (arith, found_within, within_live, length
 -- the first dependant among the live ones is what is found among all, if that is live
 pub found_live : (x : Entry) (live others : List Entry) (k : ℕ) (found : Option ℕ) → 1 ≤ k → k ≤ length live → x ≡ get_or live (k - 1) x
     → found ≡ position_from (depends x) (k + 1) (drop k (live ++ others)) → first_dependant live k ≡ if_live live found
-found_live x live others k found some within here answer =
-    scan_is x live k (numbered_in live k x some within here) ∙ among x live others k within
-    ∙ ap (λ (zs : List Entry). if_live live (position_from (depends x) (k + 1) zs)) (sym (drop-append-le k live others within))
-    ∙ ap (if_live live) (sym answer)
+found_live x live others k found some within here answer = grind (arith, scan_is, numbered_in, among, drop-append-le)

@@ -10,9 +10,8 @@ pub record CutAt (l : List Entry) (i : ℕ) (x : Entry) : Type 0 where
   pub inside : closure_of l (suc i) ≡ x ∷ items_where_true (closure_from (x ∷ []) (drop (suc i) l)) (drop (suc i) l)
 
 pub cut_at : (l : List Entry) (i : ℕ) (x : Entry) → i < length l → x ≡ get_or l i x → CutAt l i x
-cut_at [] i x h here = absurd (omega arith)
-cut_at (y ∷ l) zero x h here = grind arith
 cut_at (y ∷ l) (suc i) x h here = grind (arith, cut_at l i x (omega arith) here)
+cut_at l i x h here = grind arith
 
 -- A list under way
 

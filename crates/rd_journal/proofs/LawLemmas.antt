@@ -1,6 +1,6 @@
 -- What the laws state: going back and forward again, steps undone out of their order and redone, and
 -- the old words of an entry.
-use Rattle.rd_journal.proofs.Prelude.{◌≡◌, ℕ, sym, ◌∙◌, Ok, arith, length-append, length-drop, ◌-◌, ◌≤◌, refl, ap, List, [], ◌∷◌, ◌++◌, length, take, drop, Option, Some, None, Result, subst, get_or, ◌+◌, ◌<◌, append_assoc, drop-drop, drop-take, take-take, take-add, length-take-le, le-ltb, ltb-false, cond-false, take_at, drop_at, take-append-drop, Journal, IsRun, State, state_of, back, forward, length-map, first_dependant, Ran, step, unstep, Entry, IsTakenOut, taken_out, IsMovedLast, IsUndoneAlone, run_of, live_event, undo_at, and_then, Refusal, result_map, map-append, World, closure, closure_of, without_closure, Event, events, IsClosureLast, undone_where_true, roll, take-map, run, IsWellFormed, run_keeps, IsStepAfter, middle, nat_lt}
+use Rattle.rd_journal.proofs.Prelude.{◌≡◌, ℕ, sym, ◌∙◌, Ok, arith, length-append, length-drop, ◌-◌, ◌≤◌, refl, ap, List, [], ◌∷◌, ◌++◌, length, take, drop, Option, Some, None, Result, subst, get_or, ◌+◌, ◌<◌, append_assoc, drop-drop, drop-take, take-take, take-add, length-take-le, le-ltb, ltb-false, cond-false, take_at, drop_at, take-append-drop, Journal, IsRun, State, state_of, back, forward, length-map, first_dependant, Ran, step, unstep, Entry, IsTakenOut, taken_out, IsMovedLast, IsUndoneAlone, run_of, live_event, undo_at, and_then, Refusal, map-append, World, closure, closure_of, without_closure, Event, events, IsClosureLast, undone_where_true, roll, take-map, run, IsWellFormed, run_keeps, IsStepAfter, middle, nat_lt}
 use Rattle.rd_journal.proofs.Runs.{as_ok, as_ok-same, step_event, grown}
 use Rattle.rd_journal.proofs.ListLemmas.{nth, drop_one_less}
 use Rattle.rd_journal.proofs.LoneUndo.{IsNumber, from_it, may_undo_at, undo_at_goes}
@@ -131,10 +131,7 @@ forward_all w n xs ys zs len = grind (arith, le-ltb, cond-false, length-append, 
 
 -- a rollback that was not refused, where the live steps ran so
 rolled : (s t : State) (r : Ran) (n : ℕ) → run_of s ≡ Ok r → roll s n ≡ Ok t → (1 ≤ n) × (n ≤ length s.live) × (t ≡ undone_where_true s (closure r.entries n))
-rolled s t r n ran k =
-    let live = went_through (live_event s n) (λ _. result_map (λ (q : Ran). undone_where_true s (closure q.entries n)) (run_of s)) t k in
-    let of_live = is_live s n live.0 live.1 in
-    (of_live.0, of_live.1, grind arith)
+rolled s t r n ran k = grind (arith, went_through, is_live)
 
 pub closure_redone : (i j k : Journal) (n : ℕ) → IsRun i → IsRun k → roll (state_of i) n ≡ Ok (state_of j)
     → forward (state_of j) (length (closure_of i.live n)) ≡ Ok (state_of k) → IsClosureLast n i k

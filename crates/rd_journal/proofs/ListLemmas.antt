@@ -1,11 +1,10 @@
 -- Lists cut in two, the last element of a list, and one moved after others.
-use Rattle.rd_journal.proofs.Prelude.{◌≡◌, ℕ, zero, suc, ◌+◌, ◌-◌, ◌<◌, ◌≤◌, List, [], ◌∷◌, ◌++◌, length, get_or, take, drop, refl, sym, ◌∙◌, ap, arith, length-append, length-drop, put_mid, mid_of, drop-cons, take_at, drop_at, append-nil, take_all, append_assoc, take-append-drop, length-take-le, take-take, drop-take, drop-append-le, drop-drop, moved_to, drop_of_length-le}
+use Rattle.rd_journal.proofs.Prelude.{◌≡◌, ℕ, suc, ◌+◌, ◌-◌, ◌<◌, ◌≤◌, List, ◌∷◌, ◌++◌, length, get_or, take, drop, sym, ◌∙◌, ap, arith, length-append, length-drop, put_mid, mid_of, drop-cons, take_at, drop_at, append-nil, take_all, append_assoc, take-append-drop, length-take-le, take-take, drop-take, drop-append-le, drop-drop, moved_to, drop_of_length-le}
 
 -- an element that is there
 pub nth : {X : Type 0} (l : List X) (k : ℕ) → k < length l → (x : X) × (x ≡ get_or l k x)
-nth [] k h = absurd (omega arith)
-nth (x ∷ l) zero h = (x, refl)
-nth (x ∷ l) (suc k) h = nth l k (omega arith)
+nth (x ∷ l) (suc k) h = grind (arith, nth l k (omega arith))
+nth l k h = grind arith
 
 -- what is after the cut
 pub drop_one_less : {X : Type 0} (l : List X) (k : ℕ) (x : X) → k < length l → x ≡ get_or l k x → drop k l ≡ x ∷ drop (k + 1) l

@@ -1,5 +1,5 @@
 -- Undoing one live step alone, on which no later one depends, over whole journals.
-use Rattle.rd_journal.proofs.Prelude.{list_any, or_from, common_steps, cases_Bool, cond-true, cond-false, map-append, take-map, drop-map, take-append-drop, depends, IsFree, first_dependant, MOST_STEPS, Entry, position_from, WasStepped, IsTakenOut, Journal, IsRun, IsUndoneAlone, IsRunWithout, unless_depended, answer_at, entry_of, state_of, undo_at, and_then, events, numbered, without, ◌≡◌, refl, ℕ, ◌+◌, ◌-◌, ◌<◌, ◌≤◌, ◌⊎◌, inl, inr, sym, ◌∙◌, ap, subst, arith, List, [], ◌∷◌, ◌++◌, length, take, drop, get_or, Option, Some, None, Ok, Err, ok_or, length-append}
+use Rattle.rd_journal.proofs.Prelude.{list_any, or_from, common_steps, cases_Bool, cond-true, cond-false, map-append, take-map, drop-map, take-append-drop, depends, IsFree, first_dependant, MOST_STEPS, Entry, position_from, WasStepped, IsTakenOut, Journal, IsRun, IsUndoneAlone, IsRunWithout, unless_depended, answer_at, state_of, undo_at, and_then, events, numbered, without, ◌≡◌, refl, ℕ, ◌+◌, ◌-◌, ◌<◌, ◌≤◌, ◌⊎◌, inl, inr, sym, ◌∙◌, ap, subst, arith, List, [], ◌∷◌, ◌++◌, length, take, drop, get_or, Some, None, Ok, Err, length-append}
 use Rattle.rd_journal.proofs.ListLemmas.{nth, drop_one_less}
 use Rattle.rd_journal.proofs.Calls.{entry_missing, entry_found, event_of_entry}
 use Rattle.rd_journal.proofs.Finding.{numbered_in, scan_is}
@@ -84,17 +84,13 @@ undone_run k old new moved start runs = let left = without-events old.live k in 
 pub undo_at_found : (j : Journal) (k : ℕ) (x : Entry) → IsRun j → numbered j.live k ≡ Some x
     → undo_at (state_of j) k ≡ and_then (unless_depended (first_dependant j.live k))
     (λ _. Ok (record { start = j.start; live = without (events j.live) k; undone = x.event ∷ events j.undone }))
-undo_at_found j k x runs here =
-    let found : entry_of j k ≡ Ok x = ap (λ (o : Option Entry). ok_or o (refusal.NoSuchStep (length j.live))) here in
-    grind (arith, event_of_entry)
+undo_at_found j k x runs here = grind (arith, event_of_entry)
 
 undo_at_there : (j : Journal) (k : ℕ) (x : Entry) → IsRun j → IsNumber j.live k x
     → (undo_at (state_of j) k ≡ and_then (unless_depended (first_dependant j.live k))
     (λ _. Ok (record { start = j.start; live = without (events j.live) k; undone = x.event ∷ events j.undone })))
     × (unless_depended (first_dependant j.live k) ≡ answer_at j k)
-undo_at_there j k x runs at =
-    let found = entry_found j k x at.some at.within at.here in
-    (undo_at_found j k x runs (numbered_in j.live k x at.some at.within at.here), grind arith)
+undo_at_there j k x runs at = grind (arith, entry_found, undo_at_found, numbered_in)
 
 pub undo_at_goes : (k : ℕ) (old new : Journal) → IsRun old → 1 ≤ k → k ≤ length old.live → first_dependant old.live k ≡ None → IsUndoneAlone k old new
     → new.start ≡ old.start → (undo_at (state_of old) k ≡ Ok (state_of new)) × (Ok tt ≡ answer_at old k)

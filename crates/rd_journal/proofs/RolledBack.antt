@@ -1,27 +1,18 @@
 -- Rolling back a live step with all that depends on it, over whole journals.
-use Rattle.rd_journal.proofs.Prelude.{◌≡◌, ℕ, zero, suc, ◌+◌, ◌-◌, ◌≤◌, ◌||◌, Bool, false, if◌then◌else◌, refl, sym, ◌∙◌, ap, arith, List, [], ◌∷◌, ◌++◌, length, get_or, take, drop, Some, None, ◌<◌, ◌⊎◌, true, subst, Ok, Err, depends, first_dependant, closure_of, without_closure, items_where_true, items_where_false, closure_from, position_from, Entry, Journal, IsUndoneAlone, IsRolledBack, append_assoc, map-append, take-append-drop, World, run, closure, Event, run-cons, events, IsRun, IsWithoutClosure, roll_answer, IsSession, HasRoom, state_of, undone_where_true, roll, middle}
+use Rattle.rd_journal.proofs.Prelude.{run_joined, ◌≡◌, ℕ, zero, suc, ◌+◌, ◌-◌, ◌≤◌, Bool, refl, sym, ◌∙◌, ap, arith, List, [], ◌∷◌, ◌++◌, length, get_or, take, drop, None, ◌<◌, ◌⊎◌, subst, Ok, Err, depends, first_dependant, closure_of, without_closure, items_where_true, items_where_false, closure_from, position_from, Entry, Journal, IsUndoneAlone, IsRolledBack, append_assoc, map-append, take-append-drop, World, run, closure, run-cons, events, IsRun, IsWithoutClosure, roll_answer, IsSession, state_of, undone_where_true, roll, middle}
 use Rattle.rd_journal.proofs.Gathering.{cut_at, gathered_run}
 use Rattle.rd_journal.proofs.Finding.{numbered_in, scan_is}
 use Rattle.rd_journal.proofs.ListLemmas.{nth, drop_one_less}
 use Rattle.rd_journal.proofs.Calls.{entry_missing, entry_found, event_of_entry}
-use Rattle.rd_journal.proofs.Runs.{run_joined}
 use Rattle.rd_cell.specs.declared.refusal.Refusal.TheVariants as refusal
 
 marked_none : (x : Entry) (n : ℕ) (ys : List Entry) → position_from (depends x) n ys ≡ None → items_where_true (closure_from (x ∷ []) ys) ys ≡ []
 marked_none x n [] h = refl
-marked_none x n (y ∷ ys) h = by (depends x y) (marked_none x (n + 1) ys) h
-  where
-    by : (d : Bool) → (position_from (depends x) (n + 1) ys ≡ None → items_where_true (closure_from (x ∷ []) ys) ys ≡ []) → (if d then Some n else position_from (depends x) (n + 1) ys) ≡ None
-        → (let e = d || false in items_where_true (e ∷ closure_from (if e then (x ∷ []) ++ y ∷ [] else x ∷ []) ys) (y ∷ ys)) ≡ []
-    by d later g = grind arith
+marked_none x n (y ∷ ys) h = grind (arith, marked_none x (n + 1) ys)
 
 unmarked_all : (x : Entry) (n : ℕ) (ys : List Entry) → position_from (depends x) n ys ≡ None → items_where_false (closure_from (x ∷ []) ys) ys ≡ ys
 unmarked_all x n [] h = refl
-unmarked_all x n (y ∷ ys) h = by (depends x y) (unmarked_all x (n + 1) ys) h
-  where
-    by : (d : Bool) → (position_from (depends x) (n + 1) ys ≡ None → items_where_false (closure_from (x ∷ []) ys) ys ≡ ys) → (if d then Some n else position_from (depends x) (n + 1) ys) ≡ None
-        → (let e = d || false in items_where_false (e ∷ closure_from (if e then (x ∷ []) ++ y ∷ [] else x ∷ []) ys) (y ∷ ys)) ≡ y ∷ ys
-    by d later g = grind arith
+unmarked_all x n (y ∷ ys) h = grind (arith, unmarked_all x (n + 1) ys)
 
 -- undone alone, such a step is rolled back
 pub alone_rolled : (k : ℕ) (old new : Journal) → 1 ≤ k → k ≤ length old.live → first_dependant old.live k ≡ None → IsUndoneAlone k old new → IsRolledBack k old new
@@ -92,27 +83,17 @@ gathered_journal k old new g = λ i. record { start = g.start i; world = g.world
 
 pub gathered_session : (k : ℕ) (old new : Journal) (room : ℕ → ℕ) → IsSession old room → 1 ≤ k → k ≤ length old.live → IsGatheredLast k old new
     → IsSession new room
-gathered_session k old new room session some within g =
-    let re = reordered old k some within session.runs in
-    record {
-      few = omega (arith, g.len, ap length g.undone, session.few);
-      runs = subst (λ (j : Journal). IsRun j) (sym (gathered_journal k old new g)) re;
-      has_room = subst (λ (ys : List Entry). HasRoom ys room) (sym g.undone) session.has_room;
-    }
+gathered_session k old new room session some within g = grind (arith, reordered, gathered_journal)
 
 -- The state
 
 pub marked-map : (bs : List Bool) (xs : List Entry) → items_where_true bs (events xs) ≡ events (items_where_true bs xs)
-marked-map [] xs = refl
-marked-map (b ∷ bs) [] = refl
-marked-map (true ∷ bs) (x ∷ xs) = ap (λ (es : List Event). x.event ∷ es) (marked-map bs xs)
-marked-map (false ∷ bs) (x ∷ xs) = marked-map bs xs
+marked-map (b ∷ bs) (x ∷ xs) = grind (arith, marked-map bs xs)
+marked-map bs xs = grind arith
 
 pub items_where_false-map : (bs : List Bool) (xs : List Entry) → items_where_false bs (events xs) ≡ events (items_where_false bs xs)
-items_where_false-map [] xs = refl
-items_where_false-map (b ∷ bs) [] = refl
-items_where_false-map (true ∷ bs) (x ∷ xs) = items_where_false-map bs xs
-items_where_false-map (false ∷ bs) (x ∷ xs) = ap (λ (es : List Event). x.event ∷ es) (items_where_false-map bs xs)
+items_where_false-map (b ∷ bs) (x ∷ xs) = grind (arith, items_where_false-map bs xs)
+items_where_false-map bs xs = grind arith
 
 pub rolled_state : (k : ℕ) (old new : Journal) → IsRolledBack k old new → new.start ≡ old.start → state_of new ≡ undone_where_true (state_of old) (closure old.live k)
 rolled_state k old new is start = grind (arith, items_where_false-map, map-append, marked-map)

@@ -1,6 +1,6 @@
 -- Runs and their entries: two runs joined, the first and the last step of a run, and a journal that
 -- gains or loses a step.
-use Rattle.rd_journal.proofs.Prelude.{◌≡◌, refl, sym, ◌∙◌, ap, subst, List, [], ◌∷◌, ◌++◌, Result, Ok, arith, ℕ, ◌-◌, ◌<◌, ◌≤◌, ◌⊎◌, length, take, drop, get_or, slice_get, option_map, Some, None, map-append, Refusal, World, Stepped, step, unstep, Ran, run, IsFree, IsWellFormed, Event, Entry, preceded_by, and_then, result_map, WasStepped, IsTakenOut, took, undoes, ran_on, run-cons, run_keeps, Middle, middle, Journal, events, IsRun, IsRunFrom, append-nil, taken_out, take_more, slice_get-map, slice_get_past, slice_get-get_or, LeadsTo, numbered, run_entries}
+use Rattle.rd_journal.proofs.Prelude.{run_joined, ◌≡◌, refl, sym, ◌∙◌, ap, subst, List, [], ◌∷◌, ◌++◌, Result, Ok, arith, ℕ, ◌-◌, ◌<◌, ◌≤◌, ◌⊎◌, length, take, drop, get_or, slice_get, option_map, Some, None, map-append, Refusal, World, Stepped, step, unstep, Ran, run, IsFree, IsWellFormed, Event, Entry, preceded_by, and_then, result_map, WasStepped, IsTakenOut, took, undoes, run-cons, run_keeps, Middle, middle, Journal, events, IsRun, IsRunFrom, append-nil, taken_out, take_more, slice_get-map, slice_get_past, slice_get-get_or, LeadsTo, numbered, run_entries}
 use Rattle.rd_journal.proofs.ListLemmas.{drop_one_less}
 
 -- an answer that is no refusal
@@ -15,26 +15,11 @@ as_ok-same x y h = cc
 pub step_event : (w : World) (e : Event) (s : Stepped) → step w e ≡ Ok s → s.entry.event ≡ e
 step_event w e s h = let t = took w e s h in ap (λ (x : Stepped). x.entry.event) (sym t.ends)
 
--- a run and one that goes on from its last world are one run
-pub run_joined : (s : World) (es fs : List Event) (r q : Ran) → run s es ≡ Ok r → run r.world fs ≡ Ok q
-    → run s (es ++ fs) ≡ Ok (record { world = q.world; entries = r.entries ++ q.entries })
-run_joined s [] fs r q h k = grind arith
-run_joined s (e ∷ es) fs r q h k =
-    let ran = ran_on s e es r h in
-    let goes : run ran.rest.world fs ≡ Ok q = ap (λ (x : Ran). run x.world fs) ran.joins ∙ k in
-    let joined = run_joined ran.one.world es fs ran.rest q ran.goes_on goes in
-    run-cons s e (es ++ fs) ran.one (record { world = q.world; entries = ran.rest.entries ++ q.entries }) ran.goes joined
-    ∙ ap (λ (x : Ran). Ok (record { world = q.world; entries = x.entries ++ q.entries })) ran.joins
-
 -- a journal is a run where its live entries are those of a run from its start, and the undone ones
 -- run on
 pub runs_since : (s : World) (j : Journal) → j.start ≡ s → IsWellFormed s → run s (events j.live) ≡ Ok (record { world = j.world; entries = j.live })
     → IsRunFrom j.world j.undone → IsRun j
-runs_since s j start formed ran on = record {
-  well_formed = subst (λ (w : World). IsWellFormed w) (sym start) formed;
-  live_ran = ap (λ (w : World). run w (events j.live)) start ∙ ran;
-  undone_run_on = on;
-}
+runs_since s j start formed ran on = grind arith
 
 -- a run of entries, and one more step
 pub ran_more : (s w v : World) (xs : List Entry) (x : Entry) → run s (events xs) ≡ Ok (record { world = w; entries = xs })

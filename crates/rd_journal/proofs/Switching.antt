@@ -1,6 +1,6 @@
 -- Entries of a run put after the first live ones, and the room that their makings ask for.
-use Rattle.rd_journal.proofs.Prelude.{common_steps, take-suc, cases_Bool, cases_eq, cond-true, cond-false, map-append, take-map, length-take, length-take-le, get_or-set_same, get_or-set_other, SegName, Place, Content, after, World, Stepped, step, run, MOST_STEPS, Event, Entry, makes_segment, room_used, room_returned, took, with_actor-other, room_used_returned, Journal, events, IsRun, IsRunFrom, LeadsTo, IsSwitched, IsSession, room_returned_by, room_without, HasRoom, HasRoomForAll, state_of, switch, run_stays_actor, beginning, first_step, ◌≡◌, ◌≢◌, ℕ, zero, suc, ◌+◌, ◌-◌, ◌<◌, ◌≤◌, ◌==◌, Bool, true, false, refl, sym, ◌∙◌, ap, subst, arith, inl, inr, List, [], ◌∷◌, ◌++◌, length, take, drop, set, get_or, if◌then◌else◌, Option, Some, None, is_some, IsSome, Ok, eq-eqb, ne_eqb, length-append, made, made_at}
-use Rattle.rd_journal.proofs.Runs.{as_ok-same, run_joined, live_lead}
+use Rattle.rd_journal.proofs.Prelude.{run_joined, common_steps, take-suc, cases_Bool, cases_eq, cond-true, cond-false, map-append, take-map, length-take, length-take-le, get_or-set_same, get_or-set_other, SegName, Place, Content, after, World, Stepped, step, run, MOST_STEPS, Event, Entry, makes_segment, room_used, room_returned, took, with_actor-other, room_used_returned, Journal, events, IsRun, IsRunFrom, LeadsTo, IsSwitched, IsSession, room_returned_by, room_without, HasRoom, HasRoomForAll, state_of, switch, run_stays_actor, beginning, first_step, ◌≡◌, ◌≢◌, ℕ, zero, suc, ◌+◌, ◌-◌, ◌<◌, ◌≤◌, ◌==◌, Bool, true, false, refl, sym, ◌∙◌, ap, subst, arith, inl, inr, List, [], ◌∷◌, ◌++◌, length, take, drop, set, get_or, if◌then◌else◌, Option, Some, None, is_some, IsSome, Ok, eq-eqb, ne_eqb, length-append, made, made_at}
+use Rattle.rd_journal.proofs.Runs.{as_ok-same, live_lead}
 
 -- Counting makings
 

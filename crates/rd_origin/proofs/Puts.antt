@@ -1,21 +1,15 @@
 -- A put leaves the value of the enqueue that its actor is in, or none.
-use Rattle.rd_origin.proofs.Prelude.{◌≡◌, ℕ, true, false, sym, ◌∙◌, ap, subst, Option, Some, Ok, IfOk, arith, IfOk-at_ok, Place, Access, Contents, Performed, perform, need, World, Stepped, step, IsWellFormed, no_access, Pc, need_at, value_to_put, Event, took, puts_into, is_there, Actor, Act, after, words_fit_at, record_fits, actor_fits}
+use Rattle.rd_origin.proofs.Prelude.{◌≡◌, ℕ, true, sym, ◌∙◌, ap, subst, Option, Some, Ok, IfOk, arith, IfOk-at_ok, Place, Access, Contents, Performed, perform, need, World, Stepped, step, IsWellFormed, Pc, value_to_put, Event, took, puts_into, is_there, Actor, Act, after, words_fit_at, record_fits, actor_fits}
 use Rattle.rd_step.proofs.Fits.{words_of}
 use Rattle.rd_origin.proofs.Ops.{puts_values}
 use Rattle.rd_origin.proofs.Values.{HoldsOnly, LeavesOnly}
-use Rattle.rd_origin.proofs.Steps.{IsPutter, puts_by, same_puts, none_puts, AtNone}
+use Rattle.rd_origin.proofs.Steps.{IsPutter, puts_by, same_puts, AtNone}
 
 abbrev PutsOnly : ℕ → Contents → Pc → Place → Performed → Type 0
 PutsOnly v at pc q did = puts_by pc q did ≡ true → LeavesOnly v at q did
 
 putter : (pc : Pc) (q : Place) (did : Performed) → puts_by pc q did ≡ true → IsPutter pc
 putter pc q did h = grind arith
-
-abbrev RowPuts : ℕ → ℕ → Contents → Place → Actor → Pc → Type 0
-RowPuts R n at q a pc = AtNone R n at (PutsOnly (value_to_put a.op) at pc q) (need_at R pc a)
-
-no_put : (v : ℕ) (at : Contents) (q : Place) (pc : Pc) → PutsOnly v at pc q no_access
-no_put v at q pc = λ e. let wrong : false ≡ true = sym (none_puts pc q) ∙ e in cc
 
 act_puts : (R n : ℕ) (at : Contents) (q : Place) (a : Actor) (act : Act) → IsPutter a.pc → AtNone R n at (PutsOnly (value_to_put a.op) at a.pc q) (need R a act)
 act_puts R n at q a act k = grind arith

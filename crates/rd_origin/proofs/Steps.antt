@@ -24,10 +24,6 @@ pub same_puts : (w : World) (e : Event) (a : Actor) (did : Performed) (next : Ac
     → puts_at pc cell (step_outcome w e a did next).entry ≡ puts_by pc cell did
 same_puts w e a did next cell pc = grind arith
 
--- no access puts nothing
-pub none_puts : (pc : Pc) (cell : Place) → puts_by pc cell no_access ≡ false
-none_puts pc cell = grind arith
-
 -- What is no put leaves the value
 
 -- unless it is a put, an access leaves this value or none

@@ -3,6 +3,7 @@ use Rattle.rd_script.proofs.Prelude.{◌≡◌, ◌≢◌, ◌⊎◌, ℕ, suc, 
 use Rattle.rd_marks.proofs.Headlines.{book_runs}
 use Rattle.rd_script.specs.declared.faults.ScriptFault.{ScriptFault}
 use Rattle.rd_script.proofs.ResultLemmas.{Err-from_error}
+use Rattle.rd_script.proofs.TextLemmas.{said_more}
 use Rattle.rd_script.proofs.KnownLemmas.{Consumes-nil, Consumes-join, Appends-nil, Appends-join}
 
 -- a line feed ends the first line
@@ -54,13 +55,6 @@ pub record HaveBeenObeyed (before : BookState) (lines : List (List ℕ)) (answer
   pub obeyed : AreObeyed before (commands_of said) given now
   pub each : answers ≡ line_answers said (map line_answer given)
 
-says_more : (lines : List (List ℕ)) (said : List (Result Command LineFault)) (line : List ℕ) (x : Result Command LineFault) → AllZip Says lines said → Says line x
-    → AllZip Says (lines ++ line ∷ []) (said ++ x ∷ [])
-says_more [] [] line x h k = (k, tt)
-says_more [] (y ∷ ys) line x h k = absurd h
-says_more (l ∷ ls) [] line x h k = absurd h
-says_more (l ∷ ls) (y ∷ ys) line x h k = (h.0, says_more ls ys line x h.1 k)
-
 commands_more : (said : List (Result Command LineFault)) (x : Result Command LineFault) → commands_of (said ++ x ∷ []) ≡ commands_of said ++ commands_of (x ∷ [])
 commands_more [] x = refl
 commands_more (Ok c ∷ said) x = ap (λ (cs : List Command). c ∷ cs) (commands_more said x)
@@ -91,7 +85,7 @@ module _ (before : BookState) (lines : List (List ℕ)) (answers : List LineAnsw
   pub one_more_line : (said : Result Command LineFault) → Says line said → AnswersSaid mid said answer after → HaveBeenObeyed before (lines ++ line ∷ []) (answers ++ answer ∷ []) after
   one_more_line (Err fault) says is = record {
     said = h.said ++ Err fault ∷ [];
-    says = says_more lines h.said line (Err fault) h.says says;
+    says = said_more lines h.said line (Err fault) h.says says;
     given = h.given;
     obeyed =
         subst (λ (cs : List Command). AreObeyed before cs h.given after) (sym (commands_more h.said (Err fault) ∙ append-nil (commands_of h.said)))
@@ -103,7 +97,7 @@ module _ (before : BookState) (lines : List (List ℕ)) (answers : List LineAnsw
       let len = answered_each before (commands_of h.said) h.given mid h.obeyed in
       record {
         said = h.said ++ Ok command ∷ [];
-        says = says_more lines h.said line (Ok command) h.says says;
+        says = said_more lines h.said line (Ok command) h.says says;
         given = h.given ++ given ∷ [];
         obeyed =
             subst (λ (cs : List Command). AreObeyed before cs (h.given ++ given ∷ []) after) (sym (commands_more h.said (Ok command)))

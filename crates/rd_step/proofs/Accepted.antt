@@ -1,14 +1,10 @@
 -- Parts with a list for each maker, whose world is well-formed, have no flaw.
-use Rattle.rd_step.proofs.Prelude.{◌≡◌, ℕ, zero, suc, ◌≤◌, Bool, true, not, ◌&&◌, nat_lt, nat_le, ◌↔◌, if◌then◌else◌, inl, inr, refl, ◌∙◌, ap, subst, arith, List, [], ◌∷◌, length, slice_get, Option, Some, None, option_map, le-leb, ltb-true, eq-eqb, list_all, cases_lt, and_parts, and_from, MOST_ACTORS, MOST_SEGMENTS, COUNTER_END, Cell, SegName, Place, SegmentParts, counters_fit, by_number, by_name, count_in, count, ListOf, part_of_parts, each_segment, in_list, numbered_there, Actor, words_fit, Parts, Flaw, numbered, Presence, place_fits, next_fits, names_fit, numbers_within, record_fits, actor_fits, is_actor, IsNumbered, AreMade, IsWellFormed, world_of_parts, has, indexes_fit, first_flaw, index_end, part_from, Content, can_hold, content_fits, segments_named_fit, index_within}
+use Rattle.rd_step.proofs.Prelude.{◌≡◌, ℕ, zero, suc, ◌≤◌, Bool, true, ◌&&◌, nat_lt, nat_le, ◌↔◌, inl, inr, refl, ◌∙◌, ap, subst, arith, List, [], ◌∷◌, length, slice_get, Option, Some, None, option_map, le-leb, ltb-true, eq-eqb, list_all, cases_lt, and_parts, and_from, MOST_ACTORS, MOST_SEGMENTS, COUNTER_END, Cell, SegName, Place, SegmentParts, counters_fit, by_number, by_name, count_in, count, ListOf, part_of_parts, each_segment, in_list, numbered_there, Actor, words_fit, Parts, numbered, Presence, place_fits, next_fits, names_fit, numbers_within, record_fits, actor_fits, is_actor, IsNumbered, AreMade, IsWellFormed, world_of_parts, has, indexes_fit, first_flaw, index_end, part_from, Content, can_hold, content_fits, segments_named_fit, index_within}
 use Rattle.rd_step.proofs.Assembled.{NoFlaw, within, presence, numbered_below, assembled, lists_right}
 use Rattle.rd_cell.specs.declared.places.Place.TheVariants as place
 use Rattle.rd_cell.specs.declared.contents.Content.TheVariants as content
 
 -- Each condition holds: no flaw
-
--- if the first condition holds and none of the rest is flawed, no flaw is named
-none_first : (b : Bool) (f : Flaw) (rest : Option Flaw) → b ≡ true → rest ≡ None → (if not b then Some f else rest) ≡ None
-none_first b f rest h none = grind arith
 
 unflawed : {R : ℕ} (p : Parts R) → NoFlaw p → first_flaw p ≡ None
 unflawed {R} p f = grind arith
@@ -76,10 +72,7 @@ part_fits R p s x q e h = subst (λ (o : Option (SegmentParts R)). place_fits R 
 -- a content that fits its place, by the three parts of that
 content_parts : (R : ℕ) (p : Parts R) (q : Place) (c : Content) → content_fits R (has p) q c ≡ true
     → (can_hold q c ≡ true) × (segments_named_fit (has p) c ≡ true) × (index_within (index_end R) c ≡ true)
-content_parts R p q c fits =
-    let both = and_parts (can_hold q c && segments_named_fit (has p) c) (index_within (index_end R) c) fits in
-    let first = and_parts (can_hold q c) (segments_named_fit (has p) c) both.0 in
-    (first.0, first.1, both.1)
+content_parts R p q c fits = grind (arith, and_parts)
 
 counters_within : (R : ℕ) (p : Parts R) → IsWellFormed (world_of_parts p) → (s : SegName) (x : SegmentParts R) → by_name p.segments.items s ≡ Some x
     → counters_fit x ≡ true

@@ -108,18 +108,7 @@ no_place None q none = refl
 no_place (Some x) q none = ap is_some (none x)
 
 places_belong : {R : ℕ} (p : Parts R) (q : Place) → is_some ((world_of_parts p).at q) ≡ belongs R (has p) q
-places_belong p place.QHead = refl
-places_belong p place.QTail = refl
-places_belong p (place.Head s) = there_if (by_name p.segments.items s) s
-places_belong p (place.Tail s) = tail_there (by_name p.segments.items s) s
-places_belong p (place.Next s) = next_there (by_name p.segments.items s) s
-places_belong {R} p (place.Val s i) = value_there R (by_name p.segments.items s) s i
-places_belong {R} p (place.Idx s i) = index_there R (by_name p.segments.items s) s i
-places_belong p (place.Cell s i) = no_place (by_name p.segments.items s) (place.Cell s i) (λ x. refl)
-places_belong p (place.Whole s) = no_place (by_name p.segments.items s) (place.Whole s) (λ x. refl)
-places_belong p place.ArrHead = refl
-places_belong p place.ArrTail = refl
-places_belong p (place.ArrCell i) = some_in content.Slot p.array.cells i SLOTS p.array.sized
+places_belong p q = grind (arith, there_if, tail_there, next_there, value_there, index_there, no_place, some_in)
 
 -- What is there fits
 

@@ -1,6 +1,6 @@
 -- An operation that fits, on a content that fits its place, writes one that fits there, and answers
 -- what fits.
-use Rattle.rd_step.proofs.Prelude.{◌≡◌, ℕ, ◌+◌, ◌<◌, Bool, true, nat_le, arith, Option, Some, None, IfSome, IfOk, le-leb, SLOTS, COUNTER_END, Cell, SegName, Place, ArrSlot, Content, Operation, Effect, effect, Presence, content_fits, index_end}
+use Rattle.rd_step.proofs.Prelude.{◌≡◌, ℕ, Bool, true, nat_le, arith, Option, Some, None, IfSome, IfOk, SLOTS, COUNTER_END, Cell, SegName, Place, ArrSlot, Content, Operation, Effect, effect, Presence, content_fits, index_end}
 use Rattle.rd_step.proofs.Fits.{op_fits, answer_fits, has_slot}
 use Rattle.rd_cell.specs.declared.places.Place.TheVariants as place
 use Rattle.rd_cell.specs.declared.contents.Content.TheVariants as content
@@ -9,10 +9,6 @@ use Rattle.rd_cell.specs.declared.contents.Content.TheVariants as content
 abbrev pub EffectFits : ℕ → Presence → Place → Operation → Effect → Type 0
 EffectFits R there p op e =
     IfSome e.writes (λ c. content_fits R there p c ≡ true) × (answer_fits R there e.answer ≡ true) × (has_slot op e.answer ≡ true)
-
--- the count after one that is below the end is not past it
-one_more : (n limit : ℕ) → n < limit → nat_le (n + 1) limit ≡ true
-one_more n limit h = le-leb (n + 1) limit (omega arith)
 
 on_head : (R : ℕ) (there : Presence) (op : Operation) (s : SegName) → op_fits R there place.QHead op ≡ true → there s ≡ true
     → IfOk (effect op (content.Name s)) (EffectFits R there place.QHead op)

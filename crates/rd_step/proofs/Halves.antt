@@ -1,5 +1,5 @@
 -- A cell, as the name of its two halves, in a well-formed world.
-use Rattle.rd_step.proofs.Prelude.{◌≡◌, ℕ, true, false, ◌&&◌, nat_lt, Bool, ◌∙◌, ap₂, Option, Some, None, is_some, IfSome, arith, Cell, SegName, Place, Content, covers, share, operand, Contents, is_there, is_cell_at, World, Presence, belongs, content_fits, place_fits, IsWellFormed, half, cell_of_halves}
+use Rattle.rd_step.proofs.Prelude.{◌≡◌, ℕ, true, false, ◌&&◌, nat_lt, Bool, ◌∙◌, ap₂, Option, Some, None, is_some, IfSome, arith, Cell, SegName, Place, Content, covers, share, operand, Contents, is_there, is_cell_at, World, Presence, belongs, content_fits, place_fits, IsWellFormed, cell_of_halves}
 use Rattle.rd_cell.specs.declared.places.Place.TheVariants as place
 use Rattle.rd_cell.specs.declared.contents.Content.TheVariants as content
 
@@ -25,9 +25,6 @@ operand_fits R there at p c fits h = grind arith
 pub share_fits : (R : ℕ) (there : Presence) (p : Place) (c : Content) (q : Place) → content_fits R there p c ≡ true → covers p q ≡ true
     → place_fits R there q (share p (Some c) q) ≡ true
 share_fits R there p c q h k = grind arith
-
-halves_kind : (x y : Cell) (q : Place) → is_some (half y q) ≡ is_some (half x q)
-halves_kind x y q = grind arith
 
 pub same_kinds : (R : ℕ) (there : Presence) (p : Place) (c : Content) (o : Option Content) (q : Place) → content_fits R there p c ≡ true
     → IfSome o (λ d. content_fits R there p d ≡ true) → IfSome o (λ d. is_some (share p (Some d) q) ≡ is_some (share p (Some c) q))

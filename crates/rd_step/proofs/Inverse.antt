@@ -1,6 +1,6 @@
 -- The words that an entry keeps give the world before its step back, and a step on which no later
 -- one depends may be taken out of a run.
-use Rattle.rd_step.proofs.Prelude.{◌≡◌, ℕ, zero, suc, ◌+◌, ◌<◌, true, false, nat_lt, inl, inr, refl, sym, ◌∙◌, ap, subst, arith, List, ◌∷◌, Option, Some, None, Result, Ok, Err, IfOk, ltb-true, cases_Bool, cond-true, cond-false, cond_both, IfOk-at_ok, fun_ext, MOST_SEGMENTS, SegName, Place, Content, Access, NoPlace, At, Make, Operation, Refusal, is_of, covers, written, wrote_by, share, Contents, after_write, operand, restore, is_there, holding, Effect, Performed, contents_after, operate, make, perform, effect_at, number_made_from, result_map, is_cell_at, after_write-outside, Actor, after, World, Event, Stepped, with_actor, step, unstep, Ran, run, Presence, belongs, IsWellFormed, number_made, operand-covered, not_written}
+use Rattle.rd_step.proofs.Prelude.{◌≡◌, ℕ, zero, suc, ◌+◌, ◌<◌, true, false, nat_lt, inl, inr, refl, sym, ◌∙◌, ap, subst, arith, List, ◌∷◌, Option, Some, None, Result, Ok, Err, IfOk, ltb-true, cases_Bool, cond-true, cond-false, cond_both, IfOk-at_ok, fun_ext, MOST_SEGMENTS, SegName, Place, Content, Access, NoPlace, At, Make, Operation, Refusal, is_of, Contents, after_write, operand, restore, is_there, holding, Effect, Performed, contents_after, operate, make, perform, effect_at, number_made_from, result_map, is_cell_at, after_write-outside, Actor, after, World, Event, Stepped, with_actor, step, unstep, Ran, run, Presence, belongs, IsWellFormed, number_made, operand-covered, not_written}
 use Rattle.rd_step.proofs.Halves.{nothing_there, bare_cell}
 use Rattle.rd_step.proofs.Steps.{took}
 use Rattle.rd_cell.specs.declared.places.Place.TheVariants as place
@@ -14,10 +14,7 @@ abbrev Bare : Contents → Type 0
 Bare at = (q : Place) → is_cell_at q ≡ true → at q ≡ None
 
 back-effect : (p : Place) (c : Content) (e : Effect) (at : Contents) → Bare at → operand at p ≡ Some c → PutsBack at (effect_at p c e)
-back-effect p c e at bare h q =
-    cond_both (covers p q) (share p (Some c) q) (contents_after (effect_at p c e) at q) (λ (o : Option Content). o ≡ at q)
-    (λ k. sym (operand-covered p at c q h (bare q) k))
-    (λ k. after_write-outside (written (Some p) (wrote_by c e.writes)) (share p e.writes) at q (not_written (Some p) (wrote_by c e.writes) q k))
+back-effect p c e at bare h q = grind (arith, cond_both, operand-covered, after_write-outside, not_written)
 
 back-result : (p : Place) (c : Content) (r : Result Effect Refusal) (at : Contents) → Bare at → operand at p ≡ Some c → IfOk (result_map (effect_at p c) r) (PutsBack at)
 back-result p c (Err x) at bare h = tt

@@ -1,17 +1,11 @@
 -- An actor whose record fits goes on, with an answer that fits, to a record that fits: one clause a
 -- row of the table.
-use Rattle.rd_step.proofs.Prelude.{◌≡◌, ℕ, Bool, true, ◌&&◌, if◌then◌else◌, nat_lt, refl, arith, Option, Some, None, Ok, le-leb, and_parts, SLOTS, ArrSlot, Access, Answer, root, Act, Actor, Pc, E1, E2, E3, E4, E5, E6, E7, E8, E9, E11, E12, E13, E14, Q1, Q2, Q3, Q4, Q5, Q6, Q7, Q8, Q9, Q10, Q11, Q12, Q13, Q14, A1, A2, B1, B2, B3, idle, need, need_at, after_take, after_at, after, words_fit, words_fit_at, Presence, record_fits, index_end, calling, enqueue_fits, Op}
+use Rattle.rd_step.proofs.Prelude.{◌≡◌, ℕ, Bool, true, nat_lt, refl, arith, Option, Some, None, Ok, le-leb, SLOTS, ArrSlot, Access, Answer, root, Act, Actor, Pc, E1, E2, E3, E4, E5, E6, E7, E8, E9, E11, E12, E13, E14, Q1, Q2, Q3, Q4, Q5, Q6, Q7, Q8, Q9, Q10, Q11, Q12, Q13, Q14, A1, A2, B1, B2, B3, idle, need, need_at, after_take, after_at, after, words_fit_at, Presence, record_fits, index_end, calling, Op}
 use Rattle.rd_actor.specs.declared.actors.Op.TheVariants as op
 use Rattle.rd_step.proofs.Fits.{PartsFit, parts_of, words_of, together, answer_fits, drew_slot}
 use Rattle.rd_cell.specs.declared.contents.Content.TheVariants as content
 use Rattle.rd_cell.specs.declared.operations.Answer.TheVariants as answer
 use Rattle.rd_actor.specs.declared.actors.Act.TheVariants as act
-
--- If an actor goes on to one of two control points, its words fit if they fit each in the case in
--- which it is taken
-
-drawn_words : (a : Actor) (closed : Bool) (count : ℕ) → enqueue_fits a ≡ true → words_fit (record a { t = count; pc = if closed then E12 else E5 }) ≡ true
-drawn_words a closed count w = grind arith
 
 -- If a record names what is there
 
@@ -34,10 +28,6 @@ moved R there a pc f w = grind arith
 taken_fits : (R : ℕ) (there : Presence) (a : Actor) (val : Option ℕ) → there root ≡ true → record_fits R there a ≡ true
     → record_fits R there (after_take val a).0 ≡ true
 taken_fits R there a val h whole = grind arith
-
--- the first of the words that fit a place
-left : (x y : Bool) → (x && y) ≡ true → x ≡ true
-left x y h = (and_parts x y h).0
 
 swapped_out_fits : (R : ℕ) (there : Presence) (a : Actor) (slot : ArrSlot) → there root ≡ true → PartsFit R there a → words_fit_at B3 a ≡ true
     → record_fits R there (after_at R B2 a (answer.Found (content.Slot slot))).0 ≡ true

@@ -1,5 +1,5 @@
 -- Runs whose entries are known, taken apart at their first step and at one in their middle.
-use Rattle.rd_step.proofs.Prelude.{◌≡◌, false, refl, ◌∙◌, ap, List, [], ◌∷◌, ◌++◌, Result, Ok, Err, arith, Refusal, World, Entry, step, Ran, run, events, or_parts, depends, IsFree, list_any, run_entries, IsRunFrom}
+use Rattle.rd_step.proofs.Prelude.{◌≡◌, false, refl, ◌∙◌, List, [], ◌∷◌, ◌++◌, Result, Ok, Err, arith, Refusal, World, Entry, step, Ran, run, events, or_parts, depends, IsFree, list_any, run_entries, IsRunFrom}
 use Rattle.rd_step.proofs.Inverse.{run-cons}
 
 -- if none of some entries depends on x, then neither the first one does nor any other
@@ -37,10 +37,7 @@ pub record FirstStep (s : World) (x : Entry) (xs : List Entry) : Type 0 where
   pub rest : IsRunFrom after xs
 
 pub first_step : (s : World) (x : Entry) (xs : List Entry) → IsRunFrom s (x ∷ xs) → FirstStep s x xs
-first_step s x xs h =
-    let to = runs_to s (x ∷ xs) h in
-    let first = beginning s x xs to.last to.runs in
-    record { after = first.after; goes = first.goes; rest = ap run_entries first.rest }
+first_step s x xs h = grind (arith, runs_to, beginning)
 
 -- a run taken apart at one of its steps
 pub record Middle (s : World) (xs : List Entry) (x : Entry) (ys : List Entry) (w : World) : Type 0 where

@@ -1,5 +1,5 @@
 -- The worlds that a session may begin with are well-formed.
-use Rattle.rd_step.proofs.Prelude.{◌≡◌, ◌↔◌, ℕ, suc, ◌<◌, ◌≤◌, Bool, true, false, if◌then◌else◌, nat_lt, inl, inr, refl, sym, ◌∙◌, ap, arith, List, length, get_or, slice_get, All, IsSome, Option, Some, None, is_some, le-leb, lt-ltb, le-ltb, common_steps, cases_lt, cond-true, cond-false, and_from, both_ways, slice_get_past, MOST_ACTORS, SegName, Place, root, is_there, Space, contents, Actor, idle, poised, World, world_of_fields, numbered, Presence, belongs, place_fits, record_fits, actor_fits, is_actor, IsNumbered, AreMade, IsWellFormed, index_end, slice_get-get_or, fresh_space, actors_by, fresh_world, poised_world}
+use Rattle.rd_step.proofs.Prelude.{◌≡◌, ◌↔◌, ℕ, suc, ◌<◌, ◌≤◌, Bool, true, false, if◌then◌else◌, nat_lt, inl, inr, refl, sym, ◌∙◌, ap, arith, List, length, get_or, slice_get, All, IsSome, Option, Some, None, is_some, le-leb, lt-ltb, le-ltb, common_steps, cases_lt, cond-true, cond-false, and_from, both_ways, slice_get_past, MOST_ACTORS, Place, is_there, Space, contents, Actor, idle, poised, World, world_of_fields, numbered, Presence, belongs, place_fits, record_fits, actor_fits, is_actor, IsNumbered, AreMade, IsWellFormed, index_end, slice_get-get_or, fresh_space, actors_by, fresh_world, poised_world}
 
 -- a list of this many actors, each with the record that its number gives
 pub list_actors : (xs : List Actor) (each : ℕ → Actor) (count : ℕ) → length xs ≡ count
@@ -10,9 +10,6 @@ list_actors xs each count len all = grind (arith, cond-true, nat_lt, lt-ltb, sli
 abbrev there_first : ℕ → Presence
 there_first R = is_there (fresh_space R)
 
-no_second : (m n : ℕ) → root ≡ record { maker = m; n = suc n } → ⊥
-no_second m n e = let k : 0 ≡ suc n = ap (λ (s : SegName). s.n) e in absurd (omega arith)
-
 made_first : (R : ℕ) (actors : ℕ → Bool) → AreMade actors (there_first R)
 made_first R actors = grind arith
 
@@ -21,9 +18,6 @@ places_first R p = grind arith
 
 contents_first : (R : ℕ) (p : Place) → place_fits R (there_first R) p (fresh_space R p) ≡ true
 contents_first R p = grind arith
-
-below_count : (each : ℕ → Actor) (count n : ℕ) → is_actor (actors_by each count) (suc n) ≡ true → n < count
-below_count each count n h = grind arith
 
 -- this many actors are numbered from 1
 numbered_by : (each : ℕ → Actor) (count : ℕ) → 1 ≤ count → count ≤ MOST_ACTORS → IsNumbered (is_actor (actors_by each count))

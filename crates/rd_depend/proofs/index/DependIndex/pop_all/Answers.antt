@@ -10,13 +10,4 @@ pop-requires c =
     last_left c.args.self.now c.loop-left.self c.args.entries.now c.loop-left.left n _ next (slice_get-get_or c.args.entries.now n _ within) c.requires c.loop-left.invariant.dropped
 
 pub loop-left-preserved : goal.loop-left-preserved
-loop-left-preserved c =
-    let n = c.loop-left.left - 1 in
-    let next : c.loop-left.left ≡ suc n = omega arith in
-    let within : n < length c.args.entries.now = omega arith in
-    record {
-      within = omega arith;
-      dropped =
-          one_dropped c.args.self.now c.loop-left.self c.pop.new.self c.args.entries.now c.loop-left.left n _ next (slice_get-get_or c.args.entries.now n _ within)
-          c.loop-left.invariant.dropped c.pop.ensures.left c.pop.ensures.room;
-    }
+loop-left-preserved c = grind (arith, one_dropped, slice_get-get_or)

@@ -1,21 +1,9 @@
-use Rattle.rd_depend.proofs.Prelude.{◌≤◌, [], length, take, sym, ◌∙◌, arith, length-append, length-take-le, slice_get-get_or}
+use Rattle.rd_depend.proofs.Prelude.{[], sym, ◌∙◌, arith, length-append, length-take-le, slice_get-get_or}
 use Rattle.rd_depend.proofs.IndexChanges.{one_added, room_next, ok_then, not_refused}
 use Rattle.rd_depend.proofs.index.DependIndex.push_some.Goals as goal
 
 pub push-requires : goal.push-requires
-push-requires c =
-    let had = c.requires.index in
-    let n = c.loop-count.count in
-    let within : n ≤ length c.args.entries.now = omega (arith, c.loop-count-test.true) in
-    omega (
-      arith,
-      c.requires.few,
-      had.is.len,
-      (c.loop-count.invariant.index had.entries had.is).len,
-      length-append had.entries (take n c.args.entries.now),
-      length-take-le n c.args.entries.now within,
-      c.loop-count-test.true,
-    )
+push-requires c = grind (arith, length-append, length-take-le)
 
 pub loop-count-preserved : goal.loop-count-preserved
 loop-count-preserved c =

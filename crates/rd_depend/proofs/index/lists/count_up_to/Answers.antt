@@ -1,7 +1,6 @@
 use Rattle.rd_depend.proofs.Prelude.{rules, arith, leb, IsPartitionPoint-from_clause, IsPartitionedBy-leb}
 use Rattle.rd_depend.proofs.IndexLists.{non_decreasing, number-all, number-none, point-is}
 use Rattle.rd_depend.proofs.index.lists.count_up_to.Goals as goal
-use Rattle.rd_depend.proofs.index.lists.count_up_to.Goals.{then-len-eq0-via-then-len-eq0, then-len-eq0-via-else-len-eq0+then-positions-len}
 
 pub returns-clause-count : goal.returns-clause-count
 returns-clause-count c = λ up.
@@ -10,8 +9,4 @@ returns-clause-count c = λ up.
     point-is c.args.k _ _ point c.partition_point.ensures.bound
 
 pub returns-then-len-eq0-clause-count : goal.returns-then-len-eq0-clause-count
-returns-then-len-eq0-clause-count c = λ up.
-    elim c.then-len-eq0.branch [
-      | then-len-eq0-via-then-len-eq0 w ↦ number-none c.args.k c.args.positions.now (search (rules, arith))
-      | then-len-eq0-via-else-len-eq0+then-positions-len w ↦ number-all c.args.k c.args.positions.now 0 up (search (rules, arith)) (search (rules, arith))
-    ]
+returns-then-len-eq0-clause-count c = grind (arith, number-none, number-all)

@@ -45,10 +45,7 @@ loop-next-init c =
     }
 
 pub entry_in-entry-requires : goal.entry_in-entry-requires
-entry_in-entry-requires c =
-    let u = c.loop-next.invariant.under_way in
-    (next_one c.args.slots.now c.args.order.now.items c.loop-next.order.items c.args.live c.loop-next.next c.index-number.result.now c.requires.ordered c.requires.within
-    (omega (arith, c.loop-next-test.true)) u.long u.later c.index-number.ensures).below
+entry_in-entry-requires c = grind (arith, next_one)
 
 pub depends_after-requires : goal.depends_after-requires
 depends_after-requires c = grind (arith, live_of, live-length, length-append, length-take-le)

@@ -8,17 +8,10 @@ use Rattle.rd_journal.proofs.sessions.Session.apply.Goals as goal
 use Rattle.rd_cell.specs.declared.refusal.Refusal.TheVariants as refusal
 
 pub invariant_of-self : goal.invariant_of-self
-invariant_of-self g c =
-    let is = still c.args.self.now c.args.self.now.world c.make_room_for.new.self refl c.make_room_for.ensures.live c.make_room_for.ensures.ahead (λ m. omega arith) in
-    record { kept = is.kept; within = is.within; indexed = is.indexed }
+invariant_of-self g c = grind (arith, still)
 
 pub returns-in_err-make_room_for-clause-memory : goal.returns-in_err-make_room_for-clause-memory
-returns-in_err-make_room_for-clause-memory g c =
-    let self = c.args.self.now in
-    let less : length (journal self).live < MOST_STEPS = omega (arith, c.live_len.ensures, self.kept.few) in
-    let full = full_entries self.entries (omega (arith, c.in_err-make_room_for.ensures.err, c.live_len-live.ensures)) in
-    error_passed_up _ refusal.NoMemory c.from_residual.result c.from_residual.ensures.1
-    (inr (refl, record { not_full = less; asked = inl (none_taken self.undone (ahead_entries self.entries) full.0, full.1) }))
+returns-in_err-make_room_for-clause-memory g c = grind (arith, full_entries, error_passed_up, none_taken)
 
 pub returns-in_err-make_room_for-clause-err : goal.returns-in_err-make_room_for-clause-err
 returns-in_err-make_room_for-clause-err g c = said_of_state c.args.self.now c.args.event c.from_residual.result (returns-in_err-make_room_for-clause-memory g c)

@@ -16,9 +16,7 @@ returns-clause-found g c =
     entry_found (journal c.args.self.now) c.args.k x (omega arith) (omega (arith, c.len-len.ensures.entries)) c.live_at.ensures
 
 pub returns-clause-step : goal.returns-clause-step
-returns-clause-step g c =
-    let self = c.args.self.now in
-    step_after (journal self) (c.args.k - 1) c.live_at.result.now (is_session self).runs (omega (arith, c.len-len.ensures.entries)) c.live_at.ensures
+returns-clause-step g c = grind (arith, step_after, is_session)
 
 pub returns-then-k-eq0-clause-runs : goal.returns-then-k-eq0-clause-runs
 returns-then-k-eq0-clause-runs g c = (is_session c.args.self.now).runs

@@ -1,11 +1,9 @@
-use Rattle.rd_journal.proofs.Prelude.{◌∙◌, sym, ap, arith, length-append, live_entries, ahead_entries}
+use Rattle.rd_journal.proofs.Prelude.{◌∙◌, sym, ap, arith, length-append}
 use Rattle.rd_journal.proofs.Finding.{if_live, within_live, behind_live, found_live}
 use Rattle.rd_journal.proofs.sessions.Session.first_dependant.Goals as goal
 
 pub first-requires-clause-within : goal.first-requires-clause-within
-first-requires-clause-within g c =
-    let entries = c.args.self.now.entries in
-    omega (arith, c.requires.within, c.args.self.now.indexed.len, length-append (live_entries entries) (ahead_entries entries))
+first-requires-clause-within g c = grind (arith, length-append)
 
 pub returns-in-None : goal.returns-in-None
 returns-in-None g c =

@@ -3,9 +3,7 @@ use Rattle.rd_journal.proofs.Calls.{still, unchanged}
 use Rattle.rd_journal.proofs.sessions.Session.make_room_to_switch.Goals as goal
 
 pub invariant_of-self : goal.invariant_of-self
-invariant_of-self g c =
-    let is = still c.args.self.now c.args.self.now.world c.make_room_for.new.self refl c.make_room_for.ensures.live c.make_room_for.ensures.ahead (λ m. omega arith) in
-    record { kept = is.kept; within = is.within; indexed = is.indexed }
+invariant_of-self g c = grind (arith, still)
 
 pub invariant_of-self-2 : goal.invariant_of-self-2
 invariant_of-self-2 g c =

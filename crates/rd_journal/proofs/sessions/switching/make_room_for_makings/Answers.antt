@@ -6,8 +6,7 @@ use Rattle.rd_journal.proofs.sessions.switching.make_room_for_makings.Goals as g
 asked : (dropped given : List Entry) (counts left : List ℕ) (number actor : ℕ) → ((m : ℕ) → m < 256 → get_or counts m 0 ≡ room_returned_by given m)
     → ((m : ℕ) → m < 256 → get_or left m 0 ≡ get_or counts m 0 - room_returned_by dropped m) → actor ≡ number + 1 → number + 1 < 256
     → get_or left actor 0 ≡ room_returned_by given (number + 1) - room_returned_by dropped (number + 1)
-asked dropped given counts left number actor all less its small =
-    ap (λ (n : ℕ). get_or left n 0) its ∙ less (number + 1) small ∙ ap (λ (n : ℕ). n - room_returned_by dropped (number + 1)) (all (number + 1) small)
+asked dropped given counts left number actor all less its small = grind arith
 
 pub make_room-requires : goal.make_room-requires
 make_room-requires g c =
