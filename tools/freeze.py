@@ -4,6 +4,7 @@ which `lcrqdb load` runs other scripts.
 
     python3 tools/freeze.py SCRIPT -o START.trace [--actors A] [--ring R] [--refused] [--program P]
     python3 tools/freeze.py SCRIPT -o START.trace --trace TRACE [--refused] [--program P]
+    python3 tools/freeze.py --check TRACE [--program P]
 
 The script runs over a fresh world of A actors and rings of R cells, 4 each if left out, or over a
 trace. `-` is standard input for SCRIPT, and standard output for START.trace. At the script's end
@@ -14,7 +15,9 @@ what was there before has no writer and no origin.
 Standard error says how many actors and cells the start has, and how many lines of the script are
 refused. The status is 1, with the reason in one line, if a file can't be read or written, if the
 program does not run the script, or if a line is refused that makes a step or is no command, unless
-`--refused` is given. Only Python's standard library is needed; where `jsonschema` is there too, the
+`--refused` is given. `--check` says instead whether the program takes the start of a trace: of a
+`Flaw N` it names the first part and the condition, which it finds by trying parts through the
+program (`tools/flaws.py`), with status 1. Only Python's standard library is needed; where `jsonschema` is there too, the
 start is checked against docs/trace.schema.json.
 """
 
@@ -26,6 +29,7 @@ import subprocess
 import sys
 from pathlib import Path
 
+import flaws
 import program
 from program import Broken, Driven
 
@@ -206,9 +210,10 @@ def schema_fault(text):
 def read_options():
     """The command line."""
     parser = argparse.ArgumentParser(description="Writes the world at a script's end as a start.")
-    parser.add_argument("script", metavar="SCRIPT", help="the script; - is standard input")
+    parser.add_argument("script", metavar="SCRIPT", nargs="?", help="the script; - is standard input")
     output = {"metavar": "START.trace", "help": "the file to write; - is standard output"}
-    parser.add_argument("-o", dest="output", required=True, **output)
+    parser.add_argument("-o", dest="output", **output)
+    parser.add_argument("--check", metavar="TRACE", help="say which part of a trace's start has a flaw")
     parser.add_argument("--trace", help="the trace over which the script runs")
     parser.add_argument("--actors", type=int, choices=range(1, 17), metavar="A", help="1 to 16 actors (4)")
     parser.add_argument("--ring", type=int, choices=(2, 4, 8), help="cells of a ring (4)")
@@ -217,11 +222,30 @@ def read_options():
     given = parser.parse_args()
     if given.trace and (given.actors or given.ring):
         parser.error("a trace has its own actors and ring")
+    if not given.check and not (given.script and given.output):
+        parser.error("SCRIPT and -o START.trace are wanted, or --check TRACE")
     return given
+
+
+def check(given):
+    """Says what is wrong with the start of a trace; returns the exit status."""
+    try:
+        trace = json.loads(read(given.check))
+        parts = trace["start"] if isinstance(trace, dict) and "actors" in trace.get("start", {}) else None
+    except ValueError:
+        parts = None
+    ended = program.run([given.program, "load", "--", given.check])
+    said = ended.errors.strip().removeprefix("lcrqdb: ")
+    if parts and "refused 26 " in said:
+        said = flaws.flaw_in(given.program, trace)
+    print(f"{given.check}: {said or 'no flaw'}", file=sys.stderr if said else sys.stdout)
+    return 1 if said else 0
 
 
 def main():
     given = read_options()
+    if given.check:
+        return check(given)
     script = read(given.script)
     options = ["--actors", str(given.actors or 4), "--ring", str(given.ring or 4)]
     words = [given.program, *(["load", given.trace] if given.trace else ["run", "-", *options])]
