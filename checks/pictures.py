@@ -44,6 +44,8 @@ import runs
 EXAMPLES = Path("crates/lessons/data")
 GUIDE = f"{EXAMPLES}/guide.md"
 CLOSERS = f"{EXAMPLES}/06-starvation-closes-ring.md"
+PORT_LESSON = "16-a-port-beside-the-model"
+PORTS = f"{EXAMPLES}/{PORT_LESSON}.md"
 RUNS, CROWDED_RUNS = 200, 12  # how many runs are drawn at random: short ones, and longer ones
 TRIED = 60  # of how many of the short ones the last moment is drawn too
 
@@ -57,6 +59,7 @@ PICTURES = [
     (GUIDE, "guide-1.svg", "guide-1.script", "--undo 10"),
     (GUIDE, "guide-4.svg", "guide-4.script", "--trace guide-4.trace"),
     (CLOSERS, "two-closers.svg", "two-closers.script", "--from 26 --undo 28"),
+    (PORTS, f"{PORT_LESSON}-log.svg", f"{PORT_LESSON}-log.script", "--ring 2 --from 21 --undo 31"),
 ]
 
 # Those of the lessons: the lesson, which of its pictures it is where it has two, and the options.
@@ -80,6 +83,7 @@ LESSONS = [
     ("14-what-the-safe-bit-prevents", "-2", "--trace TRACE --undo 13"),
     ("15-why-a-dequeue-looks-twice", "-1", "--trace TRACE --undo 1"),
     ("15-why-a-dequeue-looks-twice", "-2", "--trace TRACE --lines 10 --undo 1"),
+    (PORT_LESSON, "", "--trace TRACE --undo 7"),
 ]
 
 # The moments, and those of the lessons, in the same way; the file has `-moment` after the lesson's name.
@@ -96,6 +100,7 @@ LESSON_MOMENTS = [
     ("14-what-the-safe-bit-prevents", "-2", "--trace TRACE --line 6"),
     ("15-why-a-dequeue-looks-twice", "-1", "--trace TRACE --line 2"),
     ("15-why-a-dequeue-looks-twice", "-2", "--trace TRACE --line 8"),
+    (PORT_LESSON, "", "--trace TRACE --line 3"),
 ]
 
 

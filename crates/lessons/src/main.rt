@@ -19,7 +19,7 @@ use std::sync::Wait;
 use std::thread::Threads;
 
 /// The lessons, in the order of reading: each has a page and a script of this name.
-const LESSONS: [&str; 15] = [
+const LESSONS: [&str; 16] = [
     "01-one-enqueue-and-back",
     "02-empty-dequeue-repairs-tail",
     "03-refused-undo-names-dependant",
@@ -35,6 +35,7 @@ const LESSONS: [&str; 15] = [
     "13-a-start-of-ones-own",
     "14-what-the-safe-bit-prevents",
     "15-why-a-dequeue-looks-twice",
+    "16-a-port-beside-the-model",
 ];
 
 /// The guide's page.
