@@ -61,8 +61,14 @@ STANDS_FOR = {
     "N": "12",
     "OUT.svg": "out.svg",
     "OUT.html": "out.html",
+    "DIR/before.trace": "s.trace",
 }
-PASSED_OVER = ("man", "column", "rlwrap")  # where they aren't installed
+PASSED_OVER = ("man", "column", "rlwrap", "make")  # where they aren't installed
+# The logs of a port, for the recipes: one that takes a value out, and one that puts it in.
+LOGS = {
+    "a.log": "1 1 enq 7|2 1 E1 r0|3 1 E2 none|4 1 E4 open 0|5 1 E5 none|6 1 E6 1 0|7 1 E8 won; enqueued",
+    "b.log": "8 2 deq|9 2 Q1 r0|10 2 Q2 0|11 2 Q3 7",
+}
 
 PROGRAMS = r"python3|\w+\.py|awk -f|od|tr|tail -c|ls -l"
 COMMAND = re.compile(rf"lcrqdb (?:(?:run|load|view|help) \S.*|--\w+)|(?:{PROGRAMS}) \S.*")
@@ -72,6 +78,7 @@ KIT = re.compile(r"\brt (?:try|run|ci|check|test|must-fail|fmt)\b|\bthe reposito
 CRATE = re.compile(r"\brd_\w+")
 SAYS_SO = "is a definition of the repository"  # on a page that names crates
 PLACEHOLDERS = {"NAME.report", "OUT.svg", "OUT.html", "START.trace"}
+PLACEHOLDERS |= {"to.script", "before.trace", "from.trace", "port.trace", "steps.svg", "steps.html"}  # of conform.py
 
 # ---- Pages ---------------------------------------------------------------------------------------
 
@@ -186,7 +193,7 @@ def lay_own(folder: Path, pages: list[Page], built: str) -> None:
     own = plain(OWN)
     files = {
         "s.script": own,
-        "mine.script": own,
+        "mine.script": (folder / "examples" / "session.script").read_text(encoding="ascii").splitlines(),
         "long.script": [*own, *["len"] * 400],
         "a.script": own,
         "b.script": [*own, "len"],
@@ -198,6 +205,11 @@ def lay_own(folder: Path, pages: list[Page], built: str) -> None:
         script = "\n".join([*(own if name == "s.report" else ["enq 1 7", "go 1"]), ""]).encode()
         output = program.run([built, *words], script).output
         (folder / "examples" / name).write_bytes(output if name == "s.report" else output.splitlines()[-1])
+    for name, records in LOGS.items():
+        (folder / "examples" / name).write_text(records.replace("|", "\n") + "\n", encoding="ascii")
+    mine = folder / "examples" / "my-port"
+    mine.write_text("#!/bin/sh\ncat a.log\n", encoding="ascii")
+    mine.chmod(0o755)
     for kind, text in (item for page in pages for item in page.items):
         if kind == "awk":
             (folder / "examples" / "plain.awk").write_text(text, encoding="ascii")
@@ -209,6 +221,7 @@ trap 'printf "%s\\n" "$BASH_COMMAND" >> "$TRIED/failed"' ERR
 command -v man > /dev/null || man() { :; }
 command -v column > /dev/null || column() { cat; }
 command -v rlwrap > /dev/null || rlwrap() { "$@"; }
+command -v make > /dev/null || make() { :; }
 """
 EACH = """\
 TRIED={folder}
@@ -244,7 +257,9 @@ def fault_of(command: Command, own: Path) -> str:
     errors = (own / "errors").read_text(encoding="utf-8", errors="replace")
     lines = (own / "failed").read_text(encoding="utf-8").splitlines() if (own / "failed").is_file() else []
     inside = [line for line in lines if not line.startswith(f". {own}")]
-    is_asked = command.text.splitlines()[-1].strip().startswith("! ")  # so status 1 is an answer
+    last = command.text.splitlines()[-1].strip()
+    is_asked = last.startswith("! ") or "# status 1" in last  # so that status is an answer
+    inside = [line for line in inside if not ("# status 1" in last and line == last.partition("#")[0].strip())]
     if inside or lines and not is_asked:
         return f"`{[*inside, command.text][0]}` fails: {' '.join(errors.split())[:200]}"
     if bad := BAD.search(errors):

@@ -33,7 +33,7 @@ from pathlib import Path
 
 import program
 from program import TOP
-from release_pages import DOCS, EXAMPLES, HANDED_OUT, LESSONS, SCHEMA, Choice, Part, is_chosen, man_page, page_of
+from release_pages import DOCS, EXAMPLES, HANDED_OUT, LESSONS, PORT, SCHEMA, Choice, Part, is_chosen, man_page, page_of
 
 TOOLS = TOP / "tools"
 PRINTED = ("guide", "lessons", "answers")  # the pages that are made as PDF
@@ -138,8 +138,9 @@ def run_page_of(built: str, run: Run, folder: Path) -> bytes:
 
 def examples_of(built: str, choice: Choice) -> dict[str, bytes]:
     """The chosen files of the examples, with what is made of the scripts, by their names."""
-    paths = (path for path in EXAMPLES.iterdir() if path.suffix in HANDED_OUT and is_chosen(path, choice))
-    files = {path.name: path.read_bytes() for path in paths}
+    paths = [path for path in EXAMPLES.iterdir() if path.suffix in HANDED_OUT]
+    paths += [path for path in PORT.iterdir() if path.is_file()]
+    files = {str(path.relative_to(EXAMPLES)): path.read_bytes() for path in paths if is_chosen(path, choice)}
     with tempfile.TemporaryDirectory() as name:
         folder = Path(name)
         for run in runs_of(choice):

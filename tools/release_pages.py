@@ -31,6 +31,7 @@ SCHEMA = DOCS / "trace.schema.json"
 LESSONS = {int(path.name[:2]): path for path in sorted(EXAMPLES.glob("[0-9]*.md"))}  # by number
 SHORT = 30  # letters of code in a line of text that a page does not part
 HANDED_OUT = (".script", ".trace", ".report", ".svg")  # of the examples
+PORT = EXAMPLES / "port"  # the worked port, which the manual names
 MARKS = {"repository": "archive", "all lessons": "chosen lessons"}
 ANSWER = "<details><summary>Answer</summary>"  # how the answer to an exercise begins
 
@@ -237,8 +238,9 @@ class Part:
             return f"{page}#{name}" if name or not page else page
         if file == SCHEMA:
             return SCHEMA.name
-        is_example = file.parent == EXAMPLES and file.suffix in HANDED_OUT
-        return f"../examples/{file.name}" if is_example and is_chosen(file, self.choice) else None
+        is_example = file.parent == PORT or file.parent == EXAMPLES and file.suffix in HANDED_OUT
+        name = file.relative_to(EXAMPLES) if is_example and is_chosen(file, self.choice) else None
+        return f"../examples/{name}" if name else None
 
     def text_of(self, link: dict) -> list:
         """The text of a link. Where that is the name of a page of the repository, it is the name of
@@ -320,6 +322,8 @@ LINK = re.compile(r"(!?)\[([^][]*)\]\(([^()\s]+)\)")
 def is_chosen(path: Path, choice: Choice) -> bool:
     """Whether a file of the examples goes with the chosen lessons: it has a lesson's number, or no
     lesson names it, or a chosen one does."""
+    if path.parent == PORT:
+        return True
     if path.name[:2].isdecimal():
         return int(path.name[:2]) in choice.lessons
     name = re.compile(rf"(?<![\w-]){re.escape(path.stem)}\.(?:script|svg|trace)\b")
