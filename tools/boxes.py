@@ -3,9 +3,9 @@ draws it.
 
 Memory is rows of strips: a strip is a segment or a part of the array, with a box for each of its
 cells, a column of room at the left of each box, and a counter above one of them and one below. The
-places that actors would touch next have a pin with the actor's number in that column. Its line runs
-down the column, along the lanes under its row, and to the actor's chip below: so no line crosses a
-label.
+places that actors would touch next have a pin with the actor's number in that column, which is wider
+where there are many. Its line runs down the column, along the lanes under its row, and to the actor's
+chip below: so no line crosses a label.
 """
 
 from dataclasses import dataclass, field
@@ -15,6 +15,7 @@ from figure import DARK, GREY, HEAD, MARGIN, PLAIN, SMALL, colour_of, width_of
 # Sizes, in pixels.
 BIG, LONG = 16, 6  # of a value, and how many digits have that size
 GAP, PIN, APART = 22, 8, 17  # the column for pins, a pin, and how far two pins are from each other
+MOST_BELOW, FEW_BELOW = 6, 3  # pins below each other, before some stand beside each other, and then
 NEAR = 6  # from a pin to the box that it is a pin of
 HEADING, COUNTER, CELL, PILL, FOOT = 24, 18, 66, 22, 6
 LABEL, VALUE = 15, 23  # of a cell from its top: the label, the value half, and then the index half
@@ -159,10 +160,10 @@ class Layout:
         linked, apart, array = strips_of(moment)
         self.strips = [it for it in [*linked, *apart, *array] if isinstance(it, Strip)]
         self.measure()
-        self.rows = [*self.wrapped(linked), *self.wrapped(apart), *([it] for it in array)]
         self.spots = {place: strip for strip in self.strips for place in strip.spots}
         self.led = [chip for chip in moment.chips if chip.place in self.spots]
         self.pin_columns()
+        self.rows = [*self.wrapped(linked), *self.wrapped(apart), *([it] for it in array)]
         self.place_rows()
         self.place_chips()
         self.width = round(self.right + MARGIN)
@@ -181,8 +182,8 @@ class Layout:
 
     def strip_width(self, strip):
         """How wide a strip is."""
-        cells = len(strip.boxes) * (GAP + self.box)
-        return cells + (GAP + self.next if strip.next else 0) + 10
+        cells = len(strip.boxes) * (self.gap + self.box)
+        return cells + (self.gap + self.next if strip.next else 0) + 10
 
     def item_width(self, item):
         """How wide a strip is, or the words for those that are left out."""
@@ -211,12 +212,29 @@ class Layout:
             self.columns.setdefault(key, []).append((order.index(level), chip.actor, level))
         for pins in self.columns.values():
             pins.sort()
+        most = max(map(len, self.columns.values()), default=0)
+        self.beside = 1 if most <= MOST_BELOW else next(it for it in range(2, most + 1) if self.is_low(it))
+        self.gap = GAP + APART * (self.beside - 1)
         pills, cells = (
-            max((len(pins) for key, pins in self.columns.items() if key[2] is is_pill), default=0)
+            max((len(self.pin_rows(key, self.beside)) for key in self.columns if key[2] is is_pill), default=0)
             for is_pill in (True, False)
         )
         self.cell = max(CELL, APART * cells - 2 * COUNTER)
         self.pill = max(PILL, APART * pills)
+
+    def is_low(self, beside):
+        """Whether few rows of so many pins are enough, or one for each level."""
+        rows = [self.pin_rows(key, beside) for key in self.columns]
+        return all(len(them) <= max(FEW_BELOW, len({level for level, _ in them})) for them in rows)
+
+    def pin_rows(self, key, beside):
+        """The pins of a column in rows of so many: the level of each row, and its actors."""
+        rows = []
+        for _, actor, level in self.columns[key]:
+            if not rows or rows[-1][0] != level or len(rows[-1][1]) == beside:
+                rows.append((level, []))
+            rows[-1][1].append(actor)
+        return rows
 
     def place_rows(self):
         """Puts the strips, row below row, and notes where the lanes under each row begin."""
@@ -251,7 +269,7 @@ class Layout:
 
     def box_left(self, strip, column):
         """Where a column's box begins; its pins are at the left of it."""
-        return strip.left + column * (GAP + self.box) + GAP
+        return strip.left + column * (self.gap + self.box) + self.gap
 
     def cells_top(self, strip):
         """Where the boxes of a strip begin."""
@@ -261,21 +279,21 @@ class Layout:
         """Where the pin of an actor is."""
         strip = self.spots[chip.place]
         column, level = strip.spots[chip.place]
-        pins = self.columns[id(strip), column, level == "pill"]
-        x = self.box_left(strip, column) - NEAR
+        rows = self.pin_rows((id(strip), column, level == "pill"), self.beside)
+        at = next(at for at, (_, actors) in enumerate(rows) if chip.actor in actors)
+        actors = rows[at][1]
+        x = self.box_left(strip, column) - NEAR - APART * (len(actors) - 1 - actors.index(chip.actor))
         if level == "pill":
-            first = strip.top - 14 - self.pill + max(PILL / 2, 9)
-            return x, first + APART * [it[1] for it in pins].index(chip.actor)
+            return x, strip.top - 14 - self.pill + max(PILL / 2, 9) + APART * at
         top = self.cells_top(strip)
         levels = PINNED | {"below": self.cell + COUNTER / 2}
         wanted, last = [], top - COUNTER - APART
-        for _, _, it in pins:
+        for it, _ in rows:
             last = max(last + APART, top + levels[it])
             wanted.append(last)
         over = max(0.0, wanted[-1] - (top + self.cell + COUNTER / 2))
-        ends = [top + self.cell + COUNTER / 2 - APART * (len(pins) - 1 - at) for at in range(len(pins))]
-        placed = [min(one, other) for one, other in zip(wanted, ends)] if over else wanted
-        return x, placed[[it[1] for it in pins].index(chip.actor)]
+        ends = [top + self.cell + COUNTER / 2 - APART * (len(rows) - 1 - it) for it in range(len(rows))]
+        return x, (min(wanted[at], ends[at]) if over else wanted[at])
 
     # -- Chips --
 
