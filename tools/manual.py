@@ -26,3 +26,15 @@ def quoted_in(head, column):
 FORMS = quoted_in("| Line | Meaning |", 1)
 PLACES = quoted_in("| PLACE | Is |", 1)
 REPLIES = {re.match("[a-z]*", reply)[0] for reply in quoted_in("| After | Reply |", 2)} - {""}
+
+
+def refusals() -> dict[str, str]:
+    """Why a line is refused and what to do, by the number of the refusal."""
+    rows, is_inside = {}, False
+    for row in PAGE.splitlines():
+        is_inside = row.startswith("| No | Name | Data | When |") or is_inside and row.startswith("|")
+        cells = [cell.strip().replace("`", "") for cell in row.split("|")]
+        if is_inside and cells[1].isdecimal():
+            number, name, _, when, what = cells[1:6]
+            rows[number] = f"{name}: {when}. What to do: {what}."
+    return rows

@@ -1,0 +1,240 @@
+"""The parts of a page of a run as HTML: `tools/page.py` puts them together.
+
+What changes from line to line is filled in by `tools/page/page.js`. Whatever changes its size has
+a hidden copy of its largest text beside it, so that the page keeps its size along the whole run.
+"""
+
+from html import escape
+
+import model
+from figure import ACTORS, BAND, DARK, GREY, GROUND, LANE, width_of
+from run_states import State, touched_by
+
+PINS, DISC = 2, 1.35  # discs beside each other, and the room of one, in the page's letters
+SHORT = 6  # digits of a value that is written large
+
+# The page's own colours: by day, and in the dark. Letters have a contrast of 4.5 at least.
+COLOURS = {
+    "text": ("#222222", "#ececec"), "soft": ("#595959", "#b6b9be"), "ground": ("#ffffff", "#17191c"),
+    "band": ("#f1f1ee", "#25282d"), "line": ("#b9b9b4", "#565b63"), "mark": ("#fff0b8", "#4b4017"),
+    "warned": ("#fbe3d2", "#50301a"), "depends": ("#d7ebf9", "#1d4259"), "asked": ("#9c4500", "#ff9f5c"),
+    "focus": ("#0059b3", "#7cc0ff"),
+}
+# Of an actor's lines, letters and ground in the dark, by the order of `figure.ACTORS`.
+IN_THE_DARK = [
+    ("#3f8cff", "#8fbcff", "#1a3560"), ("#21b48a", "#4fd6ad", "#123f33"), ("#cc79a7", "#eda9cd", "#47293a"),
+    ("#5cc8f0", "#9fe2fa", "#154554"), ("#e69f00", "#f2bb45", "#4a370b"), ("#d0d0d0", "#e4e4e4", "#3b3b3b"),
+]
+TINTS = ["#cce3f0", "#ccece3", "#f5e4ed", "#ddf0fb", "#faecca", "#d9d9d9"]  # of an actor's ground by day
+ACTORS_BY_DAY = [(*colours_of_actor, tint) for colours_of_actor, tint in zip(ACTORS, TINTS)]
+
+
+def variables(names: dict[str, str]) -> str:
+    """Values of CSS by their names."""
+    return " ".join(f"--{name}: {value};" for name, value in names.items())
+
+
+def colours() -> str:
+    """The colours as CSS: those of the page, those of actors, and those of drawings, which have their
+    own by day."""
+    day = [f":root {{ {variables({name: it[0] for name, it in COLOURS.items()})} }}"]
+    night = [f":root {{ {variables({name: it[1] for name, it in COLOURS.items()})} }}"]
+    drawn = {DARK: "text", GREY: "soft", BAND: "band", GROUND: "ground", LANE: "line"}
+    names = {DARK: "text", GREY: "soft"}
+    others = []
+    keys = ("colour", "dark", "tint")
+    for at, (by_day, in_the_dark) in enumerate(zip(ACTORS_BY_DAY, IN_THE_DARK), 1):
+        colour, dark, _ = by_day
+        day.append(f".a{at} {{ {variables(dict(zip(keys, by_day)))} }}")
+        night.append(f".a{at} {{ {variables(dict(zip(keys, in_the_dark)))} }}")
+        for kind in ("fill", "stroke"):
+            others.append(f'.lanes .a{at} [{kind}="{colour}"] {{ {kind}: var(--colour); }}')
+        others.append(f'.lanes .a{at} text[fill="{dark}"] {{ fill: var(--dark); }}')
+    for colour, name in (drawn | names).items():
+        others += [f'.lanes [{kind}="{colour}"] {{ {kind}: var(--{name}); }}' for kind in ("fill", "stroke")]
+    dark = "@media screen and (prefers-color-scheme: dark) {\n" + "\n".join(night) + "\n}"
+    return "\n".join([*day, *others, dark])
+
+
+def stack(kind: str, texts: list[str]) -> str:
+    """A text that changes, in room for the longest one."""
+    longest = sorted({*texts}, key=lambda text: (len(text), text))[-3:]
+    sizer = "".join(f'<span class="sizer" aria-hidden="true">{escape(text)}</span>' for text in longest)
+    return f'<span class="stack {kind}">{sizer}<span class="text"></span></span>'
+
+
+def sizers(sentences: list[str]) -> str:
+    """Room for the longest sentences. One that is hardly shorter may take more lines."""
+    longest = max(map(len, sentences))
+    kept = sorted({it for it in sentences if len(it) * 10 >= longest * 8}, key=lambda it: (len(it), it))[-12:]
+    return "".join(f'<p class="sizer" aria-hidden="true">{escape(it)}</p>' for it in kept)
+
+
+def actor_class(actor: int) -> str:
+    """The class of an actor's colours."""
+    return f"a{(actor - 1) % len(ACTORS) + 1}"
+
+
+# What room the pins of a place have: of each kind of place, where they are.
+WHERE = {
+    "qhead": "qhead", "qtail": "qtail", "head": "below", "tail": "above", "next": "content", "cell": "label",
+    "value": "value", "index": "index", "ahead": "below", "atail": "above", "acell": "value", "whole": "whole",
+}
+
+
+def most_at(lists: list[list[str]]) -> dict[str, int]:
+    """How often each text is in one of these lists at most."""
+    most: dict[str, int] = {}
+    for texts in lists:
+        most |= {text: max(most.get(text, 0), texts.count(text)) for text in {*texts}}
+    return most
+
+
+def room(states: list[State], them: list[dict[int, dict | None]]) -> str:
+    """How much room texts and pins need at most, as CSS."""
+    abouts = [[about for about in it.values() if about] for it in them]
+    needs: dict[str, int] = {}
+    for place, count in most_at([[about["place"] for about in it if about["place"]] for it in abouts]).items():
+        kind = WHERE[place.split(" ")[0]]
+        needs[kind] = max(needs.get(kind, 0), count)
+    for count in most_at([[about["point"] for about in it] for it in abouts]).values():
+        needs["point"] = max(needs.get("point", 0), count)
+    sizes = [(kind, min(PINS, count), -(-count // PINS)) for kind, count in sorted(needs.items())]
+    rules = [
+        f".p-{kind} {{ width: {DISC * wide:.2f}rem; min-height: {DISC * high:.2f}rem; }}" for kind, wide, high in sizes
+    ]
+    return "\n".join([f":root {{ {variables(widths_of(states))} }}", *rules])
+
+
+def widths_of(states: list[State]) -> dict[str, str]:
+    """How wide the longest text of each kind is."""
+    contents = {(name.split(" ")[0], content) for it in states for name, content in it.places.items()}
+    numbers = {content.split(" ")[-1] for kind, content in contents if kind in ("head", "tail", "ahead", "atail")}
+    cells = [content.split(" ") for kind, content in contents if kind == "cell"]
+    slots = {content.split(" ")[-1] for kind, content in contents if kind == "acell"}
+    values = ({value for _, _, value in cells} | slots) - {"none", "empty"}
+    size = 1.25 if max(map(len, values), default=0) <= SHORT else 0.85
+    widths = {
+        "marker": [width_of(f"head {it} →", 0.9, True) for it in numbers],
+        "value": [2.0, *(width_of(it, size, True) for it in values)],
+        "index": [width_of(f"idx {index}", 0.85) for _, index, _ in cells],
+        "next": [width_of(content, 0.9, True) for kind, content in contents if kind in ("next", "qhead", "qtail")],
+    }
+    return {f"{kind}-room": f"{max(them):.2f}rem" for kind, them in widths.items()} | {"value-size": f"{size}rem"}
+
+
+# ---- Lines ----------------------------------------------------------------------------------------
+
+
+def line_item(it: State, why: str) -> str:
+    """A line with its reply, and why it is refused."""
+    if not it.line:
+        words = '<span class="no">0</span><span class="words">before the first line</span>'
+        return f'<li class="start"><button type="button" tabindex="-1">{words}</button></li>'
+    kind = ' class="refused"' if it.reply.startswith("refused ") else ""
+    more = f'<p class="why">{escape(why)}</p>' if why else ""
+    words = f'<span class="no">{it.line}</span><code>{escape(it.text)}</code><code>{escape(it.reply)}</code>'
+    return f'<li{kind}><button type="button" tabindex="-1">{words}</button>{more}</li>'
+
+
+# ---- The queue ------------------------------------------------------------------------------------
+
+
+def place(kind: str) -> str:
+    """Where a place is shown, with room for pins."""
+    return f'<div class="place {kind}"><span class="text"></span><span class="pins p-{kind}"></span></div>'
+
+
+def column(kinds: list[str], label: str = "", slot: str = "") -> str:
+    """A cell, a slot or a next, with what stands above and below it."""
+    inside = "".join(map(place, kinds))
+    warning = '<div class="warning"></div>' if "index" in kinds else ""
+    named = f'<div class="caption">{label}</div>' if label else ""
+    data = f' data-slot="{slot}"' if slot else ""
+    name = "column next" if "content" in kinds else "column"
+    box = f'<div class="box">{named}{inside}{warning}</div>'
+    return f'<div class="{name}"{data}>{place("above")}{box}{place("below")}</div>'
+
+
+def segment(ring: int) -> str:
+    """Room for a segment."""
+    cells = "".join(column(["label", "value", "index"]) for _ in range(ring))
+    head = '<div class="segment-head"><b class="name"></b><span class="closed"></span></div>'
+    ends = f'<div class="ends">{place("qhead")}{place("qtail")}</div>'
+    after = column(["content"], "next")
+    columns = f'<div class="columns">{cells}{after}</div>'
+    return f'<div class="segment"><div class="left-out"></div>{ends}{head}{columns}<span class="pins"></span></div>'
+
+
+def slots_of(states: list[State]) -> list[int]:
+    """The slots of the array that are shown: those that are used, and to which a counter leads; none
+    where no one uses it."""
+    names = {name for it in states for name in it.places if name.startswith("acell ")}
+    counters = {int(it.places[name]) for it in states for name in ("ahead", "atail")}
+    used = {int(name.split(" ")[1]) for name in names} | (counters if names or counters != {0} else set())
+    aims = {place for it in states for place in touched_by(it)} & {"ahead", "atail"}
+    used |= counters if aims else set()
+    return [*range(min(used), max(used) + 1)] if used else []
+
+
+def queue(states: list[State], ring: int) -> str:
+    """Room for all that the queue is in these moments."""
+    linked, apart = (max(len(getattr(it, kind)) for it in states) for kind in ("linked", "apart"))
+    parts = ['<div class="linked">' + segment(ring) * linked + "</div>"]
+    if apart:
+        heading = "<h3>never linked so far: no segment has one of these as its next</h3>"
+        parts.append(f'<div class="apart">{heading}{segment(ring) * apart}</div>')
+    slots = slots_of(states)
+    if slots:
+        columns = "".join(column(["value"], f"slot {slot}" if slot < 64 else "end", str(slot)) for slot in slots)
+        parts.append(f'<div class="array"><h3>the array</h3><div class="columns">{columns}</div></div>')
+    return "\n".join(parts)
+
+
+# ---- Actors ---------------------------------------------------------------------------------------
+
+
+def seen_of(chips: list[dict[int, dict | None]], actor: int) -> list[dict]:
+    """What an actor is about to do, wherever it is in a call."""
+    return [it[actor] for it in chips if it[actor]]
+
+
+def chips(them: list[dict[int, dict | None]], page: dict[str, dict[str, list[str]]]) -> str:
+    """Room for what the actors are about to do in these moments."""
+    seen = {actor: seen_of(them, actor) for actor in them[0]}
+    return "\n".join(chip(actor, abouts, page) for actor, abouts in seen.items() if abouts)
+
+
+def idle(them: list[dict[int, dict | None]]) -> str:
+    """Who is in no call at any of these moments, in words."""
+    names = [str(actor) for actor in them[0] if not seen_of(them, actor)]
+    return f" In no call: actor{'s' if len(names) > 1 else ''} {', '.join(names)}." if names else ""
+
+
+def chip(actor: int, seen: list[dict[str, str]], page: dict[str, dict[str, list[str]]]) -> str:
+    """Room for what an actor is about to do in these moments."""
+    points = {it["point"]: page[it["call"].split(" ")[0]][it["point"]] for it in seen}
+    codes = "".join(
+        f'<div class="point" data-point="{name}"><b>{name}</b><code>{escape(chr(10).join(lines))}</code></div>'
+        for name, lines in points.items()
+    )
+    call, words, note = (stack(key, [*(it[key] for it in seen), "in no call"]) for key in ("call", "words", "note"))
+    head = f'<div class="chip-head"><span class="disc">{actor}</span><b>actor {actor}</b>{call}</div>'
+    kind = f'class="chip {actor_class(actor)}" data-actor="{actor}"'
+    return f'<li {kind}>{head}<div class="stack">{codes}</div>{words}{note}</li>'
+
+
+def pseudo_code(them: list[dict[int, dict | None]], page: dict[str, dict[str, list[str]]]) -> str:
+    """The pseudo-code of the calls in which an actor is, with room for the actors at each line."""
+    used = {about["call"].split(" ")[0] for it in them for about in it.values() if about}
+    heads = {word: head for head, word in model.CALLS.items()}
+    calls = [call for call in heads if call in used]
+    parts = []
+    for call in calls:
+        steps = "".join(
+            f'<div class="step" data-point="{name}"><b>{name}</b><code>{escape(chr(10).join(lines))}</code>'
+            f'<span class="pins p-point"></span><span class="who"></span></div>'
+            for name, lines in page[call].items()
+        )
+        parts.append(f"<div><h3>{escape(heads[call])}</h3>{steps}</div>")
+    return "\n".join(parts)
