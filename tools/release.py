@@ -259,7 +259,7 @@ def readme(version: str, choice: Choice, files: dict[str, bytes]) -> str:
     scripts = ", ".join(sorted({path.name for page in pages for path in named_in(page)}))
     rows = {
         "bin/lcrqdb": "the program, for Linux on x86-64; it needs the C library alone",
-        "docs/guide.html": "from a whiteboard to the step to blame, in 15 minutes: begin here",
+        "docs/guide.html": "from a whiteboard to the step to blame, in 30 minutes: begin here",
         "docs/lessons.html": f"lessons{numbers} on concurrent queues, for teachers",
         "docs/answers.html": "the answers to their exercises",
         "docs/manual.html": "every line and every reply; share/man/ has it as a man page",
