@@ -1,6 +1,6 @@
 #!/usr/bin/env python3
-"""Compares each block of lines and replies in README.md and docs/MANUAL.md with the file of it that
-the gate compares with the program.
+"""Compares each block of lines and replies in README.md, docs/MANUAL.md and docs/RECIPES.md with the
+file of it that the gate compares with the program.
 
     python3 checks/pages.py
 
@@ -45,9 +45,8 @@ OUTPUT = "  output|"  # before each line of standard output in the stored output
 # page leaves out before it.
 PAGES = {
     "README.md": [("session", None)],
-    "docs/MANUAL.md": [
-        ("poised", None), ("manual-1", None), ("manual-2", None), ("manual-3", "manual-1"), ("manual-4", None),
-    ],
+    "docs/MANUAL.md": [("manual-1", None), ("manual-2", None), ("manual-3", "manual-1"), ("manual-4", None)],
+    "docs/RECIPES.md": [("poised", None)],
 }
 
 # The scripts of `rehearsals` that the manual names, for whoever types its commands in `examples/`.

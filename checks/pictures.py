@@ -55,7 +55,7 @@ PICTURES = [
     ("README.md", "session.svg", "session.script", "--lines 15 --undo 8"),
     ("docs/MODEL.md", "docs/dependence.svg", "model.script", "--undo 11"),
     ("docs/MODEL.md", "docs/rollback.svg", "model.script", "--roll 11"),
-    ("docs/MANUAL.md", "poised.svg", "poised.script", "--trace poised.trace"),
+    ("docs/RECIPES.md", "poised.svg", "poised.script", "--trace poised.trace"),
     (GUIDE, "guide-1.svg", "guide-1.script", "--undo 10"),
     (GUIDE, "guide-4.svg", "guide-4.script", "--trace guide-4.trace"),
     (CLOSERS, "two-closers.svg", "two-closers.script", "--from 26 --undo 28"),

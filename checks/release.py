@@ -66,8 +66,8 @@ STANDS_FOR = {
 PASSED_OVER = ("man", "column", "rlwrap", "make")  # where they aren't installed
 # The logs of a port, for the recipes: one that takes a value out, and one that puts it in.
 LOGS = {
-    "a.log": "1 1 enq 7|2 1 E1 r0|3 1 E2 none|4 1 E4 open 0|5 1 E5 none|6 1 E6 1 0|7 1 E8 won; enqueued",
-    "b.log": "8 2 deq|9 2 Q1 r0|10 2 Q2 0|11 2 Q3 7",
+    "t1.log": "1 1 enq 7|2 1 E1 r0|3 1 E2 none|4 1 E4 open 0|5 1 E5 none|6 1 E6 1 0|7 1 E8 won; enqueued",
+    "t2.log": "8 2 deq|9 2 Q1 r0|10 2 Q2 0|11 2 Q3 7",
 }
 
 PROGRAMS = r"python3|\w+\.py|awk -f|od|tr|tail -c|ls -l"
@@ -208,7 +208,7 @@ def lay_own(folder: Path, pages: list[Page], built: str) -> None:
     for name, records in LOGS.items():
         (folder / "examples" / name).write_text(records.replace("|", "\n") + "\n", encoding="ascii")
     mine = folder / "examples" / "my-port"
-    mine.write_text("#!/bin/sh\ncat a.log\n", encoding="ascii")
+    mine.write_text("#!/bin/sh\ncat t1.log\n", encoding="ascii")
     mine.chmod(0o755)
     for kind, text in (item for page in pages for item in page.items):
         if kind == "awk":

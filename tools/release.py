@@ -4,10 +4,11 @@
 
     python3 tools/release.py [-o FOLDER] [--lessons 5,14,15] [--answers with|apart|none] [--pdf] [--program P]
 
-In it are the program, its man page made of docs/MANUAL.md, a page of HTML each for manual, model,
-guide and lessons with their pictures in them, the examples with a report of each script that one
-run has, and a page of the run where tools/page.py is there, the scripts that the pages name with
-what they import, the JSON Schema of traces, and a README. `tools/release_pages.py` makes the pages.
+In it are the program, its man page made of docs/MANUAL.md, a page of HTML each for manual, recipes,
+model, guide and lessons with their pictures in them, the examples with a report of each script that
+one run has, and a page of the run where tools/page.py is there, the scripts that the pages name
+with what they import, the JSON Schema of traces, and a README. `tools/release_pages.py` makes the
+pages.
 
 `--lessons` leaves all other lessons out, and their examples. `--answers` has the answers to the
 exercises with them, apart on a page of their own, docs/answers.html, or not at all. `--pdf` also
@@ -263,6 +264,7 @@ def readme(version: str, choice: Choice, files: dict[str, bytes]) -> str:
         "docs/lessons.html": f"lessons{numbers} on concurrent queues, for teachers",
         "docs/answers.html": "the answers to their exercises",
         "docs/manual.html": "every line and every reply; share/man/ has it as a man page",
+        "docs/recipes.html": "commands to print, draw and compare runs, and to write a start",
         "docs/model.html": "the queue and the simulated machine",
         "docs/*.pdf": "the same to print; a PDF has other bytes each time that it is made",
         "docs/*.md": "what the scripts read of manual and model",

@@ -94,6 +94,7 @@ class Choice:
         lessons = [LESSONS[number] for number in self.lessons]
         pages = {
             "manual": [DOCS / "MANUAL.md"],
+            "recipes": [DOCS / "RECIPES.md"],
             "model": [DOCS / "MODEL.md"],
             "guide": [EXAMPLES / "guide.md"],
             "lessons": [EXAMPLES / "README.md", *lessons],
@@ -371,7 +372,7 @@ def page_of(page: str, version: str, choice: Choice, run_pages: list[str]) -> by
         links = [{"t": "Link", "c": [["", [], []], words(name), [f"../examples/{name}", ""]]} for name in runs]
         told = [{"t": "Para", "c": [*words("Step by step: "), *joined(links)]}] if runs and page == "lessons" else []
         blocks += [part[0], *told, *part[1:]]
-    shown = [name for name in choice.pages() if name in (page, "manual", "model", "guide", "lessons")]
+    shown = [name for name in choice.pages() if name in (page, "manual", "recipes", "model", "guide", "lessons")]
     names = (name if name == page else f'<a href="{name}.html">{name}</a>' for name in shown)
     with tempfile.NamedTemporaryFile("w", suffix=".html", encoding="utf-8") as template:
         template.write(TEMPLATE.replace("NAV", " · ".join(names)))
