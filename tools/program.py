@@ -54,7 +54,8 @@ def required(path, command):
 
 def add_program(parser):
     """Adds the option that names the built program, which has to be there."""
-    option = {"default": str(BUILT), "help": "the built program (that of rt ci)"}
+    built = BUILT if BUILT.is_file() else shutil.which("lcrqdb") or BUILT
+    option = {"default": str(built), "help": "the program (the built one; else lcrqdb on the PATH)"}
     parser.add_argument("--program", type=lambda path: required(path, BUILDS), **option)
 
 
