@@ -11,8 +11,9 @@ the program's replies at that line, which are asked of a new run: each cell, cou
 the actors with their control points and places, the steps in their order, the border between live and
 undone ones, and the sentence that the accessibility tree has of the moment. At widths of 400, 1,000 and
 1,900 pixels no text may be cut off or overlap another one, and no part may change its size along the
-run; the browser may log no error. A handout has the queue at each bookmark, or at the end. On a run of 400 lines a key has to be answered within 50 ms, and
-its page stays below 1 MB. Each check prints a line; the status is 1 if one fails, or if the browser is missing.
+run; the browser may log no error. A handout has the queue at each bookmark, or at the end. On a run of
+400 lines, which has the name `long`, a key has to be answered within 50 ms, and its page stays below 1 MB.
+Each check prints a line; the status is 1 if one fails, or if the browser is missing.
 """
 
 import argparse
@@ -40,6 +41,7 @@ try:
 except ImportError:
     webdriver = None
 
+LONG = "long"
 WIDTHS = (400, 1000, 1900)  # pixels: a phone, a window, a beamer
 HEIGHT = 1000
 MOST_MS = 50.0  # that a key may take
@@ -166,6 +168,7 @@ class Walk:
             return "a click on the slider leads nowhere"
         slider.send_keys(Keys.ARROW_LEFT)
         fault = fault or self.fault_at(int(slider.get_attribute("value")))
+        browser.address(f"#line={slider.get_attribute('value')}")  # the page writes it late, over the next one
         browser.driver.execute_script(f"location.hash = '#line={middle}'")
         fault = fault or self.fault_at(middle)
         browser.driver.find_elements(By.CSS_SELECTOR, "#lines button")[self.count].click()
@@ -249,14 +252,15 @@ def checks(browser: Browser, folder: Path, given: argparse.Namespace) -> Iterato
         walk = Walk(browser, path, arguments)
         yield f"{name}, by all keys", walk.keys_fault()
         yield f"{name}, at {len(WIDTHS)} widths", walk.layout_fault()
-    if not given.names:
+    if not given.names or LONG in given.names:
         yield "a run of 400 lines", long_fault(browser, folder, given)
 
 
 def main() -> int:
     """Prints each check; returns the exit status."""
     parser = argparse.ArgumentParser(description="Goes along the pages of runs in a browser.")
-    parser.add_argument("names", nargs="*", metavar="NAME", help="the examples whose pages are opened (all)")
+    about = f"the examples whose pages are opened, and {LONG} for the run of 400 lines (all)"
+    parser.add_argument("names", nargs="*", metavar="NAME", help=about)
     program.add_program(parser)
     given = parser.parse_args()
     missing = [name for name in ("chromium", "chromedriver") if not shutil.which(name)]

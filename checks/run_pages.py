@@ -153,6 +153,18 @@ def segments_fault(state: dict, replies: dict[str, str]) -> str:
     return next((f"{name} is shown as never linked" for name in state["apart"] if name in named), "")
 
 
+def slots_fault(state: dict, slots: list[str]) -> str:
+    """Which segment has no place on the page that is in its order, or nothing."""
+    left = [*slots]
+    at = 0
+    for name in ("gap" if isinstance(it, int) else it for it in state["linked"]):
+        if name not in slots[at:]:
+            return f"there is no room for {name} in the order {state['linked']}: {slots}"
+        at = slots.index(name, at) + 1
+        left[at - 1] = ""
+    return next((f"there is no room for {name} beside {slots}" for name in state["apart"] if name not in left), "")
+
+
 def actors_fault(state: dict, replies: dict[str, str]) -> str:
     """What of the actors isn't as the program replies, or nothing."""
     for actor, chip in state["actors"].items():
@@ -188,7 +200,7 @@ def state_fault(text: str, arguments: argparse.Namespace, each: int) -> str:
     """The first thing that is wrong with the data of a page, or nothing."""
     data, states = states_in(text)
     labels, asked = labels_in(text), page.asked_of(arguments)
-    names = places_wanted(states, asked.session.ring)
+    names, slots = places_wanted(states, asked.session.ring), re.findall(r'data-name="([^"]*)"', text)
     with tempfile.TemporaryDirectory() as folder:
         for at in sorted({*range(0, len(states), each), len(states) - 1}):
             state, line = states[at], data["first"] + at
@@ -198,6 +210,7 @@ def state_fault(text: str, arguments: argparse.Namespace, each: int) -> str:
             fault = (
                 places_fault(state, replies)
                 or segments_fault(state, replies)
+                or slots_fault(state, slots)
                 or actors_fault(state, replies)
                 or rows_fault(data, state, labels, replies)
                 or ("" if said in state["said"] else f"it says {state['said']}")

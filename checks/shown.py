@@ -105,7 +105,12 @@ def places_fault(shown: dict, it: Replies) -> str:
 
 
 def order_fault(shown: dict, it: Replies) -> str:
-    """Where the segments stand in another order than that of their links, or nothing."""
+    """Where the segments stand in another order than that of their links, or an arrow is missing or leads to
+    another one, or nothing."""
+    for (name, _, leads), (after, _, _) in zip(shown["order"], [*shown["order"][1:], ["", "", ""]]):
+        link = it.places[f"next {name.removeprefix('segment ')}"]
+        if leads != (f"segment {link}" == after):
+            return f"{name} has an arrow to {after} or has not, and its next is {link}"
     linked = [name.removeprefix("segment ") for name, apart, _ in shown["order"] if not apart]
     order = ["0.0"]
     while it.places[f"next {order[-1]}"] != "none":

@@ -179,11 +179,11 @@ def number_above_0(text):
     return int(text)
 
 
-def parser_of(about):
+def parser_of(about, out="OUT.svg"):
     """The command line, as far as the tools share it."""
     it = argparse.ArgumentParser(description=about)
     it.add_argument("script", metavar="SCRIPT", help="the script; - is standard input")
-    it.add_argument("-o", dest="out", metavar="OUT.svg", default="-", help="where the picture goes; - is standard output")
+    it.add_argument("-o", dest="out", metavar=out, default="-", help="the file that is written; - is standard output")
     it.add_argument("--trace", metavar="FILE", help="the trace over which the script is run")
     it.add_argument("--actors", metavar="A", help="how many actors the fresh world has")
     it.add_argument("--ring", metavar="R", help="how many cells its rings have")

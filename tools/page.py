@@ -158,9 +158,9 @@ def made_of(arguments: argparse.Namespace, asked: Asked, states: list[State], ro
         longest=page_parts.sizers(sentences),
         command=escape(str(states[-1].line).join(command_of(arguments))),
         queue=page_parts.queue(states, asked.session.ring),
-        chips=page_parts.chips(chips, code),
+        chips=page_parts.chips(chips, code), beside=page_parts.beside(chips),
         idle=page_parts.idle(chips),
-        lanes=f"{figure.heads()}\n{figure.body()}",
+        lanes=f"{figure.heads()}\n{figure.body()}", drawn=figure.drawn(),
         code=page_parts.pseudo_code(chips, code),
     )
 
@@ -189,7 +189,7 @@ def part_of(text: str) -> tuple[int, int]:
 def parser() -> argparse.ArgumentParser:
     """The command line."""
     about = "Makes a run a page. A script of viewers has none: a view's report doesn't give the order of its history."
-    it = parser_of(about)
+    it = parser_of(about, "OUT.html")
     it.usage = "page.py SCRIPT [-o OUT.html] [--lines A:B] [--actors A] [--ring R] [--trace FILE] [--program P]"
     it.add_argument("--lines", dest="part", metavar="A:B", type=part_of, help="the lines A to B in place of all")
     return it

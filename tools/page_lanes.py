@@ -15,8 +15,8 @@ from page_parts import actor_class
 from run_rows import Row
 
 # Sizes of the drawing, in its pixels, and how large these are.
-TOP, LINE, BORDER, HALF, GAP = 62, 22, 26, 11, 14
-SCALE = 1.25 / 16  # of such a pixel, in the page's letters
+TOP, LINE, BORDER, HALF, GAP = 56, 20, 24, 10, 14
+SCALE = 1.22 / 16  # of such a pixel, in the page's letters
 
 
 def actor_of(lane: str) -> int:
@@ -44,7 +44,7 @@ class Lanes:
 
     def __init__(self, rows: dict[int, Row], lanes: list[str], start: dict[str, str], start_name: str, most: int):
         self.rows, self.lanes, self.start, self.start_name = rows, lanes, start, start_name
-        self.first = LINE * 1.0 if start_name else 12.0
+        self.first = LINE + 4.0 if start_name else 12.0
         self.height = round(self.first + LINE * most + BORDER)
         self.numbers = MARGIN + max(width_of(name, SMALL) for name in ("undone", start_name))
         self.at: dict[str, int] = {}
@@ -85,22 +85,26 @@ class Lanes:
         family = 'font-family="DejaVu Sans, Verdana, sans-serif"'
         return f'<svg {kind} viewBox="0 0 {self.width} {height}" style="{size}" {family}>'
 
+    def drawn(self) -> str:
+        """How high the drawing is."""
+        return f"{SCALE * (TOP + self.height):.2f}rem"
+
     def heads(self) -> str:
         """The names of the lanes."""
         lines = []
         for band, left, right in self.bands:
-            lines.append(element("rect", x=left, y=8, width=right - left, height=TOP - 8, fill=BAND))
-            lines.append(words_at(left + GAP, 23, band, HEAD, DARK, bold=True))
+            lines.append(element("rect", x=left, y=4, width=right - left, height=TOP - 4, fill=BAND))
+            lines.append(words_at(left + GAP, 19, band, HEAD, DARK, bold=True))
         for lane, x in self.at.items():
             if lane.startswith("value "):
                 middle = (x + self.at[f"index {lane.partition(' ')[2]}"]) / 2
-                lines.append(words_at(middle, 40, f"cell {lane.split(' ')[2]}", PLAIN, DARK, "middle"))
+                lines.append(words_at(middle, 34, f"cell {lane.split(' ')[2]}", PLAIN, DARK, "middle"))
             actor = actor_of(lane)
             if actor:
-                words = words_at(x, 40, lane, HEAD, colour_of(actor)[1], "middle", True)
+                words = words_at(x, 34, lane, HEAD, colour_of(actor)[1], "middle", True)
                 lines.append(f'<g class="{actor_class(actor)}">{words}</g>')
             else:
-                lines.append(words_at(x, 56, name_of(lane), SMALL, GREY, "middle"))
+                lines.append(words_at(x, 50, name_of(lane), SMALL, GREY, "middle"))
         return "\n".join([self.open('class="heads" id="lane-heads" aria-hidden="true"', TOP), *lines, "</svg>"])
 
     def grounds(self) -> list[str]:
@@ -117,10 +121,10 @@ class Lanes:
 
     def start_lines(self) -> list[str]:
         """What is on each lane before the first row."""
-        lines = [words_at(self.numbers, 15, self.start_name, SMALL, GREY, "end")] if self.start_name else []
+        lines = [words_at(self.numbers, 11, self.start_name, SMALL, GREY, "end")] if self.start_name else []
         for lane, text in self.start.items():
             anchor, beside = ("end", -9) if actor_of(lane) else ("start", 5)
-            lines += [words_at(self.at[lane] + beside, 15, text, SMALL, GREY, anchor)] if text else []
+            lines += [words_at(self.at[lane] + beside, 11, text, SMALL, GREY, anchor)] if text else []
         return lines
 
     def row(self, at: int, row: Row) -> str:

@@ -12,6 +12,9 @@ from run_states import State, touched_by
 
 PINS, DISC = 2, 1.35  # discs beside each other, and the room of one, in the page's letters
 SHORT = 6  # digits of a value that is written large
+CELL = 3.8  # how wide a cell may be for pins to stand beside its texts, in the page's letters
+MOST_BESIDE = 5  # chips, on a wide screen
+HALVES, VALUED = ("label", "value", "index"), ("cell", "acell")  # texts of a cell, and places with a value
 
 # The page's own colours: by day, and in the dark. Letters have a contrast of 4.5 at least.
 COLOURS = {
@@ -90,8 +93,8 @@ def most_at(lists: list[list[str]]) -> dict[str, int]:
     return most
 
 
-def room(states: list[State], them: list[dict[int, dict | None]]) -> str:
-    """How much room texts and pins need at most, as CSS."""
+def pins_at(them: list[dict[int, dict | None]]) -> dict[str, int]:
+    """How many pins a place of each kind has at most, and a line of the pseudo-code."""
     abouts = [[about for about in it.values() if about] for it in them]
     needs: dict[str, int] = {}
     for place, count in most_at([[about["place"] for about in it if about["place"]] for it in abouts]).items():
@@ -99,28 +102,53 @@ def room(states: list[State], them: list[dict[int, dict | None]]) -> str:
         needs[kind] = max(needs.get(kind, 0), count)
     for count in most_at([[about["point"] for about in it] for it in abouts]).values():
         needs["point"] = max(needs.get("point", 0), count)
-    sizes = [(kind, min(PINS, count), -(-count // PINS)) for kind, count in sorted(needs.items())]
-    rules = [
-        f".p-{kind} {{ width: {DISC * wide:.2f}rem; min-height: {DISC * high:.2f}rem; }}" for kind, wide, high in sizes
-    ]
-    return "\n".join([f":root {{ {variables(widths_of(states))} }}", *rules])
+    return needs
 
 
-def widths_of(states: list[State]) -> dict[str, str]:
+def room(states: list[State], them: list[dict[int, dict | None]]) -> str:
+    """How much room texts and pins need at most, as CSS. What never stands there has none."""
+    widths, rules = widths_of(states), []
+    for kind, count in sorted(pins_at(them).items()):
+        wide, high = DISC * min(PINS, count), DISC * -(-count // PINS)
+        rules.append(f".p-{kind} {{ width: {wide:.2f}rem; min-height: {high:.2f}rem; }}")
+        if kind in ("above", "below"):  # their pins stand in the room of other cells
+            rules.append(f".place.{kind} {{ min-height: {high + 0.1:.2f}rem; }}")
+        elif kind in widths and widths[kind] + wide > max(CELL, *(widths[it] for it in HALVES)):
+            rules.append(f".place.{kind} {{ flex-direction: column; align-items: flex-start; }}")
+    cells = {content for it in states for name, content in it.places.items() if name.startswith("cell ")}
+    if not any(content.startswith("0 ") for content in cells):
+        rules.append(".warning { display: none; }")
+    sizes = {f"{kind}-room": f"{width:.2f}rem" for kind, width in widths.items()}
+    sizes |= {"value-size": f"{value_size(states)}rem"}
+    return "\n".join([f":root {{ {variables(sizes)} }}", *rules])
+
+
+def values_of(states: list[State]) -> set[str]:
+    """The values that are in a cell or in a slot."""
+    contents = {content for it in states for name, content in it.places.items() if name.split(" ")[0] in VALUED}
+    return {content.split(" ")[-1] for content in contents} - {"none", "empty"}
+
+
+def value_size(states: list[State]) -> float:
+    """The size of letters of values."""
+    return 1.25 if max(map(len, values_of(states)), default=0) <= SHORT else 0.85
+
+
+def widths_of(states: list[State]) -> dict[str, float]:
     """How wide the longest text of each kind is."""
     contents = {(name.split(" ")[0], content) for it in states for name, content in it.places.items()}
     numbers = {content.split(" ")[-1] for kind, content in contents if kind in ("head", "tail", "ahead", "atail")}
-    cells = [content.split(" ") for kind, content in contents if kind == "cell"]
-    slots = {content.split(" ")[-1] for kind, content in contents if kind == "acell"}
-    values = ({value for _, _, value in cells} | slots) - {"none", "empty"}
-    size = 1.25 if max(map(len, values), default=0) <= SHORT else 0.85
+    cells = {name.split(" ")[-1] for it in states for name in it.places if name.startswith("cell ")}
+    indexes = {content.split(" ")[1] for kind, content in contents if kind == "cell"}
+    size = value_size(states)
     widths = {
         "marker": [width_of(f"head {it} →", 0.9, True) for it in numbers],
-        "value": [2.0, *(width_of(it, size, True) for it in values)],
-        "index": [width_of(f"idx {index}", 0.85) for _, index, _ in cells],
+        "label": [width_of(f"cell {it}", 0.85) for it in cells],
+        "value": [1.5, *(width_of(it, size, True) for it in values_of(states))],
+        "index": [width_of(f"idx {it}", 0.85) for it in indexes],
         "next": [width_of(content, 0.9, True) for kind, content in contents if kind in ("next", "qhead", "qtail")],
     }
-    return {f"{kind}-room": f"{max(them):.2f}rem" for kind, them in widths.items()} | {"value-size": f"{size}rem"}
+    return {kind: max(them, default=0.0) for kind, them in widths.items()}
 
 
 # ---- Lines ----------------------------------------------------------------------------------------
@@ -156,14 +184,30 @@ def column(kinds: list[str], label: str = "", slot: str = "") -> str:
     return f'<div class="{name}"{data}>{place("above")}{box}{place("below")}</div>'
 
 
-def segment(ring: int) -> str:
-    """Room for a segment."""
-    cells = "".join(column(["label", "value", "index"]) for _ in range(ring))
-    head = '<div class="segment-head"><b class="name"></b><span class="closed"></span></div>'
-    ends = f'<div class="ends">{place("qhead")}{place("qtail")}</div>'
-    after = column(["content"], "next")
-    columns = f'<div class="columns">{cells}{after}</div>'
-    return f'<div class="segment"><div class="left-out"></div>{ends}{head}{columns}<span class="pins"></span></div>'
+def order_of(states: list[State]) -> list[str]:
+    """The segments of all moments as one order, with `gap` where some are left out: that of the links at
+    the end, and those that are never linked last. One whose place in the order changes is there twice."""
+    order: list[str] = []
+    for it in reversed(states):
+        at = 0
+        for name in ("gap" if isinstance(name, int) else name for name in it.linked):
+            if name not in order[at:]:
+                order.insert(at, name)
+            at = order.index(name, at) + 1
+    apart = dict.fromkeys(name for it in states for name in it.apart)
+    return [*order, *(name for name in apart if name not in order)]
+
+
+def segment(name: str, states: list[State], ring: int) -> str:
+    """Room for a segment, and in its head for what ever stands there."""
+    ends = "".join(place(end) for end in ("qhead", "qtail") if any(it.places.get(end) == name for it in states))
+    apart = '<span class="never">not linked so far</span>' if any(name in it.apart for it in states) else ""
+    more = f'<div class="ends">{apart}{ends}</div>' if apart or ends else ""
+    head = f'<b class="name">segment {name}</b><span class="closed"></span>{more}'
+    cells = "".join(column(list(HALVES)) for _ in range(ring))
+    columns = f'<div class="columns">{cells}{column(["content"], "next")}</div>'
+    inside = f'<div class="segment-head">{head}</div>{columns}<span class="pins p-whole"></span>'
+    return f'<div class="segment" data-name="{name}">{inside}</div>'
 
 
 def slots_of(states: list[State]) -> list[int]:
@@ -178,12 +222,10 @@ def slots_of(states: list[State]) -> list[int]:
 
 
 def queue(states: list[State], ring: int) -> str:
-    """Room for all that the queue is in these moments."""
-    linked, apart = (max(len(getattr(it, kind)) for it in states) for kind in ("linked", "apart"))
-    parts = ['<div class="linked">' + segment(ring) * linked + "</div>"]
-    if apart:
-        heading = "<h3>never linked so far: no segment has one of these as its next</h3>"
-        parts.append(f'<div class="apart">{heading}{segment(ring) * apart}</div>')
+    """Room for all that the queue is in these moments: each segment has its own."""
+    gap = '<div class="left-out" data-name="gap"></div>'
+    segments = [gap if name == "gap" else segment(name, states, ring) for name in order_of(states)]
+    parts = [f'<div class="segments">{"".join(segments)}</div>']
     slots = slots_of(states)
     if slots:
         columns = "".join(column(["value"], f"slot {slot}" if slot < 64 else "end", str(slot)) for slot in slots)
@@ -205,6 +247,12 @@ def chips(them: list[dict[int, dict | None]], page: dict[str, dict[str, list[str
     return "\n".join(chip(actor, abouts, page) for actor, abouts in seen.items() if abouts)
 
 
+def beside(them: list[dict[int, dict | None]]) -> int:
+    """How many chips stand beside each other where there is room for some, with rows of one length."""
+    count = max(1, sum(bool(seen_of(them, actor)) for actor in them[0]))
+    return -(-count // -(-count // MOST_BESIDE))
+
+
 def idle(them: list[dict[int, dict | None]]) -> str:
     """Who is in no call at any of these moments, in words."""
     names = [str(actor) for actor in them[0] if not seen_of(them, actor)]
@@ -221,7 +269,7 @@ def chip(actor: int, seen: list[dict[str, str]], page: dict[str, dict[str, list[
     call, words, note = (stack(key, [*(it[key] for it in seen), "in no call"]) for key in ("call", "words", "note"))
     head = f'<div class="chip-head"><span class="disc">{actor}</span><b>actor {actor}</b>{call}</div>'
     kind = f'class="chip {actor_class(actor)}" data-actor="{actor}"'
-    return f'<li {kind}>{head}<div class="stack">{codes}</div>{words}{note}</li>'
+    return f'<li {kind}>{head}<div class="stack">{codes}</div><div class="chip-foot">{note}{words}</div></li>'
 
 
 def pseudo_code(them: list[dict[int, dict | None]], page: dict[str, dict[str, list[str]]]) -> str:

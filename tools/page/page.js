@@ -7,8 +7,7 @@ const all = (selector, inside = document) => [...inside.querySelectorAll(selecto
 const states = statesOf(run.moments);
 const slider = byId("slider"), lanes = byId("lanes");
 const items = all("#lines > li"), chips = all("#chips > .chip"), marked = all("#code .step");
-const slots = { linked: all("#queue .linked > .segment"), apart: all("#queue .apart > .segment") };
-const arrayColumns = all("#queue .array .column"), apart = byId("queue").querySelector(".apart");
+const slots = all("#queue .segments > *"), arrayColumns = all("#queue .array .column");
 const rows = new Map(all("#lanes .row").map((row) => [Number(row.dataset.row), row]));
 const pins = new Map(), spots = new Map(), parts = new WeakMap(), drawn = new Map();
 let now = -1, tabStop = null, later = 0;
@@ -46,24 +45,36 @@ function spot(element, place, text = "") {
   if (part(element, ".text") && !element.classList.contains("segment")) put(part(element, ".text"), text);
 }
 
+// The slot of each segment that a state has, or of so many that are left out. Linked ones are in their order.
+function slotsOf(state) {
+  const of = new Map();
+  let at = 0;
+  for (const item of state.linked) {
+    const wanted = typeof item === "number" ? "gap" : item;
+    at = slots.findIndex((slot, place) => place >= at && slot.dataset.name === wanted);
+    of.set(slots[at], item);
+    at += 1;
+  }
+  for (const name of state.apart) of.set(slots.find((slot) => slot.dataset.name === name && !of.has(slot)), name);
+  return of;
+}
+
 function drawSegment(slot, name, state) {
-  const content = (place) => state.places[place], is = content(`tail ${name}`) != null;
+  const content = (place) => state.places[place], is = name !== undefined;
   slot.classList.toggle("empty", !is);
-  slot.classList.toggle("gap", typeof name === "number");
-  put(part(slot, ".left-out"), typeof name === "number" ? `${name} segments` : "");
+  slot.classList.toggle("apart", is && state.apart.includes(name));
   const columns = [...part(slot, ".columns").children], ring = columns.length - 1;
   const [closed, tail] = is ? content(`tail ${name}`).split(" ") : ["", 0], head = is ? content(`head ${name}`) : 0;
   spot(slot, is ? `whole ${name}` : "");
-  put(part(slot, ".name"), is ? `segment ${name}` : "");
   put(part(slot, ".closed"), closed);
   part(slot, ".closed").classList.toggle("warns", closed === "closed");
   for (const [place, end] of [["qhead", "QHead"], ["qtail", "QTail"]]) {
-    if (is && content(place) === name) spot(part(slot, `.${place}`), place, `${end} ▾`);
-    else spot(part(slot, `.${place}`), "");
+    const isThere = is && content(place) === name;
+    if (part(slot, `.${place}`)) spot(part(slot, `.${place}`), isThere ? place : "", isThere ? `${end} ▾` : "");
   }
   const at = (position) => Number(BigInt(position) % BigInt(ring));
   columns.slice(0, ring).forEach((column, cell) => {
-    drawCell(column, name, cell, content(`cell ${name} ${cell}`));
+    drawCell(column, name, cell, is && content(`cell ${name} ${cell}`));
     drawCounters(column, is && at(tail) === cell && ["tail", tail], is && at(head) === cell && ["head", head], ` ${name}`);
   });
   spot(part(slot, ".content"), is ? `next ${name}` : "", is ? content(`next ${name}`) : "");
@@ -73,7 +84,7 @@ function drawCell(column, name, at, content) {
   const [safe, index, value] = content ? content.split(" ") : [];
   spot(part(column, ".label"), content ? `cell ${name} ${at}` : "", `cell ${at}`);
   spot(part(column, ".value"), content ? `value ${name} ${at}` : "", value === "none" ? "" : value);
-  spot(part(column, ".index"), content ? `index ${name} ${at}` : "", `idx ${index}`);
+  spot(part(column, ".index"), content ? `index ${name} ${at}` : "", content ? `idx ${index}` : "");
   column.classList.toggle("unsafe", safe === "0");
   put(part(column, ".warning"), safe === "0" ? "unsafe" : "");
 }
@@ -93,12 +104,16 @@ function drawArray(state) {
 
 function drawQueue(state) {
   spots.clear();
-  for (const kind of ["linked", "apart"]) {
-    slots[kind].forEach((slot, at) => drawSegment(slot, state[kind][at], state));
-    slots[kind].forEach((slot, at) => slot.classList.toggle("leads", leads(state, state[kind][at], state[kind][at + 1])));
+  const of = slotsOf(state), shown = slots.filter((slot) => of.has(slot));
+  for (const slot of slots) {
+    if (slot.dataset.name === "gap") put(slot, of.has(slot) ? `${of.get(slot)} segments` : "");
+    else drawSegment(slot, of.get(slot), state);
+  }
+  for (const slot of slots) {
+    const name = of.get(slot), after = of.get(shown[shown.indexOf(slot) + 1]);
+    slot.classList.toggle("leads", name !== undefined && after !== undefined && state.places[`next ${name}`] === after);
   }
   drawArray(state);
-  if (apart) apart.classList.toggle("none", state.apart.length === 0);
   const last = run.rows[state.last];
   for (const element of all("#queue .written")) element.className = element.className.replace(/ written a\d/, "");
   for (const place of state.written) if (spots.has(place)) spots.get(place).className += ` written ${colour(last.actor)}`;
@@ -109,7 +124,6 @@ function drawQueue(state) {
   }
 }
 
-const leads = (state, name, after) => after !== undefined && state.places[`next ${name}`] === String(after);
 const colour = (actor) => `a${(actor - 1) % run.colours + 1}`;
 
 function pinOf(actor, kind) {
