@@ -266,7 +266,7 @@ def readme(version: str, choice: Choice, files: dict[str, bytes]) -> str:
         "docs/manual.html": "every line and every reply; share/man/ has it as a man page",
         "docs/recipes.html": "commands to print, draw and compare runs, and to write a start",
         "docs/model.html": "the queue and the simulated machine",
-        "docs/*.pdf": "the same to print; a PDF has other bytes each time that it is made",
+        "docs/*.pdf": "guide, lessons and answers to print; a PDF has other bytes each time that it is made",
         "docs/*.md": "what the scripts read of manual and model",
         "docs/trace.schema.json": "a JSON Schema of traces, for an editor and for schema.py",
         "examples/*": "the scripts and traces of these pages, with their pictures; each script that",
