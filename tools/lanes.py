@@ -26,6 +26,16 @@ class Dot:
     text: str
 
 
+def dot_of(access: str, answer: str, lane: str, before: str, after: str) -> Dot:
+    """What a step did on one lane of its place, by its record and the contents before and after it."""
+    if answer == "lost":
+        return Dot(lane, "lost", before)
+    if access == "wrote" or access == "wrote index" and lane.startswith("index "):
+        counts = before and lane.split(" ")[0] in ("head", "tail", "ahead", "atail", "acell")
+        return Dot(lane, "wrote", f"{before} → {after}" if counts else after)
+    return Dot(lane, "read", before)
+
+
 @dataclass
 class Row:
     """A step: `name` is its number or `undone`, `point` its control point or its call."""

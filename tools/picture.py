@@ -47,7 +47,7 @@ from pathlib import Path
 
 from drawing import draw
 from figure import Fault, Session, number_above_0, parser_of, script_name, segment_of, write_drawn
-from lanes import Call, Dot, Picture, Row, actor_lane, order_of
+from lanes import Call, Picture, Row, actor_lane, dot_of, order_of
 from program import Broken, Driven
 
 MOST_ROWS = 200
@@ -276,16 +276,6 @@ def stand_of(reply: str) -> str:
     return "" if words[0] == "Idle" else " ".join(words)
 
 
-def dot_of(row: Row, lane: str, before: str, after: str) -> Dot:
-    """What a step did on one lane of its place."""
-    if row.answer == "lost":
-        return Dot(lane, "lost", before)
-    if row.access == "wrote" or row.access == "wrote index" and lane.startswith("index "):
-        counts = before and lane.split(" ")[0] in ("head", "tail", "ahead", "atail", "acell")
-        return Dot(lane, "wrote", f"{before} → {after}" if counts else after)
-    return Dot(lane, "read", before)
-
-
 def fill_row(row: Row, lanes: Collection[str], replies: list[str]) -> None:
     """Puts what the program replied about a step into its row."""
     touched = lanes_of(row.place, lanes)
@@ -293,7 +283,7 @@ def fill_row(row: Row, lanes: Collection[str], replies: list[str]) -> None:
     if point != "Idle":
         row.point = f"{point} {row.point}".strip()
     shows = zip(touched, replies[2:], replies[len(touched) + 3:])
-    row.dots = [dot_of(row, lane, content_of(old), content_of(new)) for lane, old, new in shows]
+    row.dots = [dot_of(row.access, row.answer, lane, content_of(old), content_of(new)) for lane, old, new in shows]
 
 
 def calls_of(rows: list[Row], stands: dict[str, str], lanes: Collection[str]) -> list[Call]:

@@ -10,16 +10,8 @@ import itertools
 from dataclasses import dataclass, field
 
 from figure import segment_of
+from lanes import Dot, dot_of
 from run_states import Asked, State, event_of, without_number
-
-
-@dataclass
-class Dot:
-    """What a step did on one lane."""
-
-    lane: str
-    kind: str  # wrote, read or lost
-    text: str
 
 
 @dataclass
@@ -136,22 +128,12 @@ def chain_of(states: list[State]) -> list[str]:
     return [*dict.fromkeys(names)]
 
 
-def dot_of(row: Row, lane: str, before: str, after: str) -> Dot:
-    """What a step did on one lane of its place."""
-    if row.answer == "lost":
-        return Dot(lane, "lost", before)
-    if row.access == "wrote" or row.access == "wrote index" and lane.startswith("index "):
-        counts = before and lane.split(" ")[0] in ("head", "tail", "ahead", "atail", "acell")
-        return Dot(lane, "wrote", f"{before} → {after}" if counts else after)
-    return Dot(lane, "read", before)
-
-
 def fill(row: Row, about: str, contents: list[tuple[str, str, str]]) -> None:
     """Puts into a row the reply about its actor and the content of its lanes before and after its step."""
     point = about.split(" ")[1]
     if point != "Idle":
         row.point = f"{point} {row.point}".strip()
-    row.dots = [dot_of(row, *content) for content in contents]
+    row.dots = [dot_of(row.access, row.answer, *content) for content in contents]
 
 
 def filled_rows(
