@@ -1,4 +1,5 @@
--- Draws, by a pass that is willing to wait and by one that isn't.
+-- Draws of a ticket: in `take`, by a pass that waits afterwards, and in `try_take`, by one that
+-- doesn't.
 use Rattle.rd_lock.proofs.Prelude.{◌≡◌, ◌≢◌, ℕ, ◌+◌, ◌^◌, ◌<◌, eqb, List, [], ◌∷◌, set, sym, refl, ap, ◌∙◌, subst, arith, eq-eqb, ne_eqb, length, Option, AllByRecursion, Allows, Continues, Draws, Facts, HasTicket, Holds, IsAloneAt, IsFound, IsKept, IsPlaced, LoadsServed, Lock, LockRule, Me, MemberFits, Out, PassView, Place, Stage, StageFits, Tries, View, Waits, ℕ_discrete, after_next, away, dite, either, get_elem?, home, in_hand, keeps, knows_next, knows_served, only, set_here, some, some-ne-none, ticket, view_of}
 use Rattle.rd_lock.proofs.Lists.{inside}
 use Rattle.rd_lock.proofs.Facts.{put, put_here, put_else}
@@ -22,11 +23,11 @@ module _ {T E O : Type 0} (lock : Lock T E O) where
   drawer_suits : (f : Facts T E) (id : ℕ) (place : Place T) (p : PassView E O) → MemberFits lock f id p → MemberFits lock (drawn f id place) id (knows_next (f.next + 1) p)
   drawer_suits f id place p h = grind arith
 
-  -- another seat's stage, where it doesn't hold or the value stays
+  -- another seat's stage still fits after a draw that doesn't take the value away from that seat
   drawn_stays : (f : Facts T E) (id j : ℕ) (place : Place T) → (f.place ≡ away j → place ≡ away j) → (s : Stage E) → StageFits lock f j s → StageFits lock (drawn f id place) j s
   drawn_stays f id j place stays s h = grind arith
 
-  -- the facts after a draw are kept, whether the drawer waits or holds then
+  -- the new facts are kept after a draw, whether the drawer then waits or holds
   drawn_kept : (f : Facts T E) (views : List (View E O)) (id : ℕ) (p : PassView E O) (s : Stage E) (place : Place T) → IsKept lock f views → get_elem? views id ≡ some (view_of (p ∷ []) Out) → f.next < 2 ^ 63
       → ticket s ≡ some f.next → StageFits lock (drawn f id place) id s → IsAloneAt s (p ∷ []) → ((j : ℕ) → j ≢ id → f.place ≡ away j → place ≡ away j)
       → IsPlaced lock (drawn f id place) (set views id (view_of (knows_next (f.next + 1) p ∷ []) s)) place
@@ -42,15 +43,15 @@ module _ {T E O : Type 0} (lock : Lock T E O) where
       (still (λ u. ticket u.stage ≡ some t) views id (f.taker t) v w at (λ none_is. absurd (some-ne-none t (sym none_is))) (kept.each_ticket t low (omega arith)))))
       placed
 
-  -- the words after a draw that wins
+  -- a draw that wins adds one to the word `next`
   drawn_words : (f : Facts T E) → set (f.served ∷ f.next ∷ []) 1 (either (eqb f.next f.next) (f.next + 1) f.next) ≡ f.served ∷ (f.next + 1) ∷ []
   drawn_words f = ap (λ b. f.served ∷ either b (f.next + 1) f.next ∷ []) (eq-eqb f.next f.next refl)
 
-  -- and after one that loses
+  -- a draw that loses leaves the words as they are
   missed_words : (f : Facts T E) (n : ℕ) → f.next ≢ n → set (f.served ∷ f.next ∷ []) 1 (either (eqb f.next n) (n + 1) f.next) ≡ f.served ∷ f.next ∷ []
   missed_words f n ne = ap (λ b. f.served ∷ either b (n + 1) f.next ∷ []) (ne_eqb f.next n ne)
 
-  -- the function of a draw of ticket n
+  -- what a draw of ticket n makes of the word `next`
   abbrev draw : ℕ → ℕ → ℕ
   draw n x = either (eqb x n) (n + 1) x
 
@@ -73,16 +74,17 @@ module _ {T E O : Type 0} (lock : Lock T E O) where
       (λ miss. unmoved lock id (v, []) 1 (draw n) then f views (after_next f.next Out v) (missed_words f n miss) (next_kept lock f views id v kept at)
       (record { newest = newest_next lock f views id v kept fits; won = λ hit. absurd (miss hit); lost = λ _. refl }))))
 
-  -- a place that is at home isn't away
+  -- the value isn't at home and away at once
   pub elsewhere : {x : T} (j : ℕ) → home x ≡ away j → ⊥
   elsewhere j e = cc
 
-  -- while a ticket is drawn and not finished, some pass has the one that is served
+  -- while a ticket is drawn and not finished, some seat has the ticket `served`, by a pass that is
+  -- its member
   pub taken_by : (f : Facts T E) (views : List (View E O)) → IsKept lock f views → f.served ≢ f.next → (k : ℕ) × (p : PassView E O) × HasTicket views k f.served × MemberFits lock f k p
   taken_by f views kept ne = let order = kept.order in let has = kept.each_ticket f.served (omega arith) (omega arith) in let k : ℕ = f.taker f.served in let theirs = kept.each_view k has.0 has.1 in
       let who = alone_with f.served has.0.stage has.0.members has.2 theirs.alone in (k, who.0, has, (subst (AllByRecursion (MemberFits lock f k)) who.1 theirs.members).0)
 
-  -- the one pass there is draws what is served
+  -- in a lock of one seat, the ticket that its pass saw served is the next one
   alone_hits : (f : Facts T E) (views : List (View E O)) (id : ℕ) (p : PassView E O) → IsKept lock f views → get_elem? views id ≡ some (view_of (p ∷ []) Out) → seats ≡ 1 → f.next ≡ p.served
   alone_hits f views id p kept at one = let mine = (kept.each_view id (view_of (p ∷ []) Out) at).members.0 in let words = (mine.one_seat one).1 in dite (ℕ_discrete f.served f.next) (λ e. omega arith)
       (λ ne. let who = taken_by f views kept ne in absurd (no_ticket views id who.0 f.served (view_of (p ∷ []) Out) at refl who.2 (one_seat lock f id who.0 p who.1 one mine who.3)))
@@ -96,7 +98,7 @@ module _ {T E O : Type 0} (lock : Lock T E O) where
   at_home f views (home x) kept is none = let h = subst (IsPlaced lock f views) is kept.is_placed in (x, refl, h.0, h.1)
   at_home f views (away k) kept is none = let h = subst (IsPlaced lock f views) is kept.is_placed in absurd (none k h.0 h.1 h.2)
 
-  -- with no ticket drawn and not finished no seat holds
+  -- while every ticket that was drawn is finished, the value is at home
   pub idle_home : (f : Facts T E) (views : List (View E O)) → IsKept lock f views → f.served ≡ f.next → (x : T) × (f.place ≡ home x) × (history x ≡ f.log) × (origin x ≡ root)
   idle_home f views kept same = at_home f views f.place kept refl (λ k v here holds. let low = (subst (StageFits lock f k) holds (kept.each_view k v here).stage).1 in omega arith)
 
@@ -109,7 +111,7 @@ module _ {T E O : Type 0} (lock : Lock T E O) where
       (λ j ne e. absurd (elsewhere j (sym there.1 ∙ e))) (w, set_here views id w (inside views id v at), (λ i. Holds (sym same i) (there.2 i))))
       (record { newest = newest_next lock f views id v kept fits; won = λ _. (x, (found f id x p at_home fits.members.0, tt), refl); lost = λ miss. absurd (miss refl) })
 
-  -- a try, after the load of what it expects
+  -- the draw of `try_take`, after the load of the ticket that it expects, is allowed
   pub tries : (slots id : ℕ) (m m1 : Me (Option T) (View E O)) (n : ℕ) → length m.0.members ≡ 1 → m.0.stage ≡ Out → m.1 ≡ in_hand m.0.stage → LoadsServed m n m1 → n < 2 ^ 63
       → Allows (LockRule lock) slots id m1 1 (λ x. either (eqb x n) (n + 1) x) (Tries history origin n m1)
   tries slots id m m1 n one out hand loads room = let p = knows_served n (only m.0.members one) in let v : View E O = view_of (p ∷ []) Out in let then = Tries history origin n (v, []) in

@@ -1,4 +1,4 @@
--- The table as it is opened, and what its last state says.
+-- The first state of a table, and what its last state shows.
 use Rattle.rd_lock.proofs.Prelude.{◌≡◌, ◌≢◌, ℕ, zero, suc, ◌+◌, ◌^◌, ◌<◌, ◌≤◌, List, [], ◌∷◌, sym, refl, ap, ◌∙◌, subst, inl, inr, ⊎_elim, arith, Option, Some, AllByRecursion, Apart, AreAll, Continues, Facts, Final, IsEnded, IsEndedWith, IsIn, IsKept, Lock, LockRule, MemberFits, NamesUpTo, Out, PassView, Place, Seen, State, View, ViewFits, dite, get_elem?, home, newcomers, numbers_of, opening, opening_view, single_slot, some, some-injective, some-ne-none, view_of, ℕ_discrete}
 use Rattle.rd_lock.proofs.Lists.{every_from}
 use Rattle.rd_lock.proofs.Draws.{idle_home, no_ticket, taken_by}
@@ -12,13 +12,13 @@ module _ (E : Type 0) {O : Type 0} where
   newcomers_apart seats root first k zero = tt
   newcomers_apart seats root first k (suc n) = (later seats root first k (suc k) n (omega arith), newcomers_apart seats root first (suc k) n)
 
-  -- each of this many passes is a newcomer
+  -- the numbers of n newcomers from k on are those from k to below k + n
   is_newcomer : (seats : ℕ) (root : O) (first k n j : ℕ) → k ≤ j → j < k + n → IsIn j (numbers_of {E = E} (newcomers seats root first k n))
   is_newcomer seats root first k zero j low high = absurd (omega arith)
   is_newcomer seats root first k (suc n) j low high = dite (ℕ_discrete k j) (λ e. inl e) (λ ne. inr (is_newcomer seats root first (suc k) n j (omega arith) (omega arith)))
 
 module _ {E O : Type 0} where
-  -- the member of this number
+  -- a member with this number, which is in the list; what holds of each member holds of it
   of_number : (ps : List (PassView E O)) (k : ℕ) (P : PassView E O → Type 0) → IsIn k (numbers_of ps) → AllByRecursion P ps → (p : PassView E O) × (p.pass ≡ k) × P p
   of_number [] k P h each = absurd h
   of_number (p ∷ ps) k P h each = ⊎_elim (λ (e : p.pass ≡ k). (p, e, each.0)) (λ (rest : IsIn k (numbers_of ps)). of_number ps k P rest each.1) h
@@ -58,7 +58,7 @@ module _ {T E O : Type 0} (lock : Lock T E O) where
     },
   )
 
-  -- where all passes are out, no ticket is open
+  -- if one seat has all passes and is out, every ticket that was drawn is finished
   none_open : (f : Facts T E) (views : List (View E O)) (id : ℕ) (ps : List (PassView E O)) → IsKept lock f views → get_elem? views id ≡ some (view_of ps Out)
       → AreAll seats (numbers_of ps) → f.served ≡ f.next
   none_open f views id ps kept at all = dite (ℕ_discrete f.served f.next) (λ e. e)
@@ -91,6 +91,6 @@ module _ {T E O : Type 0} (lock : Lock T E O) where
       (every_from (MemberFits lock f id) (λ p. (p.next ≤ f.next) × (p.served ≤ f.served) × Continues p.pass p.seen f.log) (λ p h. (h.words.0, h.words.1, h.continues)) v.members (kept.each_view id (view_of v.members Out) at).members)
       (none_open f s.views id v.members kept at)
 
-  -- and of one that was closed without
+  -- the last state of a table that was closed without a seat
   pub ends_alone : (ws : List ℕ) (xs : List (Option T)) → 0 < seats → Final (LockRule lock) ws xs → IsEndedWith lock [] ws xs
   ends_alone ws xs some_seat (s, r, words, _, values) = last s r [] ws xs words values tt (λ all. absurd (all 1 (omega arith) (omega arith)))

@@ -1,4 +1,4 @@
--- Functions of numbers, changed at one number.
+-- Functions of numbers, changed at one argument.
 use Rattle.std.proofs.Common.{◌≡◌, ◌≢◌, ℕ, cond, eqb, ap, eq-eqb, ne_eqb}
 
 abbrev pub put : (ℕ → ℕ) → ℕ → ℕ → ℕ → ℕ

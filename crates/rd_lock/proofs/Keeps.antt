@@ -3,35 +3,36 @@ use Rattle.rd_lock.proofs.Prelude.{◌≡◌, ◌≢◌, ℕ, ◌^◌, ◌<◌, 
 use Rattle.rd_lock.proofs.Lists.{inside, one_of}
 
 module _ {E O : Type 0} where
-  -- the ticket of a seat that waits or holds shows that it is alone
+  -- a seat that has a ticket has just one member
   pub alone_with : (t : ℕ) (s : Stage E) (ps : List (PassView E O)) → ticket s ≡ some t → IsAloneAt s ps → (p : PassView E O) × (ps ≡ p ∷ [])
   alone_with t Out ps e h = absurd (some-ne-none t (sym e))
   alone_with t (Waits u) ps e h = h
   alone_with t (Holds u found) ps e h = h
 
-  -- what holds of the view of some seat still does after a change of one view that keeps it
+  -- after a change of one view, what held of some seat's view still does, if the change keeps it
   pub still : (P : View E O → Type 0) (views : List (View E O)) (id k : ℕ) (v w : View E O) → get_elem? views id ≡ some v → (P v → P w) → (u : View E O) × (get_elem? views k ≡ some u) × P u
       → (u : View E O) × (get_elem? (set views id w) k ≡ some u) × P u
   still P views id k v w at on (u, here, has) = dite (ℕ_discrete k id)
       (λ e. (w, subst (λ (j : ℕ). get_elem? (set views id w) j ≡ some w) (sym e) (set_here views id w (inside views id v at)), on (subst P (some-injective u v (sym here ∙ (ap (λ (j : ℕ). get_elem? views j) e ∙ at))) has)))
       (λ ne. (u, set_else views id k w ne ∙ here, has))
 
-  -- and so does what holds of each view, if it holds of the new one
+  -- after a change of one view, what holds of each other view and of the new one holds of each
   pub each_set : (P : ℕ → View E O → Type 0) (views : List (View E O)) (id : ℕ) (w : View E O) → P id w → ((j : ℕ) (u : View E O) → j ≢ id → get_elem? views j ≡ some u → P j u)
       → (j : ℕ) (u : View E O) → get_elem? (set views id w) j ≡ some u → P j u
   each_set P views id w mine others j u e = ⊎_elim (λ (z : (j ≡ id) × (w ≡ u)). subst (λ (x : ℕ × View E O). P x.0 x.1) (λ i. (sym z.0 i, z.1 i)) mine)
       (λ (z : (j ≢ id) × (get_elem? views j ≡ some u)). others j u z.0 z.1) (at_set views id j w u e)
 
 module _ {T E O : Type 0} where
-  -- a seat with one member at this stage
+  -- what a seat with one member knows and has taken, given by the member and the stage
   pub single : (m : Me (Option T) (View E O)) (one : length m.0.members ≡ 1) (s : Stage E) → m.0.stage ≡ s → m.1 ≡ in_hand m.0.stage → m ≡ (view_of (only m.0.members one ∷ []) s, in_hand s)
   single m one s stage hand = λ i. (view_of (one_of m.0.members one i) (stage i), (hand ∙ ap (λ (x : Stage E). in_hand x) stage) i)
 
 module _ {T E O : Type 0} (lock : Lock T E O) where
   open lock use {seats}
 
-  -- what a step owes: its own view, of the same passes, that the other views still fit, the
-  -- tickets, and where the value is
+  -- what keeps the rule in a step that changes one view: the words are in order, the new view fits
+  -- and has the same passes, and the other views still fit. Each ticket has its seat, and the value
+  -- its place
   pub moved : (f g : Facts T E) (views : List (View E O)) (id : ℕ) (v w : View E O) → IsKept lock f views → get_elem? views id ≡ some v → g.served ≤ g.next → g.next ≤ 2 ^ 63 → NamesUpTo seats g.log → ViewFits lock g id w
       → g.owner ≡ f.owner → numbers_of w.members ≡ numbers_of v.members
       → ((j : ℕ) (u : View E O) → j ≢ id → get_elem? views j ≡ some u → ViewFits lock f j u → ViewFits lock g j u)
@@ -48,29 +49,31 @@ module _ {T E O : Type 0} (lock : Lock T E O) where
     is_placed = place;
   }
 
-  -- so is the value where it was, unless the seat holds and doesn't any more
+  -- the value is still in its place after a change of one view, unless that seat held and doesn't
+  -- any more
   pub place_still : (f g : Facts T E) (views : List (View E O)) (id : ℕ) (v w : View E O) (place : Place T) → get_elem? views id ≡ some v → (v.stage ≡ Holds f.served f.log → w.stage ≡ Holds g.served g.log)
       → g.log ≡ f.log → g.served ≡ f.served → IsPlaced lock f views place → IsPlaced lock g (set views id w) place
   place_still f g views id v w (home x) at holds log served h = grind arith
   place_still f g views id v w (away k) at holds log served h = still (λ u. u.stage ≡ Holds g.served g.log) views id k v w at (λ e. holds (grind arith)) (grind arith)
 
-  -- a step after which only this seat knows more
+  -- the rule is kept if the facts stay and a view changes only in what its members know
   pub knows_more : (f : Facts T E) (views : List (View E O)) (id : ℕ) (v w : View E O) → IsKept lock f views → get_elem? views id ≡ some v → w.stage ≡ v.stage → numbers_of w.members ≡ numbers_of v.members → ViewFits lock f id w → IsKept lock f (set views id w)
   knows_more f views id v w kept at same passes fits = moved f f views id v w kept at kept.order kept.limit kept.names fits refl passes (λ j u ne here h. h)
       (λ t low high. still (λ u. ticket u.stage ≡ some t) views id (f.taker t) v w at (λ e. ap ticket same ∙ e) (kept.each_ticket t low high))
       (place_still f f views id v w f.place at (λ e. same ∙ e) refl refl kept.is_placed)
 
-  -- what a step on a word owes, with the words and the slot put as the facts have them
+  -- what has to be shown of a step on a word: after it, there are facts that its words and its slot
+  -- agree with and that the views keep
   abbrev pub Owed : ℕ → Me (Option T) (View E O) → ℕ → (ℕ → ℕ) → (ℕ → Me (Option T) (View E O) → Type 0) → Facts T E → List (View E O) → Type 0
   Owed id me i F then f views = (w : View E O) × (a : Act (Option T)) × (g : Facts T E) × (set (f.served ∷ f.next ∷ []) i (F (get_or (f.served ∷ f.next ∷ []) i 0)) ≡ g.served ∷ g.next ∷ [])
       × Valid (single_slot f.place) me.1 a × (homes_after (single_slot f.place) me.1 a ≡ single_slot g.place) × IsKept lock g (set views id w) × then (get_or (f.served ∷ f.next ∷ []) i 0) (w, carried_after me.1 a)
 
-  -- a step that moves neither the words nor the value
+  -- what has to be shown, for a step that moves neither the words nor the value
   pub unmoved : (id : ℕ) (me : Me (Option T) (View E O)) (i : ℕ) (F : ℕ → ℕ) (then : ℕ → Me (Option T) (View E O) → Type 0) (f : Facts T E) (views : List (View E O)) (w : View E O)
       → set (f.served ∷ f.next ∷ []) i (F (get_or (f.served ∷ f.next ∷ []) i 0)) ≡ f.served ∷ f.next ∷ [] → IsKept lock f (set views id w) → then (get_or (f.served ∷ f.next ∷ []) i 0) (w, me.1) → Owed id me i F then f views
   unmoved id me i F then f views w same kept after = (w, keeps, f, same, tt, refl, kept, after)
 
-  -- a step that takes the value from home
+  -- what has to be shown, for a step that takes the value from home
   pub takes_home : (id : ℕ) (v : View E O) (i : ℕ) (F : ℕ → ℕ) (then : ℕ → Me (Option T) (View E O) → Type 0) (f g : Facts T E) (views : List (View E O)) (w : View E O) (x : T) → f.place ≡ home x → away id ≡ g.place
       → set (f.served ∷ f.next ∷ []) i (F (get_or (f.served ∷ f.next ∷ []) i 0)) ≡ g.served ∷ g.next ∷ [] → IsKept lock g (set views id w) → then (get_or (f.served ∷ f.next ∷ []) i 0) (w, (0, Some x) ∷ []) → Owed id (v, []) i F then f views
   takes_home id v i F then f g views w x there here words kept after = (

@@ -1,4 +1,4 @@
--- Histories, and facts of each element of a list.
+-- Histories, and facts about each element or each pair of elements of a list.
 use Rattle.rd_lock.proofs.Prelude.{AllByRecursion, AreComparable, Continues, IsPrefix, NamesUpTo, Pairwise, append-nil, common_steps, get_elem?, put_by, only, placed, signed, some, some-injective, some-ne-none, ◌≡◌, ◌≢◌, ℕ, zero, suc, ◌+◌, ◌<◌, ◌≤◌, ◌⊎◌, List, [], ◌∷◌, ◌++◌, map, length, sym, refl, ap, ◌∙◌, inl, inr, ⊎_elim, arith, append_assoc, add-zero, ne_eqb, eq-eqb}
 
 module _ {A : Type 0} where
@@ -12,7 +12,7 @@ module _ {A : Type 0} where
   inside (x ∷ xs) zero a e = omega arith
   inside (x ∷ xs) (suc i) a e = let r = inside xs i a e in omega arith
 
-  -- an element of a list with one more at the end
+  -- an element of a list with one more at the end is in the list or is that last one
   pub at_end : (l : List A) (a b : A) (j : ℕ) → get_elem? (l ++ a ∷ []) j ≡ some b → (get_elem? l j ≡ some b) ⊎ ((j ≡ length l) × (a ≡ b))
   at_end [] a b zero e = inr (refl, some-injective a b e)
   at_end [] a b (suc j) e = absurd (some-ne-none b (sym e))
@@ -42,18 +42,18 @@ module _ {A : Type 0} where
   pairwise_map f R [] h = tt
   pairwise_map f R (x ∷ xs) h = (every_map f (R (f x)) xs h.0, pairwise_map f R xs h.1)
 
-  -- what holds of each pair of elements of two lists makes the lists' pairwise facts those of the
-  -- list of both
+  -- R holds pairwise in two lists joined, if it does in each and between each element of the first
+  -- and each of the second
   pub pairwise_append : (R : A → A → Type 0) (xs ys : List A) → Pairwise R xs → Pairwise R ys → AllByRecursion (λ x. AllByRecursion (R x) ys) xs → Pairwise R (xs ++ ys)
   pairwise_append R [] ys h k b = k
   pairwise_append R (x ∷ xs) ys h k b = (every_append (R x) xs ys h.0 b.0, pairwise_append R xs ys h.1 k b.1)
 
-  -- where P of two elements gives R, and P holds of each, R holds of each pair
+  -- if P holds of each element, and P of two elements gives R, then R holds pairwise
   pub pairwise_all : (P : A → Type 0) (R : A → A → Type 0) → ((x y : A) → P x → P y → R x y) → (xs : List A) → AllByRecursion P xs → Pairwise R xs
   pairwise_all P R f [] h = tt
   pairwise_all P R f (x ∷ xs) h = (every_from P (R x) (λ y. f x y h.0) xs h.1, pairwise_all P R f xs h.1)
 
-  -- of two beginnings of one list one begins the other
+  -- of two beginnings of one list, one is a beginning of the other
   pub comparable : (xs ys zs : List A) → IsPrefix xs zs → IsPrefix ys zs → AreComparable xs ys
   comparable [] ys zs p q = inl (ys, refl)
   comparable (x ∷ xs) [] zs p q = inr (x ∷ xs, refl)
@@ -66,12 +66,12 @@ module _ {E : Type 0} where
   pub continues_same : (pass : ℕ) (xs : List (ℕ × E)) → Continues pass xs xs
   continues_same pass xs = ([], sym (append-nil xs), tt)
 
-  -- the entries of another pass are none of this one's
+  -- none of the entries that another pass signs names this one
   signed_else : (pass other : ℕ) (es : List E) → other ≢ pass → AllByRecursion (λ (e : ℕ × E). e.0 ≢ pass) (signed other es)
   signed_else pass other [] ne = tt
   signed_else pass other (e ∷ es) ne = (ne, signed_else pass other es ne)
 
-  -- what goes on from a history still does after another pass has put
+  -- a history that continues an old one for this pass still does after another pass has put entries
   pub continues_on : (pass other : ℕ) (old log new : List (ℕ × E)) (es : List E) → other ≢ pass → Continues pass old log → new ≡ log ++ signed other es → Continues pass old new
   continues_on pass other old log new es ne c is = (
     c.0 ++ signed other es,
@@ -79,7 +79,8 @@ module _ {E : Type 0} where
     every_append (λ (e : ℕ × E). e.0 ≢ pass) c.0 (signed other es) c.2 (signed_else pass other es ne),
   )
 
-  -- what two passes have seen begins one history
+  -- if one history continues what each of two passes has seen, one of them has seen a beginning of
+  -- what the other has
   pub in_order : (pass other : ℕ) (xs ys log : List (ℕ × E)) → Continues pass xs log → Continues other ys log → AreComparable xs ys
   in_order pass other xs ys log a b = comparable xs ys log (a.0, sym a.1) (b.0, sym b.1)
 
@@ -91,7 +92,8 @@ module _ {E : Type 0} where
   named_append pass k [] ys = ap (λ n. put_by pass n ys) (sym (add-zero k))
   named_append pass k (x ∷ xs) ys = grind (arith, named_append pass (suc k) xs ys)
 
-  -- a pass's own entries after a history that goes on by others alone, and then by these
+  -- a history continues what a pass had seen, and more entries are put after it: the pass's own
+  -- entries are those that it had, and then those among the new ones
   pub own_grows : (pass : ℕ) (old found es : List (ℕ × E)) → Continues pass old found → put_by pass 1 (found ++ es) ≡ put_by pass 1 old ++ put_by pass (1 + length found) es
   own_grows pass old found es c = named_append pass 1 found es ∙ ap (λ l. l ++ put_by pass (1 + length found) es)
       (ap (put_by pass 1) c.1 ∙ (named_append pass 1 old c.0 ∙ (ap (λ l. put_by pass 1 old ++ l) (named_else pass (1 + length old) c.0 c.2) ∙ append-nil (put_by pass 1 old))))
@@ -100,7 +102,7 @@ module _ {E : Type 0} where
   named_signed pass k [] = refl
   named_signed pass k (e ∷ es) = rw (eq-eqb pass pass refl) (ap (λ l. (k, e) ∷ l) (named_signed pass (suc k) es))
 
-  -- the same, where the pass puts these itself
+  -- the same if the pass puts the new entries itself: all of them are then its own
   pub own_signed : (pass : ℕ) (old found : List (ℕ × E)) (es : List E) → Continues pass old found → put_by pass 1 (found ++ signed pass es) ≡ put_by pass 1 old ++ placed (1 + length found) es
   own_signed pass old found es c = own_grows pass old found (signed pass es) c ∙ ap (λ l. put_by pass 1 old ++ l) (named_signed pass (1 + length found) es)
 

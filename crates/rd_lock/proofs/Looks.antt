@@ -1,4 +1,4 @@
--- Loads of the words, and draws.
+-- Loads of the words, and views that change only in what their members know.
 use Rattle.rd_lock.proofs.Prelude.{◌≡◌, ◌≢◌, ℕ, ◌^◌, ◌≤◌, List, map, set, sym, refl, ap, ◌∙◌, arith, Option, map-map, Allows, AreComparable, Facts, Holds, IsAloneAt, IsKept, IsNewestNext, IsNewestServed, LoadsNext, LoadsServed, Lock, LockRule, Me, MemberFits, Out, PassView, Stage, StageFits, View, ViewFits, Waits, after_next, after_served, get_elem?, knows_next, knows_served, some, view_of}
 use Rattle.rd_lock.proofs.Lists.{every_from, every_map, pairwise_from, pairwise_map, pairwise_all, in_order}
 use Rattle.rd_lock.proofs.Keeps.{knows_more, allowed, unmoved}
@@ -12,7 +12,7 @@ module _ {E O : Type 0} where
 module _ {T E O : Type 0} (lock : Lock T E O) where
   open lock use {seats}
 
-  -- a view each of whose members knows more
+  -- a view still fits if what each member knows is changed so that the member still fits
   pub maps_fit : (f g : Facts T E) (id : ℕ) (k : PassView E O → PassView E O) (v : View E O) (s : Stage E) → ((p : PassView E O) → (k p).pass ≡ p.pass) → ((p : PassView E O) → MemberFits lock f id p → MemberFits lock g id (k p))
       → StageFits lock g id s → IsAloneAt s v.members → ViewFits lock f id v → ViewFits lock g id (view_of (map k v.members) s)
   maps_fit f g id k v s same suits stage alone fits = record {
@@ -22,12 +22,12 @@ module _ {T E O : Type 0} (lock : Lock T E O) where
     alone = alone_map k s v.members alone;
   }
 
-  -- another seat's view, whose members and stage still fit
+  -- another seat's view still fits if its members and its stage do
   pub others_fit : (f g : Facts T E) (j : ℕ) (u : View E O) → ((p : PassView E O) → MemberFits lock f j p → MemberFits lock g j p) → ((s : Stage E) → StageFits lock f j s → StageFits lock g j s)
       → ViewFits lock f j u → ViewFits lock g j u
   others_fit f g j u suits stays h = grind (arith, every_from)
 
-  -- where there is one seat, there is one pass
+  -- in a lock of one seat, any two passes are in the same seat
   pub one_seat : (f : Facts T E) (i j : ℕ) (p q : PassView E O) → seats ≡ 1 → MemberFits lock f i p → MemberFits lock f j q → j ≡ i
   one_seat f i j p q one a b = let x = a.numbered in let y = b.numbered in let same : q.pass ≡ p.pass = omega arith in sym b.owned ∙ (ap f.owner same ∙ a.owned)
 
@@ -43,13 +43,13 @@ module _ {T E O : Type 0} (lock : Lock T E O) where
   pub newest_served : (f : Facts T E) (views : List (View E O)) (id : ℕ) (v : View E O) → IsKept lock f views → ViewFits lock f id v → IsNewestServed f.served v
   newest_served f views id v kept fits = let a = kept.limit in let b = kept.order in (omega arith, every_from (MemberFits lock f id) (λ p. (p.served ≤ f.served) × (p.next ≤ 2 ^ 63)) (λ p h. let low = h.words.0 in (h.words.1, omega arith)) v.members fits.members)
 
-  -- the view after a load of next
+  -- the rule is kept after a load of the word `next`
   pub next_kept : (f : Facts T E) (views : List (View E O)) (id : ℕ) (v : View E O) → IsKept lock f views → get_elem? views id ≡ some v → IsKept lock f (set views id (after_next f.next v.stage v))
   next_kept f views id v kept at = let fits = kept.each_view id v at in
       knows_more lock f views id v (after_next f.next v.stage v) kept at refl (map-map (λ p. p.pass) (knows_next f.next) v.members)
       (maps_fit f f id (knows_next f.next) v v.stage (λ p. refl) (next_suits f id) fits.stage fits.alone fits)
 
-  -- the view after a load of served
+  -- the rule is kept after a load of the word `served`
   pub served_kept : (f : Facts T E) (views : List (View E O)) (id : ℕ) (v : View E O) → IsKept lock f views → get_elem? views id ≡ some v → IsKept lock f (set views id (after_served f.served v.stage v))
   served_kept f views id v kept at = let fits = kept.each_view id v at in
       knows_more lock f views id v (after_served f.served v.stage v) kept at refl (map-map (λ p. p.pass) (knows_served f.served) v.members)

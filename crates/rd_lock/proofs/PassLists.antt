@@ -12,7 +12,7 @@ module _ {A : Type 0} where
   every_back P [] ys h = h
   every_back P (x ∷ xs) ys h = every_back P xs ys h.1
 
-  -- what holds of what a function gives for each element
+  -- what holds of each element of a mapped list holds of the image of each element
   pub of_each : {B : Type 0} (f : A → B) (P : B → Type 0) (xs : List A) → AllByRecursion P (map f xs) → AllByRecursion (λ x. P (f x)) xs
   of_each f P [] h = tt
   of_each f P (x ∷ xs) h = (h.0, of_each f P xs h.1)
@@ -35,6 +35,6 @@ module _ {T E O : Type 0} (lock : Lock T E O) where
       (splits lock id p ps)
 
 module _ {T E O : Type 0} {K : Ghosts T E O} where
-  -- the last pass is taken from the list
+  -- all members stay when the last pass leaves the list and its members go to the joined seat
   pub popped : (old new : List (Pass T E O K)) (x : Pass T E O K) (ps all : List (PassView E O)) → old ≡ new ++ x ∷ [] → map me old ++ ps ≡ all → map me new ++ (x.seat.me.0.members ++ ps) ≡ all
   popped old new x ps all is h = grind (arith, append_assoc, map-append, one_of)

@@ -10,7 +10,7 @@ module _ {T E O : Type 0} (lock : Lock T E O) where
   abbrev done : Facts T E → T → Facts T E
   done f x = record { next = f.next; served = f.served + 1; log = history x; owner = f.owner; taker = f.taker; place = home x }
 
-  -- another pass's member, whose entries are as they were
+  -- a member of another seat still fits, since no new entry is its own
   done_suits : (f : Facts T E) (id j : ℕ) (x : T) (es : List E) (p q : PassView E O) → MemberFits lock f id p → j ≢ id → history x ≡ f.log ++ signed p.pass es → MemberFits lock f j q → MemberFits lock (done f x) j q
   done_suits f id j x es p q mine ne added h = record {
     owned = h.owned;
@@ -21,7 +21,7 @@ module _ {T E O : Type 0} (lock : Lock T E O) where
     one_seat = λ one. absurd (ne (one_seat lock f id j p q one mine h));
   }
 
-  -- the pass that put
+  -- the pass that put still fits
   putter_suits : (f : Facts T E) (id : ℕ) (x : T) (p : PassView E O) → MemberFits lock f id p → MemberFits lock (done f x) id (has_put (history x) (f.served + 1) p)
   putter_suits f id x p h = grind (arith, continues_same)
 
@@ -55,7 +55,7 @@ module _ {T E O : Type 0} (lock : Lock T E O) where
         },
       )
 
-  -- a holder with the value that it puts back
+  -- the release of a pass that holds, with a value that it may put back, is allowed
   pub releases : (slots id : ℕ) (v : View E O) (m : Me (Option T) (View E O)) (x : T) (one : length v.members ≡ 1) (t : ℕ) (log : List (ℕ × E)) → KnowsOpening seats root (only v.members one) → origin x ≡ root
       → v.stage ≡ Holds t log → Adds (only v.members one).pass log (history x) → m ≡ (v, (0, Some x) ∷ []) → Allows (LockRule lock) slots id m 0 (λ n. (n + 1) % 2 ^ 64) (Releases history origin m)
   releases slots id v m x one t log knows rooted stage adds is = let p = only v.members one in let held : Me (Option T) (View E O) = (view_of (p ∷ []) (Holds t log), (0, Some x) ∷ []) in

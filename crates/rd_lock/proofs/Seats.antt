@@ -1,4 +1,4 @@
--- Two seats made one, and one made two.
+-- Joining two seats, and splitting one.
 use Rattle.rd_lock.proofs.Prelude.{◌≡◌, ◌≢◌, ℕ, cond, eqb, List, [], ◌∷◌, ◌++◌, length, set, sym, refl, ap, ◌∙◌, subst, inl, inr, ⊎_elim, eq-eqb, ne_eqb, arith, AllByRecursion, Facts, HasPass, IsIn, IsPlaced, Joins, Lock, LockRule, MemberFits, Out, PassView, Place, Splits, Stage, StageFits, View, ViewFits, at_last, at_longer, dite, get_elem?, numbers_of, set_else, set_here, some, some-injective, ticket, view_of, ℕ_discrete}
 use Rattle.rd_lock.proofs.Lists.{inside, at_end, every_append, every_both, pairwise_append, every_from}
 use Rattle.rd_lock.proofs.Facts.{put, put_here, put_else}
@@ -14,7 +14,7 @@ module _ {E O : Type 0} where
   is_in_back k [] qs h = h
   is_in_back k (p ∷ ps) qs h = inr (is_in_back k ps qs h)
 
-  -- after two seats are made one, each pass is in the seat that has its view
+  -- after a join each pass is in the seat that has its view
   joined_passes : (views : List (View E O)) (id other : ℕ) (v w both spent : View E O) (seat k : ℕ) → other ≢ id → both.members ≡ w.members ++ v.members → get_elem? views id ≡ some v → get_elem? views other ≡ some w
       → HasPass views seat k → HasPass (set (set views id both) other spent) (cond (eqb seat other) id seat) k
   joined_passes views id other v w both spent seat k apart is at there has = let joining = set views id both in let at_id : get_elem? joining id ≡ some both = set_here views id both (inside views id v at) in
@@ -27,7 +27,7 @@ module _ {E O : Type 0} where
       (λ ne. subst (λ (j : ℕ). HasPass (set joining other spent) j k) (sym (ap (λ b. cond b id seat) (ne_eqb seat other ne)))
       (let r = still (λ x. IsIn k (numbers_of x.members)) views id seat v both at (λ h. subst (λ ps. IsIn k (numbers_of ps)) (sym is) (is_in_back k w.members v.members h)) has in (r.0, set_else joining other seat spent ne ∙ r.1, r.2)))
 
-  -- after one seat is made two, each pass is in the seat that has its view
+  -- after a split each pass is in the seat that has its view
   parted_passes : (views : List (View E O)) (id : ℕ) (p : PassView E O) (ps : List (PassView E O)) (owner : ℕ → ℕ) (k : ℕ) → get_elem? views id ≡ some (view_of (p ∷ ps) Out) → HasPass views (owner k) k
       → HasPass (set views id (view_of ps Out) ++ view_of (p ∷ []) Out ∷ []) (put owner p.pass (length (set views id (view_of ps Out))) k) k
   parted_passes views id p ps owner k at has = let left : View E O = view_of ps Out in let right : View E O = view_of (p ∷ []) Out in let leaving = set views id left in let new = length leaving in
@@ -44,22 +44,22 @@ module _ {T E O : Type 0} (lock : Lock T E O) where
   abbrev joined : Facts T E → ℕ → ℕ → Facts T E
   joined f id other = record { next = f.next; served = f.served; log = f.log; owner = λ p. cond (eqb (f.owner p) other) id (f.owner p); taker = f.taker; place = f.place }
 
-  -- one who comes over
+  -- a member of the seat `other` fits in the seat `id` after the join
   comes : (f : Facts T E) (id other : ℕ) (p : PassView E O) → MemberFits lock f other p → MemberFits lock (joined f id other) id p
   comes f id other p h = grind arith
 
-  -- one who stays
+  -- a member of any other seat still fits after the join
   stays : (f : Facts T E) (id other j : ℕ) (p : PassView E O) → j ≢ other → MemberFits lock f j p → MemberFits lock (joined f id other) j p
   stays f id other j p ne h = grind arith
 
   same_stage : (f : Facts T E) (id other j : ℕ) (s : Stage E) → StageFits lock f j s → StageFits lock (joined f id other) j s
   same_stage f id other j s h = grind arith
 
-  -- members of two seats are apart
+  -- no member of one seat is the same pass as a member of another
   across : (f : Facts T E) (id other : ℕ) (ps qs : List (PassView E O)) → other ≢ id → AllByRecursion (MemberFits lock f id) ps → AllByRecursion (MemberFits lock f other) qs → AllByRecursion (λ q. AllByRecursion (λ (p : PassView E O). p.pass ≢ q.pass) ps) qs
   across f id other ps qs ne mine theirs = grind (arith, every_from)
 
-  -- a ticket or the value is with neither of two seats that are out
+  -- the join of two seats that are out is allowed, since neither has a ticket or the value
   pub joins : (id other : ℕ) (v w : View E O) → v.stage ≡ Out → w.stage ≡ Out → Joins (LockRule lock) id v other w (view_of (w.members ++ v.members) Out) (view_of [] Out)
   joins id other v w out out' s r at apart there = let f = r.0 in let kept = r.3 in let both : View E O = view_of (w.members ++ v.members) Out in let spent : View E O = view_of [] Out in
       let g = joined f id other in let views = set s.views id both in let was : get_elem? s.views other ≡ some w = sym (set_else s.views id other both apart) ∙ there in
@@ -100,7 +100,7 @@ module _ {T E O : Type 0} (lock : Lock T E O) where
   stage_in : (f : Facts T E) (j pass new : ℕ) (s : Stage E) → StageFits lock f j s → StageFits lock (parted f pass new) j s
   stage_in f j pass new s h = grind arith
 
-  -- the value stays where it is when a seat comes
+  -- the value is still in its place after a seat is added
   place_longer : (f g : Facts T E) (views : List (View E O)) (w : View E O) (place : Place T) → g.log ≡ f.log → g.served ≡ f.served → IsPlaced lock f views place → IsPlaced lock g (views ++ w ∷ []) place
   place_longer f g views w place log served h = grind (arith, at_longer)
 

@@ -1,4 +1,4 @@
--- Loads of served by a pass that waits.
+-- Loads of the word `served` by a pass that waits.
 use Rattle.rd_lock.proofs.Prelude.{◌≡◌, ℕ, List, [], ◌∷◌, sym, refl, ap, ◌∙◌, subst, arith, length, Option, Allows, Facts, Holds, IsKept, Lock, LockRule, Me, MemberFits, PassView, Polls, Stage, StageFits, View, Waits, ℕ_discrete, after_served, away, dite, get_elem?, home, in_hand, knows_served, only, set_here, some, ticket, view_of}
 use Rattle.rd_lock.proofs.Lists.{inside}
 use Rattle.rd_lock.proofs.Keeps.{allowed, moved, Owed, single, still, takes_home, unmoved}

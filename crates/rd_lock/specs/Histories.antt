@@ -1,4 +1,4 @@
--- Lists, and histories: each entry with the number of the pass that put it.
+-- Lists and histories. A history is a list of entries, each with the number of the pass that put it
 use Rattle.std.specs.Prelude.{◌≡◌, ◌≢◌, ◌⊎◌, ℕ, zero, suc, ◌<◌, ◌≤◌, ◌==◌, cond, List, [], ◌∷◌, ◌++◌, length, map}
 use mathlib.Core.Path.{sym}
 use native.Mathlib.Nat.{suc-ne-zero}
@@ -6,17 +6,17 @@ use mathlib.Core.List.{IsPrefix}
 use Rattle.std.specs.List.{AllByRecursion}
 
 module _ {A : Type 0} where
-  -- the one element of a list of one
+  -- the element of a list that has just one
   abbrev pub only : (xs : List A) → length xs ≡ 1 → A
   only [] one = absurd (suc-ne-zero 0 (sym one))
   only (x ∷ xs) one = x
 
-  -- R holds of each element and each later one
+  -- the relation R holds between each element of the list and each later one
   abbrev pub Pairwise : (A → A → Type 0) → List A → Type 0
   Pairwise R [] = Unit {0}
   Pairwise R (x ∷ xs) = AllByRecursion (R x) xs × Pairwise R xs
 
-  -- one of the two lists begins the other
+  -- one of the two lists is a beginning of the other
   abbrev pub AreComparable : List A → List A → Type 0
   AreComparable xs ys = IsPrefix xs ys ⊎ IsPrefix ys xs
 
@@ -29,35 +29,35 @@ IsIn n (x ∷ xs) = (x ≡ n) ⊎ IsIn n xs
 abbrev pub AreAll : ℕ → List ℕ → Type 0
 AreAll n xs = (k : ℕ) → 0 < k → k ≤ n → IsIn k xs
 
--- the n numbers from k on
+-- the list of the n numbers from k on
 abbrev pub numbers : ℕ → ℕ → List ℕ
 numbers k zero = []
 numbers k (suc n) = k ∷ numbers (suc k) n
 
 module _ {E : Type 0} where
-  -- the entries of a history that name the pass, each with its position, where the first entry of
-  -- the list is at position k
+  -- the entries of a history that name the pass, each with its position instead of that number; the
+  -- first entry of the history has position k
   abbrev pub put_by : ℕ → ℕ → List (ℕ × E) → List (ℕ × E)
   put_by pass k [] = []
   put_by pass k (x ∷ xs) = cond (x.0 == pass) ((k, x.1) ∷ put_by pass (suc k) xs) (put_by pass (suc k) xs)
 
-  -- the history `new` goes on from `old` by entries of other passes alone
+  -- `new` is the history `old`, followed by entries of other passes only
   abbrev pub Continues : ℕ → List (ℕ × E) → List (ℕ × E) → Type 0
   Continues pass old new = (between : List (ℕ × E)) × (new ≡ old ++ between) × AllByRecursion (λ (e : ℕ × E). e.0 ≢ pass) between
 
-  -- these entries, each with the number of this pass, as the pass puts them
+  -- the entries, each with the number of the pass that puts them
   abbrev pub signed : ℕ → List E → List (ℕ × E)
   signed pass es = map (λ (e : E). (pass, e)) es
 
-  -- these entries, each with its position, where the first is at position k
+  -- the entries, each with its position; the first has position k
   abbrev pub placed : ℕ → List E → List (ℕ × E)
   placed k [] = []
   placed k (e ∷ es) = (k, e) ∷ placed (suc k) es
 
-  -- the history `new` is `old` and then entries of this pass
+  -- `new` is the history `old`, followed by entries of this pass only
   abbrev pub Adds : ℕ → List (ℕ × E) → List (ℕ × E) → Type 0
   Adds pass old new = (es : List E) × (new ≡ old ++ signed pass es)
 
-  -- each entry names a pass from 1 to n
+  -- each entry names a pass whose number is from 1 to n
   abbrev pub NamesUpTo : ℕ → List (ℕ × E) → Type 0
   NamesUpTo n xs = AllByRecursion (λ (x : ℕ × E). (0 < x.0) × (x.0 ≤ n)) xs

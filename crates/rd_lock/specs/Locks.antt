@@ -10,11 +10,11 @@ use Rattle.rd_lock.specs.Histories.{only, put_by, signed, placed, Adds, Continue
 use Rattle.rd_lock.specs.Rule.{KnowsOpening}
 
 module _ {T E O : Type 0} where
-  -- how many passes the lock was opened with
+  -- the number of seats that the lock was opened with, one for each pass
   abbrev pub seats : TicketLock T E O → ℕ
   seats lock = lock.table.shared.key.seats
 
-  -- the origin of what the lock was opened with
+  -- the origin of the value that the lock was opened with
   abbrev pub opened_origin : (T → O) → TicketLock T E O → O
   opened_origin origin lock = origin lock.table.shared.key.value.value
 
@@ -27,7 +27,7 @@ module _ {T E O : Type 0} {K : Ghosts T E O} where
   abbrev pub number : Pass T E O K → ℕ
   number pass = (me pass).pass
 
-  -- the history that the pass has seen last
+  -- the history of the value when the pass last put it back; empty before the first time
   abbrev pub seen : Pass T E O K → List (ℕ × E)
   seen pass = (me pass).seen
 
@@ -35,7 +35,8 @@ module _ {T E O : Type 0} {K : Ghosts T E O} where
   abbrev pub own : Pass T E O K → List (ℕ × E)
   own pass = put_by (number pass) 1 (seen pass)
 
-  -- the greatest value of the word `next` that the pass knows of
+  -- the greatest value that the pass knows the word `next` to have reached; a load of `served`
+  -- counts too, since `next` is never below it
   abbrev pub next_seen : Pass T E O K → ℕ
   next_seen pass = (me pass).next
 
@@ -47,15 +48,16 @@ module _ {T E O : Type 0} {K : Ghosts T E O} where
   abbrev pub IsOut : Pass T E O K → Type 0
   IsOut pass = pass.seat.me.0.stage ≡ Out
 
-  -- the pass waits with this ticket, as it does only inside a call
+  -- the pass waits with this ticket; it does so only inside `take`
   abbrev pub IsWaiting : Pass T E O K → ℕ → Type 0
   IsWaiting pass ticket = pass.seat.me.0.stage ≡ Waits ticket
 
-  -- the pass holds by this ticket, and the value that it took had this history
+  -- the pass holds the value by this ticket, and found it with this history
   abbrev pub IsHolding : Pass T E O K → ℕ → List (ℕ × E) → Type 0
   IsHolding pass ticket found = pass.seat.me.0.stage ≡ Holds ticket found
 
-  -- the pass is one of the lock's
+  -- the pass is one of this lock's: its seat is at the lock's table, and it knows how the lock was
+  -- opened
   pub record IsPassOf (lock : TicketLock T E O) (pass : Pass T E O K) : Type 0 where
     pub table : pass.seat.table_id ≡ lock.table.shared.table_id
     pub knows_opening : KnowsOpening (seats lock) (opened_origin K.origin lock) (me pass)
@@ -71,28 +73,30 @@ module _ {T E O : Type 0} {K : Ghosts T E O} where
     pub same_seen : seen new ≡ seen old
     pub words : KnowsMore old new
 
-  -- after a take the pass holds this value by a ticket that there is; the value has the lock's
-  -- origin, and its history goes on from what the pass had seen by entries of others alone
+  -- after a take the pass holds by a ticket below 2^63, and found the value with its present
+  -- history. The value has the lock's origin, and its history is what the pass had seen, followed
+  -- by entries of other passes only
   pub record IsTaken (lock : TicketLock T E O) (old new : Pass T E O K) (value : T) : Type 0 where
     pub rooted : K.origin value ≡ opened_origin K.origin lock
     pub continues : Continues (number old) (seen old) (K.history value)
     pub held : (ticket : ℕ) × (ticket < 2 ^ 63) × IsHolding new ticket (K.history value)
 
-  -- why the pass took nothing: `Busy` with the greatest words that it has seen, which differ, or
-  -- `TicketsEnded` if the next ticket is beyond the last
+  -- why the pass took nothing: `Busy` with the greatest words that it has seen, which differ and
+  -- leave a ticket to draw; or `TicketsEnded`, if the pass knows that `next` has reached 2^63
   abbrev pub IsMissed : Pass T E O K → TryTakeError → Type 0
   IsMissed pass (TryTakeError.Busy words) = (words.next ≡ next_seen pass) × (words.served ≡ served_seen pass) × (words.served < words.next) × (words.next < 2 ^ 63)
   IsMissed pass TryTakeError.TicketsEnded = next_seen pass ≡ 2 ^ 63
 
-  -- the pass holds and may put this value back: its origin is the lock's, and its history is the
-  -- one that the pass found and then entries of the pass
+  -- the pass holds and may put this value back: the value has the lock's origin, and its history is
+  -- what the pass found, followed by entries of this pass only
   pub record IsDue (lock : TicketLock T E O) (pass : Pass T E O K) (value : T) : Type 0 where
     pub rooted : K.origin value ≡ opened_origin K.origin lock
     pub held : (ticket : ℕ) × (found : List (ℕ × E)) × IsHolding pass ticket found × Adds (number pass) found (K.history value)
 
-  -- after a put the pass has seen just this value's history; what it found went on from what it had
-  -- seen by entries of others alone, so its own entries are those that it had and then those that it
-  -- put, each with its position
+  -- after a put the pass has its number, has seen just this value's history, and knows no less of
+  -- the words. The history that it found was what it had seen, followed by entries of other passes
+  -- only. So its own entries are those that it had, followed by those that it put, each with its
+  -- position
   pub record HasPut (old new : Pass T E O K) (value : T) : Type 0 where
     pub same_number : number new ≡ number old
     pub continues : (ticket : ℕ) (found : List (ℕ × E)) → IsHolding old ticket found → Continues (number old) (seen old) found

@@ -1,5 +1,5 @@
--- The invariant of the lock: what holds at all times of its words, of its slot, and of what each
--- seat knows.
+-- The invariant of the lock: what holds between any two steps of its words, of its slot, and of
+-- what each seat knows.
 use Rattle.std.specs.Prelude.{◌≡◌, ◌≢◌, ℕ, zero, suc, ◌^◌, ◌<◌, ◌≤◌, List, [], ◌∷◌, map, Option, Some, None}
 use mathlib.Core.Option.{some, none}
 use mathlib.Core.Option as maybe
@@ -12,8 +12,8 @@ use Rattle.rd_lock.specs.declared.views.Stage.TheVariants.{Out, Waits, Holds}
 use Rattle.rd_lock.specs.Histories.{Pairwise, IsIn, Continues, NamesUpTo}
 use Rattle.std.specs.List.{AllByRecursion}
 
--- what stays of a lock: how what it guards is read, the number of its seats, and the origin of what
--- it was opened with
+-- what never changes of a lock: how the history and the origin of a value are read, the number of
+-- its seats, and the origin of the value that it was opened with (`root`)
 pub record Lock (T E O : Type 0) : Type 0 where
   pub history : T → List (ℕ × E)
   pub origin : T → O
@@ -25,24 +25,28 @@ pub data Place (T : Type 0) : Type 0 where
   home : T → Place T
   away : ℕ → Place T
 
--- the whole state, which no thread knows alone: the words, the history of the value at home or as
--- the holder found it, the seat of each pass, the seat of each ticket that is drawn and not
--- finished, and where the value is
+-- the whole state of the lock, which no thread knows alone
 pub record Facts (T E : Type 0) : Type 0 where
+  -- the word `next`
   pub next : ℕ
+  -- the word `served`
   pub served : ℕ
+  -- the history of the value, as it is in the slot or as the holder found it
   pub log : List (ℕ × E)
+  -- the seat of the pass of this number
   pub owner : ℕ → ℕ
+  -- the seat of this ticket, if it is drawn and not finished
   pub taker : ℕ → ℕ
+  -- where the value is
   pub place : Place T
 
 module _ {T E O : Type 0} where
-  -- the lock that is read in these ways, with so many seats and this origin
+  -- the lock with these ways to read a value's history and origin, this many seats and this origin
   abbrev pub lock_of : (T → List (ℕ × E)) → (T → O) → ℕ → O → Lock T E O
   lock_of history origin seats root = record { history = history; origin = origin; seats = seats; root = root }
 
 module _ {E : Type 0} where
-  -- the ticket of a seat that waits or holds; none if it does neither
+  -- the ticket by which a seat at this stage waits or holds; none if it does neither
   abbrev pub ticket : Stage E → maybe.Option ℕ
   ticket Out = none
   ticket (Waits t) = some t
@@ -57,7 +61,7 @@ module _ {E O : Type 0} where
   abbrev pub KnowsOpening : ℕ → O → PassView E O → Type 0
   KnowsOpening seats root p = (p.seats ≡ seats) × (p.origin ≡ root)
 
-  -- the list of the first member alone
+  -- the list of the first member alone, if there is one
   abbrev pub first_of_members : List (PassView E O) → List (PassView E O)
   first_of_members [] = []
   first_of_members (p ∷ ps) = p ∷ []
@@ -71,7 +75,7 @@ module _ {E O : Type 0} where
   abbrev pub Apart : List (PassView E O) → Type 0
   Apart ps = Pairwise (λ (p q : PassView E O). q.pass ≢ p.pass) ps
 
-  -- a seat that waits or holds has just one member
+  -- a seat at this stage has just one member, if it waits or holds
   abbrev pub IsAloneAt : Stage E → List (PassView E O) → Type 0
   IsAloneAt Out ps = Unit {0}
   IsAloneAt (Waits t) ps = (p : PassView E O) × (ps ≡ p ∷ [])
@@ -81,11 +85,11 @@ module _ {E O : Type 0} where
   abbrev pub HasView : List (View E O) → ℕ → View E O → Type 0
   HasView views seat v = get_elem? views seat ≡ some v
 
-  -- the seat of this number has the ticket
+  -- the seat of this number waits or holds by the ticket
   abbrev pub HasTicket : List (View E O) → ℕ → ℕ → Type 0
   HasTicket views seat t = (v : View E O) × HasView views seat v × (ticket v.stage ≡ some t)
 
-  -- the numbers of the passes that these members are
+  -- the pass numbers of these members
   abbrev pub numbers_of : List (PassView E O) → List ℕ
   numbers_of ps = map (λ (p : PassView E O). p.pass) ps
 
@@ -93,30 +97,31 @@ module _ {E O : Type 0} where
   abbrev pub HasPass : List (View E O) → ℕ → ℕ → Type 0
   HasPass views seat pass = (v : View E O) × HasView views seat v × IsIn pass (numbers_of v.members)
 
-  -- the view of this pass of a lock with this many seats and this origin, which was just opened with
-  -- both words at `first`: it has seen nothing
+  -- what this pass knows of a lock that was just opened with this many seats, this origin and both
+  -- words at `first`: it has seen no history
   abbrev pub newcomer : ℕ → O → ℕ → ℕ → PassView E O
   newcomer seats root first pass = record { pass = pass; seats = seats; origin = root; seen = []; next = first; served = first }
 
-  -- the views of this many passes of the same lock, with the numbers from `pass` on
+  -- what n passes of such a lock know, with the numbers from `pass` on
   abbrev pub newcomers : ℕ → O → ℕ → ℕ → ℕ → List (PassView E O)
   newcomers seats root first pass zero = []
   newcomers seats root first pass (suc n) = newcomer seats root first pass ∷ newcomers seats root first (suc pass) n
 
-  -- the view of the first seat of a lock that was just opened: all passes are its members
+  -- the view of the first seat of a lock that was just opened: all passes are its members, and it
+  -- is out
   abbrev pub opening_view : ℕ → O → ℕ → View E O
   opening_view seats root first = view_of (newcomers seats root first 1 seats) Out
 
 module _ {T E : Type 0} where
-  -- the slots that a seat at this stage has taken between two calls: a holder has slot 0, which it
-  -- left empty
+  -- the slots that a seat at this stage has taken, as they are between two calls: a holder has
+  -- taken slot 0 and left it empty
   abbrev pub in_hand : Stage E → List (ℕ × Option T)
   in_hand Out = []
   in_hand (Waits t) = []
   in_hand (Holds t found) = (0, None) ∷ []
 
 module _ {T : Type 0} where
-  -- the table's one slot: it has the value at home, and else is taken
+  -- the table's one slot: it has the value if that is at home, and is taken if the value is away
   abbrev pub single_slot : Place T → List (maybe.Option (Option T))
   single_slot (home x) = some (Some x) ∷ []
   single_slot (away seat) = none ∷ []
@@ -124,20 +129,22 @@ module _ {T : Type 0} where
 module _ {T E O : Type 0} (lock : Lock T E O) where
   -- what holds of a pass that is a member of the seat of this number
   pub record MemberFits (f : Facts T E) (seat : ℕ) (p : PassView E O) : Type 0 where
-    -- the seat is the one pass's
+    -- this is the pass's only seat
     pub owned : f.owner p.pass ≡ seat
-    -- passes have the numbers from 1 to that of the seats
+    -- passes are numbered from 1 to the number of seats
     pub numbered : (0 < p.pass) × (p.pass ≤ lock.seats)
-    -- a pass knows what the lock was opened with
+    -- the pass knows how the lock was opened
     pub knows_opening : KnowsOpening lock.seats lock.root p
-    -- since the pass has seen the history, only others have put
+    -- the present history is what the pass has seen, followed by entries of other passes only
     pub continues : Continues p.pass p.seen f.log
     -- no pass has seen a word above its present value
     pub words : (p.next ≤ f.next) × (p.served ≤ f.served)
-    -- with one seat alone, the words that it has seen are the present ones: nobody else moves them
+    -- in a lock of one seat the pass has seen the present words, since nobody else moves them
     pub one_seat : lock.seats ≡ 1 → (p.next ≡ f.next) × (p.served ≡ f.served)
 
-  -- what holds of the seat of this number at this stage
+  -- what holds of the seat of this number at this stage. A ticket with which it waits is drawn and
+  -- not finished; one by which it holds is the one served, and the seat has the value and found the
+  -- present history
   abbrev pub StageFits : Facts T E → ℕ → Stage E → Type 0
   StageFits f seat Out = Unit {0}
   StageFits f seat (Waits t) = (f.served ≤ t) × (t < f.next) × (f.taker t ≡ seat)
@@ -147,36 +154,35 @@ module _ {T E O : Type 0} (lock : Lock T E O) where
   pub record ViewFits (f : Facts T E) (seat : ℕ) (v : View E O) : Type 0 where
     -- each member is a pass of this seat
     pub members : AllByRecursion (MemberFits f seat) v.members
-    -- and no two are the same
+    -- no two members are the same pass
     pub apart : Apart v.members
-    -- a ticket that waits or is held is drawn, not finished, and this seat's
+    -- a ticket by which the seat waits or holds is drawn, not finished, and its own
     pub stage : StageFits f seat v.stage
     -- a seat that waits or holds has one member
     pub alone : IsAloneAt v.stage v.members
 
-  -- the value is where the facts place it: at home it has the history and the lock's origin, and
-  -- away it is with a seat that holds
+  -- the value is where this says: at home with the present history and the lock's origin, or away
+  -- with a seat that holds by the ticket `served`
   abbrev pub IsPlaced : Facts T E → List (View E O) → Place T → Type 0
   IsPlaced f views (home x) = (lock.history x ≡ f.log) × (lock.origin x ≡ lock.root)
   IsPlaced f views (away seat) = (v : View E O) × HasView views seat v × (v.stage ≡ Holds f.served f.log)
 
-  -- the invariant of the lock, except what the words and the slot have
+  -- the invariant of the lock, apart from what its words and its slot contain
   pub record IsKept (f : Facts T E) (views : List (View E O)) : Type 0 where
     -- the words are in order, and at most 2^63
     pub order : f.served ≤ f.next
     pub limit : f.next ≤ 2 ^ 63
     -- each entry names a pass from 1 to the number of seats
     pub names : NamesUpTo lock.seats f.log
-    -- each seat knows what is so
+    -- what each seat knows agrees with the facts
     pub each_view : (seat : ℕ) (v : View E O) → HasView views seat v → ViewFits f seat v
-    -- each pass is in the seat that has it
+    -- each pass is a member of its seat
     pub each_pass : (pass : ℕ) → 0 < pass → pass ≤ lock.seats → HasPass views (f.owner pass) pass
-    -- each ticket from `served` to below `next` is that of the seat that took it
+    -- each ticket from `served` to below `next` belongs to its seat, which waits or holds by it
     pub each_ticket : (t : ℕ) → f.served ≤ t → t < f.next → HasTicket views (f.taker t) t
-    -- where nobody holds, the value is in the slot
+    -- the value is where the facts say: in the slot, or with the seat that holds
     pub is_placed : IsPlaced f views f.place
 
-  -- the invariant of the lock: there are facts that its seats keep, and its words and its slot are
-  -- as these facts state
+  -- the invariant of the lock: some facts agree with its words, its slot and its seats
   abbrev pub LockRule : State (Option T) (View E O) → Type 0
   LockRule s = (f : Facts T E) × (s.words ≡ f.served ∷ f.next ∷ []) × (s.homes ≡ single_slot f.place) × IsKept f s.views

@@ -1,9 +1,9 @@
-//! The ticket lock: several passes share one value, and each has it alone between a take and the
-//! put back.
+//! A ticket lock. Several passes share one value, and the pass that takes it has it alone until it
+//! puts it back.
 //!
-//! For contracts alone, what is guarded has an origin that never changes and a history that only
-//! grows. A contract states how the history that a pass finds continues what it had seen before,
-//! whatever the other passes did in between.
+//! In contracts, and only there, the value has an origin that never changes and a history that only
+//! grows. The contract of a take states that the history which a pass finds is what it had seen
+//! before, followed by entries of other passes only.
 #![tactic(auto)]
 
 pub mod laws;

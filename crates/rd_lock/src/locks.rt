@@ -1,4 +1,4 @@
-//! What a lock is: its table, on which its passes make steps.
+//! The lock: a table of two atomic words and one slot, on which its passes make steps.
 ghost use Rattle.std.specs.Prelude.{◌≡◌, ◌<◌};
 
 use super::rule::Tickets;
@@ -6,7 +6,7 @@ use super::views::{Opened, Recorded, View};
 use atomic_table::Table;
 use std::alloc::Global;
 
-/// The table of a lock.
+/// The table of a lock that guards a `T`.
 pub(crate) type LockTable<T> = Table<
     Option<T>,
     View<<T as Recorded>::Entry, <T as Recorded>::Origin>,
@@ -15,9 +15,9 @@ pub(crate) type LockTable<T> = Table<
     Global,
 >;
 
-/// A value that several passes share, one at a time.
+/// A ticket lock: a value that several passes share, one at a time.
 ///
-/// A lock that is dropped drops the value, if no pass holds it.
+/// Dropping the lock drops the value, unless a pass holds it.
 #[derive(Drop)]
 pub struct TicketLock<T: Recorded> {
     pub(crate) table: LockTable<T>,
@@ -25,6 +25,6 @@ pub struct TicketLock<T: Recorded> {
     ghost seated: { 0 < table.shared.key.seats },
 }
 
-/// Memory was refused.
+/// The error of opening a lock when memory is refused.
 #[derive(Debug, Clone, Copy, PartialEq, Eq)]
 pub struct NoMemory;

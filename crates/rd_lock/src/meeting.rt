@@ -1,4 +1,4 @@
-//! Two passes that meet.
+//! The meeting of two passes, which puts what they have seen in order.
 ghost use Rattle.std.specs.Prelude.{◌≡◌, ◌≤◌};
 ghost use Rattle.rd_lock.specs.Histories.{AreComparable};
 ghost use Rattle.rd_lock.specs.Locks.{seen, served_seen, IsOut, IsPassOf, IsSamePass};
@@ -10,10 +10,11 @@ use super::rule::SERVED;
 use super::views::Recorded;
 
 impl<T: Recorded> TicketLock<T> {
-    /// Both passes load the word `served` in one step, and learn that what one of them has seen is
-    /// a beginning of what the other has seen. Returns that word, and the two passes.
+    /// Lets both passes load the word `served` in one step, and returns that word and the two
+    /// passes. In contracts, what one of them has seen is then a beginning of what the other has
+    /// seen.
     ///
-    /// Their seats are joined, make the load, and are split again.
+    /// Their seats are joined into one, which makes the load and is split again.
     pub fn meet(&self, one: Pass<T>, other: Pass<T>) -> (u64, Pass<T>, Pass<T>)
         requires own { IsPassOf self.now one × IsPassOf self.now other }
         requires out { IsOut one × IsOut other }

@@ -20,7 +20,7 @@ impl<T: Recorded> TicketLock<T> {
     ///
     /// # Errors
     ///
-    /// `NoMemory` with the value if memory was refused.
+    /// `NoMemory`, with the value given back, if memory is refused.
     pub fn open(
         alloc: Global,
         value: T,
@@ -34,12 +34,12 @@ impl<T: Recorded> TicketLock<T> {
         TicketLock::open_at(alloc, value, seats, 0)
     }
 
-    /// Returns a lock over the value with both words at `first`, so that `2^63 - first` tickets are
-    /// left, and its passes, whose numbers are 1 to `seats`.
+    /// Returns a lock over the value, and its passes, whose numbers are 1 to `seats`. Both words
+    /// begin at `first`, so `2^63 - first` tickets are left to draw.
     ///
     /// # Errors
     ///
-    /// `NoMemory` with the value if memory was refused.
+    /// `NoMemory`, with the value given back, if memory is refused.
     pub fn open_at(
         alloc: Global,
         value: T,
@@ -76,13 +76,13 @@ impl<T: Recorded> TicketLock<T> {
         Ok((TicketLock { table }, passes))
     }
 
-    /// Ends the lock and returns the value.
+    /// Ends the lock and the given passes, and returns the value.
     ///
     /// # Errors
     ///
-    /// `Busy` if some ticket is drawn and not finished, with the two words, which then differ.
-    /// Neither is below what a pass that was handed in has seen. This never happens if all passes
-    /// are handed in. The value is then lost.
+    /// `Busy`, with the two words, if a ticket is drawn and not finished; the value is then not
+    /// returned. Neither word is below what a given pass has seen. This never happens if all passes
+    /// of the lock are given.
     pub fn close(self, passes: Vec<Pass<T>>) -> Result<T, Busy>
         requires own { AllByRecursion (IsPassOf self) passes.items }
         requires out { AllByRecursion IsOut passes.items }

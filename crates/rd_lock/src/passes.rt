@@ -1,4 +1,4 @@
-//! A pass: the right of one party to take what the lock guards.
+//! Passes: a pass is one party's right to take the value of a lock.
 ghost use Rattle.std.specs.Prelude.{◌≡◌, length};
 ghost use Rattle.rd_lock.specs.Histories.{only};
 ghost use Rattle.rd_lock.specs.Rule.{in_hand};
@@ -6,18 +6,21 @@ ghost use Rattle.rd_lock.specs.Rule.{in_hand};
 use super::views::{Recorded, View};
 use atomic_table::Seat;
 
-/// A seat at the table of a lock.
+/// A seat at the table of a lock that guards a `T`.
 pub(crate) type LockSeat<T> = Seat<
     Option<T>,
     View<<T as Recorded>::Entry, <T as Recorded>::Origin>,
 >;
 
-/// The right of one party to take what the lock guards. It has a number, from 1.
+/// One party's right to take the value of a lock. Each pass of a lock has its own number, from 1.
 ///
-/// If a pass is dropped while it holds, no other pass ever gets the value.
+/// A pass that is dropped while it holds the value keeps the lock busy for good: no other pass ever
+/// gets the value.
 #[derive(Drop)]
 pub struct Pass<T: Recorded> {
+    /// The pass's seat at the lock's table.
     pub(crate) seat: LockSeat<T>,
+    /// The pass's number, from 1.
     pub(crate) number: u64,
     ghost alone: { length seat.me.0.members ≡ 1 },
     ghost hand: { seat.me.1 ≡ in_hand seat.me.0.stage },

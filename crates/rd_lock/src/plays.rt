@@ -1,55 +1,59 @@
-//! What a pass knows after each kind of step. These types are for contracts alone.
+//! The kinds of step on the lock's table, as types for contracts alone. Each states what the seats
+//! that make the step know afterwards.
 //!
-//! A step changes the view of the seat that makes it, and of no other.
+//! A step changes the views of these seats only.
 ghost use Rattle.rd_lock.specs.Steps as steps;
 
 use crate::views::{Recorded, View};
 use atomic_table::{Join, Play, Split};
 
-/// The step that loads the word `next`.
+/// A load of the word `next`.
 pub struct LoadsNext;
 
 impl<T: Recorded> Play<Option<T>, View<T::Entry, T::Origin>> for LoadsNext {
     ghost then = { λ _. steps.LoadsNext };
 }
 
-/// The step that draws a ticket in `take`.
+/// The compare-and-exchange of `next` in `take`. If it wins, the pass waits with the ticket that it
+/// has drawn.
 pub struct Draws;
 
 impl<T: Recorded> Play<Option<T>, View<T::Entry, T::Origin>> for Draws {
     ghost then = { λ step. steps.Draws step.first };
 }
 
-/// The step that loads the word `served`, of a seat that doesn't wait.
+/// A load of the word `served` by a seat that doesn't wait.
 pub struct LoadsServed;
 
 impl<T: Recorded> Play<Option<T>, View<T::Entry, T::Origin>> for LoadsServed {
     ghost then = { λ _. steps.LoadsServed };
 }
 
-/// The step that draws a ticket in `try_take`, which takes the value too.
+/// The compare-and-exchange of `next` in `try_take`. If it wins, the pass holds the value by the
+/// ticket that it has drawn.
 pub struct Tries;
 
 impl<T: Recorded> Play<Option<T>, View<T::Entry, T::Origin>> for Tries {
     ghost then = { λ step. steps.Tries T.history T.origin step.first };
 }
 
-/// The step that loads the word `served`, of a pass that waits. It takes the value if it finds the
-/// pass's ticket.
+/// A load of the word `served` by a pass that waits. If it finds the pass's ticket, the pass takes
+/// the value.
 pub struct Polls;
 
 impl<T: Recorded> Play<Option<T>, View<T::Entry, T::Origin>> for Polls {
     ghost then = { λ _. steps.Polls T.history T.origin };
 }
 
-/// The step that adds one to the word `served`, which gives the value back.
+/// The fetch-and-add of one on the word `served` by which a holder gives the value back.
 pub struct Releases;
 
 impl<T: Recorded> Play<Option<T>, View<T::Entry, T::Origin>> for Releases {
     ghost then = { λ _. steps.Releases T.history T.origin };
 }
 
-/// How two seats are joined: the second one's members come first, and the second seat is spent.
+/// The join of two seats. The first gets the members of both, with the second's in front, and the
+/// second is spent.
 pub struct Joins;
 
 impl<E, O> Join<View<E, O>> for Joins {
@@ -62,7 +66,7 @@ impl<E, O> Join<View<E, O>> for Joins {
     ghost spent = { view_of [] Out };
 }
 
-/// How a seat is split: the first of the members gets its own seat.
+/// The split of a seat: its first member gets a seat of its own.
 pub struct Parts;
 
 impl<E, O> Split<View<E, O>> for Parts {

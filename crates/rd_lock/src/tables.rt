@@ -1,4 +1,4 @@
-//! The memory of a lock: allocated with the value in the slot, and closed.
+//! Allocating a lock's table, with the value in its slot, and closing it.
 ghost use Rattle.std.specs.Prelude.{◌≡◌, ◌<◌, ◌≤◌, ◌^◌, [], IfOk, IfErr, map};
 ghost use Rattle.std.specs.List.{AllByRecursion};
 ghost use Rattle.std.specs.Mem.Slots.{slots_items, slots_len, IsFull};
@@ -13,8 +13,8 @@ use super::views::{Opened, Recorded};
 use atomic_table::{Closed, Table};
 use std::alloc::{AllocFailed, Global};
 
-/// Allocates a table with the value in its slot, and returns it with its first seat. If memory was
-/// refused, returns the value.
+/// Allocates a table with the value in its slot, and returns it with its first seat. Fails only if
+/// memory is refused, and then returns the value.
 pub(crate) fn make_table<T: Recorded>(
     alloc: Global,
     value: T,
@@ -45,7 +45,8 @@ pub(crate) fn make_table<T: Recorded>(
     }
 }
 
-/// Joins the seats of all these passes into one, if there are any, and closes the table.
+/// Joins the seats of the given passes into one, if there are any, and closes the table. Returns
+/// its last words and slots.
 pub(crate) fn close_table<T: Recorded>(
     table: LockTable<T>,
     mut passes: Vec<Pass<T>>,

@@ -1,4 +1,4 @@
-//! The tickets: draw, wait, hold, release.
+//! Tickets: drawing one, waiting for it, holding the value by it, and releasing it.
 ghost use Rattle.std.specs.Prelude.{◌≡◌, ◌^◌, ◌<◌, IfOk, IfErr, OnOk, OnErr};
 ghost use Rattle.rd_lock.specs.Locks.{next_seen, seats, IsOut, IsWaiting, IsPassOf, IsSamePass, IsTaken, IsMissed, IsDue, HasPut};
 
@@ -10,16 +10,16 @@ use super::views::Recorded;
 use crossbeam_utils::Backoff;
 use std::sync::Wait;
 
-/// The number of tickets, which are 0 to 2^63 - 1.
+/// The number of tickets: they are 0 to 2^63 - 1.
 pub const TICKETS: u64 = 1 << 63;
 
-/// All tickets are drawn.
+/// The error of a take when all tickets are drawn.
 #[derive(Debug, Clone, Copy, PartialEq, Eq)]
 pub struct TicketsEnded;
 
-/// The two words of the lock, where they differ: some ticket is drawn and not finished. From
-/// `try_take` they are the greatest that the pass has seen. From `close`, neither is below what a
-/// pass that was handed in has seen.
+/// The error when a ticket is drawn and not finished, with the lock's two words, which then differ.
+/// From `try_take` they are the greatest values that the pass has seen; from `close`, neither is
+/// below what a given pass has seen.
 #[derive(Debug, Clone, Copy, PartialEq, Eq)]
 pub struct Busy {
     /// The word `next`: the ticket that is drawn next.
@@ -31,7 +31,7 @@ pub struct Busy {
 /// Why `try_take` took nothing.
 #[derive(Debug, Clone, Copy, PartialEq, Eq)]
 pub enum TryTakeError {
-    /// The lock isn't free.
+    /// A ticket is drawn and not finished.
     Busy(Busy),
     /// All tickets are drawn.
     TicketsEnded,
@@ -40,13 +40,13 @@ pub enum TryTakeError {
 impl<T: Recorded> TicketLock<T> {
     ghost use Rattle.rd_lock.specs.declared.tickets.TryTakeError.TheVariants as TryTakeError;
 
-    /// Takes the value if the lock is free, by one load and at most one compare-and-exchange. It
-    /// never waits.
+    /// Takes the value and returns it, if the lock is free. It makes one load and at most one
+    /// compare-and-exchange of the words, and never waits.
     ///
     /// # Errors
     ///
-    /// `TicketsEnded` if this pass saw that all tickets are drawn. `Busy` if a ticket is drawn and
-    /// not finished.
+    /// `TicketsEnded` if this pass saw that all tickets are drawn; `Busy` if a ticket is drawn and
+    /// not finished, which never happens in a lock of one pass. The pass holds nothing then.
     pub fn try_take(&self, pass: &mut Pass<T>) -> Result<T, TryTakeError>
         requires own { IsPassOf self.now pass.old }
         requires out { IsOut pass.old }
@@ -75,12 +75,12 @@ impl<T: Recorded> TicketLock<T> {
         Err(TryTakeError::Busy(Busy { next, served }))
     }
 
-    /// Draws a ticket, again as long as another pass draws it first, then waits until it is served
-    /// by loading the word `served`, and returns the value.
+    /// Draws a ticket, waits until it is served, and returns the value. It tries the draw again
+    /// whenever another pass was first, and waits by loading the word `served`.
     ///
     /// # Errors
     ///
-    /// `TicketsEnded` if this pass saw that all tickets are drawn.
+    /// `TicketsEnded` if this pass saw that all tickets are drawn. The pass holds nothing then.
     pub fn take<R: Wait>(&self, rt: &R, pass: &mut Pass<T>) -> Result<T, TicketsEnded>
         requires own { IsPassOf self.now pass.old }
         requires out { IsOut pass.old }
@@ -126,7 +126,7 @@ impl<T: Recorded> TicketLock<T> {
         unreachable!()
     }
 
-    /// Puts the value back and lets the next ticket be served.
+    /// Puts the value back and ends the pass's ticket, so that the next one is served.
     #[tactic(auto, using(crate::proofs::Lists::own_signed))]
     pub fn put_back(&self, pass: &mut Pass<T>, value: T)
         requires own { IsPassOf self.now pass.old }
