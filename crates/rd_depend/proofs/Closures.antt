@@ -1,11 +1,11 @@
--- The causal closure is the least set that holds its step and what depends on its members, and lone
--- undos that take the step out take all of it out.
+-- The causal closure is the least set that has its step and, with each member, what depends on it;
+-- and lone undos that remove the step remove all of the closure.
 use Rattle.rd_depend.proofs.Prelude.{◌≡◌, ◌≢◌, ℕ, zero, suc, ◌+◌, ◌-◌, ◌<◌, ◌≤◌, ◌==◌, ◌||◌, inl, inr, Bool, true, false, nat_lt, if◌then◌else◌, refl, sym, ◌∙◌, ap, subst, arith, List, [], ◌∷◌, ◌++◌, length, take, drop, slice_get, Option, Some, None, option_and_then, eq-eqb, ne_eqb, cases_Bool, cond-false, cond-true, le-ltb, lt-ltb, ltb-false, ltb-true, AreLoneUndos, IsInClosure, closure_from, number_after, closure, position_from, cases_eq, common_steps, depends, depends_on_one, false≢true, first_dependant, numbered, or_cases, or_left, or_right, Entry}
 use Rattle.rd_step.specs.Dependence.IsInClosure.{itself, dependant}
 
 -- The marks are closed
 
--- what depends on x depends on one of these
+-- each entry that depends on x also depends on one of xs
 abbrev Covers : Entry → List Entry → Type 0
 Covers x xs = (z : Entry) → depends x z ≡ true → depends_on_one xs z ≡ true
 
@@ -29,14 +29,14 @@ still_covers false xs x y c z h = c z h
 some_same : {X : Type 0} (x y : X) → Some x ≡ Some y → x ≡ y
 some_same x y h = cc
 
--- what depends on x is marked after a block that covers x
+-- an entry that depends on x is marked, if the block before it covers x
 covered_is_marked : (xs ys : List Entry) (j : ℕ) (x y : Entry) → Covers x xs → slice_get ys j ≡ Some y → depends x y ≡ true
     → slice_get (closure_from xs ys) j ≡ Some true
 covered_is_marked xs [] j x y c at h = cc
 covered_is_marked xs (z ∷ ys) zero x y c at h = grind (arith, some_same)
 covered_is_marked xs (z ∷ ys) (suc j) x y c at h = grind (arith, still_covers, covered_is_marked (if depends_on_one xs z then xs ++ z ∷ [] else xs) ys j x y (still_covers (depends_on_one xs z) xs x z c) at h)
 
--- what depends on a marked one is marked
+-- an entry that depends on an earlier marked one is marked
 dependant_is_marked : (xs ys : List Entry) (i j : ℕ) (x y : Entry) → i < j → slice_get (closure_from xs ys) i ≡ Some true → slice_get ys i ≡ Some x
     → slice_get ys j ≡ Some y → depends x y ≡ true → slice_get (closure_from xs ys) j ≡ Some true
 dependant_is_marked xs [] i j x y low m at_i at_j h = cc
@@ -70,11 +70,11 @@ members_are_marked es k j some within (dependant i _ x y h low at_i at_j d) = gr
 
 -- Only members are marked
 
--- what depends on one of these, and is after the number p, is in the closure
+-- each entry after the p-th that depends on one of xs is in the closure of the k-th
 abbrev AreMembers : List Entry → ℕ → ℕ → List Entry → Type 0
 AreMembers es k p xs = (q : ℕ) (y : Entry) → p < q → numbered es q ≡ Some y → depends_on_one xs y ≡ true → IsInClosure es k q
 
--- the entries ys are from the number p + 1 on
+-- ys are the entries of es after the p-th
 abbrev StandFrom : List Entry → ℕ → List Entry → Type 0
 StandFrom es p ys = (j : ℕ) (y : Entry) → slice_get ys j ≡ Some y → numbered es (suc (p + j)) ≡ Some y
 
@@ -88,7 +88,7 @@ stand_here es p y ys h =
     let same : suc (p + 0) ≡ suc p = omega arith in
     subst (λ (n : ℕ). numbered es n ≡ Some y) same (h 0 y refl)
 
--- so it is with the next entry, if it depends on one of them
+-- the same holds one entry later, with that entry in the block if it depends on one of the block
 one_more : (es : List Entry) (k p : ℕ) (xs : List Entry) (y : Entry) (d : Bool) → depends_on_one xs y ≡ d → AreMembers es k p xs → numbered es (suc p) ≡ Some y
     → AreMembers es k (suc p) (if d then xs ++ y ∷ [] else xs)
 one_more es k p xs y false e ms at q z low at_q h = ms q z (omega arith) at_q h
@@ -110,7 +110,8 @@ marked_is_member es k p xs (y ∷ ys) (suc j) ms at h =
     (marked_is_member es k (suc p) (if depends_on_one xs y then xs ++ y ∷ [] else xs) ys j
     (one_more es k p xs y (depends_on_one xs y) refl ms (stand_here es p y ys at)) (stand_on es p y ys at) h)
 
--- a closure in a list with one entry more before it
+-- with one more entry in front of the list, a member of a closure has a number one greater and is a
+-- member still
 one_further : (e : Entry) (es : List Entry) (k j : ℕ) → IsInClosure es k j → IsInClosure (e ∷ es) (suc k) (suc j)
 one_further e es k _ itself = itself
 one_further e es k j (dependant i _ x y h low at_i at_j d) =
@@ -136,7 +137,7 @@ marked_members es k j h = grind (arith, marks_are_members)
 
 -- Lone undos
 
--- the number that n leaves to k
+-- the number that the k-th entry has after the n-th is removed
 abbrev shifted : ℕ → ℕ → ℕ
 shifted n k = if nat_lt n k then k - 1 else k
 
@@ -146,11 +147,11 @@ shifted_above n k h = cond-true (nat_lt n k) (k - 1) k (lt-ltb n k h)
 shifted_below : (n k : ℕ) → k ≤ n → shifted n k ≡ k
 shifted_below n k h = cond-false (nat_lt n k) (k - 1) k (le-ltb n k h)
 
--- the order stays
+-- the entries that stay are in the same order
 shifted_less : (n i j : ℕ) → i ≢ n → j ≢ n → i < j → shifted n i < shifted n j
 shifted_less n i j ni nj h = grind arith
 
--- the others, without the element of index m
+-- without the element of index m, each one before it is at its index
 below_it : (es : List Entry) (m i : ℕ) → i < m → slice_get (take m es ++ drop (suc m) es) i ≡ slice_get es i
 below_it es zero i h = absurd (omega arith)
 below_it [] (suc m) i h = refl
@@ -168,7 +169,7 @@ behind_it (e ∷ es) (suc m) (suc i) h = behind_it es m i (omega arith)
 new_number : (es : List Entry) (n i : ℕ) (x : Entry) → 1 ≤ n → i ≢ n → numbered es i ≡ Some x → numbered (take (n - 1) es ++ drop n es) (shifted n i) ≡ Some x
 new_number es n i x some ne at = grind (arith, common_steps, cases_Bool, ltb-true, shifted_above, behind_it, slice_get, ltb-false, shifted_below, below_it)
 
--- none of the later ones depends on what may be undone alone
+-- a scan that finds nothing passes over its first entry and finds nothing after it
 none_here : (d : Bool) (n : ℕ) (o : Option ℕ) → (if d then Some n else o) ≡ None → (d ≡ false) × (o ≡ None)
 none_here true n o h = absurd cc
 none_here false n o h = (refl, h)
@@ -192,7 +193,7 @@ free_alone es (suc m) (suc j) x y none at_n low at_j =
     none_depends x (suc m + 1) (drop (suc m) es) (j - suc m) y (sym (ap (option_and_then (λ (z : Entry). position_from (depends z) (suc m + 1) (drop (suc m) es))) at_n) ∙ none)
     (from_there es (suc m) (j - suc m) ∙ ap (λ (k : ℕ). slice_get es k) same ∙ at_j)
 
--- so what depends on a step that is taken out is taken out
+-- lone undos that remove an entry also remove each later entry that depends on it
 one_out : (es : List Entry) (ns : List ℕ) (i j : ℕ) (x y : Entry) → AreLoneUndos ns es → i < j → numbered es i ≡ Some x → numbered es j ≡ Some y
     → depends x y ≡ true → number_after ns i ≡ None → number_after ns j ≡ None
 one_out es [] i j x y undos low at_i at_j d gone = cc

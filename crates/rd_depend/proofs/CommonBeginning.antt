@@ -1,7 +1,7 @@
--- Where neither of two lists begins the other.
+-- When neither of two lists begins with the other.
 use Rattle.rd_depend.proofs.Prelude.{◌≡◌, ℕ, zero, suc, ◌<◌, refl, arith, List, [], ◌∷◌, length, slice_get, Some, Begins, NeitherBegins}
 
--- a list does not begin one that ends before it, or that goes on with another element
+-- a list does not begin with one that has more elements or another element at some index
 begins_not : {X : Type 0} (xs ys : List X) (n : ℕ) → ((x : X) → slice_get xs n ≡ Some x → slice_get ys n ≡ Some x → ⊥) → n < length xs → Begins xs ys → ⊥
 begins_not [] ys n apart within h = omega arith
 begins_not (x ∷ xs) [] n apart within h = cc

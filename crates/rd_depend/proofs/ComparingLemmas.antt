@@ -7,7 +7,8 @@ use Rattle.rd_depend.proofs.RunsAgree.{taken_equivalent, untaken_different}
 abbrev pub KeepsOrderOf : List Entry → List Entry → Type 0
 KeepsOrderOf a b = KeepsOrder nothing_reached a (all_left b)
 
--- they do exactly where those from the k-th on keep the order of what is left
+-- the first run keeps the order of the second exactly if its steps after the first k keep the order
+-- of what is left
 abbrev pub IsLeftToCompare : List Entry → List Entry → ℕ → (Key → Reached) → (ℕ → List Placed) → Type 0
 IsLeftToCompare a b k s left = KeepsOrderOf a b ↔ KeepsOrder s (drop k a) left
 

@@ -1,4 +1,4 @@
--- Equivalence is symmetric and transitive, as taking out is.
+-- Equivalence is symmetric and transitive, since taking out is.
 use Rattle.rd_depend.proofs.Prelude.{◌≡◌, sym, ◌∙◌, ap, subst, List, Ok, arith, World, Ran, run, Event, Entry, IsEquivalent, events, run_entries, IsRunFrom, run_events}
 use Rattle.rd_depend.proofs.TakingOut.{takes_back}
 use Rattle.rd_depend.proofs.TakingOn.{takes_on}
@@ -26,7 +26,7 @@ equivalent_either_way w es fs r q h k same =
     (subst (λ (l : List Event). IsEquivalent w l fs) (sym its) same)) in
     subst (λ (l : List Event). IsEquivalent w fs l) its (subst (λ (l : List Event). IsEquivalent w l (events r.entries)) others back)
 
--- lists that are equivalent are so as the events of their entries
+-- equivalent lists of events are equivalent as the events of their entries
 of_entries : (w : World) (es fs : List Event) (xs ys : List Entry) → events xs ≡ es → events ys ≡ fs → IsEquivalent w es fs
     → IsEquivalent w (events xs) (events ys)
 of_entries w es fs xs ys e f h = grind arith

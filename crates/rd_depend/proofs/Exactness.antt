@@ -1,9 +1,10 @@
--- Taking an entry that may come first out of one list, and the first one out of the other, keeps
--- whether the lists are equivalent.
+-- If the first entry of one list and an entry of the same event that may come first in the other
+-- are taken out, the rests are equivalent exactly if the lists are.
 use Rattle.rd_depend.proofs.Prelude.{◌≡◌, ◌↔◌, ℕ, zero, suc, ◌-◌, ◌≤◌, Bool, refl, sym, ◌∙◌, ap, subst, arith, List, [], ◌∷◌, ◌++◌, length, take, drop, length-drop, Ok, map-append, take_all, World, Stepped, step, Ran, run, IsFree, Event, Entry, IsEquivalent, events, run_entries, IsRunFrom, runs_to, FirstStep, first_step, middle, as_stepped-same, goes_first, stands_in, DecidesEquivalence}
 use Rattle.rd_depend.proofs.FirstOfActor.{MayComeFirst, one_place}
 
--- an entry that depends on no earlier one goes first, and the others run on with their entries
+-- an entry that depends on no earlier one can be made first, and the others then run on with the
+-- same entries
 pub front : (w : World) (xs : List Entry) (x : Entry) (ys : List Entry) → IsRunFrom w (xs ++ x ∷ ys) → IsFree x xs → FirstStep w x (xs ++ ys)
 front w xs x ys h free =
     let to = runs_to w (xs ++ x ∷ ys) h in
@@ -18,8 +19,8 @@ front w xs x ys h free =
 
 -- Where the first event of the one list may be in the other
 
--- equivalent lists have it at an entry that depends on no earlier one; without it there and in the
--- world after it the rests are equivalent
+-- the event is in the list at an entry that depends on no earlier one; after its step, the other
+-- events and what is left of the list are equivalent
 pub record ComesFirst (w : World) (e : Event) (es : List Event) (rest : List Entry) : Type 0 where
   pub left : List Entry
   pub may : MayComeFirst e rest left
@@ -43,7 +44,7 @@ comes_first w e es rest runs h =
       on = subst (λ (l : List Event). IsEquivalent h.stepped.world es l) left h.rest;
     }
 
--- and the way back
+-- conversely, lists of which this holds are equivalent
 pub stands_first : (w : World) (x : Entry) (u : World) (es : List Event) (rest left : List Entry) → IsRunFrom w rest
     → step w x.event ≡ Ok (record { world = u; entry = x }) → (m : MayComeFirst x.event rest left)
     → IsEquivalent u es (events left) → IsEquivalent w (x.event ∷ es) (events rest)
@@ -68,12 +69,12 @@ stands_first w x u es rest left runs goes m on =
           grind (arith, map-append);
     }
 
--- what is left is the same, whichever way it was found
+-- the entries that are left are the same, however the entry was found
 one_left : (e : Event) (rest l k : List Entry) → MayComeFirst e rest l → MayComeFirst e rest k → l ≡ k
 one_left e rest l k a b = grind (arith, one_place)
 
--- where the first event of a run may come first in another from the same world, the entry is the
--- same there, and what is left runs on from the world after it
+-- if the first event of one run may come first in another run from the same world, its entry is the
+-- same there, and what is left runs from the world after it
 pub record RunsOn (v : World) (x entry : Entry) (left : List Entry) : Type 0 where
   pub same : entry ≡ x
   pub runs : IsRunFrom v left
@@ -90,7 +91,7 @@ runs_on w x xs ys left first runs m =
           grind arith;
     }
 
--- and the runs are equivalent exactly where what is left of them is
+-- the two runs are equivalent exactly if what is left of them is
 pub equivalent_first : (w : World) (x : Entry) (xs ys left : List Entry) (first : FirstStep w x xs) → IsRunFrom w ys → MayComeFirst x.event ys left
     → IsEquivalent w (events (x ∷ xs)) (events ys) ↔ IsEquivalent first.after (events xs) (events left)
 equivalent_first w x xs ys left first runs m = (
@@ -108,8 +109,8 @@ no_events (x ∷ xs) h = cc
 
 -- A common beginning
 
--- after it: the world there, from which what is left of both lists runs, and they are equivalent
--- exactly where this is
+-- after a common beginning of two runs: the rests of both run from the world there, and the runs
+-- are equivalent exactly if their rests are
 record Behind (w : World) (a b xs ys : List Entry) : Type 0 where
   here : World
   first_runs : IsRunFrom here xs
@@ -138,7 +139,7 @@ behind (suc n) w (x ∷ xs) (y ∷ ys) runs_a runs_b in_a in_b h =
 all_behind : (a : List Entry) (n : ℕ) → take (length a - n) (drop n a) ≡ drop n a
 all_behind a n = take_all (length a - n) (drop n a) (omega (arith, length-drop n a))
 
--- an answer for what is after the common beginning is one for the lists
+-- an answer that is right for what follows a common beginning is right for the whole lists
 pub right_behind : (a b : List Entry) (n : ℕ) (same : Bool) → n ≤ length a → n ≤ length b → events (take n a) ≡ events (take n b)
     → DecidesEquivalence (take (length a - n) (drop n a)) (take (length b - n) (drop n b)) same → DecidesEquivalence a b same
 right_behind a b n same in_a in_b h right w runs_a runs_b =

@@ -1,5 +1,5 @@
--- An entry of an event that depends on no earlier one is the first of its actor, so there is one
--- such place at most.
+-- An entry that depends on no earlier one is the first of its actor, so a list has at most one such
+-- entry of an event.
 use Rattle.rd_depend.proofs.Prelude.{◌≡◌, ℕ, refl, sym, ap, subst, List, [], ◌∷◌, ◌++◌, arith, rules, free_parts, IsFree, Event, Entry}
 
 -- none of these entries is by this actor
@@ -7,8 +7,7 @@ abbrev pub HasNoneBy : ℕ → List Entry → Type 0
 HasNoneBy n [] = Unit {0}
 HasNoneBy n (x ∷ xs) = (n ≡ x.event.actor → ⊥) × HasNoneBy n xs
 
--- an entry of this event is at a place where it depends on no earlier one, and without it there
--- these are left
+-- the list has an entry of this event that depends on no earlier one, and without it is `left`
 pub record MayComeFirst (e : Event) (entries left : List Entry) : Type 0 where
   pub earlier : List Entry
   pub entry : Entry
@@ -18,12 +17,13 @@ pub record MayComeFirst (e : Event) (entries left : List Entry) : Type 0 where
   pub free : IsFree entry earlier
   pub leaves : left ≡ earlier ++ later
 
--- entries on which one does not depend are none of its actor
+-- none of the entries on which x does not depend is by its actor
 free_none_by : (x : Entry) (xs : List Entry) → IsFree x xs → HasNoneBy x.event.actor xs
 free_none_by x [] h = tt
 free_none_by x (y ∷ ys) h = let free = free_parts x y ys h in grind (arith, free_none_by x ys free.1)
 
--- the first entry by an actor is at one place alone
+-- two ways to cut a list around an entry are one: the entries before it, the entry itself and the
+-- entries behind it are the same
 pub record AreOne (xs ys zs us : List Entry) (y z : Entry) : Type 0 where
   pub before : xs ≡ zs
   pub itself : y ≡ z
@@ -46,7 +46,8 @@ by_actor e x h = ap (λ (f : Event). f.actor) (sym h)
 none_before : (e : Event) (x : Entry) (xs : List Entry) → x.event ≡ e → IsFree x xs → HasNoneBy e.actor xs
 none_before e x xs h free = subst (λ (f : Event). HasNoneBy f.actor xs) h (free_none_by x xs free)
 
--- the places where an entry of one event depends on no earlier one are one place
+-- two entries of one event in a list, neither of which depends on an earlier one, are at the same
+-- index
 pub one_place : (e : Event) (xs ys zs us : List Entry) (y z : Entry) → xs ++ y ∷ ys ≡ zs ++ z ∷ us → y.event ≡ e → z.event ≡ e
     → IsFree y xs → IsFree z zs → AreOne xs ys zs us y z
 one_place e xs ys zs us y z h of_y of_z free_y free_z = search (rules, one_first, by_actor, none_before, arith)

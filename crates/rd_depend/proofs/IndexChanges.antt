@@ -1,15 +1,16 @@
--- The calls of an index, from what they do to its lists.
+-- The calls of an index, put together from their changes of its lists.
 use Rattle.rd_depend.proofs.Prelude.{◌≡◌, ℕ, zero, suc, ◌+◌, ◌-◌, ◌<◌, ◌≤◌, Bool, true, false, ◌&&◌, ◌||◌, ◌==◌, if◌then◌else◌, List, [], ◌∷◌, ◌++◌, length, take, drop, Option, Some, slice_get, refl, sym, ap, subst, ◌∙◌, append_assoc, arith, length-append, eq-eqb, Result, IsOk, OnOk, is_err, rules, Entry, DependIndex, Home, Homes, Key, Table, Lists, list_at, spare_at, one_if, kept_in, spare_in, is_kept_in, AreReady, KeepsLists, Puts, TakesLast, HasLast, Touch, By, Under, touches, kept, spare, number_of, IsIndexOf, HasRoomFor, GivesRoom, UsesRoom, IsLast, homes_of, Adds, Keeps, EndsWith}
 use Rattle.rd_depend.proofs.IndexKeys.{is_home, is_in, under, AreSeparate, separate}
 use Rattle.rd_depend.proofs.IndexPositions.{positions-push, positions-pop, number-append}
 
 -- one change after another, where no list is changed by both
 
--- which lists of a table a change is made in
+-- which lists of a table are meant, by whether they have only writes and by their key
 abbrev Where : Type 0
 Where = Bool → Key → Bool
 
--- these lists have lost their last position
+-- the lists that are meant lost their last position and have room for one more; the others are as
+-- before
 pub record TakesWhere (test : Where) (old new : Table) : Type 0 where
   pub lists : (w : Bool) (q : Key) → kept_in new w q ≡ (if test w q then take (length (kept_in old w q) - 1) (kept_in old w q) else kept_in old w q)
   pub room : (w : Bool) (q : Key) → spare_in new w q ≡ spare_in old w q + one_if (test w q)
@@ -21,17 +22,17 @@ both_take a b old mid new apart first second = grind arith
 takes_where : (h : Home) (old new : Table) → TakesLast h.key h.wrote old new → TakesWhere (is_home h) old new
 takes_where h old new took = record { lists = took.lists; room = took.room }
 
--- what is ready stays so where no list changes
+-- what is ready stays ready if no list changes
 pub ready_kept : (t u : Table) (k : Option Key) (wrote : Bool) (slot : Option ℕ) → KeepsLists t u → AreReady t k wrote slot → AreReady u k wrote slot
 ready_kept t u k wrote slot keeps ready = grind arith
 
--- what is ready under one key stays so where another is put
+-- what is ready under one key stays ready if a position is put under another
 pub ready_after : (t u : Table) (s : Option Key) (wrote : Bool) (h : Home) (p : ℕ) (slot : Option ℕ)
     → ((w : Bool) (q : Key) → s ≡ Some q → is_kept_in w wrote ≡ true → is_home h w q ≡ false)
     → AreReady t s wrote slot → Puts h.key h.wrote p t u → AreReady u s wrote slot
 ready_after t u s wrote h p slot apart ready put = grind arith
 
--- and what has a last position keeps it where another key's is taken
+-- a list that has a last position keeps it if one is removed under another key
 pub last_after : (t u : Table) (s : Option Key) (wrote : Bool) (h : Home)
     → ((w : Bool) (q : Key) → s ≡ Some q → is_kept_in w wrote ≡ true → is_home h w q ≡ false)
     → HasLast t s wrote → TakesLast h.key h.wrote t u → HasLast u s wrote
@@ -52,8 +53,8 @@ pub adds : (old new : DependIndex) (x : Entry) (h : Homes) (one two : Table) (p 
     → Adds x old new
 adds old new x h one two p actor homes same is len lists_by room_by a b c = grind arith
 
--- the index lost its last entry, this one: each list that kept it lost its last position, and each
--- other list is as before
+-- the index lost its last entry, which is this one: each list that kept it lost its last position
+-- and has room for one more, and each other list is as before
 pub record Drops (x : Entry) (old new : DependIndex) : Type 0 where
   pub lists : (t : Touch) → kept new t ≡ (if touches t x then take (length (kept old t) - 1) (kept old t) else kept old t)
   pub room : (t : Touch) → spare new t ≡ spare old t + one_if (touches t x)
@@ -85,7 +86,7 @@ within_spare (v ∷ vs) (suc i) h = let rest : i < length vs = within_spare vs i
 pub touched_by : (x : Entry) → touches (By x.event.actor) x ≡ true
 touched_by x = eq-eqb x.event.actor x.event.actor refl
 
--- what was kept before, and what is added then
+-- what first made room and then added an entry, added the entry
 pub then_adds : (old mid new : DependIndex) (x : Entry) → Keeps old mid → Adds x mid new → Adds x old new
 then_adds old mid new x keeps more = grind arith
 
@@ -131,7 +132,8 @@ drop_one [] n x h = absurd cc
 drop_one (y ∷ ys) zero x h = let same : y ≡ x = cc in ap (λ (z : Entry). z ∷ ys) same
 drop_one (y ∷ ys) (suc n) x h = drop_one ys n x h
 
--- what some pushes have done so far
+-- what pushes have done after the first n entries: these are in the index, and have used their room
+-- at most
 pub record HasAdded (start now : DependIndex) (entries : List Entry) (n : ℕ) : Type 0 where
   pub index : (es : List Entry) → IsIndexOf start es → IsIndexOf now (es ++ take n entries)
   pub room : (t : Touch) → spare start t ≤ spare now t + number_of (touches t) (take n entries)
@@ -153,12 +155,13 @@ number-among test [] n x h = absurd cc
 number-among test (y ∷ ys) zero x h = let same : y ≡ x = cc in let e = ap (λ (z : Entry). one_if (test z)) same in omega (arith, e)
 number-among test (y ∷ ys) (suc n) x h = omega (arith, number-among test ys n x h)
 
--- where there was room for all of them, there is room for the next one
+-- if there was room for all of the entries, there is room for the next one
 pub room_next : (start now : DependIndex) (entries : List Entry) (n : ℕ) (x : Entry) → slice_get entries n ≡ Some x → HasRoomFor start entries
     → HasAdded start now entries n → HasRoomFor now (x ∷ [])
 room_next start now entries n x there has was = record { lists = λ t. omega (arith, number-among (touches t) entries n x there, has.lists t, was.room t) }
 
--- what some pops have done so far
+-- what pops have done with the entries after the first `left`: these are out of the index, and have
+-- given their room back
 pub record HasDropped (start now : DependIndex) (entries : List Entry) (left : ℕ) : Type 0 where
   pub index : (es : List Entry) → IsIndexOf start (es ++ entries) → IsIndexOf now (es ++ take left entries)
   pub room : (t : Touch) → spare now t ≡ spare start t + number_of (touches t) (drop left entries)

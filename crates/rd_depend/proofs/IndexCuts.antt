@@ -1,4 +1,4 @@
--- The positions above a number taken out of all lists: the index is then that of the first entries.
+-- Removing the positions above a number from all lists leaves the index of the first entries.
 use Rattle.rd_depend.proofs.Prelude.{◌≡◌, ℕ, zero, suc, ◌+◌, ◌<◌, Bool, nat_lt, List, [], ◌∷◌, take, drop, refl, ap, arith, nat_tests, length-take-le, take-append-drop, Entry, DependIndex, AscendsFrom, before_first, Touch, positions_from, number_of, touches, IsAscending, kept, capacity, IsIndexOf, GivesRoom}
 use Rattle.rd_depend.proofs.IndexLists.{front-cons}
 use Rattle.rd_depend.proofs.IndexPositions.{positions-ascend, number-append}
@@ -23,7 +23,7 @@ CutsAll n old new = (t : Touch) → IsAscending (kept old t) → kept new t ≡ 
 pub cut_index : (old new : DependIndex) (n : ℕ) → CutsAll n old new → new.len ≡ n → n < old.len → (es : List Entry) → IsIndexOf old es → IsIndexOf new (take n es)
 cut_index old new n cuts len less es is = grind (arith, kept-ascends, positions-up_to, length-take-le)
 
--- where the first entries are left, in lists that can have as many as before, the others have given
+-- if the first entries are left, and the capacities are as before, the other entries have given
 -- their room back
 pub cut_room : (old new : DependIndex) (n : ℕ) → ((es : List Entry) → IsIndexOf old es → IsIndexOf new (take n es)) → ((t : Touch) → capacity new t ≡ capacity old t)
     → (es : List Entry) → IsIndexOf old es → GivesRoom old new (drop n es)

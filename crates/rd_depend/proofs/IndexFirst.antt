@@ -1,14 +1,14 @@
--- The first dependant, from the first later positions in an actor's list, a place's and a
--- segment's.
+-- The first dependant of a step, from the first later positions in the lists of its actor, its
+-- place and its segment.
 use Rattle.rd_depend.proofs.Prelude.{◌≡◌, ℕ, zero, suc, ◌+◌, ◌<◌, ◌≤◌, Bool, true, false, not, ◌||◌, ◌==◌, if◌then◌else◌, nat_lt, List, [], ◌∷◌, length, drop, Option, Some, None, refl, sym, ap, subst, ◌∙◌, arith, nat_tests, is_some, SegName, Place, some_overlap, is_nothing, written, interfere, Entry, Wrote, position_from, depends, depends_on_one, symmetric, DependIndex, At, In, is_under, is_under_some, own_key, value_of_place, whole_key, AscendsFrom, IsAscending, find, earlier, Touch, By, touched_or_written, is_value_written, touches, positions_from, positions, kept, IsIndexOf}
 use Rattle.rd_depend.proofs.IndexPositions.{positions-ascend, positions-number, number-within, ascending}
 use Rattle.rd_cell.specs.declared.places.Place.TheVariants as place
 
--- the same test
+-- tests that agree on each entry give the same positions
 pub positions-same : (t u : Entry → Bool) → ((y : Entry) → t y ≡ u y) → (n : ℕ) (es : List Entry) → positions_from t n es ≡ positions_from u n es
 positions-same t u h n es = grind arith
 
--- what is found is not before the start
+-- a position that is found isn't below the first one of the list
 found-from : (k n : ℕ) (ps : List ℕ) (m : ℕ) → AscendsFrom n ps → find (nat_lt k) ps ≡ Some m → n ≤ m
 found-from k n [] m h e = absurd cc
 found-from k n (p ∷ ps) m h e = grind (arith, found-from k (suc p) ps m h.1)
@@ -21,7 +21,7 @@ earlier_here : (n : ℕ) (b c d less : Bool) (o p q : Option ℕ) → d ≡ (b |
     → earlier (if b then (if less then Some n else o) else o) (if c then (if less then Some n else p) else p) ≡ (if d then (if less then Some n else q) else q)
 earlier_here n b c d less o p q e rest in_o in_p = grind arith
 
--- the earlier of two is the first that passes one test or the other
+-- the lesser of what two tests find first is what either test finds first
 pub earlier-first : (t u v : Entry → Bool) → ((y : Entry) → v y ≡ (t y || u y)) → (k n : ℕ) (es : List Entry)
     → earlier (find (nat_lt k) (positions_from t n es)) (find (nat_lt k) (positions_from u n es)) ≡ find (nat_lt k) (positions_from v n es)
 earlier-first t u v h k n [] = refl
@@ -33,7 +33,7 @@ earlier-first t u v h k n (x ∷ xs) =
     (λ m e. let f : n + 1 ≤ m = found-from k (n + 1) (positions_from u (n + 1) xs) m (positions-ascend u (n + 1) xs) e in omega arith)
     ∙ sym (pulled k n (v x) (positions_from v (n + 1) xs))
 
--- positions up to k are passed over
+-- a search above k finds the same without the first j entries, if their positions are at most k
 skipped : (test : Entry → Bool) (k n j : ℕ) (es : List Entry) → n + j ≤ k + 1 → find (nat_lt k) (positions_from test n es) ≡ find (nat_lt k) (positions_from test (n + j) (drop j es))
 skipped test k n zero es h = let e : n ≡ n + 0 = omega arith in ap (λ (m : ℕ). find (nat_lt k) (positions_from test m es)) e
 skipped test k n (suc j) [] h = refl
@@ -50,14 +50,15 @@ scanned x k n (y ∷ ys) h = by (depends x y) (scanned x k (n + 1) ys (omega ari
         → find (nat_lt k) (if b then n ∷ positions_from (depends x) (n + 1) ys else positions_from (depends x) (n + 1) ys) ≡ (if b then Some n else position_from (depends x) (n + 1) ys)
     by b g = grind arith
 
--- what is found is the first of the entries after the first k that depends on the step
+-- the first position above k of a step that depends on x is the first one in a scan of the entries
+-- after the first k
 pub first-after : (x : Entry) (k : ℕ) (es : List Entry) → find (nat_lt k) (positions (depends x) es) ≡ position_from (depends x) (k + 1) (drop k es)
 first-after x k es =
     skipped (depends x) k 1 k es (omega arith)
     ∙ (let e : 1 + k ≡ k + 1 = omega arith in ap (λ (m : ℕ). find (nat_lt k) (positions_from (depends x) m (drop k es))) e)
     ∙ scanned x k (k + 1) (drop k es) (omega arith)
 
--- whether one of these entries depends on the step is whether the step depends on one of them
+-- a scan finds an entry that depends on x exactly if x depends on one of the entries
 pub found-on : (x : Entry) (n : ℕ) (ys : List Entry) → is_some (position_from (depends x) n ys) ≡ depends_on_one ys x
 found-on x n [] = refl
 found-on x n (y ∷ ys) = by (depends x y) (found-on x (n + 1) ys) ∙ ap (λ (b : Bool). b || depends_on_one ys x) (symmetric x y)
@@ -66,23 +67,23 @@ found-on x n (y ∷ ys) = by (depends x y) (found-on x (n + 1) ys) ∙ ap (λ (b
         → is_some (if b then Some n else position_from (depends x) (n + 1) ys) ≡ (b || depends_on_one ys x)
     by b h = grind arith
 
--- what is found after the first k tells whether the step depends on one of those
+-- a position above k is found exactly if the step depends on one of the entries after the first k
 pub found-after : (x : Entry) (k : ℕ) (es : List Entry) → is_some (find (nat_lt k) (positions (depends x) es)) ≡ depends_on_one (drop k es) x
 found-after x k es = ap is_some (first-after x k es) ∙ found-on x (k + 1) (drop k es)
 
 -- which places overlap
 
--- the places that overlap the whole of a segment are the segment's
+-- the places that overlap the whole of a segment are those that are kept under the segment's key
 pub overlaps-whole : (s : SegName) (o : Option Place) → some_overlap (Some (place.Whole s)) o ≡ is_under (In s) o
 overlaps-whole s o = grind arith
 
--- those that overlap a cell are its halves, the cell, and the whole of the segment
+-- the places that overlap a cell are its halves, the cell, and the whole of the segment
 pub overlaps-cell : (s : SegName) (i : ℕ) (o : Option Place)
     → some_overlap (Some (place.Cell s i)) o ≡ (is_under (At (place.Val s i)) o || (is_under (At (place.Idx s i)) o || is_under (At (place.Whole s)) o))
 overlaps-cell s i o = grind arith
 
--- those that overlap a place are kept under three keys at most: that of a cell's value half, its
--- own, and that of the whole of its segment
+-- whether a step at a place is kept under one of the three keys at which a search for place p
+-- looks: of a cell's value half, of what else p names, and of the whole of its segment
 abbrev pub overlaps_under : Place → Option Place → Bool
 overlaps_under p o = is_under_some (value_of_place p) o || (is_under (own_key p) o || is_under_some (whole_key p) o)
 
@@ -116,12 +117,13 @@ pub found_in : (index : DependIndex) (es : List Entry) → IsIndexOf index es �
     → (IsAscending (kept index t) → length (kept index t) < 131072 → r ≡ find (nat_lt k) (kept index t)) → r ≡ find (nat_lt k) (positions (touches t) es)
 found_in index es is t k r found = found (kept-ascends index es is t) (kept-short index es is t) ∙ ap (find (nat_lt k)) (is.lists t)
 
--- an access interferes with this step, if it wrote this of its place
+-- whether an access to place p that wrote v of it interferes with this step
 abbrev pub meets : Place → Wrote → Entry → Bool
 meets p v y = interfere (Some p) v y.place y.wrote
 
--- where the steps are kept that interfere with an access: at a cell its value half is touched, and
--- written where it is not kept; all else is written wherever anything is
+-- whether a search finds this step for an access to place p that wrote v of it. Under the key of a
+-- cell's value half it looks for touches if the access wrote that half, else for writes; under the
+-- two other keys for touches if the access wrote anything, else for writes
 abbrev pub looks : Place → Wrote → Entry → Bool
 looks p v y =
     is_under_some (value_of_place p) (touched_or_written (not (is_value_written v)) y)
@@ -130,12 +132,12 @@ looks p v y =
 looked : (p : Place) (v : Wrote) (y : Entry) → looks p v y ≡ meets p v y
 looked p v y = grind (arith, overlaps-keys, under_either)
 
--- nothing is found under no key
+-- a search without a key finds nothing
 pub none_found : (k n : ℕ) (es : List Entry) → find (nat_lt k) (positions_from (λ y. false) n es) ≡ None
 none_found k n [] = refl
 none_found k n (x ∷ xs) = none_found k (n + 1) xs
 
--- what is found under the three keys
+-- the first of what is found under the three keys is the first step that interferes with the access
 pub found_at : (p : Place) (v : Wrote) (k : ℕ) (es : List Entry) (value own whole both all : Option ℕ)
     → value ≡ find (nat_lt k) (positions (λ y. is_under_some (value_of_place p) (touched_or_written (not (is_value_written v)) y)) es)
     → own ≡ find (nat_lt k) (positions (λ y. is_under (own_key p) (touched_or_written (is_nothing v) y)) es)
@@ -155,7 +157,7 @@ pub found_by : (x : Entry) → x.place ≡ None → (k : ℕ) (es : List Entry)
     → find (nat_lt k) (positions (touches (By x.event.actor)) es) ≡ find (nat_lt k) (positions (depends x) es)
 found_by x h k es = ap (find (nat_lt k)) (positions-same (touches (By x.event.actor)) (depends x) (λ y. depends-none x y h) 1 es)
 
--- a later step of the actor is one that depends on it
+-- if a later step of the actor is found, the step depends on one of the later entries
 pub found_of_actor : (x : Entry) (k : ℕ) (es : List Entry) → is_some (find (nat_lt k) (positions (touches (By x.event.actor)) es)) ≡ true
     → is_some (find (nat_lt k) (positions (depends x) es)) ≡ true
 found_of_actor x k es h =

@@ -1,16 +1,17 @@
--- What is kept under a key, and the three keys of a place: its own, that of a cell's value half,
--- and its segment's.
+-- What is kept under a key, and the three keys of an entry: of its place, of a cell's value half,
+-- and of its segment.
 use Rattle.rd_depend.proofs.Prelude.{◌≡◌, Bool, true, false, ◌&&◌, ◌||◌, Option, Some, ap, ◌∙◌, arith, and_from, or_right, Place, Entry, Home, Homes, Key, is_that, is_under, place_key, value_key, segment_key, is_kept_in, touched_or_written, homes_of, key_eq-refl}
 
--- whether a list is one of a key's, for a step that wrote there or didn't
+-- whether a key's list of all positions or of writes is to keep an entry by this one of the entry's
+-- keys
 abbrev pub is_home : Home → Bool → Key → Bool
 is_home h w q = is_kept_in w h.wrote && is_that q h.key
 
--- or of one of three keys
+-- the same by one of the entry's three keys
 abbrev pub is_in : Homes → Bool → Key → Bool
 is_in h w q = (is_home h.place w q || is_home h.value w q) || is_home h.segment w q
 
--- a step is kept where one of its three keys holds it, and nowhere else
+-- a step is kept in just the lists of its three keys that are to keep it
 pub under : (w : Bool) (q : Key) (x : Entry) → is_under q (touched_or_written w x) ≡ is_in (homes_of x) w q
 under w q x = grind arith
 
@@ -31,7 +32,7 @@ apart a b x y h = grind arith
 either_apart : (p q r : Bool) → (p && r) ≡ false → (q && r) ≡ false → ((p || q) && r) ≡ false
 either_apart p q r h k = grind arith
 
--- no list is one of two of the keys
+-- no list is that of two of an entry's keys
 pub record AreSeparate (h : Homes) : Type 0 where
   pub first : (w : Bool) (q : Key) → (is_home h.place w q && is_home h.value w q) ≡ false
   pub last : (w : Bool) (q : Key) → ((is_home h.place w q || is_home h.value w q) && is_home h.segment w q) ≡ false
@@ -45,7 +46,7 @@ home_own h w q e c = and_from (is_kept_in w h.wrote) (is_that q h.key) c (ap (is
 first_false : (a b : Bool) → (a && b) ≡ false → b ≡ true → a ≡ false
 first_false a b h k = grind arith
 
--- so the lists of the second key are none of the first, and those of the third are none of either
+-- so no list of the second key is one of the first, and none of the third is one of the others
 pub value_other : (h : Homes) → AreSeparate h → (w : Bool) (q : Key) → h.value.key ≡ Some q → is_kept_in w h.value.wrote ≡ true → is_home h.place w q ≡ false
 value_other h s w q e c = first_false (is_home h.place w q) (is_home h.value w q) (s.first w q) (home_own h.value w q e c)
 

@@ -1,21 +1,21 @@
--- Ascending positions: the search for the first that is greater than a number, and what becomes of
--- them where one is moved.
+-- Ascending positions: the search for the first that is above a number, and what they become when
+-- one is moved.
 use Rattle.rd_depend.proofs.Prelude.{◌≡◌, ℕ, zero, suc, ◌+◌, ◌-◌, ◌*◌, ◌/◌, ◌^◌, ◌<◌, ◌≤◌, ◌==◌, Bool, true, false, not, nat_lt, List, [], ◌∷◌, ◌++◌, length, get_or, map, drop, take, cond, if◌then◌else◌, ◌||◌, ◌≢◌, refl, sym, ap, ◌∙◌, arith, append_assoc, eqb-true, length-drop, subst, nat_tests, eqb-false, take_all, take-append-drop, AscendsFrom, IsAscending, before_first, contains, moved_position, position_or_len, turned, AreMoved, IsMoved, prefix_len_is, list_any-append, leb}
 use Rattle.std.specs.List.Sorted.{IsNonDecreasingBy, IsPartitionPoint}
 use Rattle.std.proofs.Math.Nat.{pow-succ'}
 
--- a lower start serves too
+-- positions that ascend from n also ascend from any lower start
 pub ascends_lower : (m n : ℕ) (ps : List ℕ) → m ≤ n → AscendsFrom n ps → AscendsFrom m ps
 ascends_lower m n [] le h = tt
 ascends_lower m n (p ∷ ps) le h = (omega arith, h.1)
 
--- each is at least the start
+-- each position is at least the start
 pub ascends-at : (n : ℕ) (ps : List ℕ) (i d : ℕ) → AscendsFrom n ps → i < length ps → n ≤ get_or ps i d
 ascends-at n [] i d h within = omega arith
 ascends-at n (p ∷ ps) zero d h within = h.0
 ascends-at n (p ∷ ps) (suc i) d h within = let rest = ascends-at (suc p) ps i d h.1 (omega arith) in omega arith
 
--- none is less than the one before it
+-- no position is less than the one before it
 pub non_decreasing : (n : ℕ) (ps : List ℕ) → AscendsFrom n ps → IsNonDecreasingBy (λ p. p) ps
 non_decreasing n [] h i j d le within = absurd (omega arith)
 non_decreasing n (p ∷ ps) h zero zero d le within = omega arith
@@ -25,39 +25,39 @@ non_decreasing n (p ∷ ps) h (suc i) (suc j) d le within = non_decreasing (suc 
 
 -- the number of those before the first that is greater
 
--- one that is at most k is among them
+-- a position that is at most k is before the first that is greater
 pub number-above : (n k : ℕ) (ps : List ℕ) (i d : ℕ) → AscendsFrom n ps → i < length ps → get_or ps i d ≤ k → i < position_or_len (nat_lt k) ps
 number-above n k [] i d h within le = omega arith
 number-above n k (p ∷ ps) zero d h within le = grind (arith, nat_tests)
 number-above n k (p ∷ ps) (suc i) d h within le = grind (arith, nat_tests, ascends-at, number-above (suc p) k ps i d h.1 (omega arith) le)
 
--- one that is greater is not
+-- a position above k is not before the first that is greater
 pub number-below : (k : ℕ) (ps : List ℕ) (i d : ℕ) → i < length ps → k < get_or ps i d → position_or_len (nat_lt k) ps ≤ i
 number-below k [] i d within gt = omega arith
 number-below k (p ∷ ps) zero d within gt = grind (arith, nat_tests)
 number-below k (p ∷ ps) (suc i) d within gt = grind (arith, nat_tests, number-below k ps i d (omega arith) gt)
 
--- nor are there more than all of them
+-- there are no more positions before the first that is greater than there are
 number-within : (k : ℕ) (ps : List ℕ) → position_or_len (nat_lt k) ps ≤ length ps
 number-within k [] = omega arith
 number-within k (p ∷ ps) = grind (arith, nat_tests, number-within k ps)
 
--- where there are some and the last one is at most k, all are
+-- if there are positions and the last is at most k, all are before the first that is greater
 pub number-all : (k : ℕ) (ps : List ℕ) (d : ℕ) → IsAscending ps → 1 ≤ length ps → get_or ps (length ps - 1) d ≤ k → length ps ≡ position_or_len (nat_lt k) ps
 number-all k ps d up some le = omega (arith, number-within k ps, number-above 0 k ps (length ps - 1) d up (omega arith) le)
 
--- where there are none, none is
+-- if there are no positions, none is before the first that is greater
 pub number-none : (k : ℕ) (ps : List ℕ) → length ps ≡ 0 → length ps ≡ position_or_len (nat_lt k) ps
 number-none k ps none = omega (arith, none, number-within k ps)
 
--- half of what is below a power of two
+-- half of a number below a power of two is below the next lower power
 pub halved : (round n : ℕ) → round < 17 → n < 2 ^ (17 - round) → n / 2 < 2 ^ (17 - (round + 1))
 halved round n within h = let e : 2 ^ (17 - round) ≡ 2 * 2 ^ (17 - (round + 1)) = powers (17 - round) (17 - (round + 1)) (omega arith) in omega arith
   where
     powers : (m k : ℕ) → m ≡ suc k → 2 ^ m ≡ 2 * 2 ^ k
     powers m k h = rw h (pow-succ' 2 k)
 
--- the point that splits those that are at most k from the others
+-- the point that parts the positions up to k from the others is the number of those up to k
 pub point-is : (k : ℕ) (ps : List ℕ) (i : ℕ) → IsPartitionPoint (λ p. leb p k ≡ true) (λ p. leb p k ≡ false) ps i → i ≤ length ps → i ≡ position_or_len (nat_lt k) ps
 point-is k ps i point within =
     sym (prefix_len_is (λ p. not (nat_lt k p)) ps i 0 within (λ j l. let e = point.0 j 0 (omega arith) l in grind (arith, nat_tests))
@@ -65,12 +65,12 @@ point-is k ps i point within =
 
 -- Positions in parts
 
--- each is greater than the one before it, the first is at least m, and all are at most n
+-- each position is greater than the one before it, the first is at least m, and all are at most n
 abbrev Within : ℕ → ℕ → List ℕ → Type 0
 Within m n [] = Unit {0}
 Within m n (p ∷ ps) = (m ≤ p) × (p ≤ n) × Within (suc p) n ps
 
--- those before the first that is greater than n, and the others
+-- what is before the first that fails the test, and what is from it on
 parted : (b : Bool) (m p : ℕ) (ps : List ℕ)
     → (take (cond (not b) (1 + m) 0) (p ∷ ps) ≡ (if b then [] else p ∷ take m ps)) × (drop (cond (not b) (1 + m) 0) (p ∷ ps) ≡ (if b then p ∷ ps else drop m ps))
 parted true m p ps = (refl, refl)
@@ -122,7 +122,7 @@ turned-has : (k n p : ℕ) (ps : List ℕ) → Within k n ps → contains (turne
 turned-has k n p [] h = refl
 turned-has k n p (q ∷ qs) h = grind (arith, nat_tests, list_any-append, lowered-has (suc q) k n p qs h.2, lowered-has (suc k) k n p (q ∷ qs))
 
--- the parts that the searches find, the one between turned
+-- if the positions from k up to n are turned and the others stay, k is moved to n
 pub moved : (k n start size : ℕ) (ps turns new : List ℕ) → 1 ≤ k → k ≤ n → (IsAscending ps → start ≡ position_or_len (nat_lt (k - 1)) ps)
     → (IsAscending (take (length ps - start) (drop start ps)) → size ≡ position_or_len (nat_lt n) (take (length ps - start) (drop start ps)))
     → turns ≡ turned k n (take (start + size - start) (drop start ps)) → new ≡ take start ps ++ (turns ++ drop (start + size - start) (drop start ps)) → IsMoved k n ps new
@@ -168,12 +168,12 @@ moved k n start size ps turns new some order at until turn is up = subst (AreMov
     parts : turns ++ drop (start + size - start) rest ≡ turned k n mid ++ high
     parts = let long : start + size - start ≡ size = omega arith in λ i. (turn ∙ ap (λ (j : ℕ). turned k n (take j rest)) long) i ++ drop (long i) rest
 
--- among no positions nothing is moved
+-- moving among no positions leaves none
 pub none_moved : (k n : ℕ) → IsMoved k n [] []
 unfolding IsMoved
 none_moved k n up = record { ascends = tt; places = λ p. refl }
 
--- where all are below k, none moves
+-- if all positions are below k, they are as before
 pub unmoved : (k n start : ℕ) (ps : List ℕ) → 1 ≤ k → k ≤ n → (IsAscending ps → start ≡ position_or_len (nat_lt (k - 1)) ps) → start ≡ length ps → IsMoved k n ps ps
 unmoved k n start ps some order at all =
     let none : length ps - start ≡ 0 = omega (arith, all) in

@@ -1,11 +1,11 @@
--- A position moved after others in all lists: the index is then that of the entries with that one
--- moved, and has the same room.
+-- Moving a position in all lists: the index is then that of the entries with that one moved, and
+-- has the same room.
 use Rattle.rd_depend.proofs.Prelude.{◌≡◌, ℕ, zero, suc, ◌+◌, ◌-◌, ◌<◌, ◌≤◌, ◌==◌, Bool, false, nat_lt, if◌then◌else◌, List, [], ◌∷◌, ◌++◌, length, slice_get, take, drop, Option, Some, None, refl, sym, ap, ◌∙◌, append_assoc, arith, length-append, length-drop, option_map_or, nat_tests, drop_of_length-le, length-take-le, take_all, take-append-drop, drop-drop, Entry, numbered, without, DependIndex, AscendsFrom, AreMoved, contains, moved_position, positions_from, positions, number_of, touches, Touch, kept, capacity, IsIndexOf, KeepsRoom, IsMoved, moved_to}
 use Rattle.rd_depend.proofs.IndexPositions.{positions-ascend, ascending, number-append}
 use Rattle.rd_depend.proofs.IndexChanges.{drop_one}
 use Rattle.rd_depend.proofs.IndexRoom.{room_stays}
 
--- a list cut before its k-th element, after it, and after the n-th
+-- a list cut before its k-th element, after it, and after its n-th
 record Cut {X : Type 0} (es : List X) (k n : ℕ) : Type 0 where
   low : List X
   x : X
@@ -56,7 +56,7 @@ at_moved : (low mid high : List Entry) (x : Entry) (k n p : ℕ) → k ≡ suc (
     → numbered ((low ++ mid) ++ x ∷ high) (moved_position k n p) ≡ numbered (low ++ ((x ∷ mid) ++ high)) p
 at_moved low mid high x k n p before until = grind (arith, nat_tests, get-append, number-is, length-append)
 
--- where the entry at q was before
+-- the number that the entry at q had before the k-th was moved to n
 abbrev moved_from : ℕ → ℕ → ℕ → ℕ
 moved_from k n q = if nat_lt q k then q else (if q == n then k else (if nat_lt q n then q + 1 else q))
 
@@ -119,7 +119,7 @@ number-moved test es k n c = grind (arith, number-append)
 length-moved : (es : List Entry) (k n : ℕ) → Cut es k n → length (moved_to es k n) ≡ length es
 length-moved es k n c = grind (arith, length-append)
 
--- in each list position k was moved after the others up to n
+-- in each list position k was moved to n
 abbrev MovesAll : ℕ → ℕ → DependIndex → DependIndex → Type 0
 MovesAll k n old new = (t : Touch) → IsMoved k n (kept old t) (kept new t)
 
@@ -132,6 +132,6 @@ pub moved_room : (old new : DependIndex) (k n : ℕ) → 1 ≤ k → k ≤ n →
 moved_room old new k n some order within moves stays es is = λ t.
     omega (arith, room_stays old new es (moved_to es k n) is (moves es is) stays t, number-moved (touches t) es k n (cut es k n some order (omega arith)))
 
--- moved after all others
+-- an entry moved to the end of the list is removed and put last
 pub moved_last : (es : List Entry) (k n : ℕ) (x : Entry) → n ≡ length es → numbered es k ≡ Some x → moved_to es k n ≡ without es k ++ x ∷ []
 moved_last es k n x all h = grind (arith, take_all, drop_of_length-le, drop_one)

@@ -1,12 +1,11 @@
--- The table of keys: which key has which index, and what a change of the lists by index is for the
--- keys.
+-- The table of keys: which key has which index, and what a change of the lists means for the keys.
 use Rattle.rd_depend.proofs.Prelude.{common_steps, nat_tests, option_map, slice_get-push_same, slice_get-push_other, Key, Table, key_eq, slot_in, key_eq-true, key_eq-refl, key_eq-sym, Lists, list_at, spare_at, one_if, list_of, capacity_of, lists_of, kept_in, spare_in, is_kept_in, IsReady, KeepsLists, Puts, TakesLast, Moves, capacity_at, IsMoved, ◌≡◌, ℕ, zero, suc, ◌+◌, ◌-◌, ◌<◌, ◌≤◌, Bool, true, false, ◌&&◌, ◌==◌, if◌then◌else◌, List, [], ◌∷◌, ◌++◌, length, get_or, take, Option, Some, None, slice_get, position, Vec, refl, sym, ap, subst, ◌∙◌, arith, eqb-true, eq-eqb, list_any, IsDistinct, apart_from_distinct, Global}
 use Rattle.rd_depend.proofs.IndexLists.{none_moved}
 use Rattle.std.specs.Cmp.{both_ways}
 
 -- indices of keys
 
--- at its index is the key
+-- the key is at its index
 pub slot-there : (keys : List Key) (k : Key) (i : ℕ) → slot_in keys k ≡ Some i → slice_get keys i ≡ Some k
 slot-there [] k i h = absurd cc
 slot-there (q ∷ qs) k i h = grind (arith, key_eq-true, slot-there qs k)
@@ -34,17 +33,17 @@ stands-slot keys k i d distinct within at = ap (slot_in keys) at ∙ own keys i 
     own (q ∷ qs) (suc j) d s h =
         behind q (get_or qs j d) qs j (apart_from_distinct key_eq (q ∷ qs) 0 (suc j) d s (omega arith) h) (own qs j d s.1 (omega arith))
 
--- the same of a key that is equal to the one that is there
+-- the same for a key that is equal to the one at the index
 pub key-slot : (keys read : List Key) (k : Key) (i : ℕ) (d : Key) → read ≡ keys → IsDistinct key_eq keys → i < length read → key_eq (get_or read i d) k ≡ true
     → slot_in keys k ≡ Some i
 key-slot keys read k i d same distinct within is = grind (arith, stands-slot)
 
--- whether an index that may be there is this one
+-- whether there is an index, and it is i
 abbrev pub is_slot : ℕ → Option ℕ → Bool
 is_slot i None = false
 is_slot i (Some j) = j == i
 
--- the keys with this index are those that are equal to one with it
+-- the keys with the index of k are those equal to k
 pub slot-same : (keys : List Key) (k q : Key) (i : ℕ) → slot_in keys k ≡ Some i → is_slot i (slot_in keys q) ≡ key_eq q k
 slot-same keys k q i h = both_ways (is_slot i (slot_in keys q)) (key_eq q k) (to_key (slot_in keys q) refl)
     (λ e. ap (λ (x : Key). is_slot i (slot_in keys x)) (key_eq-true q k e) ∙ ap (is_slot i) h ∙ eq-eqb i i refl)
@@ -58,17 +57,17 @@ slot-same keys k q i h = both_ways (is_slot i (slot_in keys q)) (key_eq q k) (to
         let one : q ≡ k = cc in
         subst (λ (x : Key). key_eq q x ≡ true) one (key_eq-refl q)
 
--- the index is that which the set finds
+-- the set finds a key at its index
 pub position-slot : (keys : List Key) (k : Key) → position (key_eq k) keys ≡ slot_in keys k
 position-slot [] k = grind (arith, nat_tests)
 position-slot (q ∷ qs) k = grind (arith, position-slot qs k)
 
--- how many more a list has room for
+-- the number of positions for which the list at an index has room left
 abbrev room_left : Lists → Option ℕ → ℕ
 room_left lists o = capacity_of lists o - length (list_of lists o)
 
--- what holds of each list by its index, by whether it is this one, holds of each key's, by whether
--- it is this key
+-- what holds of each list, depending on whether it is at this index, holds of each key's list,
+-- depending on whether it is this key
 keyed : (keys : List Key) (k q : Key) (i : ℕ) → slot_in keys k ≡ Some i → (b : Bool) (P : Bool → Option ℕ → Type 0) → ((j : ℕ) → P (b && (j == i)) (Some j)) → P false None
     → P (b && key_eq q k) (slot_in keys q)
 keyed keys k q i slot b P some none = subst (λ (c : Bool). P (b && c) (slot_in keys q)) (slot-same keys k q i slot) (by (slot_in keys q))
@@ -98,7 +97,7 @@ pub absent : (keys : List Key) (k : Key) → slot_in keys k ≡ None → list_an
 absent [] k h = refl
 absent (q ∷ qs) k h = grind (arith, absent qs k)
 
--- the index itself, or this one if the test holds
+-- the index, if there is one, else n if the bit is true
 abbrev or_slot : Option ℕ → Bool → ℕ → Option ℕ
 or_slot (Some i) b n = Some i
 or_slot None true n = Some n
@@ -121,7 +120,7 @@ pub keeps_pushed : (old new : Table) (k : Key) (v u : Vec ℕ Global) → new.ke
     → length old.all.items ≡ length old.keys.keys → length old.writes.items ≡ length old.keys.keys → KeepsLists old new
 keeps_pushed old new k v u keys all writes none_v none_u in_all in_writes = grind (arith, slot_pushed, kept_pushed, room_pushed)
 
--- a key that was not there is last
+-- a key that is added is the last
 pub key_last : (keys new : List Key) (k : Key) → slot_in keys k ≡ None → new ≡ (if list_any (key_eq k) keys then keys else keys ++ k ∷ []) → new ≡ keys ++ k ∷ []
 key_last keys new k none h = h ∙ ap (λ (b : Bool). if b then keys else keys ++ k ∷ []) (absent keys k none)
 

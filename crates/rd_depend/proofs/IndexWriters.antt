@@ -1,10 +1,10 @@
--- The last writer of a place, from the last positions up to a number in a place's list and a
--- segment's.
+-- The last writer of a place, from the last positions up to a number in the lists of the place and
+-- its segment.
 use Rattle.rd_depend.proofs.Prelude.{nat_lt, common_steps, Place, some_overlap, Entry, DependIndex, is_under, is_under_some, own_key, value_of_place, whole_key, IsAscending, before_first, last_or, later, Touch, touched_or_written, touches, positions_from, positions, kept, IsIndexOf, one_further, last_position, writes_to, ◌≡◌, ℕ, zero, suc, ◌+◌, ◌-◌, ◌<◌, ◌≤◌, Bool, true, false, ◌||◌, List, [], ◌∷◌, length, get_or, take, Option, Some, None, refl, ap, ◌∙◌, arith}
 use Rattle.rd_depend.proofs.IndexCuts.{positions-up_to}
 use Rattle.rd_depend.proofs.IndexFirst.{kept-ascends, kept-short, overlaps-keys}
 
--- the last of the first ones
+-- the last of the first i + 1 positions is the one at index i
 last-taken : (o : Option ℕ) (ps : List ℕ) (i d : ℕ) → i < length ps → last_or o (take (suc i) ps) ≡ Some (get_or ps i d)
 last-taken o [] i d within = absurd (omega arith)
 last-taken o (p ∷ ps) zero d within = refl
@@ -29,7 +29,7 @@ last-from o test m n (x ∷ xs) h =
 last-is : (test : Entry → Bool) (es : List Entry) → last_or None (positions test es) ≡ last_position test es
 last-is test es = grind (arith, last-from None test 0 1 es refl)
 
--- the later of two is the last that passes one test or the other
+-- the greater of what two tests find last is what either test finds last
 later-last : (t u v : Entry → Bool) → ((y : Entry) → v y ≡ (t y || u y)) → (es : List Entry)
     → later (last_position t es) (last_position u es) ≡ last_position v es
 later-last t u v h [] = refl
@@ -44,13 +44,13 @@ last_in index es is t n r found = grind (arith, common_steps, kept-ascends, kept
 meet : (o p : Option Place) → some_overlap o p ≡ some_overlap p o
 meet o p = grind arith
 
--- nothing is found under no key
+-- a search without a key finds nothing
 pub none_last : (es : List Entry) → last_position (λ (y : Entry). false) es ≡ None
 none_last [] = refl
 none_last (x ∷ xs) = ap (one_further false) (none_last xs)
 
--- the steps that wrote a place, or one of the places that it names: by the three keys under which
--- what they wrote is kept
+-- the last of what is found under the three keys is the last step that wrote the place, or one of
+-- the places that it names
 pub last_at : (p : Place) (es : List Entry) (value own whole both all : Option ℕ)
     → value ≡ last_position (λ y. is_under_some (value_of_place p) (touched_or_written true y)) es → own ≡ last_position (λ y. is_under (own_key p) (touched_or_written true y)) es
     → whole ≡ last_position (λ y. is_under_some (whole_key p) (touched_or_written true y)) es → both ≡ later own whole → all ≡ later value both

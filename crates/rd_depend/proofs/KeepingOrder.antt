@@ -1,5 +1,5 @@
--- Steps keep the order of dependent ones at the places where they are in another list exactly where
--- they may be taken out of it one after another.
+-- The steps of one list keep the order of another list exactly if they may be taken out of that
+-- list one after another.
 use Rattle.rd_depend.proofs.Prelude.{common_steps, eqb-false, map-append, Entry, Key, Reached, is_under, last_blocking, passed, passed_over, nothing_reached, AreAlike, Placed, by_actor, all_left, with_steps, KeepsOrder, ◌≡◌, ◌≢◌, ℕ, ◌+◌, ◌<◌, ◌≤◌, Bool, true, false, ◌==◌, if◌then◌else◌, List, [], ◌∷◌, ◌++◌, length, map, refl, sym, ap, subst, ◌∙◌, arith, eqb-true, length-append, enumerate_from, filter-append}
 use Rattle.rd_depend.proofs.FirstOfActor.{HasNoneBy}
 use Rattle.rd_depend.proofs.TouchedKeys.{wrote_under, wrote_touched, passed_at, in_order_at, in_order_from}
@@ -7,11 +7,12 @@ use Rattle.rd_depend.proofs.TakingOut.{touched-alike, wrote-alike, alike-sym, Ar
 
 -- How far steps reached, and their order, key by key
 
--- at position i a step is after all earlier ones on which it depends
+-- a step with number i in the second run comes there after all earlier steps on which it depends,
+-- under each key that it touched
 abbrev IsAfterAll : (Key → Reached) → Entry → ℕ → Type 0
 IsAfterAll s x i = (k : Key) → is_under k x.place ≡ true → last_blocking (s k) (wrote_under k x.place x.wrote) < i
 
--- t is how far the steps reached after one more
+-- t is how far the steps reached after x, which has the number i in the second run
 abbrev Passes : (Key → Reached) → Entry → ℕ → (Key → Reached) → Type 0
 Passes s x i t = (k : Key) → t k ≡ (if is_under k x.place then passed (s k) (wrote_under k x.place x.wrote) i else s k)
 
@@ -38,7 +39,7 @@ apart_before s t x y i j m h before actors = grind (arith, wrote_touched)
 abbrev entries_of : List Placed → List Entry
 entries_of ps = map (λ (p : Placed). p.1) ps
 
--- something holds of each
+-- P holds of each step
 abbrev Each : (Placed → Type 0) → List Placed → Type 0
 Each P [] = Unit {0}
 Each P (p ∷ ps) = P p × Each P ps
@@ -54,12 +55,12 @@ each-more : (P Q : Placed → Type 0) (ps : List Placed) → ((p : Placed) → P
 each-more P Q [] f h = tt
 each-more P Q (p ∷ ps) f h = (f p h.0, each-more P Q ps f h.1)
 
--- each is after the one before it
+-- each step has a greater number than the one before it
 abbrev Ascends : List Placed → Type 0
 Ascends [] = Unit {0}
 Ascends (p ∷ ps) = Each (λ q. p.0 < q.0) ps × Ascends ps
 
--- those before a step and those after it
+-- the steps before p and those after it in an ascending list
 record Around (ps : List Placed) (p : Placed) (qs : List Placed) : Type 0 where
   before : Each (λ q. q.0 < p.0) ps
   later : Each (λ q. p.0 < q.0) qs
@@ -96,7 +97,7 @@ own n p ps h = grind arith
 other : (n : ℕ) (p : Placed) (ps : List Placed) → n ≢ p.1.event.actor → by_actor n (p ∷ ps) ≡ by_actor n ps
 other n p ps h = grind arith
 
--- the first step of an actor, with those before it and after it
+-- the first step of an actor in a list, with the steps before it and those after it
 record FirstBy (n : ℕ) (ps : List Placed) (p : Placed) (rest : List Placed) : Type 0 where
   earlier : List Placed
   later : List Placed
@@ -133,7 +134,8 @@ first_by n (q ∷ ps) p rest h = by (n == q.1.event.actor) refl h (first_by n ps
           left = f.left ∙ sym (other n q (f.earlier ++ f.later) other_actor);
         }
 
--- without it the steps of its actor are the others, and those of other actors stay
+-- without the first step of its actor, that actor has the steps after it, and other actors have the
+-- same steps
 by_actor-first : (n : ℕ) (ps qs : List Placed) (p : Placed) → n ≡ p.1.event.actor → HasNoneBy n (entries_of ps) → by_actor n (ps ++ p ∷ qs) ≡ p ∷ by_actor n (ps ++ qs)
 by_actor-first n [] qs p e none = own n p qs e
 by_actor-first n (r ∷ ps) qs p e none = grind (arith, by_actor-first n ps qs p e none.1)
@@ -158,7 +160,7 @@ no_entries (p ∷ ps) h = cc
 
 -- Where they keep the order they may be taken out
 
--- each is after all earlier ones on which it depends
+-- each step comes after all earlier steps on which it depends
 abbrev AreAfterAll : (Key → Reached) → List Placed → Type 0
 AreAfterAll s ps = Each (λ p. IsAfterAll s p.1 p.0) ps
 
@@ -167,7 +169,8 @@ all_apart : (s t : Key → Reached) (p : Placed) (ps : List Placed) → Passes s
 all_apart s t p [] m h before none = tt
 all_apart s t p (q ∷ ps) m h before none = (apart_before s t p.1 q.1 p.0 q.0 m h.0 before.0 none.0, all_apart s t p ps m h.1 before.1 none.1)
 
--- what keeping the order says of the other list
+-- what follows for the other list if the order is kept: its steps may be taken out, and each is in
+-- order
 record Kept (s : Key → Reached) (xs : List Entry) (ps : List Placed) : Type 0 where
   taken : TakesAll xs (entries_of ps)
   order : AreAfterAll s ps
@@ -215,7 +218,7 @@ kept_taken xs ys h =
 
 -- and where they may be taken out they keep the order
 
--- a step in a list, found among its entries
+-- a step of a list, found by its entry among the list's entries
 record Found (ps : List Placed) (xs : List Entry) (y : Entry) (ys : List Entry) : Type 0 where
   earlier : List Placed
   step : Placed

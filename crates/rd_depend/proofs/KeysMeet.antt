@@ -1,4 +1,4 @@
--- Two steps of a run depend on each other exactly where they are of one actor, or one of them wrote
+-- Two steps of a run depend on each other exactly if they have one actor, or one of them wrote
 -- under a key where the other touched.
 use Rattle.rd_depend.proofs.Prelude.{common_steps, false≢true, or_cases, or_parts, SegName, Place, segment_of, some_overlap, is_nothing, written, name_eq-refl, some_overlap-sym, Entry, depends, Key, At, In, is_under, is_under_some, own_key, value_of_place, whole_key, ◌≡◌, Bool, true, false, ◌||◌, inl, inr, Option, Some, None, refl, sym, ◌∙◌, arith, ne_eqb, option_map}
 use Rattle.rd_depend.proofs.IndexFirst.{overlaps_under, overlaps-keys}
@@ -16,28 +16,27 @@ meet : (k : Key) (x : Entry) (o : Option Place) → MakingWrote x → wrote_unde
     → some_overlap (written x.place x.wrote) o ≡ true
 meet k x o made h g = grind (arith, common_steps)
 
--- so steps that don't are apart
+-- steps that don't depend on each other are apart
 pub apart_of_free : (x y : Entry) → MakingWrote x → MakingWrote y → depends x y ≡ false → AreApart x y
 apart_of_free x y made_x made_y h = grind (arith, or_parts, meet, some_overlap-sym)
 
 -- Where they depend on each other they meet under a key
 
--- a step that wrote there wrote under the place's keys
+-- a step that wrote a cell wrote under the key of its value half
 wrote_value : (x : Entry) (p : Place) (k : Key) → written x.place x.wrote ≡ Some p → value_of_place p ≡ Some k → wrote_under k x.place x.wrote ≡ true
 wrote_value x p k w e = grind arith
 
 wrote_own : (x : Entry) (p : Place) → written x.place x.wrote ≡ Some p → wrote_under (own_key p) x.place x.wrote ≡ true
 wrote_own x p w = grind (arith, name_eq-refl)
 
--- and touched in its segment
+-- a step that wrote a place of a segment touched under the segment's key
 touched_in : (x : Entry) (p : Place) (t : SegName) → written x.place x.wrote ≡ Some p → segment_of p ≡ Some t → is_under (In t) x.place ≡ true
 touched_in x p t w e = grind (arith, name_eq-refl)
 
 made_it : (t : SegName) (o : Option Place) → is_under (At (place.Whole t)) o ≡ true → is_whole_of t o ≡ true
 made_it t o h = grind arith
 
--- so one that wrote nowhere where the other touched, and is not the other way round, wrote nothing
--- that overlaps the other's place
+-- of two steps that are apart, neither wrote a place that overlaps the other's
 never_meet : (x y : Entry) (p : Place) → AreApart x y → written x.place x.wrote ≡ Some p → overlaps_under p y.place ≡ true → ⊥
 never_meet x y p apart w h =
     elim (or_cases (is_under_some (value_of_place p) y.place) (is_under (own_key p) y.place || is_under_some (whole_key p) y.place) h) [

@@ -1,14 +1,14 @@
--- The last position in the beginning of a list, one element at a time.
+-- The last position in the first elements of a list, as one more is added.
 use Rattle.rd_depend.proofs.Prelude.{◌≡◌, ℕ, zero, suc, Bool, true, false, if◌then◌else◌, refl, ap, List, [], ◌∷◌, take, slice_get, Some, None, arith, one_further, last_position}
 
--- an element that passes is the last of those up to it
+-- an element that passes the test is the last of those up to it
 pub last-found : {X : Type 0} (test : X → Bool) (xs : List X) (i : ℕ) (x : X) → slice_get xs i ≡ Some x → test x ≡ true
     → last_position test (take (suc i) xs) ≡ Some (suc i)
 last-found {X} test [] i x h k = cc
 last-found {X} test (y ∷ ys) zero x h k = grind arith
 last-found {X} test (y ∷ ys) (suc i) x h k = ap (one_further (test y)) (last-found test ys i x h k)
 
--- one that fails, or none, changes nothing
+-- an element that fails the test, or none, leaves the last position
 pub last-passed : {X : Type 0} (test : X → Bool) (xs : List X) (i : ℕ) → ((x : X) → slice_get xs i ≡ Some x → test x ≡ false)
     → last_position test (take (suc i) xs) ≡ last_position test (take i xs)
 last-passed {X} test [] zero h = refl

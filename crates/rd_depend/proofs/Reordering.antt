@@ -1,5 +1,5 @@
--- Lists are equivalent exactly where the one is made of the other by changing places of neighbours
--- that do not depend on each other.
+-- Lists are equivalent exactly if one comes from the other by swapping neighbours that do not
+-- depend on each other.
 use Rattle.rd_depend.proofs.Prelude.{◌≡◌, ◌↔◌, false, refl, sym, ◌∙◌, ap, subst, List, [], ◌∷◌, ◌++◌, Ok, World, Ran, Stepped, run, step, Event, depends, symmetric, free_parts, IsFree, IsEquivalent, as_stepped-same, goes_first, as_ran-same, ran_through, reflexive, swapped_within, commutes, ran_on, run-cons, arith}
 use Rattle.rd_depend.specs.Reordering.{IsReordered}
 use Rattle.rd_depend.specs.Reordering.IsReordered.{unchanged, swapped}
@@ -18,7 +18,7 @@ after_one w d one es fs goes (swapped before e f later _ b s u g h l free rest) 
     swapped (d ∷ before) e f later (d ∷ fs) (record { world = b.world; entries = one.entry ∷ b.entries }) s u
     (run-cons w d before one b goes g) h l free (after_one w d one (before ++ f ∷ e ∷ later) fs goes rest)
 
--- a step that depends on none of those before it comes to the front
+-- a step that depends on none of those before it can be brought to the front by swaps
 to_front : (w : World) (e : Event) (earlier later : List Event) (r : Ran) (s : Stepped) → run w earlier ≡ Ok r → step r.world e ≡ Ok s
     → IsFree s.entry r.entries → IsReordered w (e ∷ (earlier ++ later)) (earlier ++ e ∷ later)
 to_front w e [] later r s h k free = unchanged (e ∷ later)
@@ -44,7 +44,7 @@ reordered w (e ∷ es) fs h =
 
 -- And back
 
--- a run and one that goes on from its last world are one run
+-- two runs, the second from the last world of the first, are one run
 pub run_joined : (w : World) (es fs : List Event) (r q : Ran) → run w es ≡ Ok r → run r.world fs ≡ Ok q
     → run w (es ++ fs) ≡ Ok (record { world = q.world; entries = r.entries ++ q.entries })
 run_joined w [] fs r q h k = grind arith
@@ -54,7 +54,8 @@ run_joined w (e ∷ es) fs r q h k =
     let on = run_joined ran.one.world es fs ran.rest q ran.goes_on (ap (λ (y : Ran). run y.world fs) ran.joins ∙ k) in
     run-cons w e (es ++ fs) ran.one rest ran.goes on ∙ ap (λ (y : Ran). Ok (record { world = q.world; entries = y.entries ++ q.entries })) ran.joins
 
--- the run of two neighbours that change places, and of those after them
+-- after two neighbours that do not depend on each other, the run with the two swapped goes on as
+-- the other does
 record GoesSwapped (w : World) (before : List Event) (e f : Event) (later : List Event) (u : Stepped) : Type 0 where
   rest : Ran
   goes_on : run u.world later ≡ Ok rest
@@ -76,7 +77,7 @@ goes_swapped w before e f later b s u r g h k free runs =
     let both = run-cons b.world f (e ∷ later) sq.first _ sq.goes_first (run-cons sq.first.world e later sq.second next.rest sq.goes_second end) in
     record { rest = next.rest; goes_on = on; ran = _; runs = run_joined w before (f ∷ e ∷ later) b _ g both }
 
--- a list that is one that runs, reordered, runs too, and is equivalent to it
+-- a list that comes from one that runs by such swaps runs too, and is equivalent to it
 record IsRunAlike (w : World) (es fs : List Event) : Type 0 where
   ran : Ran
   runs : run w fs ≡ Ok ran

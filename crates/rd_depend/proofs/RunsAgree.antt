@@ -1,5 +1,5 @@
--- Of two runs from one world the events are equivalent exactly where the entries of the one may be
--- taken out of the other.
+-- The events of two runs from one world are equivalent exactly if the entries of one may be taken
+-- out of the other.
 use Rattle.rd_depend.proofs.Prelude.{◌≡◌, true, false, refl, sym, ap, subst, List, [], ◌∷◌, ◌++◌, Ok, arith, list_any, or_from, depends, free_parts, World, step, IsFree, Entry, IsEquivalent, events, IsRunFrom, first_step, DecidesEquivalence}
 use Rattle.rd_depend.proofs.FirstOfActor.{MayComeFirst}
 use Rattle.rd_depend.proofs.Exactness.{comes_first, runs_on, equivalent_first, no_events}

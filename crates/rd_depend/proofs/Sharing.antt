@@ -1,9 +1,9 @@
--- Two entries depend on each other exactly where they have one actor, or share a place of the map
--- that one of them wrote.
+-- Two entries depend on each other exactly if they have one actor, or share a place of the map that
+-- one of them wrote.
 use Rattle.rd_depend.proofs.Prelude.{◌≡◌, ◌↔◌, ◌⊎◌, Bool, true, false, inl, inr, Option, Some, eq-eqb, arith, or_cases, or_left, or_right, covers-refl, both_cover, written-covers, Place, covers, overlaps, some_covers, some_overlap, written, interfere, depends, Entry, is_of_map, wrote, SharesPlace, either_wrote}
 use Rattle.rd_cell.specs.declared.places.Place.TheVariants as place
 
--- a place of the map that a place names
+-- one place of the map that a place names: itself, or one of several
 abbrev part : Place → Place
 part (place.Cell s i) = place.Val s i
 part (place.Whole s) = place.Head s
@@ -12,11 +12,11 @@ part p = p
 part_of_map : (p : Place) → is_of_map (part p) ≡ true
 part_of_map p = grind arith
 
--- what covers a place covers what it names
+-- what covers a place covers this part of it
 covers_part : (p q : Place) → covers p q ≡ true → covers p (part q) ≡ true
 covers_part p q h = grind arith
 
--- two places that overlap name one place of the map
+-- a place of the map that two overlapping places both cover
 record Common (o p : Option Place) : Type 0 where
   pub place : Place
   pub of_map : is_of_map place ≡ true

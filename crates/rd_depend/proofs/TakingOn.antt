@@ -1,5 +1,5 @@
--- Where one list may be had from a second by taking out, and the second from a third, the first may
--- be had from the third.
+-- Taking out is transitive: if one list can be taken out of a second, and the second out of a
+-- third, the first can be taken out of the third.
 use Rattle.rd_depend.proofs.Prelude.{◌≡◌, ◌⊎◌, inl, inr, List, [], ◌∷◌, ◌++◌, refl, sym, ap, subst, ◌∙◌, append_assoc, arith, Entry, AreAlike}
 use Rattle.rd_depend.proofs.TakingOut.{AreApart, IsApartFrom, Takes, TakesAll}
 
@@ -9,7 +9,7 @@ alike-trans x y z h g = record { event = h.event ∙ g.event; place = h.place �
 takes-alike : (x y : Entry) (entries left : List Entry) → AreAlike x y → Takes y entries left → Takes x entries left
 takes-alike x y entries left h t = grind (arith, alike-trans)
 
--- steps like two that are apart are apart
+-- if two steps are apart, so are two steps like them
 apart-alike : (x y u v : Entry) → AreAlike x u → AreAlike y v → AreApart x y → AreApart u v
 apart-alike x y u v h g a = grind arith
 
@@ -23,13 +23,13 @@ apart-parts x (y ∷ ys) zs h = let rest = apart-parts x ys zs h.1 in ((h.0, res
 
 -- Where a step stands in two lists joined
 
--- it stands in the first list
+-- the step is in the first of two lists joined
 record StandsInFirst (xs ys earlier : List Entry) (x : Entry) (later : List Entry) : Type 0 where
   middle : List Entry
   first : xs ≡ earlier ++ x ∷ middle
   second : later ≡ middle ++ ys
 
--- it stands in the second list
+-- the step is in the second of two lists joined
 record StandsInSecond (xs ys earlier : List Entry) (x : Entry) (later : List Entry) : Type 0 where
   middle : List Entry
   first : earlier ≡ xs ++ middle
@@ -104,7 +104,7 @@ exchanged x y entries between left apart t u = elim (in_either t.earlier t.later
       }
 ]
 
--- a step in the list, apart from those before it, may be taken out first
+-- a step of the list that is apart from those before it may be taken out first
 taken_first : (earlier later entries : List Entry) (x : Entry) → IsApartFrom x earlier → TakesAll (earlier ++ x ∷ later) entries
     → (left : List Entry) × Takes x entries left × TakesAll (earlier ++ later) left
 taken_first [] later entries x apart h = h

@@ -1,5 +1,5 @@
--- Where one list may be had from another by taking out one step after another, each free of those
--- before it, so may the other from the one.
+-- Taking out is symmetric: if one list can be taken out of another, step by step, the other can be
+-- taken out of the one.
 use Rattle.rd_depend.proofs.Prelude.{◌≡◌, ◌≢◌, true, List, [], ◌∷◌, ◌++◌, refl, sym, ap, subst, arith, Entry, Key, is_under, AreAlike}
 use Rattle.rd_depend.proofs.TouchedKeys.{wrote_under}
 
@@ -11,7 +11,7 @@ alike-same x y h = grind arith
 pub alike-sym : (x y : Entry) → AreAlike x y → AreAlike y x
 alike-sym x y h = record { event = sym h.event; place = sym h.place; wrote = sym h.wrote }
 
--- they touched and wrote under the same keys
+-- steps that are alike touched and wrote under the same keys
 pub touched-alike : (x y : Entry) → AreAlike x y → (k : Key) → is_under k x.place ≡ is_under k y.place
 touched-alike x y h k = λ i. is_under k (h.place i)
 
@@ -26,18 +26,18 @@ pub record AreApart (x y : Entry) : Type 0 where
   pub first : (k : Key) → wrote_under k x.place x.wrote ≡ true → is_under k y.place ≡ true → ⊥
   pub second : (k : Key) → is_under k x.place ≡ true → wrote_under k y.place y.wrote ≡ true → ⊥
 
--- a step is apart from each of these
+-- the step x is apart from each of these
 abbrev pub IsApartFrom : Entry → List Entry → Type 0
 IsApartFrom x [] = Unit {0}
 IsApartFrom x (y ∷ ys) = AreApart x y × IsApartFrom x ys
 
--- so are two like them, the other way round
+-- if two steps are apart, two steps like them are apart the other way round
 apart-turned : (x y u v : Entry) → AreAlike x u → AreAlike y v → AreApart x y → AreApart v u
 apart-turned x y u v h g a = grind arith
 
 -- Taking out
 
--- a step like x is in the list, apart from those before it, and without it these are left
+-- the list has a step like x that is apart from those before it, and without it is `left`
 pub record Takes (x : Entry) (entries left : List Entry) : Type 0 where
   pub earlier : List Entry
   pub entry : Entry
@@ -47,13 +47,13 @@ pub record Takes (x : Entry) (entries left : List Entry) : Type 0 where
   pub apart : IsApartFrom entry earlier
   pub leaves : left ≡ earlier ++ later
 
--- steps like these may be taken out of the other list one after another, and nothing is left
+-- steps like these can be taken out of the other list one after another, and nothing is left
 abbrev pub TakesAll : List Entry → List Entry → Type 0
 TakesAll [] entries = entries ≡ []
 TakesAll (x ∷ xs) entries = (left : List Entry) × Takes x entries left × TakesAll xs left
 
--- a step put back where it is apart from those before it, and one like it in front of the other
--- list
+-- if a list can be taken out of another, it still can with a step put in where it is apart from
+-- those before it, and a like step in front of the other list
 put_back : (xs ys zs : List Entry) (x y : Entry) → AreAlike x y → IsApartFrom y xs → TakesAll (xs ++ ys) zs → TakesAll (xs ++ y ∷ ys) (x ∷ zs)
 put_back [] ys zs x y alike apart h = (
   zs,
@@ -75,7 +75,7 @@ put_back (q ∷ xs) ys zs x y alike apart h =
       put_back xs ys h.0 x y alike apart.1 h.2,
     )
 
--- the other way round
+-- if one list can be taken out of another, the other can be taken out of it
 pub takes_back : (xs ys : List Entry) → TakesAll xs ys → TakesAll ys xs
 takes_back [] ys h = subst (λ (l : List Entry). TakesAll l []) (sym h) refl
 takes_back (x ∷ xs) ys h = grind (arith, put_back, takes_back xs h.0 h.2)

@@ -1,28 +1,28 @@
--- The keys under which a step touched: those of its place; what it wrote under them; and its order
--- and how far it reached, key by key.
+-- The keys under which a step touched, what it wrote under them, and its order and how far it
+-- reached under each.
 use Rattle.rd_depend.proofs.Prelude.{◌≡◌, ◌⊎◌, ℕ, ◌<◌, Bool, true, false, not, if◌then◌else◌, Option, Some, arith, SegName, Place, Wrote, is_nothing, written, name_eq, Entry, Key, At, In, Reached, is_under, place_key, value_key, segment_key, is_value_written, is_making, last_blocking, passed, IsAfter, IsInOrder, passed_over}
 use Rattle.rd_cell.specs.declared.places.Place.TheVariants as place
 
--- whether a place, if there is one, is the whole of this segment
+-- whether there is a place, and it is the whole of this segment
 abbrev pub is_whole_of : SegName → Option Place → Bool
 is_whole_of s (Some (place.Whole t)) = name_eq s t
 is_whole_of s _ = false
 
--- whether a step at this place that wrote this counts as a write under the key: of a place if it
--- wrote that, of a segment if it made that
+-- whether a step counts as a write under the key: it wrote there, for the key of a place, or made
+-- the segment, for the key of a segment
 abbrev pub wrote_under : Key → Option Place → Wrote → Bool
 wrote_under (At p) place wrote = is_under (At p) (written place wrote)
 wrote_under (In s) place wrote = is_whole_of s place
 
--- a key under which a step touched is one of the three of its place
+-- a key under which a step touched is one of the three keys of its place
 under_one : (k : Key) (q : Option Place) → is_under k q ≡ true → (place_key q ≡ Some k) ⊎ ((value_key q ≡ Some k) ⊎ (segment_key q ≡ Some k))
 under_one k q h = grind arith
 
--- and each of the three is
+-- a step touched under each of the three keys of its place
 one_under : (k : Key) (q : Option Place) → (place_key q ≡ Some k) ⊎ ((value_key q ≡ Some k) ⊎ (segment_key q ≡ Some k)) → is_under k q ≡ true
 one_under k q h = grind arith
 
--- what a step wrote under it touched
+-- a step touched each key under which it wrote
 pub wrote_touched : (k : Key) (q : Option Place) (w : Wrote) → wrote_under k q w ≡ true → is_under k q ≡ true
 wrote_touched k q w h = grind arith
 

@@ -1,4 +1,4 @@
--- Whether one list begins another.
+-- Whether one list begins with another.
 use Rattle.std.specs.Prelude.{◌≡◌, List, length, take}
 
 -- the second list begins with the first one

@@ -10,20 +10,20 @@ use Rattle.rd_depend.specs.Keys.{place_key, value_key, segment_key}
 use Rattle.rd_depend.specs.Tables.{spare_at, one_if}
 use Rattle.rd_depend.specs.Tables.{AreReady}
 
--- the index got this entry: each list that is to keep it has one more position at its end, and each
--- other list is as before
+-- the index got this entry at the next position: each list that is to keep it has that position at
+-- its end and lost room for at most one, and each other list is as before
 pub record Adds (x : Entry) (old new : DependIndex) : Type 0 where
   pub lists : (t : Touch) → kept new t ≡ (if touches t x then kept old t ++ (position_count old + 1) ∷ [] else kept old t)
   pub room : (t : Touch) → spare old t ≤ spare new t + one_if (touches t x)
   pub len : position_count new ≡ position_count old + 1
 
--- nothing changed except that there may be more room
+-- the lists and the number of positions are as before, and no list lost room
 pub record Keeps (old new : DependIndex) : Type 0 where
   pub lists : (t : Touch) → kept new t ≡ kept old t
   pub room : (t : Touch) → spare old t ≤ spare new t
   pub len : position_count new ≡ position_count old
 
--- the keys under which an entry is kept, each with whether it is kept there as a write
+-- the keys under which an entry is kept, each with whether it is kept there among those that wrote
 abbrev pub homes_of : Entry → Homes
 homes_of x = record {
   place = record { key = place_key x.place; wrote = not (is_nothing x.wrote) };
@@ -39,7 +39,7 @@ pub record IsReadyFor (index : DependIndex) (x : Entry) (homes : Homes) (slots :
   pub value : AreReady index.by_key homes.value.key homes.value.wrote slots.value
   pub segment : AreReady index.by_key homes.segment.key homes.segment.wrote slots.segment
 
--- the index is that of some entries, which end with these
+-- the index is that of a list of entries that ends with these
 pub record EndsWith (index : DependIndex) (last : List Entry) : Type 0 where
   pub before : List Entry
   pub is : IsIndexOf index (before ++ last)

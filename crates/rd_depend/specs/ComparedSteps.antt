@@ -12,7 +12,7 @@ use Rattle.rd_depend.specs.Keys.{key_eq}
 use Rattle.rd_depend.specs.Tables.{list_at}
 use Rattle.rd_depend.specs.KeepingOrder.{Placed, nothing_reached, IsNext, passed_over, with_steps}
 
--- how far the steps reached under a key, or that none did if nothing is kept for the key
+-- how far the steps reached under the key: what is kept for it, or nothing reached if it is missing
 abbrev pub reached_or_nothing : Key → Option Reached → Reached
 reached_or_nothing k o = unwrap_or o (nothing_reached k)
 
@@ -20,23 +20,25 @@ reached_or_nothing k o = unwrap_or o (nothing_reached k)
 abbrev pub reached_of : ReachedByKey → Key → Reached
 reached_of by_key k = reached_or_nothing k (get key_eq by_key.reached k)
 
--- those of the numbered steps that this actor made
+-- the numbered steps that this actor made, in their order
 abbrev pub by_actor : ℕ → List Placed → List Placed
 by_actor n ps = filter (λ p. n == p.1.event.actor) ps
 
--- the steps of each actor of a run, each with its number in the run, from 1
+-- all steps of a run by actor, each with its number in the run, from 1
 abbrev pub all_left : List Entry → ℕ → List Placed
 all_left entries n = by_actor n (enumerate_from 1 entries)
 
--- the steps that are left of each actor, in their order; the code keeps them in the reverse order
+-- the steps that are left of each actor, in the order of the run; the code keeps them in the
+-- reverse order
 abbrev pub left_of : StepsByActor → ℕ → List Placed
 left_of steps n = reverse (map (λ p. (p.at, p.entry.now)) (list_at steps.steps.items n))
 
--- the steps of each actor, with this one before those of its actor
+-- the steps of each actor, with step p in front of those of actor n
 abbrev pub with_first : (ℕ → List Placed) → ℕ → Placed → ℕ → List Placed
 with_first left n p m = if m == n then p ∷ left m else left m
 
--- a step was the next one of its actor in the other run too, and both runs went on over it
+-- the next step of the actor of x in the second run, `step`, is like x and in order there; it was
+-- taken in under its keys, and `rest` is what is left of its actor
 pub record GoesOn (x : Entry) (s t : Key → Reached) (old new : ℕ → List Placed) : Type 0 where
   pub step : Placed
   pub rest : List Placed
@@ -44,6 +46,6 @@ pub record GoesOn (x : Entry) (s t : Key → Reached) (old new : ℕ → List Pl
   pub reached : t ≡ passed_over s x step.0
   pub left : new ≡ with_steps old x.event.actor rest
 
--- a step is not the next one of its actor in the other run, in order
+-- step x isn't next in the second run: its actor has no next step there that is like x and in order
 abbrev pub IsOutOfOrder : Entry → (Key → Reached) → (ℕ → List Placed) → Type 0
 IsOutOfOrder x s left = (p : Placed) (rest : List Placed) → IsNext s x left p rest → ⊥

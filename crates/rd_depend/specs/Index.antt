@@ -1,5 +1,6 @@
--- What an index keeps: of the entries of a list, the positions of those that touch an actor, a
--- place or a segment, and of those that wrote a place or one of a segment.
+-- What an index keeps of a list of entries: for each actor the positions of its entries, and for
+-- each place and each segment the positions of the entries that touched it. A second list has the
+-- positions of those that wrote there.
 use Rattle.std.specs.Prelude.{◌≡◌, ℕ, ◌+◌, ◌≤◌, Bool, true, false, ◌==◌, if◌then◌else◌, List, [], ◌∷◌, ◌++◌, length, Option, Some}
 use Rattle.rd_step.specs.Prelude.{Place, Wrote, written}
 use Rattle.rd_step.specs.declared.entries.Entry.{Entry}
@@ -11,13 +12,14 @@ use Rattle.rd_depend.specs.Tables.{list_at, capacity_at, one_if, spare_at}
 use Rattle.rd_depend.specs.Tables.{kept_in, capacity_in, spare_in}
 use Rattle.rd_cell.specs.declared.places.Wrote.TheVariants as wrote
 
--- what a list of positions is kept for: the steps of an actor, or those at a place or a segment,
--- either all that touched it or only those that wrote it
+-- what a list of positions is kept for: the steps of an actor, or the steps under a key, either all
+-- of them or, if the bit is true, only those that wrote there
 pub data Touch : Type 0 where
   By : ℕ → Touch
   Under : Bool → Key → Touch
 
--- the place that names what an entry's step touched, or what it wrote
+-- the place that an entry's step touched; or, if the bit is true, the place that names what it
+-- wrote
 abbrev pub touched_or_written : Bool → Entry → Option Place
 touched_or_written false x = x.place
 touched_or_written true x = written x.place x.wrote
@@ -27,12 +29,12 @@ abbrev pub touches : Touch → Entry → Bool
 touches (By a) x = a == x.event.actor
 touches (Under w k) x = is_under k (touched_or_written w x)
 
--- whether a step that wrote this wrote the value half of its cell
+-- whether an access to a cell that wrote this part of it wrote the value half
 abbrev pub is_value_written : Wrote → Bool
 is_value_written wrote.Place = true
 is_value_written _ = false
 
--- the positions of the entries that pass the test, where the first entry is at position n
+-- the positions of the entries that pass the test, if the first entry is at position n
 abbrev pub positions_from : (Entry → Bool) → ℕ → List Entry → List ℕ
 positions_from test n [] = []
 positions_from test n (x ∷ xs) = if test x then n ∷ positions_from test (n + 1) xs else positions_from test (n + 1) xs
@@ -41,7 +43,7 @@ positions_from test n (x ∷ xs) = if test x then n ∷ positions_from test (n +
 abbrev pub positions : (Entry → Bool) → List Entry → List ℕ
 positions test entries = positions_from test 1 entries
 
--- how many of the entries pass the test: `count_by` of std, but as a recursion, since proofs
+-- the number of entries that pass the test. This is `count_by` of std as a recursion, since proofs
 -- compute it entry by entry
 abbrev pub number_of : (Entry → Bool) → List Entry → ℕ
 number_of test [] = 0
@@ -52,27 +54,27 @@ abbrev pub kept : DependIndex → Touch → List ℕ
 kept index (By a) = list_at index.by_actor.items a
 kept index (Under w k) = kept_in index.by_key w k
 
--- how many more positions the index has room for in the list for this
+-- the number of positions for which the list for this has room left
 abbrev pub spare : DependIndex → Touch → ℕ
 spare index (By a) = spare_at index.by_actor.items a
 spare index (Under w k) = spare_in index.by_key w k
 
--- how many positions the index has
+-- the number of positions that the index has
 abbrev pub position_count : DependIndex → ℕ
 position_count index = index.len
 
--- the index is that of these entries: each list has just the positions of those entries that it is
--- to keep
+-- the index is that of these entries: each list has just the positions of the entries that it is to
+-- keep, and there is one position for each entry
 pub record IsIndexOf (index : DependIndex) (entries : List Entry) : Type 0 where
   pub lists : (t : Touch) → kept index t ≡ positions (touches t) entries
   pub len : position_count index ≡ length entries
 
--- each list has room for the positions of those of these entries that it is to keep
+-- each list has room for the positions of all of these entries that it is to keep
 pub record HasRoomFor (index : DependIndex) (entries : List Entry) : Type 0 where
   pub lists : (t : Touch) → number_of (touches t) entries ≤ spare index t
 
--- each list has room for the positions of those of the given entries that it is to keep, once those
--- of the entries that go were taken out
+-- each list has room for the positions of all of the given entries that it is to keep, once the
+-- positions of the entries that go are removed
 pub record HasRoomInstead (index : DependIndex) (gone given : List Entry) : Type 0 where
   pub lists : (t : Touch) → number_of (touches t) given ≤ spare index t + number_of (touches t) gone
 
@@ -84,31 +86,31 @@ KeepsRoom old new = (t : Touch) → spare new t ≡ spare old t
 abbrev pub LosesNoRoom : DependIndex → DependIndex → Type 0
 LosesNoRoom old new = (t : Touch) → spare old t ≤ spare new t
 
--- positions of these entries were taken out of the index, and each list has more room by its own
+-- each list has room for as many more positions as it kept of these entries, which went
 abbrev pub GivesRoom : DependIndex → DependIndex → List Entry → Type 0
 GivesRoom old new gone = (t : Touch) → spare new t ≡ spare old t + number_of (touches t) gone
 
--- positions of these entries were put into the index, and each list has less room by its own at most
+-- each list lost room for at most as many positions as it keeps of the given entries
 abbrev pub UsesRoom : DependIndex → DependIndex → List Entry → Type 0
 UsesRoom old new given = (t : Touch) → spare old t ≤ spare new t + number_of (touches t) given
 
--- the index is that of some entries, and the last of them is this one
+-- the index is that of a list whose last entry is this one
 pub record IsLast (index : DependIndex) (x : Entry) : Type 0 where
   pub before : List Entry
   pub is : IsIndexOf index (before ++ x ∷ [])
 
--- the index is that of some entries, and that at position k is this one
+-- the index is that of a list whose entry at position k is this one
 pub record IsHeld (index : DependIndex) (k : ℕ) (x : Entry) : Type 0 where
   pub entries : List Entry
   pub is : IsIndexOf index entries
   pub at : numbered entries k ≡ Some x
 
--- the index is that of some entries
+-- the index is that of some list of entries
 pub record IsIndex (index : DependIndex) : Type 0 where
   pub entries : List Entry
   pub is : IsIndexOf index entries
 
--- how many positions the list for this can have before it has to grow
+-- the number of positions that the list for this can have before it has to grow
 abbrev pub capacity : DependIndex → Touch → ℕ
 capacity index (By a) = capacity_at index.by_actor.items a
 capacity index (Under w k) = capacity_in index.by_key w k

@@ -1,5 +1,4 @@
--- Whether the steps of one run keep the order of dependent steps at the places where they are in
--- another run.
+-- Whether two runs have their dependent steps in the same order.
 use Rattle.std.specs.Prelude.{◌≡◌, ◌<◌, ℕ, max, Bool, true, false, not, ◌==◌, if◌then◌else◌, List, [], ◌∷◌, Option, Some, None}
 use Rattle.rd_cell.specs.declared.places.Place.{Place}
 use Rattle.rd_cell.specs.declared.places.Place.TheVariants as place
@@ -10,50 +9,50 @@ use Rattle.rd_depend.specs.declared.keeping_order.Reached.{Reached}
 use Rattle.rd_depend.specs.Index.{is_value_written}
 use Rattle.rd_depend.specs.Keys.{is_that, place_key, value_key, segment_key}
 
--- whether a place, if there is one, is the whole of a segment
+-- whether there is a place, and it is the whole of a segment, as for a making
 abbrev pub is_making : Option Place → Bool
 is_making (Some (place.Whole t)) = true
 is_making _ = false
 
--- the last position after which a step under a key has to be: that of the steps that touched it if
--- this one writes, else that of the steps that wrote it
+-- the number in the second run after which a step under the key has to come. A step that writes
+-- comes after those that touched the key, and a step that only reads after those that wrote it
 abbrev pub last_blocking : Reached → Bool → ℕ
 last_blocking r wrote = if wrote then r.touched else r.wrote
 
--- how far the steps reached under a key after one more, at position i of the other run
+-- how far the steps under a key reached after one more, which has the number i in the second run
 abbrev pub passed : Reached → Bool → ℕ → Reached
 passed r wrote i = record { touched = max r.touched i; wrote = if wrote then max r.wrote i else r.wrote }
 
--- how far the steps reached under each key before the first step: nowhere
+-- how far the steps reached under each key before the first of them: nowhere
 abbrev pub nothing_reached : Key → Reached
 nothing_reached k = record { touched = 0; wrote = 0 }
 
--- position i is after all earlier steps under this key, if there is one, on which such a step
--- depends
+-- a step with number i in the second run comes there after all earlier steps under this key on
+-- which it depends; this always holds without a key
 abbrev pub IsAfter : (Key → Reached) → Option Key → Bool → ℕ → Type 0
 IsAfter s None wrote i = Unit {0}
 IsAfter s (Some k) wrote i = last_blocking (s k) wrote < i
 
--- how far the steps reached under each key after one more under this one, if there is one, at
--- position i of the other run
+-- how far the steps reached under each key after one more under this key, which has the number i in
+-- the second run; as before without a key
 abbrev pub passed_under : Option Key → Bool → ℕ → (Key → Reached) → Key → Reached
 passed_under key wrote i s k = if is_that k key then passed (s k) wrote i else s k
 
--- in the other run the step is, at position i, after all earlier ones on which it depends: under
--- each of its keys, where a making counts as a write of its segment, and each other step at a place
--- of the segment as a read of it
+-- a step with number i in the second run comes there after all earlier steps that share one of its
+-- three keys and on which it depends. A making counts as a write of its segment, and any other step
+-- at a place of the segment as a read of it
 pub record IsInOrder (s : Key → Reached) (x : Entry) (i : ℕ) : Type 0 where
   pub place : IsAfter s (place_key x.place) (not (is_nothing x.wrote)) i
   pub value : IsAfter s (value_key x.place) (is_value_written x.wrote) i
   pub segment : IsAfter s (segment_key x.place) (is_making x.place) i
 
--- how far the steps reached under each key after this one, at position i of the other run
+-- how far the steps reached under each key after this one, which has the number i in the second run
 unfoldable pub passed_over : (Key → Reached) → Entry → ℕ → Key → Reached
 passed_over s x i =
     passed_under (segment_key x.place) (is_making x.place) i
     (passed_under (value_key x.place) (is_value_written x.wrote) i (passed_under (place_key x.place) (not (is_nothing x.wrote)) i s))
 
--- two steps have the same event and the same place, and wrote the same of it
+-- two steps have the same event and the same place, and wrote the same part of it
 pub record AreAlike (x y : Entry) : Type 0 where
   pub event : x.event ≡ y.event
   pub place : x.place ≡ y.place
@@ -63,19 +62,19 @@ pub record AreAlike (x y : Entry) : Type 0 where
 abbrev pub Placed : Type 0
 Placed = ℕ × Entry
 
--- the steps of each actor, where this actor has these now
+-- the steps that are left of each actor, where actor n has just these
 abbrev pub with_steps : (ℕ → List Placed) → ℕ → List Placed → ℕ → List Placed
 with_steps left n rest m = if m == n then rest else left m
 
--- the next step of the actor of x among those left is p, it is like x and in order, and `rest` are
--- the actor's others
+-- p is the next step left of the actor of x, it is like x and in order, and `rest` is what is left
+-- of this actor then
 pub record IsNext (s : Key → Reached) (x : Entry) (left : ℕ → List Placed) (p : Placed) (rest : List Placed) : Type 0 where
   pub first : left x.event.actor ≡ p ∷ rest
   pub alike : AreAlike x p.1
   pub order : IsInOrder s x p.0
 
--- these steps are just the ones that are left: each actor's are in the same order, and each step is
--- in order
+-- these steps of the first run are just those left of the second. Taken in one after another, each
+-- is like the next one of its actor there and in order, and at the end none is left
 abbrev pub KeepsOrder : (Key → Reached) → List Entry → (ℕ → List Placed) → Type 0
 KeepsOrder s [] left = (n : ℕ) → left n ≡ []
 KeepsOrder s (x ∷ xs) left =

@@ -1,5 +1,6 @@
--- The test of two keys holds of equal keys alone, so it is an equivalence, and equal keys are hashed
--- as one number. These are lemmas with their proofs: `Eq` and `Hash` of `Key` cite them.
+-- The laws of keys that `Eq` and `Hash` of `Key` cite, as lemmas with their proofs. The test of
+-- equality holds only of equal keys and is an equivalence, and equal keys are hashed as the same
+-- number.
 use Rattle.std.proofs.Common.{◌≡◌, true, ap, subst}
 use Rattle.std.specs.Cmp.{IsEquivalence, both_ways}
 use Rattle.std.specs.Hash as fed
@@ -32,6 +33,6 @@ key_equiv = record {
   congr = λ k q r h. ap (λ (x : Key). key_eq x r) (key_eq-true k q h);
 }
 
--- equal keys are hashed as one number
+-- equal keys are hashed as the same number
 pub key_number-same : (k q : Key) → key_eq k q ≡ true → fed.u64 (key_number k) ≡ fed.u64 (key_number q)
 key_number-same k q h = ap (λ (x : Key). fed.u64 (key_number x)) (key_eq-true k q h)

@@ -1,5 +1,5 @@
--- Keys: what a list of positions is kept for, apart from the actors. A cell is kept under its two
--- halves.
+-- Keys: the places and segments for which lists of positions are kept. A step at a cell is kept
+-- under both of its halves.
 use Rattle.std.specs.Prelude.{ℕ, ◌+◌, ◌*◌, Bool, false, ◌||◌, List, [], ◌∷◌, Option, Some, None, suc, if◌then◌else◌, option_map, option_and_then}
 use Rattle.rd_cell.specs.declared.places.SegName.{SegName}
 use Rattle.rd_cell.specs.declared.places.Place.{Place}
@@ -14,33 +14,33 @@ key_eq (At p) (At q) = place_eq p q
 key_eq (In s) (In t) = name_eq s t
 key_eq _ _ = false
 
--- whether the second key, if there is one, is equal to the first
+-- whether there is a second key, and it is equal to the first
 abbrev pub is_that : Key → Option Key → Bool
 is_that q None = false
 is_that q (Some k) = key_eq q k
 
--- whether a step at place q is kept under the key of place p: the two are equal, or q is the cell
--- of which p is a half
+-- whether a step at place q is kept under the key of place p: if q is a cell, p is one of its
+-- halves, and if not, the two are equal
 abbrev pub is_kept_at : Place → Place → Bool
 is_kept_at p (place.Cell s i) = place_eq p (place.Idx s i) || place_eq p (place.Val s i)
 is_kept_at p q = place_eq p q
 
--- whether a step at this place, if it has one, is kept under the key
+-- whether there is a place, and a step at it is kept under the key
 abbrev pub is_under : Key → Option Place → Bool
 is_under k None = false
 is_under (At p) (Some q) = is_kept_at p q
 is_under (In s) (Some q) = is_of s q
 
--- whether a step at this place, if it has one, is kept under this key, if there is one
+-- whether there are a key and a place, and a step at the place is kept under the key
 abbrev pub is_under_some : Option Key → Option Place → Bool
 is_under_some None o = false
 is_under_some (Some k) o = is_under k o
 
--- the key of a place, if there is one: of a cell that of its index half
+-- the key of the place, if there is a place; for a cell, the key of its index half
 abbrev pub place_key : Option Place → Option Key
 place_key o = option_map (λ p. At (index_half p)) o
 
--- the key of the value half of this place, if that is a cell
+-- the key of the value half, if this place is a cell
 abbrev pub value_of_place : Place → Option Key
 value_of_place (place.Cell s i) = Some (At (place.Val s i))
 value_of_place _ = None
@@ -49,30 +49,32 @@ value_of_place _ = None
 abbrev pub value_key : Option Place → Option Key
 value_key o = option_and_then value_of_place o
 
--- the key of the segment to which a place belongs, or of which it is the whole
+-- the key of the place's segment, also for the whole of a segment; none for the queue's ends and
+-- the array
 abbrev pub key_of_segment : Place → Option Key
 key_of_segment p = option_map In (named p)
 
--- the key of the segment to which a place belongs, or of which it is the whole, if there is one
+-- the key of the place's segment, if there is a place and it is in a segment or is the whole of one
 abbrev pub segment_key : Option Place → Option Key
 segment_key o = option_and_then key_of_segment o
 
--- the key of all places that a place names, except the value half of a cell: for the whole of a
--- segment the segment's, else the place's
+-- the key under which a search finds the steps at what a place names, except at the value half of a
+-- cell. The whole of a segment has the segment's key, a cell the key of its index half, and any
+-- other place its own
 abbrev pub own_key : Place → Key
 own_key (place.Whole s) = In s
 own_key p = At (index_half p)
 
--- the key of the whole of the segment that has a place, if one has it
+-- the key of the whole of the segment that has the place, if a segment has it
 abbrev pub whole_key : Place → Option Key
 whole_key p = option_map (λ s. At (place.Whole s)) (segment_of p)
 
--- the index of the first of these keys that is equal to this one
+-- the index of the first of these keys that is equal to this one; none if no key is
 abbrev pub slot_in : List Key → Key → Option ℕ
 slot_in [] k = None
 slot_in (q ∷ qs) k = if key_eq k q then Some 0 else option_map (λ i. suc i) (slot_in qs k)
 
--- a number for a part of a segment: its kind, the segment's name and an index
+-- the number of a part of a segment, made of the kind of part, the segment's name and an index
 abbrev pub packed : ℕ → SegName → ℕ → ℕ
 packed part s i = ((part * 256 + i) * 256 + s.maker) * 4294967296 + s.n
 

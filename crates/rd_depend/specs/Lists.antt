@@ -1,6 +1,6 @@
--- Ascending positions, and what becomes of them. What is found in them is said by std's words: the
--- first that is greater than k is `find (nat_lt k)`, the number of those before it is
--- `position_or_len (nat_lt k)`, and these are `before_first (nat_lt k)`.
+-- Ascending positions, and what they become when one is moved. Searches among them are stated in
+-- words of std: `find (nat_lt k)` gives the first position above k, `before_first (nat_lt k)` the
+-- positions before that, and `position_or_len (nat_lt k)` their number.
 use Rattle.std.specs.Prelude.{◌≡◌, ℕ, suc, ◌-◌, ◌≤◌, ◌==◌, nat_lt, nat_le, Bool, if◌then◌else◌, List, [], ◌∷◌, ◌++◌, map, min, max, Option, Some, None}
 use Rattle.std.specs.List.{list_any}
 
@@ -13,35 +13,36 @@ AscendsFrom n (p ∷ ps) = (n ≤ p) × AscendsFrom (suc p) ps
 abbrev pub IsAscending : List ℕ → Type 0
 IsAscending ps = AscendsFrom 0 ps
 
--- what becomes of position p where what is at k is moved after the others up to n
+-- what position p becomes when the element at position k is moved to n: k becomes n, and the
+-- positions above k up to n become one less
 abbrev pub moved_position : ℕ → ℕ → ℕ → ℕ
 moved_position k n p = if nat_lt p k then p else (if p == k then n else (if nat_le p n then p - 1 else p))
 
--- whether this position is among them
+-- whether p is among these positions
 abbrev pub contains : List ℕ → ℕ → Bool
 contains ps p = list_any (λ q. q == p) ps
 
--- the new positions ascend, and are just what has become of the old ones
+-- the new positions ascend, and are just what the old ones become when k is moved to n
 pub record AreMoved (k n : ℕ) (old new : List ℕ) : Type 0 where
   pub ascends : IsAscending new
   pub places : (p : ℕ) → contains new (moved_position k n p) ≡ contains old p
 
--- if the old positions ascend, the new ones are these, moved
+-- if the old positions ascend, the new ones are what they become when k is moved to n
 unfoldable pub IsMoved : ℕ → ℕ → List ℕ → List ℕ → Type 0
 IsMoved k n old new = IsAscending old → AreMoved k n old new
 
--- each position one less; but the first one, if it is k, becomes n after the others
+-- each position, one less; but if the first is k, it goes to the end and becomes n
 abbrev pub turned : ℕ → ℕ → List ℕ → List ℕ
 turned k n [] = []
 turned k n (p ∷ ps) = if p == k then map (λ q. q - 1) ps ++ n ∷ [] else map (λ q. q - 1) (p ∷ ps)
 
--- the greater of two positions, or the one that is there
+-- the greater of two positions, or the one that is there; none if neither is
 abbrev pub later : Option ℕ → Option ℕ → Option ℕ
 later None o = o
 later (Some m) None = Some m
 later (Some m) (Some n) = Some (max m n)
 
--- the lesser of two positions, or the one that is there
+-- the lesser of two positions, or the one that is there; none if neither is
 abbrev pub earlier : Option ℕ → Option ℕ → Option ℕ
 earlier None o = o
 earlier (Some m) None = Some m

@@ -2,6 +2,6 @@
 use Rattle.std.specs.Prelude.{ℕ}
 use Rattle.rd_depend.specs.declared.index.probes.Probes.{Probes}
 
--- how many probes were counted
+-- the number of probes that were counted
 abbrev pub probe_count : Probes → ℕ
 probe_count probes = probes.count

@@ -1,22 +1,22 @@
--- Dependence in terms of the map from places to contents: what two entries touched of it, and what
--- they wrote.
+-- Dependence in terms of the map from places to contents: which of its places an entry touched, and
+-- which it wrote.
 use Rattle.std.specs.Prelude.{◌≡◌, Bool, true, false, not, ◌||◌}
 use Rattle.rd_step.specs.Prelude.{Place, some_covers, written, is_nothing}
 use Rattle.rd_step.specs.declared.entries.Entry.{Entry}
 use Rattle.rd_cell.specs.declared.places.Place.TheVariants as place
 
--- whether a place is one of the map: a cell and the whole of a segment are not, but names for
--- several of its places
+-- whether a place is one of the map; a cell and the whole of a segment are not, since they only
+-- name several of its places
 abbrev pub is_of_map : Place → Bool
 is_of_map (place.Cell s i) = false
 is_of_map (place.Whole s) = false
 is_of_map _ = true
 
--- whether an entry touched a place of the map
+-- whether an entry touched this place of the map
 abbrev pub touched : Entry → Place → Bool
 touched x q = some_covers x.place q
 
--- whether an entry wrote a place of the map
+-- whether an entry wrote this place of the map
 abbrev pub wrote : Entry → Place → Bool
 wrote x q = some_covers (written x.place x.wrote) q
 

@@ -1,4 +1,5 @@
--- Lists of positions by number, what the table of keys keeps in them, and how it changes.
+-- Lists of positions, each known by its number; what the table of keys keeps in them; and how its
+-- calls change them.
 use Rattle.std.specs.Prelude.{◌≡◌, ℕ, ◌+◌, ◌-◌, ◌<◌, ◌≤◌, Bool, true, false, ◌&&◌, if◌then◌else◌, List, [], ◌∷◌, ◌++◌, length, take, Option, Some, None, Vec, slice_get, vec_capacity, nat_lt}
 use Rattle.std.specs.Option.{option_map_or}
 use Rattle.std.specs.List.{before_first}
@@ -10,40 +11,42 @@ use Rattle.rd_depend.specs.declared.index.table.Among.TheVariants as among
 use Rattle.rd_depend.specs.Keys.{is_that, slot_in}
 use Rattle.rd_depend.specs.Lists.{IsAscending, IsMoved}
 
--- the type of lists of positions by their numbers
+-- lists of positions, each known by its number
 abbrev pub Lists : Type 0
 Lists = List (Vec ℕ Global)
 
--- the items of a list, if it is there
+-- the items of a list; none if there is no list
 abbrev pub items_of : {X : Type 0} → Option (Vec X Global) → List X
 items_of o = option_map_or (λ list. list.items) o []
 
--- the items of the list of this number
+-- the items of the list of this number; none if there is no such list
 abbrev pub list_at : {X : Type 0} → List (Vec X Global) → ℕ → List X
 list_at lists i = items_of (slice_get lists i)
 
--- how many positions the list of this number, if there is one, can have before it has to grow
+-- the number of positions that the list of this number can have before it has to grow; 0 if there
+-- is no such list
 abbrev pub capacity_at : Lists → ℕ → ℕ
 capacity_at lists i = option_map_or vec_capacity (slice_get lists i) 0
 
--- how many more positions the list of this number has room for
+-- the number of positions for which the list of this number has room left
 abbrev pub spare_at : Lists → ℕ → ℕ
 spare_at lists i = capacity_at lists i - length (list_at lists i)
 
--- the bit as a number: one if it is true, else zero
+-- the bit as a number: 1 if it is true, else 0
 abbrev pub one_if : Bool → ℕ
 one_if b = if b then 1 else 0
 
--- how many more positions a list has room for
+-- the number of positions for which a list has room left
 abbrev pub spare_of : Vec ℕ Global → ℕ
 spare_of list = vec_capacity list - length list.items
 
--- the positions of the list of this number, if there is one
+-- the positions of the list of this number; none without a number
 abbrev pub list_of : Lists → Option ℕ → List ℕ
 list_of lists None = []
 list_of lists (Some i) = list_at lists i
 
--- how many positions the list of this number, if there is one, can have before it has to grow
+-- the number of positions that the list of this number can have before it has to grow; 0 without a
+-- number
 abbrev pub capacity_of : Lists → Option ℕ → ℕ
 capacity_of lists None = 0
 capacity_of lists (Some i) = capacity_at lists i
@@ -53,24 +56,26 @@ abbrev pub is_writes : Among → Bool
 is_writes among.Touches = false
 is_writes among.Writes = true
 
--- the lists of all positions, or of the positions of steps that wrote
+-- a table's lists of all positions; if the bit is true, its lists of the positions of steps that
+-- wrote
 abbrev pub lists_of : Table → Bool → Lists
 lists_of t false = t.all.items
 lists_of t true = t.writes.items
 
--- the positions kept under a key: all of them, or those of steps that wrote
+-- the positions kept under a key; if the bit is true, only those of steps that wrote
 abbrev pub kept_in : Table → Bool → Key → List ℕ
 kept_in t w k = list_of (lists_of t w) (slot_in t.keys.keys k)
 
--- how many positions a list kept under a key can have before it has to grow
+-- the number of positions that one of a key's two lists can have before it has to grow
 abbrev pub capacity_in : Table → Bool → Key → ℕ
 capacity_in t w k = capacity_of (lists_of t w) (slot_in t.keys.keys k)
 
--- how many more positions a list kept under a key has room for
+-- the number of positions for which one of a key's two lists has room left
 abbrev pub spare_in : Table → Bool → Key → ℕ
 spare_in t w k = capacity_in t w k - length (kept_in t w k)
 
--- whether a step is kept in a list: of all positions always, and of writes if the step wrote
+-- whether one of a key's two lists keeps a step: the list of all positions always does, the list of
+-- writes (first bit) only if the step wrote (second bit)
 abbrev pub is_kept_in : Bool → Bool → Bool
 is_kept_in false wrote = true
 is_kept_in true wrote = wrote
@@ -81,7 +86,8 @@ pub record IsReady (t : Table) (k : Key) (wrote : Bool) (i : ℕ) : Type 0 where
   pub at : slot_in t.keys.keys k ≡ Some i
   pub room : (w : Bool) → is_kept_in w wrote ≡ true → 0 < spare_in t w k
 
--- the key, if there is one, has this index, and its lists have room for the step
+-- the key has this index, and its lists have room for the step; or there is neither a key nor an
+-- index
 abbrev pub AreReady : Table → Option Key → Bool → Option ℕ → Type 0
 AreReady t None wrote o = o ≡ None
 AreReady t (Some k) wrote o = (i : ℕ) × (o ≡ Some i) × IsReady t k wrote i
@@ -97,34 +103,36 @@ pub record AreReadyAt (t : Table) (wrote : Bool) (o : Option ℕ) : Type 0 where
   pub key : Option Key
   pub is : AreReady t key wrote o
 
--- each of the key's lists that keep such a step has a last position
+-- each of the key's lists that keep such a step has a position; this always holds without a key
 abbrev pub HasLast : Table → Option Key → Bool → Type 0
 HasLast t o wrote = (w : Bool) (k : Key) → o ≡ Some k → is_kept_in w wrote ≡ true → 1 ≤ length (kept_in t w k)
 
--- the lists are as before, and no room was lost
+-- the lists are as before, no room was lost, and the keys have their indices
 pub record KeepsLists (old new : Table) : Type 0 where
   pub lists : (w : Bool) (k : Key) → kept_in new w k ≡ kept_in old w k
   pub room : (w : Bool) (k : Key) → spare_in old w k ≤ spare_in new w k
   pub slots : (k : Key) (i : ℕ) → slot_in old.keys.keys k ≡ Some i → slot_in new.keys.keys k ≡ Some i
 
--- the position was put at the end of those of the key's lists that are to keep the step; other
--- lists are as before
+-- the position was put at the end of those of the key's lists that are to keep the step, which lost
+-- room for at most one. The other lists are as before, and the keys have their indices
 pub record Puts (k : Option Key) (wrote : Bool) (position : ℕ) (old new : Table) : Type 0 where
   pub lists : (w : Bool) (q : Key) → kept_in new w q ≡ (if is_kept_in w wrote && is_that q k then kept_in old w q ++ position ∷ [] else kept_in old w q)
   pub room : (w : Bool) (q : Key) → spare_in old w q ≤ spare_in new w q + one_if (is_kept_in w wrote && is_that q k)
   pub slots : (q : Key) → slot_in new.keys.keys q ≡ slot_in old.keys.keys q
 
--- those of the key's lists that keep the step lost their last position; other lists are as before
+-- those of the key's lists that keep the step lost their last position and have room for one more;
+-- the other lists are as before
 pub record TakesLast (k : Option Key) (wrote : Bool) (old new : Table) : Type 0 where
   pub lists : (w : Bool) (q : Key) → kept_in new w q ≡ (if is_kept_in w wrote && is_that q k then take (length (kept_in old w q) - 1) (kept_in old w q) else kept_in old w q)
   pub room : (w : Bool) (q : Key) → spare_in new w q ≡ spare_in old w q + one_if (is_kept_in w wrote && is_that q k)
 
--- in each list, position k, if it was there, was moved after those up to n, and these are one less
+-- in each list k became n, if it was there, and the positions above k up to n became one less; the
+-- capacities are as before
 pub record Moves (k n : ℕ) (old new : Table) : Type 0 where
   pub lists : (w : Bool) (q : Key) → IsMoved k n (kept_in old w q) (kept_in new w q)
   pub capacity : (w : Bool) (q : Key) → capacity_in new w q ≡ capacity_in old w q
 
--- each list lost its positions above n
+-- each list that ascends lost its positions above n; the capacities are as before
 pub record Cuts (n : ℕ) (old new : Table) : Type 0 where
   pub lists : (w : Bool) (q : Key) → IsAscending (kept_in old w q) → kept_in new w q ≡ before_first (nat_lt n) (kept_in old w q)
   pub capacity : (w : Bool) (q : Key) → capacity_in new w q ≡ capacity_in old w q

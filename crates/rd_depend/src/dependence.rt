@@ -1,4 +1,4 @@
-//! Dependence of two entries, and the first dependant in a list of them.
+//! Dependence of two entries, and the first dependant of an entry in a list.
 
 ghost use Rattle.std.specs.Prelude.{◌≡◌, ◌≤◌, length};
 ghost use Rattle.rd_step.specs.Prelude.{some_overlap, interfere, depends, first_dependant};
@@ -7,10 +7,13 @@ ghost use Rattle.rd_depend.specs.Sharing.{either_wrote};
 use rd_cell::{Place, overlaps};
 use rd_step::Entry;
 
-/// Whether two steps depend on each other: they have one actor, or there is a place that both
-/// touched and one of them wrote. This is symmetric, so a write depends on an earlier read as a
-/// read does on a write. Whether a step wrote is looked at before the places are compared, and
-/// which part it wrote last, as most steps that a scan meets only read, or were made elsewhere.
+/// Whether two steps depend on each other: they have the same actor, or both touched a place that
+/// one of them wrote. This is symmetric: a write depends on an earlier read, as a read does on an
+/// earlier write.
+///
+/// After the actors it compares in this order: whether a step wrote, whether the places overlap,
+/// and which part of its place each step wrote. Most steps that a scan meets only read, or are at
+/// other places.
 #[inline(always)]
 pub fn depends(a: &Entry, b: &Entry) -> bool
     ensures { result ≡ depends a.now b.now }
@@ -18,7 +21,7 @@ pub fn depends(a: &Entry, b: &Entry) -> bool
     a.event.actor == b.event.actor || interfere(a, b)
 }
 
-/// Whether there is a place that both steps touched and one of them wrote.
+/// Whether both steps touched a place that one of them wrote.
 #[inline(always)]
 fn interfere(a: &Entry, b: &Entry) -> bool
     ensures { result ≡ interfere a.now.place a.now.wrote b.now.place b.now.wrote }
@@ -32,7 +35,7 @@ fn interfere(a: &Entry, b: &Entry) -> bool
     some_overlap(a.written(), b.place) || some_overlap(a.place, b.written())
 }
 
-/// Whether one of the steps wrote anything.
+/// Whether at least one of the steps wrote anything.
 #[inline(always)]
 fn either_wrote(a: &Entry, b: &Entry) -> bool
     ensures { result ≡ either_wrote a.now b.now }
@@ -40,7 +43,7 @@ fn either_wrote(a: &Entry, b: &Entry) -> bool
     !a.wrote.is_nothing() || !b.wrote.is_nothing()
 }
 
-/// Whether both places are there, and overlap.
+/// Whether there are two places, and they overlap.
 #[inline(always)]
 fn some_overlap(a: Option<Place>, b: Option<Place>) -> bool
     ensures { result ≡ some_overlap a b }
@@ -51,7 +54,8 @@ fn some_overlap(a: Option<Place>, b: Option<Place>) -> bool
     }
 }
 
-/// The number of the first step after the `k`-th, counted from 1, that depends on it, or none.
+/// Returns the number, from 1, of the first step after the `k`-th that depends on it; `None` if no
+/// later step does.
 pub fn first_dependant(entries: &[Entry], k: u64) -> Option<u64>
     requires some { 1 ≤ k }
     requires within { k ≤ length entries.now }

@@ -1,8 +1,8 @@
-//! Whether two lists of entries are of causally equivalent events.
+//! Whether the events of two lists of entries are causally equivalent.
 //!
-//! After the events that they have in common at their beginning, one pass over each list compares
-//! them: they are equivalent exactly where each actor makes the same steps in the same order, and
-//! steps that depend on each other are in the same order (`keeping_order`).
+//! The events with which both lists begin are skipped, and one pass over each list compares the
+//! others. The lists are equivalent exactly if each actor makes the same steps in the same order in
+//! both, and steps that depend on each other are in the same order (`keeping_order`).
 
 ghost use Rattle.std.specs.Prelude.{◌≡◌, ◌≤◌, length, true, false, IfOk, OnErr};
 ghost use Rattle.rd_step.specs.Run.{events};
@@ -14,14 +14,14 @@ use super::keeping_order::{ReachedByKey, StepsByActor, is_alike};
 use rd_step::{Entry, common_beginning};
 use std::alloc::{AllocError, Global};
 
-/// Whether the events of two runs from one start are causally equivalent: one list is the other up
-/// to the order of steps that do not depend on each other. A common beginning takes no memory. Its
-/// time grows with the length of the lists, after the common beginning by a few look-ups of keys
-/// for each step.
+/// Whether the events of two runs from one start are causally equivalent: one list is the other, up
+/// to the order of steps that do not depend on each other. Its time grows with the lengths of the
+/// lists; each event after their common beginning costs a few look-ups. The common beginning takes
+/// no memory.
 ///
 /// # Errors
 ///
-/// `AllocError` if memory was refused, which is not asked for if one list begins the other.
+/// `AllocError` if memory is refused. None is asked for if one list begins the other.
 pub fn are_equivalent(alloc: Global, a: &[Entry], b: &[Entry]) -> Result<bool, AllocError>
     ensures answer { IfOk result (DecidesEquivalence a.now b.now) }
     ensures memory { OnErr result (NeitherBegins (events a.now) (events b.now)) }
@@ -30,7 +30,8 @@ pub fn are_equivalent(alloc: Global, a: &[Entry], b: &[Entry]) -> Result<bool, A
     compare(alloc, &a[common..], &b[common..])
 }
 
-/// Whether the lists are equivalent, by one pass over each. Fails only if memory was refused.
+/// Whether the lists are equivalent, by one pass over each. Fails only if memory is refused, and
+/// never if one of the lists is empty.
 fn compare(alloc: Global, a: &[Entry], b: &[Entry]) -> Result<bool, AllocError>
     ensures answer { IfOk result (DecidesEquivalence a.now b.now) }
     ensures memory { OnErr result ((1 ≤ length a.now) × (1 ≤ length b.now)) }
@@ -51,8 +52,9 @@ fn compare(alloc: Global, a: &[Entry], b: &[Entry]) -> Result<bool, AllocError>
     Ok(left.is_empty())
 }
 
-/// Whether the next step of the other run by the actor of this one is like it, and is in order
-/// there. If so, both runs go on over it. Fails only if memory was refused.
+/// Removes the next step of this step's actor from those left of the second run, and returns
+/// whether there is one that is like this step and in order there. If it is like this step, it is
+/// taken in under its keys. Fails only if memory is refused.
 fn goes_on(
     left: &mut StepsByActor,
     reached: &mut ReachedByKey,

@@ -1,9 +1,10 @@
-//! An index of the entries of a list: it finds the first dependant of a step by look-ups in place
-//! of a scan.
+//! An index of a list of entries. It finds the first dependant of a step by a few look-ups, without
+//! a scan of the later entries.
 //!
-//! For each actor, each place and each segment it keeps the positions of the entries that touch it,
-//! from 1 and ascending, and apart from these the positions that wrote. It keeps no entries, so its
-//! callers give those that are meant.
+//! For each actor it keeps the positions of its entries, counted from 1 and ascending. For each
+//! place and each segment it keeps the positions of the entries that touched it and, in a second
+//! list, of those that wrote there. It keeps no entries, so its callers pass the entries that are
+//! meant.
 
 ghost use Rattle.std.specs.Prelude.{◌≡◌, ◌≤◌, []};
 ghost use Rattle.rd_step.specs.Prelude.{MOST_STEPS};
@@ -22,14 +23,15 @@ pub use probes::Probes;
 use std::alloc::Global;
 use table::Table;
 
-/// The positions of the entries of a list, by what they touch.
+/// The positions of a list's entries, by the actor, the place and the segment of each.
 #[derive(Drop)]
 pub struct DependIndex {
-    /// The positions of each actor, by its number.
+    /// For each actor, by its number, the positions of its entries.
     by_actor: Vec<Vec<u32>>,
-    /// The positions of each place and of each segment.
+    /// For each place and each segment, the positions of the entries that touched it, and of those
+    /// that wrote there.
     by_key: Table,
-    /// How many positions there are.
+    /// The number of positions.
     len: usize,
     alloc: Global,
     ghost few: { len ≤ MOST_STEPS },
@@ -50,7 +52,7 @@ impl DependIndex {
         }
     }
 
-    /// Returns the number of positions, which is that of the entries.
+    /// Returns the number of positions: one for each entry.
     pub fn len(&self) -> u64
         ensures { result ≡ position_count self.now }
     {

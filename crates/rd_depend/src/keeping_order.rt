@@ -1,12 +1,12 @@
-//! Whether the steps of one run keep the order of dependent steps at the places where they are in
-//! another run.
+//! Compares the order of dependent steps in two runs.
 //!
-//! Two runs are causally equivalent exactly where each actor makes the same steps in the same
-//! order, and any two steps that depend on each other are in the same order in both. So the steps
-//! of the one run are gone over, and for each key it is kept how far in the other run those reached
-//! that touched it and those that wrote it: a step that writes has to be after both there, and one
-//! that only reads after those that wrote. A making counts as a write of its segment, and each step
-//! at a place of the segment as a read of it.
+//! Two runs are causally equivalent exactly if each actor makes the same steps in the same order in
+//! both, and any two steps that depend on each other are in the same order. So the code takes in
+//! the steps of the first run one after another, and keeps how far they reached in the second run.
+//! For each key this is the greatest number there of a step that touched it, and of one that wrote
+//! it. A step that writes has to come after both there, and a step that only reads after those that
+//! wrote. A making counts as a write of its segment, and any other step at a place of the segment
+//! as a read of it.
 
 ghost use Rattle.std.specs.Prelude.{◌≡◌, ◌↔◌, ◌<◌, [], ℕ, length, Some, None, IsTrue, IfOk, OnOk, MatchOption};
 ghost use Rattle.rd_depend.specs.declared.index.keys.Key.{Key as KeyOf};
@@ -21,22 +21,22 @@ use rd_cell::Place;
 use rd_step::Entry;
 use std::alloc::{AllocError, Global};
 
-/// How many numbers an actor may have.
+/// The number of values that an actor's number, a `u8`, can have.
 const ACTORS: usize = 256;
 
-/// How far steps reached in the other run under one key: the last place of one there, counted from
-/// 1, or 0 for none.
+/// How far the steps under one key reached in the second run. Each field is the greatest number of
+/// such a step there, from 1, or 0 if there is none.
 #[derive(Clone, Copy, Debug)]
 pub(crate) struct Reached {
-    /// Of those that touched it.
+    /// Among the steps that touched the key.
     pub(crate) touched: usize,
-    /// Of those that wrote it.
+    /// Among the steps that wrote it.
     pub(crate) wrote: usize,
 }
 
 impl Reached {
-    /// Goes on over a step at this position of the other run, and returns whether it is there after
-    /// all earlier ones on which it depends.
+    /// Takes in a step under the key, which has the number `at` in the second run. Returns whether
+    /// it comes there after all earlier steps under the key on which it depends.
     fn pass(&mut self, wrote: bool, at: usize) -> bool
         ensures order { IsTrue result ↔ (last_blocking self.old wrote < at) }
         ensures reached { self.new ≡ passed self.old wrote at }
@@ -50,14 +50,15 @@ impl Reached {
     }
 }
 
-/// How far the steps that were gone over reached in the other run, under each key.
+/// How far the steps that were taken in reached in the second run, under each key.
 #[derive(Drop)]
 pub(crate) struct ReachedByKey {
+    /// By key; a key under which no step was taken in is missing.
     reached: IndexMap<Key, Reached>,
 }
 
 impl ReachedByKey {
-    /// Returns how far the steps reached before the first one: nowhere. It takes no memory.
+    /// Returns the state before the first step, in which nothing is reached. It takes no memory.
     pub(crate) fn new(alloc: Global) -> ReachedByKey
         ensures { (k : KeyOf) → reached_of result k ≡ nothing_reached k }
     {
@@ -66,12 +67,13 @@ impl ReachedByKey {
         }
     }
 
-    /// Goes on over a step at this position of the other run, and returns whether it is there after
-    /// all earlier ones on which it depends.
+    /// Takes in a step, which has the number `at` in the second run. Returns whether it comes there
+    /// after all earlier steps with which it shares a key and on which it depends.
     ///
     /// # Errors
     ///
-    /// `AllocError` if memory was refused.
+    /// `AllocError` if memory is refused. The step may then be taken in under some of its keys
+    /// only.
     pub(crate) fn pass(&mut self, entry: &Entry, at: usize) -> Result<bool, AllocError>
         ensures order { IfOk result (λ ok. IsTrue ok ↔ IsInOrder (reached_of self.old) entry.now at) }
         ensures reached { OnOk result (reached_of self.new ≡ passed_over (reached_of self.old) entry.now at) }
@@ -84,8 +86,9 @@ impl ReachedByKey {
         Ok(place & value & segment)
     }
 
-    /// Goes on over a step at this position of the other run under one key, if there is one, and
-    /// returns whether it is there after all earlier ones on which it depends.
+    /// Takes in a step under this key, which has the number `at` in the second run. Returns whether
+    /// it comes there after all earlier steps under the key on which it depends; without a key it
+    /// does nothing and returns true. Fails only if memory is refused.
     fn pass_under(&mut self, key: Option<Key>, wrote: bool, at: usize) -> Result<bool, AllocError>
         ensures order { IfOk result (λ ok. IsTrue ok ↔ IsAfter (reached_of self.old) key wrote at) }
         ensures reached { OnOk result (reached_of self.new ≡ passed_under key wrote at (reached_of self.old)) }
@@ -108,34 +111,35 @@ impl ReachedByKey {
     }
 }
 
-/// Whether a step at this place is the making of a segment.
+/// Whether there is a place, and it is the whole of a segment, as for a making.
 fn is_making(place: Option<Place>) -> bool
     ensures { result ≡ is_making place }
 {
     matches!(place, Some(Place::Whole(_)))
 }
 
-/// A step with its place in its run, counted from 1.
+/// A step with its number in its run.
 #[derive(Clone, Copy, Debug)]
 pub(crate) struct PlacedStep<'a> {
-    /// Its place.
+    /// The step's number, from 1.
     pub(crate) at: usize,
-    /// Its entry.
+    /// The step's entry.
     pub(crate) entry: &'a Entry,
 }
 
-/// The steps of a run by the numbers of their actors, each actor's first one last.
+/// The steps of a run that are left to compare, by actor.
 #[derive(Drop)]
 pub(crate) struct StepsByActor<'a> {
+    /// By the actor's number. Each list has the actor's first step last, so that it can be popped.
     steps: Vec<Vec<PlacedStep<'a>>>,
 }
 
 impl<'a> StepsByActor<'a> {
-    /// Returns the steps of these entries, by their actors.
+    /// Returns all steps of these entries, by actor.
     ///
     /// # Errors
     ///
-    /// `AllocError` if memory was refused.
+    /// `AllocError` if memory is refused.
     pub(crate) fn of(alloc: Global, entries: &'a [Entry]) -> Result<StepsByActor<'a>, AllocError>
         ensures { IfOk result (λ steps. (n : ℕ) → left_of steps n ≡ all_left entries.entry.now n) }
     {
@@ -150,7 +154,8 @@ impl<'a> StepsByActor<'a> {
         Ok(steps)
     }
 
-    /// Adds one more step, which is before all others.
+    /// Adds a step, with its number in the run, in front of those of its actor. Fails only if
+    /// memory is refused.
     fn push(&mut self, at: usize, entry: &'a Entry) -> Result<(), AllocError>
         requires { length self.old.steps.items ≡ ACTORS }
         ensures number { length self.new.steps.items ≡ ACTORS }
@@ -160,7 +165,7 @@ impl<'a> StepsByActor<'a> {
         Ok(())
     }
 
-    /// Removes and returns the actor's first step, if there is one.
+    /// Removes and returns the first step that is left of the actor, if there is one.
     pub(crate) fn pop(&mut self, actor: u8) -> Option<PlacedStep<'a>>
         ensures { MatchOption result (left_of self.old actor ≡ []) (λ p. (n : ℕ) → left_of self.old n ≡ with_first (left_of self.new) actor (p.at, p.entry.now) n) }
     {
@@ -183,14 +188,14 @@ impl<'a> StepsByActor<'a> {
     }
 }
 
-/// Whether the two steps have one event and one place, and wrote the same of it.
+/// Whether the two steps have the same event and the same place, and wrote the same part of it.
 pub(crate) fn is_alike(a: &Entry, b: &Entry) -> bool
     ensures { IsTrue result ↔ AreAlike a.now b.now }
 {
     a.event == b.event && a.place == b.place && a.wrote == b.wrote
 }
 
-/// Returns an empty list for each number that an actor may have, or fails if memory was refused.
+/// Returns an empty list for each number that an actor may have. Fails only if memory is refused.
 fn empty_lists<'a>(alloc: Global) -> Result<Vec<Vec<PlacedStep<'a>>>, AllocError>
     ensures { IfOk result (λ lists. (length lists.items ≡ ACTORS) × ((n : ℕ) → list_at lists.items n ≡ [])) }
 {

@@ -1,5 +1,5 @@
-//! Laws of dependence, of closures and of equivalence: each is the contract of a function that does
-//! nothing.
+//! The laws of dependence, of closures and of equivalence. A law is the contract of a function that
+//! does nothing.
 
 ghost use Rattle.std.specs.Prelude.{◌≡◌, ◌≤◌, ◌↔◌, ◌⊎◌, ℕ, true, List, length, None, Some, Ok};
 ghost use Rattle.rd_step.specs.declared.entries.Event.{Event};
@@ -11,8 +11,8 @@ ghost use Rattle.rd_step.specs.Equivalence.{IsEquivalent};
 ghost use Rattle.rd_depend.specs.Sharing.{SharesPlace};
 ghost use Rattle.rd_depend.specs.Reordering.{IsReordered};
 
-/// Two entries depend on each other exactly where they have one actor, or there is a place of the
-/// map that both touched and at least one of them wrote.
+/// Two entries depend on each other exactly if they have the same actor, or if both touched a place
+/// of the map that at least one of them wrote.
 pub fn entries_depend_where_they_share_an_actor_or_a_place()
     ensures { (x y : SomeEntry) → (depends x y ≡ true) ↔ ((x.event.actor ≡ y.event.actor) ⊎ SharesPlace x y) }
 {}
@@ -22,16 +22,16 @@ pub fn dependence_is_symmetric()
     ensures { (x y : SomeEntry) → depends x y ≡ depends y x }
 {}
 
-/// The closure of a step among entries, whose marks a session's `roll` takes out, is just the least
-/// set of positions that holds the step's and, with each position, every later one whose entry
-/// depends on that one's.
+/// The marks of a closure are just the least set of positions that has the step's own and, with
+/// each position, every later one whose entry depends on the entry there. A session's `roll` takes
+/// the marked steps out.
 pub fn the_closure_is_the_least_set()
     ensures { (entries : List SomeEntry) (k j : ℕ) → 1 ≤ k → k ≤ length entries
         → ((numbered (closure entries k) j ≡ Some true) ↔ IsInClosure entries k j) }
 {}
 
-/// If undos of single steps, none refused, take a step out of a run, they take out all of its
-/// closure. So a session's `roll` takes out no step that could stay.
+/// Any sequence of lone undos, none of them refused, that removes a step also removes its whole
+/// closure. So a session's `roll` removes no step that could stay.
 pub fn lone_undos_that_take_a_step_out_take_its_closure_out()
     ensures { (entries : List SomeEntry) (ns : List ℕ) (k j : ℕ) → AreLoneUndos ns entries → number_after ns k ≡ None
         → IsInClosure entries k j → number_after ns j ≡ None }
@@ -49,8 +49,8 @@ pub fn equivalence_is_transitive()
         → IsEquivalent w es fs → IsEquivalent w fs gs → IsEquivalent w es gs }
 {}
 
-/// A list of events is causally equivalent to one that runs exactly where it is made of that one by
-/// changing places of neighbours that do not depend on each other, one pair after another.
+/// A list of events is causally equivalent to one that runs exactly if it comes from that one by
+/// swapping neighbours that do not depend on each other, one pair after another.
 pub fn equivalence_is_reordering()
     ensures { (w : World) (es fs : List Event) (r : Ran) → run w es ≡ Ok r → IsEquivalent w es fs ↔ IsReordered w es fs }
 {}

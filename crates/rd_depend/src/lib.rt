@@ -1,11 +1,11 @@
-//! Which step depends on which, the first later step that depends on a given one, and whether two
-//! runs are causally equivalent.
+//! Dependence of steps: which step depends on which, the first later step that depends on a given
+//! one, and whether two runs are causally equivalent.
 //!
-//! Two steps depend on each other if they have one actor, or if there is a place that both touched
-//! and one of them wrote (Danos and Krivine 2004 for what must be undone first; the places and the
-//! symmetry are our profile's). `first_dependant` is the plain scan from the step on; it takes no
-//! memory. `DependIndex` keeps positions by what the steps touch, which takes memory where a step
-//! is put in, and finds the same answer, and the last writer of a place, by a few look-ups.
+//! Two steps depend on each other if they have the same actor, or if both touched a place that one
+//! of them wrote. That dependants are undone first follows Danos and Krivine 2004; the places and
+//! the symmetry are our profile's. `first_dependant` scans the later steps, and takes no memory.
+//! `DependIndex` finds the same step, and the last writer of a place, by a few look-ups; it takes
+//! memory when a step is put in.
 #![tactic(auto)]
 
 mod dependence;

@@ -17,23 +17,27 @@ use rd_cell::{Place, Wrote};
 use rd_step::Entry;
 use std::alloc::AllocError;
 
-/// A key under which an entry is kept, if there is one, and whether it is kept there among those
-/// that wrote.
+/// A key under which an entry is kept, if there is one.
 #[derive(Clone, Copy)]
 struct Home {
+    /// The key, or none if the entry has no such key.
     key: Option<Key>,
+    /// Whether the entry is kept there also among those that wrote.
     wrote: bool,
 }
 
-/// The keys under which an entry is kept: of its place, of a cell's value half, and of its segment.
+/// The keys under which an entry is kept.
 #[derive(Clone, Copy)]
 struct Homes {
+    /// The key of its place; for a cell, of the index half.
     place: Home,
+    /// The key of the value half, if its place is a cell.
     value: Home,
+    /// The key of its segment, if its place is of a segment or the whole of one.
     segment: Home,
 }
 
-/// The indices of these keys.
+/// The indices of an entry's keys in the table, each none where there is no key.
 #[derive(Clone, Copy)]
 struct Slots {
     place: Option<usize>,
@@ -42,12 +46,13 @@ struct Slots {
 }
 
 impl DependIndex {
-    /// Puts the entry at the next position. It costs one access by the actor's number and one
-    /// look-up of the place and of its segment.
+    /// Puts the entry at the next position. This costs one access by the actor's number, and one
+    /// look-up of each of its keys: of its place, of a cell's value half, and of its segment.
     ///
     /// # Errors
     ///
-    /// `AllocError` if memory was refused. No position has changed then, and no room is lost.
+    /// `AllocError` if memory is refused, which is asked for only if room is missing. No position
+    /// has changed then, and no room is lost.
     pub fn push(&mut self, entry: &Entry) -> Result<(), AllocError>
         requires { position_count self.old < MOST_STEPS }
         ensures ok { OnOk result ((es : List SomeEntry) → IsIndexOf self.old es → IsIndexOf self.new (es ++ entry.now ∷ [])) }
@@ -62,11 +67,11 @@ impl DependIndex {
         Ok(())
     }
 
-    /// Puts these entries at the next positions, all or none.
+    /// Puts these entries at the next positions, in their order, all or none.
     ///
     /// # Errors
     ///
-    /// `AllocError` if memory was refused, which is asked for only if room is missing. No position
+    /// `AllocError` if memory is refused, which is asked for only if room is missing. No position
     /// has changed then, and no room is lost.
     pub fn push_all(&mut self, entries: &[Entry]) -> Result<(), AllocError>
         requires index { IsIndex self.old }
@@ -85,12 +90,12 @@ impl DependIndex {
         Ok(())
     }
 
-    /// Makes room for these entries: pushing them in order, at once or after positions were taken
-    /// away, is then not refused. No room is lost.
+    /// Makes room for these entries: pushing them in their order then succeeds, also after
+    /// positions were removed. No room is lost.
     ///
     /// # Errors
     ///
-    /// `AllocError` if memory was refused, which is asked for only if room is missing. No position
+    /// `AllocError` if memory is refused, which is asked for only if room is missing. No position
     /// has changed then.
     pub fn make_room(&mut self, entries: &[Entry]) -> Result<(), AllocError>
         requires index { IsIndex self.old }
@@ -105,8 +110,8 @@ impl DependIndex {
         Ok(())
     }
 
-    /// Removes the last position, which is the entry's. It makes room for that entry again, and
-    /// takes no memory.
+    /// Removes the last position, whose entry must be this one. The room that it had is free for
+    /// the entry again. It takes no memory.
     pub fn pop(&mut self, entry: &Entry)
         requires { IsLast self.old entry.now }
         ensures left { (es : List SomeEntry) → IsIndexOf self.old (es ++ entry.now ∷ []) → IsIndexOf self.new es }
@@ -121,8 +126,9 @@ impl DependIndex {
             .take_last(homes.segment.key, homes.segment.wrote);
     }
 
-    /// Removes position k, which is the entry's; later positions are one less. It goes over all
-    /// lists, makes room for that entry again, and takes no memory.
+    /// Removes position `k`, whose entry must be this one; each later position becomes one less.
+    /// The room that it had is free for the entry again. It goes over all lists, and takes no
+    /// memory.
     pub fn remove(&mut self, k: u64, entry: &Entry)
         requires { IsHeld self.old k entry.now }
         ensures left { (es : List SomeEntry) → IsIndexOf self.old es → numbered es k ≡ Some entry.now → IsIndexOf self.new (without es k) }
@@ -132,8 +138,8 @@ impl DependIndex {
         self.pop(entry);
     }
 
-    /// Moves position k to `n`; the later ones up to `n` become one less. It goes over all lists,
-    /// and takes no memory.
+    /// Moves position `k` to `n`; the positions above `k` up to `n` become one less. It goes over
+    /// all lists, and takes no memory.
     pub fn move_to(&mut self, k: u64, n: u64)
         requires index { IsIndex self.old }
         requires some { 1 ≤ k }
@@ -149,8 +155,8 @@ impl DependIndex {
         self.by_key.move_to(k, n);
     }
 
-    /// Removes all positions above `n`. It goes over all lists, makes room for the entries that
-    /// were there, and takes no memory.
+    /// Removes all positions above `n`. The room that they had is free for their entries again. It
+    /// goes over all lists if there are any such positions, and takes no memory.
     pub fn truncate(&mut self, n: u64)
         ensures left { (es : List SomeEntry) → IsIndexOf self.old es → IsIndexOf self.new (take n es) }
         ensures room { (es : List SomeEntry) → IsIndexOf self.old es → GivesRoom self.old self.new (drop n es) }
@@ -163,7 +169,7 @@ impl DependIndex {
     }
 
     /// Makes room for one more position in each list that is to keep the entry, and returns the
-    /// indices of its keys. Fails if memory was refused.
+    /// indices of its keys, which are added if they are missing. Fails only if memory is refused.
     fn reserve(&mut self, entry: &Entry, homes: &Homes) -> Result<Slots, AllocError>
         requires { homes.now ≡ homes_of entry.now }
         ensures same { Keeps self.old self.new }
@@ -189,7 +195,7 @@ impl DependIndex {
         })
     }
 
-    /// Puts the entry at the next position, for which there is room.
+    /// Puts the entry at the next position, for which there must be room.
     fn put(&mut self, entry: &Entry, homes: &Homes, slots: Slots)
         requires few { position_count self.old < MOST_STEPS }
         requires homes { homes.now ≡ homes_of entry.now }
@@ -206,7 +212,8 @@ impl DependIndex {
             .put(slots.segment, position, homes.segment.wrote);
     }
 
-    /// Pushes these entries until one is refused memory, and returns how many were pushed.
+    /// Pushes these entries in their order until one is refused memory, and returns the number that
+    /// were pushed.
     fn push_some(&mut self, entries: &[Entry]) -> usize
         requires index { IsIndex self.old }
         requires few { position_count self.old + length entries.now ≤ MOST_STEPS }
@@ -223,7 +230,7 @@ impl DependIndex {
         entries.len()
     }
 
-    /// Removes the last positions, which are those of these entries.
+    /// Removes the last positions, whose entries must be these.
     fn pop_all(&mut self, entries: &[Entry])
         requires { EndsWith self.old entries.now }
         ensures index { (es : List SomeEntry) → IsIndexOf self.old (es ++ entries.now) → IsIndexOf self.new es }
@@ -237,7 +244,8 @@ impl DependIndex {
     }
 }
 
-/// Returns the keys under which an entry is kept, each with whether it is kept there as a write.
+/// Returns the keys under which an entry is kept, each with whether it is kept there among those
+/// that wrote.
 fn homes_of(entry: &Entry) -> Homes
     ensures { result ≡ homes_of entry.now }
 {
@@ -258,7 +266,7 @@ fn homes_of(entry: &Entry) -> Homes
     }
 }
 
-/// Returns the key of the place, if there is one; for a cell that of its index half.
+/// Returns the key of the place, if there is a place; for a cell, the key of its index half.
 pub(crate) fn place_key(place: Option<Place>) -> Option<Key>
     ensures { result ≡ place_key place }
 {
@@ -278,22 +286,22 @@ pub(crate) fn value_key(place: Option<Place>) -> Option<Key>
     }
 }
 
-/// Whether a step that wrote this wrote anything.
+/// Whether an access that wrote this part of its place wrote anything.
 pub(crate) fn is_written(wrote: Wrote) -> bool
     ensures { result ≡ not (is_nothing wrote) }
 {
     !wrote.is_nothing()
 }
 
-/// Whether a step that wrote this wrote the value half of its cell.
+/// Whether an access to a cell that wrote this part of it wrote the value half.
 pub(crate) fn is_value_written(wrote: Wrote) -> bool
     ensures { result ≡ is_value_written wrote }
 {
     matches!(wrote, Wrote::Place)
 }
 
-/// Returns the key of the segment to which a place belongs, or of which it is the whole, if there
-/// is one.
+/// Returns the key of the place's segment, if there is a place and it is in a segment or is the
+/// whole of one.
 pub(crate) fn segment_key(place: Option<Place>) -> Option<Key>
     ensures { result ≡ segment_key place }
 {

@@ -1,5 +1,6 @@
-//! The first dependant by look-ups: the first later position of the actor, and for each place that
-//! the step touched the first one that touched it, or if the step only read it that wrote it.
+//! The first dependant of a step, by look-ups. It is the first of several later positions: the next
+//! by the step's actor and, for each place that the step touched, the next that touched it. If the
+//! step only read the place, the next that wrote it counts instead.
 
 ghost use Rattle.std.specs.Prelude.{◌≡◌, ◌+◌, ◌<◌, ◌≤◌, ◌^◌, List, Some, IsSome, length, drop, nat_lt};
 ghost use Rattle.rd_cell.specs.Places.{interfere};
@@ -22,8 +23,8 @@ use rd_cell::{Place, Wrote};
 use rd_step::Entry;
 
 impl DependIndex {
-    /// Returns the first position after k whose entry depends on the given one; none if there is no
-    /// such position. It makes at least one probe and at most 96, and takes no memory.
+    /// Returns the first position after `k` whose entry depends on the given one; `None` if there
+    /// is no such position. It makes at least one probe and at most 96, and takes no memory.
     pub fn first(&self, k: u64, entry: &Entry, probes: &mut Probes) -> Option<u64>
         requires within { k ≤ position_count self.now }
         requires counted { probe_count probes.old < 2 ^ 32 }
@@ -40,8 +41,8 @@ impl DependIndex {
         }
     }
 
-    /// Whether an entry depends on one of those after the first `n`. The actor's positions are
-    /// looked at first, which mostly decide. It takes no memory.
+    /// Whether the entry depends on one of the entries after the first `n`. It looks first at the
+    /// positions of the entry's actor, which mostly decide, and takes no memory.
     pub fn depends_after(&self, n: u64, entry: &Entry) -> bool
         requires { n ≤ position_count self.now }
         ensures { (es : List SomeEntry) → IsIndexOf self.now es → result ≡ depends_on_one (drop n es) entry.now }
@@ -56,8 +57,8 @@ impl DependIndex {
         self.first(n, entry, &mut probes).is_some()
     }
 
-    /// Returns the first position greater than `k` of a step that interferes with an access at this
-    /// place that wrote this of it; none if there is no such step.
+    /// Returns the first position above `k` of a step that interferes with an access to this place
+    /// that wrote this part of it; `None` if there is no such step. It makes at most 57 probes.
     fn first_at(&self, k: u32, place: Place, wrote: Wrote, probes: &mut Probes) -> Option<u64>
         requires { probe_count probes.old < 2 ^ 33 }
         ensures answer { (es : List SomeEntry) → IsIndexOf self.now es
@@ -73,8 +74,9 @@ impl DependIndex {
         earlier(by_value, earlier(own, whole))
     }
 
-    /// Returns the first position greater than `k` that is kept under the key, among all positions
-    /// or among those that wrote. It makes at most 19 probes.
+    /// Returns the first position above `k` that is kept under the key, among all positions or
+    /// among those that wrote; `None` if there is no key or no such position. It makes at most 19
+    /// probes.
     fn first_under(
         &self,
         k: u32,
@@ -95,8 +97,8 @@ impl DependIndex {
         Positions::found(self.by_key.kept_under(key, among), probes).first_above(k, probes)
     }
 
-    /// Returns the first position greater than `k` of a step of this actor, if there is one. It
-    /// makes at most 19 probes.
+    /// Returns the first position above `k` of a step of this actor, if there is one. It makes at
+    /// most 19 probes.
     fn first_by(&self, k: u32, actor: u8, probes: &mut Probes) -> Option<u64>
         requires { probe_count probes.old < 2 ^ 34 }
         ensures answer { IsAscending (list_at self.now.by_actor.items actor) → length (list_at self.now.by_actor.items actor) < 2 ^ 17
@@ -109,7 +111,7 @@ impl DependIndex {
     }
 }
 
-/// Returns the positions of this actor's steps.
+/// Returns the positions of this actor's steps; none if the actor has no list.
 fn positions_of(by_actor: &[Vec<u32>], actor: u8) -> &[u32]
     ensures { result.now ≡ list_at by_actor.now actor }
 {
@@ -121,7 +123,7 @@ fn positions_of(by_actor: &[Vec<u32>], actor: u8) -> &[u32]
     }
 }
 
-/// Returns the lesser of two positions, or the one that is there, if one is.
+/// Returns the lesser of two positions, or the one that is there; `None` if neither is.
 fn earlier(a: Option<u64>, b: Option<u64>) -> Option<u64>
     ensures { result ≡ earlier a b }
 {

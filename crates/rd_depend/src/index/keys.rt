@@ -1,7 +1,7 @@
-//! What a list of positions is kept for, apart from the actors: a place or a segment. A cell is
-//! kept under its two halves.
+//! Keys: the places and segments for which lists of positions are kept. A step at a cell is kept
+//! under both of its halves.
 //!
-//! Keys are hashed as one number, since all of them are looked up at each step.
+//! Each key is hashed as one number, since a step looks all of its keys up.
 
 ghost use Rattle.std.specs.Prelude.{◌≡◌, ◌+◌, ◌*◌, ◌<◌, Some, None};
 ghost use Rattle.std.specs.Hash as fed;
@@ -12,18 +12,18 @@ ghost use Rattle.rd_depend.specs.KeyLaws.{key_equiv, key_number-same};
 use rd_cell::{Place, SegName};
 use std::hash::{Hash, Hasher};
 
-/// A place or a segment.
+/// What a list of positions is kept for, apart from the actors: a place or a segment.
 #[derive(Clone, Copy, Debug)]
 pub(crate) enum Key {
-    /// For the steps at this place alone, or for a half of a cell also for those at the cell.
+    /// For the steps at this place; if it is a half of a cell, also for those at the cell.
     At(Place),
-    /// For the steps at each place of this segment, the whole of it included.
+    /// For the steps at the places of this segment, and at the whole of it.
     In(SegName),
 }
 
 impl Key {
-    /// Returns the key of the segment to which a place belongs, or of which it is the whole, if
-    /// there is one.
+    /// Returns the key of the place's segment, also for the whole of a segment; `None` for the
+    /// queue's ends and the array.
     pub(crate) fn of_segment(place: Place) -> Option<Key>
         ensures { result ≡ key_of_segment place }
     {
@@ -40,8 +40,9 @@ impl Key {
         }
     }
 
-    /// Returns the key of all places that a place names, except the value half of a cell: for the
-    /// whole of a segment the segment's, else the place's.
+    /// Returns the key under which a search finds the steps at what a place names, except at the
+    /// value half of a cell. The whole of a segment has the segment's key, a cell the key of its
+    /// index half, and any other place its own.
     pub(crate) fn of_place(place: Place) -> Key
         ensures { result ≡ own_key place }
     {
@@ -51,7 +52,7 @@ impl Key {
         }
     }
 
-    /// Returns the key of the whole of the segment to which a place belongs, if there is one.
+    /// Returns the key of the whole of the segment that has the place, if a segment has it.
     pub(crate) fn of_whole(place: Place) -> Option<Key>
         ensures { result ≡ whole_key place }
     {
@@ -94,7 +95,8 @@ fn place_number(place: Place) -> u64
     }
 }
 
-/// Returns a number for a part of a segment: its kind, the segment's name and an index.
+/// Returns the number of a part of a segment, made of the kind of part, the segment's name and an
+/// index.
 fn packed(part: u8, name: SegName, index: u8) -> u64
     ensures { result ≡ packed part name index }
 {

@@ -1,4 +1,4 @@
-//! Lists of positions by number, and what is done to one or to all of them.
+//! Lists of positions, each known by its number, and changes of one list or of all.
 
 ghost use Rattle.std.specs.Prelude.{◌≡◌, ◌+◌, ◌-◌, ◌==◌, ◌&&◌, true, ◌<◌, ◌≤◌, ◌++◌, ◌∷◌, [], ℕ, IsOk, OnOk, length, map, nat_lt, take, vec_capacity, if◌then◌else◌};
 ghost use Rattle.std.specs.List.{before_first, position_or_len};
@@ -7,14 +7,14 @@ ghost use Rattle.rd_depend.specs.Tables.{one_if, list_at, capacity_at, spare_at,
 
 use std::alloc::{AllocError, Global};
 
-/// How many positions a full list makes room for at least.
+/// The number of positions for which a full list makes room at least.
 const POSITIONS: usize = 8;
 
-/// Adds empty lists until there are this many.
+/// Adds empty lists until there are at least this many.
 ///
 /// # Errors
 ///
-/// `AllocError` if memory was refused. No list that was there has changed then.
+/// `AllocError` if memory is refused. No list that was there has changed then.
 pub(crate) fn grow(
     lists: &mut Vec<Vec<u32>>,
     alloc: Global,
@@ -31,11 +31,11 @@ pub(crate) fn grow(
     Ok(())
 }
 
-/// Makes room for one more position in the list of this number.
+/// Makes room for one more position in the list of this number, unless it has room.
 ///
 /// # Errors
 ///
-/// `AllocError` if memory was refused.
+/// `AllocError` if memory is refused.
 pub(crate) fn reserve_in(lists: &mut Vec<Vec<u32>>, index: usize) -> Result<(), AllocError>
     requires { index < length lists.old.items }
     ensures lists { (i : ℕ) → list_at lists.new.items i ≡ list_at lists.old.items i }
@@ -47,8 +47,8 @@ pub(crate) fn reserve_in(lists: &mut Vec<Vec<u32>>, index: usize) -> Result<(), 
     reserve(&mut lists[index])
 }
 
-/// Makes room for one more position in the list of this number, if `wanted`; fails if memory was
-/// refused.
+/// Makes room for one more position in the list of this number, if `wanted` and unless it has room.
+/// Fails only if memory is refused.
 pub(crate) fn reserve_if(
     lists: &mut Vec<Vec<u32>>,
     wanted: bool,
@@ -68,7 +68,7 @@ pub(crate) fn reserve_if(
     }
 }
 
-/// Makes room for one more position in a list, or fails if memory was refused.
+/// Makes room for one more position in a list, unless it has room. Fails only if memory is refused.
 fn reserve(list: &mut Vec<u32>) -> Result<(), AllocError>
     ensures items { list.new.items ≡ list.old.items }
     ensures room { spare_of list.old ≤ spare_of list.new }
@@ -81,8 +81,8 @@ fn reserve(list: &mut Vec<u32>) -> Result<(), AllocError>
     lengthen(list)
 }
 
-/// Makes room for more positions than one, since most lists stay short and asking takes longer than
-/// all else that is done to them.
+/// Makes room for several more positions, since most lists stay short, and asking for memory takes
+/// longer than all else that is done to them. Fails only if memory is refused.
 #[inline(never)]
 fn lengthen(list: &mut Vec<u32>) -> Result<(), AllocError>
     ensures items { list.new.items ≡ list.old.items }
@@ -91,7 +91,7 @@ fn lengthen(list: &mut Vec<u32>) -> Result<(), AllocError>
     list.reserve(POSITIONS)
 }
 
-/// Puts a position at the end of the list of this number.
+/// Puts a position at the end of the list of this number, which must have room for it.
 pub(crate) fn put_in(lists: &mut Vec<Vec<u32>>, index: usize, position: u32)
     requires { 0 < spare_at lists.old.items index }
     ensures lists { (i : ℕ) → list_at lists.new.items i
@@ -102,7 +102,8 @@ pub(crate) fn put_in(lists: &mut Vec<Vec<u32>>, index: usize, position: u32)
     lists[index].push_reserved(position);
 }
 
-/// Puts a position at the end of the list of this number, if `wanted`.
+/// Puts a position at the end of the list of this number, if `wanted`. The list must then have room
+/// for it.
 pub(crate) fn put_if(lists: &mut Vec<Vec<u32>>, wanted: bool, index: usize, position: u32)
     requires { wanted ≡ true → 0 < spare_at lists.old.items index }
     ensures lists { (i : ℕ) → list_at lists.new.items i
@@ -115,7 +116,7 @@ pub(crate) fn put_if(lists: &mut Vec<Vec<u32>>, wanted: bool, index: usize, posi
     }
 }
 
-/// Takes the last position out of the list of this number.
+/// Removes the last position from the list of this number, which must not be empty.
 pub(crate) fn take_last_in(lists: &mut Vec<Vec<u32>>, index: usize)
     requires { 1 ≤ length (list_at lists.old.items index) }
     ensures lists { (i : ℕ) → list_at lists.new.items i
@@ -126,7 +127,8 @@ pub(crate) fn take_last_in(lists: &mut Vec<Vec<u32>>, index: usize)
     let _last = lists[index].pop();
 }
 
-/// Takes the last position out of the list of this number, if `wanted`.
+/// Removes the last position from the list of this number, if `wanted`. The list must then not be
+/// empty.
 pub(crate) fn take_last_if(lists: &mut Vec<Vec<u32>>, wanted: bool, index: usize)
     requires { wanted ≡ true → 1 ≤ length (list_at lists.old.items index) }
     ensures lists { (i : ℕ) → list_at lists.new.items i
@@ -139,8 +141,8 @@ pub(crate) fn take_last_if(lists: &mut Vec<Vec<u32>>, wanted: bool, index: usize
     }
 }
 
-/// Moves a position after those above it up to `n` in each list that has it, and takes 1 off these
-/// in each list.
+/// Moves position `k` to `n` in each list: `k` becomes `n`, if it is there, and the positions above
+/// `k` up to `n` become one less.
 pub(crate) fn move_all(lists: &mut Vec<Vec<u32>>, k: u32, n: u32)
     requires some { 1 ≤ k }
     requires order { k ≤ n }
@@ -153,7 +155,8 @@ pub(crate) fn move_all(lists: &mut Vec<Vec<u32>>, k: u32, n: u32)
     }
 }
 
-/// Moves a position, if it is there, after those above it up to `n`, and takes 1 off these.
+/// Moves position `k` to `n` in a list: `k` becomes `n`, if it is there, and the positions above
+/// `k` up to `n` become one less.
 fn move_among(positions: &mut [u32], k: u32, n: u32)
     requires some { 1 ≤ k }
     requires order { k ≤ n }
@@ -167,8 +170,8 @@ fn move_among(positions: &mut [u32], k: u32, n: u32)
     turn(&mut positions[start..end], k, n);
 }
 
-/// Subtracts 1 from each position; but if the first one is `k`, it is moved to the end and becomes
-/// `n`.
+/// Subtracts 1 from each position. But if the first one is `k`, that one moves to the end and
+/// becomes `n`.
 fn turn(positions: &mut [u32], k: u32, n: u32)
     ensures { positions.new ≡ turned k n positions.old }
 {
@@ -190,8 +193,8 @@ fn lower(positions: &mut [u32])
     }
 }
 
-/// Returns how many positions are at most `k`, where they ascend. Of most lists all are, so the last
-/// one is looked at first.
+/// Returns the number of positions that are at most `k`, if they ascend. In most lists all are, so
+/// it looks at the last one first.
 fn count_up_to(positions: &[u32], k: u32) -> usize
     ensures within { result ≤ length positions.now }
     ensures count { IsAscending positions.now → result ≡ position_or_len (nat_lt k) positions.now }
@@ -203,7 +206,7 @@ fn count_up_to(positions: &[u32], k: u32) -> usize
     positions.partition_point(|p| *p <= k)
 }
 
-/// Takes the positions above `n` out of each list.
+/// Removes the positions above `n` from each list, if it ascends.
 pub(crate) fn truncate_all(lists: &mut Vec<Vec<u32>>, n: u32)
     ensures lists { (i : ℕ) → IsAscending (list_at lists.old.items i) → list_at lists.new.items i ≡ before_first (nat_lt n) (list_at lists.old.items i) }
     ensures capacity { (i : ℕ) → capacity_at lists.new.items i ≡ capacity_at lists.old.items i }
@@ -214,7 +217,7 @@ pub(crate) fn truncate_all(lists: &mut Vec<Vec<u32>>, n: u32)
     }
 }
 
-/// Takes the positions above `n` out of a list.
+/// Removes the positions above `n` from a list, if it ascends.
 fn truncate_list(list: &mut Vec<u32>, n: u32)
     ensures items { IsAscending list.old.items → list.new.items ≡ before_first (nat_lt n) list.old.items }
     ensures capacity { vec_capacity list.new ≡ vec_capacity list.old }

@@ -1,19 +1,19 @@
-//! Ascending positions, which are read by probes alone.
+//! Ascending positions that can be read only by probes.
 
 ghost use Rattle.std.specs.Prelude.{◌≡◌, ◌+◌, ◌<◌, ◌^◌, length, slice_index_or};
 ghost use Rattle.rd_depend.specs.Probes.{probe_count};
 
 use super::probes::Probes;
 
-/// The positions that one list keeps. Outside this file they are read by `look` alone, which counts
-/// a probe.
+/// The positions of one list. Outside this file only `look` reads them, and counts a probe each
+/// time.
 #[derive(Clone, Copy)]
 pub(crate) struct Positions<'a> {
     items: &'a [u32],
 }
 
 impl<'a> Positions<'a> {
-    /// Returns the positions of this list, which a look-up found.
+    /// Returns the positions of a list that a look-up found, and counts that look-up as one probe.
     pub(crate) fn found(items: &'a [u32], probes: &mut Probes) -> Positions<'a>
         requires { probe_count probes.old < 2 ^ 63 }
         ensures items { result.items.now ≡ items.now }
@@ -30,7 +30,7 @@ impl<'a> Positions<'a> {
         self.items.len()
     }
 
-    /// Returns the position at this index.
+    /// Returns the position at this index, and counts a probe.
     pub(crate) fn look(&self, index: usize, probes: &mut Probes) -> u32
         requires within { index < length self.now.items.now }
         requires few { probe_count probes.old < 2 ^ 63 }

@@ -1,10 +1,10 @@
-//! The counting of probes.
+//! Counting probes, which measures what a search costs.
 
 ghost use Rattle.std.specs.Prelude.{◌≡◌, ◌+◌, ◌<◌, ◌^◌};
 ghost use Rattle.rd_depend.specs.Probes.{probe_count};
 
-/// How many probes were made. A probe is one look-up of an actor, a place or a segment, or one look
-/// at a position in a list. A count is not copied.
+/// A count of probes. A probe is one look-up of an actor, a place or a segment, or one look at a
+/// position in a list. A count can't be copied.
 #[derive(Debug, Drop, PartialEq, Eq)]
 pub struct Probes {
     count: u64,
@@ -25,7 +25,7 @@ impl Probes {
         self.count
     }
 
-    /// Counts one more.
+    /// Counts one more probe.
     pub(crate) fn tick(&mut self)
         requires { probe_count self.old < 2 ^ 63 }
         ensures { probe_count self.new ≡ probe_count self.old + 1 }

@@ -1,4 +1,4 @@
-//! The search among ascending positions, by halving.
+//! Binary search among ascending positions.
 
 ghost use Rattle.std.specs.Prelude.{◌≡◌, ◌+◌, ◌<◌, ◌≤◌, ◌^◌, length, nat_lt, None};
 ghost use Rattle.std.specs.List.{before_first, find, last_or, position_or_len};
@@ -9,7 +9,8 @@ use super::positions::Positions;
 use super::probes::Probes;
 
 impl<'a> Positions<'a> {
-    /// Returns how many of the positions are at most `k`, by halving. It makes at most 17 probes.
+    /// Returns the number of positions that are at most `k`, by binary search. It makes at most 17
+    /// probes, and so needs fewer than 2^17 positions.
     pub(crate) fn count_up_to(&self, k: u32, probes: &mut Probes) -> usize
         requires { probe_count probes.old < 2 ^ 62 }
         ensures within { result ≤ length self.now.items.now }
@@ -33,8 +34,7 @@ impl<'a> Positions<'a> {
         low
     }
 
-    /// Returns the least position that is greater than `k`, if there is one. It makes at most 18
-    /// probes.
+    /// Returns the first position above `k`, if there is one. It makes at most 18 probes.
     pub(crate) fn first_above(&self, k: u32, probes: &mut Probes) -> Option<u64>
         requires { probe_count probes.old < 2 ^ 61 }
         ensures first { IsAscending self.now.items.now → length self.now.items.now < 2 ^ 17 → result ≡ find (nat_lt k) self.now.items.now }
@@ -49,8 +49,7 @@ impl<'a> Positions<'a> {
         }
     }
 
-    /// Returns the greatest position that is at most `k`, if there is one. It makes at most 18
-    /// probes.
+    /// Returns the last position up to `k`, if there is one. It makes at most 18 probes.
     pub(crate) fn last_up_to(&self, k: u32, probes: &mut Probes) -> Option<u64>
         requires { probe_count probes.old < 2 ^ 61 }
         ensures last { IsAscending self.now.items.now → length self.now.items.now < 2 ^ 17 → result ≡ last_or None (before_first (nat_lt k) self.now.items.now) }

@@ -1,8 +1,9 @@
-//! The lists of places and of segments: of each, the positions that touch it, and apart from these
-//! those that wrote it.
+//! The table of keys: for each place and each segment, the positions of the steps that touched it
+//! and, in a second list, of the steps that wrote there.
 //!
-//! A step looks for up to three keys, whose kinds are known where it looks. So what finds a key and
-//! its room is inlined there, and what is seldom needed is not: a new key, and a list that grows.
+//! Putting a step in looks for up to three keys, and the kind of each is known there. So the code
+//! that finds a key and its room is inlined. The code that adds a key or grows a list is seldom
+//! needed, and isn't inlined.
 
 ghost use Rattle.std.specs.Prelude.{◌≡◌, ◌<◌, length};
 
@@ -13,22 +14,22 @@ use super::lists::{
 use indexmap::IndexSet;
 use std::alloc::{AllocError, Global};
 
-/// How many hints there are of where a key is.
+/// The number of hints. A hint may know the index of a key.
 const HINTS: usize = 512;
 
 /// Which of the positions kept under a key are meant.
 #[derive(Clone, Copy)]
 pub(crate) enum Among {
-    /// Those of all steps that touched it.
+    /// All of them.
     Touches,
-    /// Those of the steps that wrote it.
+    /// Only those of steps that wrote there.
     Writes,
 }
 
 impl Among {
     ghost use Rattle.rd_depend.specs.Tables.{is_writes};
 
-    /// Returns the positions of the writes if the test holds, else all positions.
+    /// Returns `Writes` if the test holds, and `Touches` if not.
     pub(crate) fn writes_if(only_writes: bool) -> Among
         ensures { is_writes result ≡ only_writes }
     {
@@ -40,14 +41,17 @@ impl Among {
     }
 }
 
-/// Keys with their lists, each by the index of its key. A key stays when its lists are empty.
+/// Keys with their lists, each at the index of its key. A key stays when its lists become empty.
 #[derive(Drop)]
 pub(crate) struct Table {
+    /// The keys, in the order of their indices.
     keys: IndexSet<Key>,
-    /// Where keys were found lately. A hint is asked before the set is, and believed only if the
-    /// key is there.
+    /// The indices at which keys were found lately. A hint is tried before the set is searched, and
+    /// believed only if the key is at that index.
     hints: [usize; HINTS],
+    /// For each key, the positions of all its steps.
     all: Vec<Vec<u32>>,
+    /// For each key, the positions of the steps that wrote there.
     writes: Vec<Vec<u32>>,
     ghost all_there: { length all.items ≡ length keys.keys },
     ghost writes_there: { length writes.items ≡ length keys.keys },
@@ -83,7 +87,7 @@ impl Table {
         self.keys.get_index_of(&key)
     }
 
-    /// Whether the key of this index is this one.
+    /// Whether this key is at this index; false for an index that no key has.
     #[inline(always)]
     fn is_at(&self, slot: usize, key: Key) -> bool
         ensures { result ≡ true → slot_in self.now.keys.keys key ≡ Some slot }
@@ -96,6 +100,7 @@ impl Table {
     }
 
     /// Returns the positions kept under the key: all of them, or only those of steps that wrote.
+    /// There are none if the key isn't in the table.
     pub(crate) fn kept_under(&self, key: Key, among: Among) -> &[u32]
         ensures { result.now ≡ kept_in self.now (is_writes among) key }
     {
@@ -108,11 +113,13 @@ impl Table {
         }
     }
 
-    /// Makes room under a key, if there is one, for one more position, and returns the key's index.
+    /// Makes room for one more position under the key, also among those that wrote if the step
+    /// wrote, and returns the key's index. Adds the key if it isn't in the table. Without a key it
+    /// does nothing and returns `None`.
     ///
     /// # Errors
     ///
-    /// `AllocError` if memory was refused. No position has changed then.
+    /// `AllocError` if memory is refused. No position has changed then.
     #[inline(always)]
     pub(crate) fn reserve(
         &mut self,
@@ -130,12 +137,12 @@ impl Table {
         }
     }
 
-    /// Returns the index of the key, which is added if it isn't in the table yet, and makes room
-    /// for one more position in its list, and in that of its writes if the step wrote.
+    /// Makes room for one more position in the key's list, and in its list of writes if the step
+    /// wrote, and returns the key's index. Adds the key if it isn't in the table.
     ///
     /// # Errors
     ///
-    /// `AllocError` if memory was refused. No position has changed then.
+    /// `AllocError` if memory is refused. No position has changed then.
     #[inline(always)]
     fn reserve_under(&mut self, alloc: Global, key: Key, wrote: bool) -> Result<usize, AllocError>
         ensures same { KeepsLists self.old self.new }
@@ -148,8 +155,8 @@ impl Table {
         Ok(slot)
     }
 
-    /// Returns the index of the key, which is added with empty lists if it isn't in the table yet.
-    /// If its hint doesn't know the index, it is noted there for the next time.
+    /// Returns the index of the key, which is added with empty lists if it isn't in the table. The
+    /// key's hint has this index then. Fails only if memory is refused.
     #[inline(always)]
     fn slot_or_new(&mut self, alloc: Global, key: Key) -> Result<usize, AllocError>
         ensures same { KeepsLists self.old self.new }
@@ -167,8 +174,8 @@ impl Table {
         Ok(slot)
     }
 
-    /// Returns the index of the key, which is added with empty lists if it isn't in the table yet.
-    /// No hint is changed.
+    /// Returns the index of the key, which is added with empty lists if it isn't in the table. No
+    /// hint is changed. Fails only if memory is refused.
     #[inline(never)]
     fn found_or_new(&mut self, alloc: Global, key: Key) -> Result<usize, AllocError>
         ensures same { KeepsLists self.old self.new }
@@ -188,8 +195,8 @@ impl Table {
         Ok(slot)
     }
 
-    /// Puts a position at the end of the list of the key of this index, if there is one, and of
-    /// that of its writes if the step wrote.
+    /// Puts a position at the end of the list at this index, and of the list of writes there if the
+    /// step wrote. Without an index it does nothing.
     pub(crate) fn put(&mut self, slot: Option<usize>, position: u32, wrote: bool)
         requires { AreReadyAt self.old wrote slot }
         ensures { (k : Option Kept) → AreReady self.old k wrote slot → Puts k wrote position self.old self.new }
@@ -199,8 +206,8 @@ impl Table {
         }
     }
 
-    /// Puts a position at the end of the list of the key of this index, and of that of its writes
-    /// if the step wrote.
+    /// Puts a position at the end of the list at this index, and of the list of writes there if the
+    /// step wrote.
     fn put_at(&mut self, slot: usize, position: u32, wrote: bool)
         requires { IsReadyAt self.old wrote slot }
         ensures { (k : Kept) → IsReady self.old k wrote slot → Puts (Some k) wrote position self.old self.new }
@@ -209,8 +216,8 @@ impl Table {
         put_if(&mut self.writes, wrote, slot, position);
     }
 
-    /// Takes the last position out of the list of the key, if there is one, and out of that of its
-    /// writes if the step wrote.
+    /// Removes the last position from the key's list, and from its list of writes if the step
+    /// wrote. Without a key it does nothing.
     pub(crate) fn take_last(&mut self, key: Option<Key>, wrote: bool)
         requires { HasLast self.old key wrote }
         ensures { TakesLast key wrote self.old self.new }
@@ -220,8 +227,8 @@ impl Table {
         }
     }
 
-    /// Takes the last position out of the list of the key, and out of that of its writes if the
-    /// step wrote.
+    /// Removes the last position from the key's list, and from its list of writes if the step
+    /// wrote.
     fn take_last_under(&mut self, key: Key, wrote: bool)
         requires { HasLast self.old (Some key) wrote }
         ensures { TakesLast (Some key) wrote self.old self.new }
@@ -232,8 +239,8 @@ impl Table {
         }
     }
 
-    /// Moves a position after those above it up to `n` in each list that has it, and takes 1 off
-    /// these in each list.
+    /// Moves position `k` to `n` in each list: `k` becomes `n`, if it is there, and the positions
+    /// above `k` up to `n` become one less.
     pub(crate) fn move_to(&mut self, k: u32, n: u32)
         requires some { 1 ≤ k }
         requires order { k ≤ n }
@@ -243,7 +250,7 @@ impl Table {
         move_all(&mut self.writes, k, n);
     }
 
-    /// Takes the positions above `n` out of each list.
+    /// Removes the positions above `n` from each list.
     pub(crate) fn truncate(&mut self, n: u32)
         ensures { Cuts n self.old self.new }
     {
@@ -252,7 +259,7 @@ impl Table {
     }
 }
 
-/// Returns the number of the hint that may know where the key is.
+/// Returns the number of the hint that may know the index of this key.
 #[inline(always)]
 fn hint_of(key: Key) -> usize
     ensures { result < HINTS }

@@ -1,5 +1,5 @@
-//! The last writer of a place by look-ups: of the positions that wrote there, of a cell at either
-//! half, or at the whole of its segment, the last one.
+//! The last writer of a place, by look-ups. It is the last position that wrote under one of three
+//! keys: the place's own, the key of a cell's value half, and the key of the whole of its segment.
 
 ghost use Rattle.std.specs.Prelude.{◌≡◌, ◌+◌, ◌<◌, ◌≤◌, ◌^◌, true, IsSome, List, take};
 ghost use Rattle.rd_step.specs.declared.entries.Entry.{Entry as SomeEntry};
@@ -18,9 +18,9 @@ use super::table::Among;
 use rd_cell::Place;
 
 impl DependIndex {
-    /// The last position up to `n` whose entry wrote this place, or one of the places that it
-    /// names; none if no such entry did. It makes at least one probe and at most 57, and takes no
-    /// memory.
+    /// Returns the last position up to `n` whose entry wrote this place, or one of the places that
+    /// it names; `None` if no such entry did. It makes at least one probe and at most 57, and takes
+    /// no memory.
     pub fn last_writer(&self, n: u64, place: Place, probes: &mut Probes) -> Option<u64>
         requires within { n ≤ position_count self.now }
         requires counted { probe_count probes.old < 2 ^ 32 }
@@ -35,8 +35,8 @@ impl DependIndex {
         later(by_value, later(own, whole))
     }
 
-    /// Returns the last position up to `n` of a step that is kept under the key and wrote, if there
-    /// is one. It makes at most 19 probes.
+    /// Returns the last position up to `n` of a step that is kept under the key and wrote there;
+    /// `None` if there is no key or no such step. It makes at most 19 probes.
     fn last_under(&self, n: u32, key: Option<Key>, probes: &mut Probes) -> Option<u64>
         requires { probe_count probes.old < 2 ^ 34 }
         ensures answer { (es : List SomeEntry) → IsIndexOf self.now es
@@ -52,7 +52,7 @@ impl DependIndex {
     }
 }
 
-/// Returns the greater of two positions, or the one that is there, if one is.
+/// Returns the greater of two positions, or the one that is there; `None` if neither is.
 fn later(a: Option<u64>, b: Option<u64>) -> Option<u64>
     ensures { result ≡ later a b }
 {
