@@ -1,4 +1,4 @@
--- A journal in which some of the steps ahead are undone, beside the one in which all are.
+-- A journal in which only the first of the steps ahead are undone, beside the one in which all are.
 use Rattle.rd_journal.proofs.Prelude.{◌≡◌, ℕ, zero, suc, ◌+◌, ◌-◌, ◌≤◌, refl, sym, ◌∙◌, ap, arith, List, [], ◌∷◌, ◌++◌, length, take, drop, Result, length-drop, length-take, length-take-le, map-append, append_assoc, take-append-drop, take-take, drop-take, Refusal, World, Stepped, run, room, preceded_by, and_then, result_map, Event, Entry, first_step, Journal, events, IsRun, IsRunFrom, IsSession, IsMovedBack, IsMovedForward, IsUndoneAlone, journal, run_entries, Session}
 use Rattle.rd_journal.proofs.EntryLemmas.{take_over}
 use Rattle.rd_journal.proofs.Runs.{preceded_entries}
@@ -6,7 +6,7 @@ use Rattle.rd_journal.proofs.Walks.{room_first}
 
 -- The first steps of a run
 
--- they are a run
+-- the first steps of a run are a run
 pub first_run : (n : ℕ) (w : World) (xs : List Entry) → IsRunFrom w xs → IsRunFrom w (take n xs)
 first_run zero w xs h = refl
 first_run (suc n) w [] h = h
@@ -17,7 +17,7 @@ first_run (suc n) w (x ∷ xs) h =
 
 -- The session
 
--- a journal in which no more than the first n of these are undone
+-- the journal with only the first n of the undone entries
 abbrev pub with_undone : ℕ → Journal → Journal
 with_undone n j = record { start = j.start; world = j.world; live = j.live; undone = take n j.undone }
 
@@ -47,13 +47,13 @@ forward_undone n k old new enough moved =
 pub out_undone : (n k : ℕ) (old new : Journal) → 1 ≤ k → k ≤ length old.live → IsUndoneAlone k old new → IsUndoneAlone k (with_undone n old) (with_undone (n + 1) new)
 out_undone n k old new some within moved = grind (arith, length-take-le, length-drop, take_over)
 
--- nothing is undone where nothing is ahead
+-- if no step is ahead, none is undone
 pub none_taken : (n : ℕ) (xs : List Entry) → xs ≡ [] → take n xs ≡ []
 none_taken n xs none = grind arith
 
 -- The track
 
--- the live steps and those ahead of them
+-- the events of the live steps and, after them, of the undone ones
 abbrev pub track_of : Journal → List Event
 track_of j = events j.live ++ events j.undone
 

@@ -22,22 +22,22 @@ pub opened_is : {R : ℕ} (opened : Snapshot (CodeWorld R)) (world : CodeWorld R
 unfolding opened_with
 opened_is opened world h = ap model h
 
--- its rings have the session's number of cells
+-- the rings of the opened world have as many cells as the session's
 pub opened_ring : {R : ℕ} (opened : Snapshot (CodeWorld R)) → (opened_with opened).ring ≡ R
 unfolding opened_with
 opened_ring opened = refl
 
 -- Back and forward
 
--- undoing leaves the start
+-- undoing keeps the start
 pub back_start : (s : State) (n : ℕ) (t : State) → back s n ≡ Ok t → t.start ≡ s.start
 back_start s n t h = grind arith
 
--- and so does redoing
+-- redoing keeps the start
 pub forward_start : (s : State) (n : ℕ) (t : State) → forward s n ≡ Ok t → t.start ≡ s.start
 forward_start s n t h = grind arith
 
--- what is left is the run of all but the last events
+-- after going back, the journal is the run of all but the last events
 pub before_last : (n : ℕ) (old new : Journal) → IsMovedBack n old new → IsRun new → new.start ≡ old.start → IsBeforeLast n old new
 before_last n old new moved runs start = grind (arith, take-map)
 
@@ -49,15 +49,15 @@ entry_missing j n k len h = grind (arith, ok_or, slice_get_past)
 pub entry_found : (j : Journal) (k : ℕ) (x : Entry) → 1 ≤ k → k ≤ length j.live → x ≡ get_or j.live (k - 1) x → Ok x ≡ entry_of j k
 entry_found j k x some within here = grind (arith, ok_or, slice_get-get_or)
 
--- the live event of a number is that of the entry
+-- the live event of a number is the event of the live entry of that number
 pub event_of_entry : (j : Journal) (k : ℕ) → live_event (state_of j) k ≡ result_map (λ x. x.event) (entry_of j k)
 event_of_entry j k = grind (arith, live_len, slice_get-map)
 
--- the number of a live event is that of one
+-- the number of a live event is at least 1 and at most the number of live events
 pub is_live : (s : State) (k : ℕ) (e : Event) → live_event s k ≡ Ok e → (1 ≤ k) × (k ≤ length s.live)
 is_live s k e h1 = grind (arith, slice_get_cases)
 
--- a chain that went through, through its first link
+-- if a chain of two calls succeeds, the first one did
 pub went_through : {T U : Type 0} (r : Result T Refusal) (f : T → Result U Refusal) (y : U) → and_then r f ≡ Ok y → (x : T) × (r ≡ Ok x) × (f x ≡ Ok y)
 went_through r f y h1 = grind arith
 
@@ -81,7 +81,7 @@ longer_session old new e x before after session less h start longer =
 pub opened_session : (j : Journal) (room : ℕ → ℕ) → IsWellFormed j.world → j.start ≡ j.world → j.live ≡ [] → j.undone ≡ [] → IsSession j room
 opened_session j room formed start live undone = grind arith
 
--- a session whose journal is as it was is a session still, with as much room
+-- a session whose journal stays is still a session if no room is lost
 same_session : (old new : Journal) (before after : ℕ → ℕ) → IsSession old before → new ≡ old → ((m : ℕ) → before m ≤ after m)
     → IsSession new after
 same_session old new before after session same more =
@@ -91,7 +91,7 @@ same_session old new before after session same more =
       has_room = record { at = λ m. let a = session.has_room.at m in let b = more m in omega arith };
     })
 
--- the same of a session whose world and entries are as they were
+-- what holds of a session still holds if its world and its entries stay
 pub record IsStill {R : ℕ} (old : Session R) (world : CodeWorld R) (entries : Entries) : Type 0 where
   pub kept : IsSession (whole_journal (opened_with old.opened) (model world) entries) (room world)
   pub within : old.undone ≤ length (ahead_entries entries)
@@ -107,12 +107,13 @@ still old world entries same live ahead more = record {
   indexed = subst (λ (es : List Entry). IsIndexOf old.index es) (λ i. sym live i ++ sym ahead i) old.indexed;
 }
 
--- a session with the world and the entries from before is unchanged
+-- a session with the opened world, the world and the entries from before has the same journal and
+-- track
 pub unchanged : {R : ℕ} (old new : Session R) → opened_with new.opened ≡ opened_with old.opened → model new.world ≡ model old.world → live_entries new.entries ≡ live_entries old.entries
     → ahead_entries new.entries ≡ ahead_entries old.entries → new.undone ≡ old.undone → KeepsItsSteps old new
 unchanged old new start world live ahead count = grind arith
 
--- the event is answered as its step is, since the live events run to the world
+-- the event is answered as its step from the journal's world, since the live events lead there
 applied : (j : Journal) (e : Event) (r : Result Stepped Refusal) → IsRun j → length j.live < MOST_STEPS → step j.world e ≡ r
     → apply (state_of j) e ≡ result_map (λ stepped. with_event (state_of j) e) r
 applied j e r runs less k = grind (arith, live_len, cond-false, ne_eqb)
@@ -120,14 +121,14 @@ applied j e r runs less k = grind (arith, live_len, cond-false, ne_eqb)
 mapped_ok : {X Y : Type 0} (f : X → Y) (r : Result X Refusal) → IsOk r → IsOk (result_map f r)
 mapped_ok f r ok = grind arith
 
--- where the step goes, so does the event
+-- if the step succeeds, so does the event
 pub applies : (j : Journal) (e : Event) → IsRun j → length j.live < MOST_STEPS → IsOk (step j.world e) → IsOk (apply (state_of j) e)
 applies j e runs less ok = rw (applied j e (step j.world e) runs less refl) (mapped_ok (λ (stepped : Stepped). with_event (state_of j) e) (step j.world e) ok)
 
 is_ok : (r : Result Stepped Refusal) (s : Stepped) → r ≡ Ok s → IsOk r
 is_ok r s h = grind arith
 
--- where memory is missing it may be refused in the session's state
+-- if the session is out of memory for an event, its state may lack memory for it
 may_lack : {R : ℕ} (s : Session R) (e : Event) → IsOutOfMemory (journal s) (capacity s) (session_room s) (index s) e → MayLackMemory (state s) e
 may_lack s e out = record {
   not_full = omega (arith, out.not_full, live_len (journal s));
@@ -137,7 +138,7 @@ may_lack s e out = record {
   ];
 }
 
--- so what is said of the session is said of its state
+-- so what the session may refuse an event with, its state may
 pub said_of_state : {R : ℕ} {X : Type 0} (s : Session R) (e : Event) (r : Result X Refusal) → IfErr r (MayRefuse s e)
     → IfErr r (λ cause. (apply (state s) e ≡ Err cause) ⊎ ((cause ≡ refusal.NoMemory) × MayLackMemory (state s) e))
 said_of_state s e (Ok x) h = h

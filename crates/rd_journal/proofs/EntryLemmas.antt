@@ -1,5 +1,4 @@
--- The entries of a session as one list that is cut twice: how long its parts are, and how they
--- change.
+-- The entries of a session as one list in three parts: how long the parts are, and how they change.
 use Rattle.rd_journal.proofs.Prelude.{◌≡◌, ℕ, ◌+◌, ◌-◌, ◌<◌, ◌≤◌, List, [], ◌∷◌, ◌++◌, length, take, drop, sym, ◌∙◌, ap, arith, length-append, length-drop, take-add, length-take-le, take-take, drop-take, drop-drop, take_at, drop_at, moved_to, all_entries, live_entries, ahead_entries, kept_entries, entries_capacity, Entries}
 use Rattle.rd_journal.proofs.ListLemmas.{behind_from, drop_before}
 use Rattle.rd_journal.proofs.Numbers.{at-length, order_below}
@@ -19,20 +18,20 @@ ahead-length r = grind (arith, length-take-le, all-length, length-drop)
 pub kept-length : (r : Entries) → length (kept_entries r) ≡ r.live + r.ahead
 kept-length r = omega (arith, length-append (live_entries r) (ahead_entries r), live-length r, ahead-length r)
 
--- how long the parts are, and that their numbers are of slots
+-- how long the parts are, and that their numbers are below the number of slots
 pub ruleset lengths = (all-length, live-length, ahead-length, kept-length, at-length, order_below)
 
--- those ahead of none
+-- if no entry is ahead, the number of those ahead is 0
 pub none_ahead : (r : Entries) → ahead_entries r ≡ [] → r.ahead ≡ 0
 none_ahead r none = omega (arith, ahead-length r, ap length none)
 
--- where there is no room for one more live entry the live ones fill it, and none is ahead
+-- if there is no room for one more live entry, the live ones fill the room and none is ahead
 pub full_entries : (r : Entries) → entries_capacity r < length (live_entries r) + 1 → (ahead_entries r ≡ []) × (entries_capacity r ≡ length (live_entries r))
 full_entries r h = (grind (arith, ahead-length, live-length), grind (arith, ahead-length, live-length))
 
--- a list cut after its first m elements, and again u elements after them
+-- A list cut after its first m elements, and again after u more.
 
--- some elements before others
+-- the first elements of two lists joined, beyond the first list
 pub take_over : {X : Type 0} (xs ys : List X) (n u : ℕ) → length xs ≡ n → take (u + n) (xs ++ ys) ≡ xs ++ take u ys
 take_over {X} xs ys n u h =
     let turn : u + n ≡ n + u = omega arith in
@@ -55,12 +54,13 @@ cut_on_rest {X} l m u n enough =
     let more : u ≡ n + (u - n) = omega arith in
     sym (ap (λ (k : ℕ). drop n (take k (drop m l))) more ∙ drop-take n (u - n) (drop m l) ∙ ap (λ (ys : List X). take (u - n) ys) (drop-drop n m l))
 
--- the k-th of the first part goes to the front of the second
+-- the k-th element of the first part, moved to its end, is in front of the second part once the
+-- border has moved back
 pub taken_out : {X : Type 0} (l : List X) (k m u : ℕ) → 1 ≤ k → k ≤ m → m ≤ length l
     → take (u + 1) (drop (m - 1) (moved_to l k m)) ≡ take 1 (drop (k - 1) (take m l)) ++ take u (drop m l)
 taken_out {X} l k m u some position within = grind (arith, length-take-le, length-drop, behind_from, take_over)
 
--- one more is put after the first part
+-- an element put after the first part is its last one
 pub put_last : {X : Type 0} (l new : List X) (u : ℕ) (x : X) → u ≤ length l → new ≡ take u l ++ x ∷ drop (u + 1) l → take (u + 1) new ≡ take u l ++ x ∷ []
 put_last {X} l new u x within is =
     let rest = drop (u + 1) l in
@@ -70,11 +70,11 @@ put_last {X} l new u x within is =
 pub cut_short : {X : Type 0} (l : List X) (m n : ℕ) → m ≤ length l → take (m - n) l ≡ take (length (take m l) - n) (take m l)
 cut_short {X} l m n within = grind (arith, length-take-le, take-take)
 
--- the border moved, where the end stays
+-- moving the border between two parts keeps both together, if the end stays
 pub border_moved : {X : Type 0} (l : List X) (m u n v : ℕ) → n + v ≡ m + u → take n l ++ take v (drop n l) ≡ take m l ++ take u (drop m l)
 border_moved {X} l m u n v same = sym (take-add n v l) ∙ ap (λ (k : ℕ). take k l) same ∙ take-add m u l
 
--- the k-th of the first elements moved after them, whatever else is there
+-- the k-th element of the first list moved to its end, with a second list behind
 pub moved_among : {X : Type 0} (xs ys : List X) (k : ℕ)
     → (take (k - 1) xs ++ drop k xs) ++ (take 1 (drop (k - 1) xs) ++ ys) ≡ moved_to (xs ++ ys) k (length xs)
 moved_among {X} xs ys k = grind (arith, take_at, drop_at)

@@ -1,10 +1,10 @@
--- The causal closure of a step gathered after the other entries: the list cut in parts, and the run
--- that it stays.
+-- The causal closure of a step gathered behind the other entries: the parts of the list meanwhile,
+-- and the run that it still is.
 use Rattle.rd_journal.proofs.Prelude.{◌≡◌, ℕ, zero, suc, ◌-◌, ◌<◌, ◌≤◌, Bool, true, false, if◌then◌else◌, sym, ◌∙◌, ap, subst, arith, inl, inr, List, [], ◌∷◌, ◌++◌, length, take, drop, get_or, Ok, cases_Bool, or_parts, append-nil, append_assoc, World, run, depends, depends_on_one, items_where_true, items_where_false, closure_of, without_closure, closure_from, Entry, run-cons, events, beginning, commutes}
 
 -- The closure, cut at its first entry
 
--- the list around its entry of index i, with the marks of the closure
+-- the closure of the entry at index i, and the entries outside, by the marks of the later entries
 pub record CutAt (l : List Entry) (i : ℕ) (x : Entry) : Type 0 where
   pub outside : without_closure l (suc i) ≡ take i l ++ items_where_false (closure_from (x ∷ []) (drop (suc i) l)) (drop (suc i) l)
   pub inside : closure_of l (suc i) ≡ x ∷ items_where_true (closure_from (x ∷ []) (drop (suc i) l)) (drop (suc i) l)
@@ -15,7 +15,8 @@ cut_at l i x h here = grind arith
 
 -- A list under way
 
--- of the live entries those that stay so far, those that go, and those that are still to come
+-- the list under way: entries known to stay, entries known to go, and later ones, which the marks
+-- will part
 pub record Gathering (l : List Entry) (k : ℕ) (before block later : List Entry) : Type 0 where
   pub outside : without_closure l k ≡ before ++ items_where_false (closure_from block later) later
   pub inside : closure_of l k ≡ block ++ items_where_true (closure_from block later) later
@@ -28,12 +29,12 @@ gathering_first l (suc i) x some below here =
     let c = cut_at l i x (omega arith) (here ∙ ap (λ (n : ℕ). get_or l n x) same) in
     record { outside = c.outside ∙ ap (λ (n : ℕ). take n l ++ items_where_false (closure_from (x ∷ []) (drop (suc i) l)) (drop (suc i) l)) (sym same); inside = c.inside }
 
--- where the next entry depends on one that goes it goes
+-- if the next entry depends on one that goes, it goes too
 pub joins : (l before block later : List Entry) (k : ℕ) (x : Entry) → Gathering l k before block (x ∷ later) → depends_on_one block x ≡ true
     → Gathering l k before (block ++ x ∷ []) later
 joins l before block later k x g h = grind (arith, append_assoc)
 
--- and at the end those that go are the closure
+-- at the end the entries that stay are those outside the closure, and those that go are the closure
 pub gathered_outside : (l before block : List Entry) (k : ℕ) → Gathering l k before block [] → without_closure l k ≡ before
 gathered_outside l before block k g = g.outside ∙ append-nil before
 
@@ -42,7 +43,7 @@ gathered_inside l before block k g = g.inside ∙ append-nil block
 
 -- The run
 
--- a step that depends on none of a block of steps before it may go before them
+-- a step that depends on none of the steps right before it may go before them
 pub moved_before : (u w : World) (b : List Entry) (y : Entry) (zs : List Entry) → run u (events (b ++ (y ∷ zs))) ≡ Ok (record { world = w; entries = b ++ (y ∷ zs) })
     → depends_on_one b y ≡ false → run u (events (y ∷ (b ++ zs))) ≡ Ok (record { world = w; entries = y ∷ (b ++ zs) })
 moved_before u w [] y zs h free = h
@@ -57,7 +58,8 @@ moved_before u w (x ∷ b) y zs h free =
     (run-cons sw.first.world x.event (events (b ++ zs)) sw.second (record { world = w; entries = b ++ zs }) sw.goes_second rest)
     ∙ (λ i. Ok (record { world = w; entries = sw.same_entry i ∷ (sw.entry_unchanged i ∷ (b ++ zs)) }))
 
--- gathering the closure of a block after the others leaves a run to the same world
+-- if the closure of a block is gathered behind the other entries, the list is still a run to the
+-- same world
 pub gathered_run : (u w : World) (b ys : List Entry) → run u (events (b ++ ys)) ≡ Ok (record { world = w; entries = b ++ ys })
     → let zs = items_where_false (closure_from b ys) ys ++ (b ++ items_where_true (closure_from b ys) ys) in run u (events zs) ≡ Ok (record { world = w; entries = zs })
 gathered_run u w b [] h = h

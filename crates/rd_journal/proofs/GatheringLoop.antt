@@ -6,13 +6,13 @@ use Rattle.rd_journal.proofs.RoomLemmas.{fits_between}
 use Rattle.rd_journal.proofs.ListLemmas.{drop_one_less}
 use Rattle.rd_journal.proofs.Numbers.{one, at-append, at-length, at-take, at-drop, at-get, order_below, order_moved}
 
--- the live ones of these slots
+-- the live entries among these slots, in their order
 abbrev pub live_of : List Entry → List ℕ → ℕ → List Entry
 live_of es ns live = take live (at_numbers es ns)
 
--- of the live entries those before the next are looked at: the numbers of those that stay are the
--- first ones now, those of the others are gathered, and the index is that of the entries before the
--- k-th and of these
+-- the live entries before the next one are looked at: the numbers of those that stay are in front,
+-- and those of the others are gathered. The index is that of the entries before the k-th and of the
+-- gathered ones
 pub record UnderWay (es : List Entry) (ns now gathered : List ℕ) (old index : DependIndex) (k live front next : ℕ) : Type 0 where
   pub from : k - 1 ≤ front
   pub number : front + length gathered ≡ next
@@ -28,7 +28,7 @@ pub record UnderWay (es : List Entry) (ns now gathered : List ℕ) (old index : 
   pub room : (rest : List Entry) → HasRoomFor old (drop (k - 1) (live_of es ns live) ++ rest)
       → HasRoomFor index (drop (k - 1) (at_numbers es (take front now)) ++ (drop next (live_of es ns live) ++ rest))
 
--- the next number, and the entry in its slot
+-- v is the next number, of the entry at position `next`
 pub record Next (es : List Entry) (ns : List ℕ) (live next v : ℕ) : Type 0 where
   pub below : v < length es
   pub numbers : drop next ns ≡ v ∷ drop (next + 1) ns
@@ -60,7 +60,7 @@ next_one es ns now live next v o within low long later at =
     default : (xs : List ℕ) (n d : ℕ) → n < length xs → get_or xs n d ≡ get_or xs n (get_or xs n d)
     default xs n d h = grind (arith, common_steps)
 
--- one more number
+-- with one more number, one more entry
 at_more : (es : List Entry) (ns : List ℕ) (live next v : ℕ) (x : Entry) (xs : List ℕ) → Next es ns live next v → x ≡ get_or es v x
     → at_numbers es (xs ++ v ∷ []) ≡ at_numbers es xs ++ x ∷ []
 at_more es ns live next v x xs n e = at-append es xs (v ∷ []) ∙ ap (λ (ys : List Entry). at_numbers es xs ++ ys) (n.alone x e)
@@ -72,7 +72,7 @@ count_next : (test : ℕ → Bool) (es : List Entry) (ns : List ℕ) (live next 
     → count_by test (drop next ns) ≡ cond (test v) 1 0 + count_by test (drop (next + 1) ns)
 count_next test es ns live next v n = ap (count_by test) n.numbers ∙ sum_by-cons (λ m. cond (test m) 1 0) v (drop (next + 1) ns)
 
--- the same of equal lists, of an equal index and of an equal number
+-- if the lists, the index and the border are replaced by equal ones, the same holds
 pub carried : (es : List Entry) (ns now gathered : List ℕ) (old index : DependIndex) (k live front next : ℕ) (now_too gathered_too : List ℕ) (index_too : DependIndex) (front_too : ℕ)
     → now_too ≡ now → gathered_too ≡ gathered → index_too ≡ index → front_too ≡ front → UnderWay es ns now gathered old index k live front next
     → UnderWay es ns now_too gathered_too old index_too k live front_too next
@@ -119,14 +119,14 @@ first_gathered es ns old index k live v x o some position within n e is put room
       room = grind (arith, drop_all);
     }
 
--- the room that is left for the others before the next one is looked at
+-- the index has room for the next entry, for the later ones, and for others for which it had room
 pub before_next : (es : List Entry) (ns now gathered : List ℕ) (old index : DependIndex) (k live front next v : ℕ) (x : Entry)
     → UnderWay es ns now gathered old index k live front next → Next es ns live next v → x ≡ get_or es v x → (rest : List Entry)
     → HasRoomFor old (drop (k - 1) (live_of es ns live) ++ rest)
     → HasRoomFor index (drop (k - 1) (at_numbers es (take front now)) ++ x ∷ (drop (next + 1) (live_of es ns live) ++ rest))
 before_next es ns now gathered old index k live front next v x u n e rest has = grind arith
 
--- the next one, with what is gathered, if it goes
+-- if the next entry goes, its number is gathered
 pub joined : (es : List Entry) (ns now gathered : List ℕ) (old index new : DependIndex) (k live front next v : ℕ) (x : Entry)
     → UnderWay es ns now gathered old index k live front next → next < live → Next es ns live next v → x ≡ get_or es v x
     → depends_on_one (at_numbers es gathered) x ≡ true → ((zs : List Entry) → IsIndexOf index zs → IsIndexOf new (zs ++ x ∷ []))
@@ -152,14 +152,14 @@ joined es ns now gathered old index new k live front next v x u low n e depends 
       room = grind (arith, fits_between, before_next);
     }
 
--- and if it stays, put after those that stay
+-- if the next entry stays, its number is put after those that stay
 pub stayed : (es : List Entry) (ns now gathered : List ℕ) (old index : DependIndex) (k live front next v : ℕ) (x : Entry)
     → UnderWay es ns now gathered old index k live front next → next < live → live ≤ length ns → Next es ns live next v → x ≡ get_or es v x
     → depends_on_one (at_numbers es gathered) x ≡ false → drop (next + 1) now ≡ drop (next + 1) ns
     → UnderWay es ns (set now front v) gathered old index k live (front + 1) (next + 1)
 stayed es ns now gathered old index k live front next v x u low within n e depends later = grind (arith, common_steps, set, take_more_set, at_more, length-set, drop-set-lt, count_more, count_next, length-append, append_assoc, drop-append-le, before_next)
 
--- at the end the numbers that were gathered are after the others
+-- at the end the gathered numbers are behind the others
 pub record IsGathered (es : List Entry) (ns new : List ℕ) (old index : DependIndex) (k live front : ℕ) : Type 0 where
   pub ordered : IsOrder (length es) new
   pub count : live - front ≡ length (closure_of (live_of es ns live) k)

@@ -1,5 +1,5 @@
--- What the laws state: going back and forward again, steps undone out of their order and redone, and
--- the old words of an entry.
+-- What the laws state: going back and forth, undoing steps out of their order and redoing them, and
+-- the old record and old content of an entry.
 use Rattle.rd_journal.proofs.Prelude.{◌≡◌, ℕ, sym, ◌∙◌, Ok, arith, length-append, length-drop, ◌-◌, ◌≤◌, refl, ap, List, [], ◌∷◌, ◌++◌, length, take, drop, Option, Some, None, Result, subst, get_or, ◌+◌, ◌<◌, append_assoc, drop-drop, drop-take, take-take, take-add, length-take-le, le-ltb, ltb-false, cond-false, take_at, drop_at, take-append-drop, Journal, IsRun, State, state_of, back, forward, length-map, first_dependant, Ran, step, unstep, Entry, IsTakenOut, taken_out, IsMovedLast, IsUndoneAlone, run_of, live_event, undo_at, and_then, Refusal, map-append, World, closure, closure_of, without_closure, Event, events, IsClosureLast, undone_where_true, roll, take-map, run, IsWellFormed, run_keeps, IsStepAfter, middle, nat_lt}
 use Rattle.rd_journal.proofs.Runs.{as_ok, as_ok-same, step_event, grown}
 use Rattle.rd_journal.proofs.ListLemmas.{nth, drop_one_less}
@@ -9,7 +9,7 @@ use Rattle.rd_journal.proofs.Walks.{state_forward}
 use Rattle.rd_journal.proofs.RolledBack.{closure_last, reordered, marked-map, items_where_false-map}
 use Rattle.rd_step.proofs.OldWords.{keeps_old_words}
 
--- going forward as far gives the state from before
+-- going back, and then forward by as many steps, restores the state
 pub forward_back : (s t : State) (n : ℕ) → back s n ≡ Ok t → forward t n ≡ Ok s
 forward_back s t n h = grind (arith, le-ltb, ltb-false, cond-false, take_at, drop_at, take-append-drop, length-append, length-drop)
 
@@ -22,11 +22,11 @@ back_within s n within = cond-false (nat_lt (length s.live) n) _ _ (le-ltb (leng
 forward_within : (s : State) (n : ℕ) → n ≤ length s.undone → forward s n ≡ Ok (record { start = s.start; live = s.live ++ take n s.undone; undone = drop n s.undone })
 forward_within s n within = cond-false (nat_lt (length s.undone) n) _ _ (le-ltb (length s.undone) n within)
 
--- a list from one of its elements on
+-- what is after the first m elements, cut after one of them
 from_one : {X : Type 0} (m : ℕ) (xs : List X) → drop m (take (m + 1) xs) ++ drop (m + 1) xs ≡ drop m xs
 from_one m xs = (λ i. drop-take m 1 xs i ++ sym (drop-drop 1 m xs) i) ∙ take-append-drop 1 (drop m xs)
 
--- going back one step more is going back as far, and then one step
+-- going back n + 1 steps is going back n steps, and then one
 pub back_more : (s : State) (n : ℕ) → n < length s.live → back s (n + 1) ≡ and_then (back s n) (λ u. back u 1)
 back_more s n few =
     let xs = s.live in
@@ -45,7 +45,7 @@ back_more s n few =
     ∙ (λ i. Ok (record { start = s.start; live = live i; undone = undone i }))
     ∙ sym (ap (λ (r : Result State Refusal). and_then r (λ v. back v 1)) (back_within s n (omega arith)) ∙ back_within u 1 (omega (arith, length-take-le k xs (omega arith))))
 
--- and likewise forward
+-- going forward n + 1 steps is going forward n steps, and then one
 pub forward_more : (s : State) (n : ℕ) → n < length s.undone → forward s (n + 1) ≡ and_then (forward s n) (λ u. forward u 1)
 forward_more s n few =
     let xs = s.undone in
@@ -60,7 +60,7 @@ forward_more s n few =
 pub one_journal : (i j : Journal) → IsRun i → IsRun j → state_of i ≡ state_of j → i ≡ j
 one_journal i j ri rj same = grind arith
 
--- going forward as far gives the journal from before
+-- going back, and then forward by as many steps, restores the journal
 pub forward_back_journal : (i j k : Journal) (n : ℕ) → IsRun i → IsRun k → back (state_of i) n ≡ Ok (state_of j)
     → forward (state_of j) n ≡ Ok (state_of k) → k ≡ i
 forward_back_journal i j k n ri rk went goes =
@@ -69,7 +69,7 @@ forward_back_journal i j k n ri rk went goes =
 
 -- Calls that were not refused
 
--- a lone undo that was not refused, where the live steps ran so
+-- what follows if a lone undo was not refused
 went_out : (s t : State) (r : Ran) (n : ℕ) → run_of s ≡ Ok r → undo_at s n ≡ Ok t → (1 ≤ n) × (n ≤ length s.live) × (first_dependant r.entries n ≡ None)
 went_out s t r n ran h =
     let live = went_through (live_event s n) _ t h in
@@ -124,12 +124,12 @@ redone_last i j k n ri rk undone redone =
       undone = ap (λ (l : Journal). l.undone) one;
     }
 
--- redoing this many steps puts them last
+-- redoing as many steps as a block has puts the block last
 forward_all : (w : World) (n : ℕ) (xs ys zs : List Event) → n ≡ length ys
     → forward (record { start = w; live = xs; undone = ys ++ zs }) n ≡ Ok (record { start = w; live = xs ++ ys; undone = zs })
 forward_all w n xs ys zs len = grind (arith, le-ltb, cond-false, length-append, take_at, drop_at)
 
--- a rollback that was not refused, where the live steps ran so
+-- what follows if a rollback was not refused
 rolled : (s t : State) (r : Ran) (n : ℕ) → run_of s ≡ Ok r → roll s n ≡ Ok t → (1 ≤ n) × (n ≤ length s.live) × (t ≡ undone_where_true s (closure r.entries n))
 rolled s t r n ran k = grind (arith, went_through, is_live)
 
@@ -157,7 +157,7 @@ closure_redone i j k n ri rk back on =
       undone = ap (λ (l : Journal). l.undone) one;
     }
 
--- the entry at a position among the live ones
+-- the entry at position k of the live ones is that of the step after the first k
 pub step_after : (j : Journal) (k : ℕ) (x : Entry) → IsRun j → k < length j.live → x ≡ get_or j.live k x → IsStepAfter k j x
 step_after j k x runs low at =
     let w = j.world in

@@ -1,16 +1,16 @@
--- Lists cut in two, the last element of a list, and one moved after others.
+-- Lists cut in two, and lists with one element moved.
 use Rattle.rd_journal.proofs.Prelude.{◌≡◌, ℕ, suc, ◌+◌, ◌-◌, ◌<◌, ◌≤◌, List, ◌∷◌, ◌++◌, length, get_or, take, drop, sym, ◌∙◌, ap, arith, length-append, length-drop, put_mid, mid_of, drop-cons, take_at, drop_at, append-nil, take_all, append_assoc, take-append-drop, length-take-le, take-take, drop-take, drop-append-le, drop-drop, moved_to, drop_of_length-le}
 
--- an element that is there
+-- the element at an index below the length
 pub nth : {X : Type 0} (l : List X) (k : ℕ) → k < length l → (x : X) × (x ≡ get_or l k x)
 nth (x ∷ l) (suc k) h = grind (arith, nth l k (omega arith))
 nth l k h = grind arith
 
--- what is after the cut
+-- what is after a cut is the next element and what is after that
 pub drop_one_less : {X : Type 0} (l : List X) (k : ℕ) (x : X) → k < length l → x ≡ get_or l k x → drop k l ≡ x ∷ drop (k + 1) l
 drop_one_less {X} l k x h e = grind (arith, drop-cons)
 
--- a cut moved back within what is before it
+-- what is after a cut before the m-th element, by the first m elements and the others
 pub drop_before : {X : Type 0} (l : List X) (k m n : ℕ) → m ≤ length l → k + n ≡ m
     → drop k l ≡ drop (length (take m l) - n) (take m l) ++ drop m l
 drop_before {X} l k m n h e =
@@ -19,7 +19,7 @@ drop_before {X} l k m n h e =
     sym (ap (drop k) (take-append-drop m l)) ∙ drop-append-le k (take m l) (drop m l) within
     ∙ ap (λ (j : ℕ). drop j (take m l) ++ drop m l) len
 
--- what a list has where its first elements were overwritten by as many as it has
+-- a list whose elements were all written over has the new ones
 pub overwritten : {X : Type 0} (n : ℕ) (es ys : List X) → n ≡ length es → length ys ≡ length es → take n (ys ++ drop (length ys) es) ≡ ys
 overwritten {X} n es ys e h = grind (arith, drop_of_length-le, append-nil, take_all)
 
@@ -32,7 +32,7 @@ others_length es k l some below within = grind (arith, length-take-le, length-ap
 pub moved_to-length : {X : Type 0} (es : List X) (k l : ℕ) → 1 ≤ k → k ≤ l → l ≤ length es → length (moved_to es k l) ≡ length es
 moved_to-length es k l some below within = grind (arith, length-take-le, length-drop, length-append, others_length)
 
--- the rest of the first l elements, from the k-th on, turned by one
+-- to turn the elements from the k-th to the l-th by one is to move the k-th behind them
 pub turned : {X : Type 0} (es : List X) (k l : ℕ) → 1 ≤ k → k ≤ l
     → put_mid (k - 1) (l - (k - 1)) es (drop 1 (mid_of (k - 1) (l - (k - 1)) es) ++ take 1 (mid_of (k - 1) (l - (k - 1)) es)) ≡ moved_to es k l
 turned {X} es k l some below =

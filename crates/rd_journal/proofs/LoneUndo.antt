@@ -23,7 +23,7 @@ pub record IsNumber (l : List Entry) (k : ℕ) (x : Entry) : Type 0 where
   pub within : k ≤ length l
   pub here : x ≡ get_or l (k - 1) x
 
--- its first dependant is looked for from the next position on
+-- the first dependant of the k-th entry is searched from the next position on
 first_behind : (l : List Entry) (k : ℕ) (x : Entry) → IsNumber l k x → first_dependant l k ≡ position_from (depends x) (k + 1) (drop k l)
 first_behind l k x at = scan_is x l k (numbered_in l k x at.some at.within at.here)
 
@@ -37,7 +37,7 @@ around_it l k x at = sym (take-append-drop (k - 1) l) ∙ ap (λ (ys : List Entr
 
 -- The journal without it
 
--- the k-th live entry of the old journal is the front of the undone ones
+-- the k-th live entry is now in front of the undone ones
 pub taken_out_front : (k : ℕ) (old new : Journal) (x : Entry) → IsNumber old.live k x → IsUndoneAlone k old new → new.undone ≡ x ∷ old.undone
 taken_out_front k old new x at moved = moved.undone ∙ ap (λ (ys : List Entry). take 1 ys ++ old.undone) (from_it old.live k x at)
 
@@ -46,8 +46,8 @@ pub taken_out_few : (k : ℕ) (old new : Journal) (x : Entry) → IsNumber old.l
     → length old.live + length old.undone ≤ MOST_STEPS → length new.live + length new.undone ≤ MOST_STEPS
 taken_out_few k old new x at moved few = grind (arith, common_steps, around_it, length-append, taken_out_front)
 
--- the k-th live step of a journal may be undone alone, and each journal that this leaves is a run
--- of the same start
+-- the k-th live step may be undone alone, and each journal that this leaves is a run from the same
+-- start
 pub record MayUndoAt (old : Journal) (k : ℕ) (x : Entry) : Type 0 where
   pub was : WasStepped old.world x
   pub left : (new : Journal) → new.start ≡ old.start → IsTakenOut old.world new.world x was → IsUndoneAlone k old new → IsRun new
@@ -71,7 +71,7 @@ may_undo_at old k x at none runs =
     subst (λ (l : List Entry). IsRun (record { start = old.start; world = old.world; live = l; undone = old.undone })) (around_it old.live k x at) runs in
     may_undo_around old k x at (may_take_out old.start old.world (take (k - 1) old.live) (drop k old.live) old.undone x cut free)
 
--- its events
+-- the events of a list without its k-th entry
 without-events : (xs : List Entry) (k : ℕ) → events (without xs k) ≡ without (events xs) k
 without-events xs k = grind (arith, take-map, drop-map, map-append)
 
@@ -80,7 +80,7 @@ undone_run k old new moved start runs = let left = without-events old.live k in 
 
 -- The answers
 
--- the k-th live step is looked up, then its first dependant
+-- the answer to undoing the k-th live step, if it is there, depends only on its first dependant
 pub undo_at_found : (j : Journal) (k : ℕ) (x : Entry) → IsRun j → numbered j.live k ≡ Some x
     → undo_at (state_of j) k ≡ and_then (unless_depended (first_dependant j.live k))
     (λ _. Ok (record { start = j.start; live = without (events j.live) k; undone = x.event ∷ events j.undone }))
@@ -109,7 +109,7 @@ undo_at_refused k n j runs some within found =
     let there = undo_at_there j k x.0 runs (record { some = some; within = within; here = x.1 }) in
     (grind arith, grind arith)
 
--- what is answered where there is none
+-- the answer to undoing the k-th live step, if it is not there
 pub undo_at_missing : (j : Journal) (n k : ℕ) → n ≡ length j.live → (k ≡ 0) ⊎ (n < k)
     → (undo_at (state_of j) k ≡ Err (refusal.NoSuchStep n)) × (Err (refusal.NoSuchStep n) ≡ answer_at j k)
 undo_at_missing j n k len h = let none = entry_missing j n k len h in (grind (arith, event_of_entry), grind arith)

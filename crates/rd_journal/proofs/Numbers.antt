@@ -1,13 +1,13 @@
--- Entries at numbers: parts of them, one more and one written over; and orders of slots, as their
--- numbers move.
+-- Entries by the numbers of their slots: parts of the list, one entry more, one written over; and
+-- orders of slots as their numbers move.
 use Rattle.rd_journal.proofs.Prelude.{◌≡◌, ℕ, zero, suc, ◌+◌, ◌-◌, ◌<◌, ◌≤◌, ◌==◌, nat_lt, Bool, cond, if◌then◌else◌, List, [], ◌∷◌, ◌++◌, length, get_or, map, take, drop, set, refl, sym, ◌∙◌, ap, subst, arith, length-append, All, count_by, flat_map-append, drop_more, length-map, take-map, drop-map, take-append-drop, drop-append-le, length-set, get_or-set_same, drop_at, take_all, drop_all, drop-drop, get_or_default, sum_by-append, sum_by-cons, sum_by_push, sum_by-take-drop, get_or-le-sum_by, moved_to, at_numbers, IsOrder, get_or-map, nat_tests, All-take, All-drop}
 use Rattle.rd_journal.proofs.ListLemmas.{nth}
 
--- the numbers are of slots
+-- all numbers are below this one
 abbrev pub AreBelow : ℕ → List ℕ → Type 0
 AreBelow n ns = All (λ m. m < n) ns
 
--- the entry of a slot, as a list
+-- the list of the entry in one slot
 pub one : {X : Type 0} (es : List X) (n : ℕ) (x : X) → n < length es → x ≡ get_or es n x → take 1 (drop n es) ≡ x ∷ []
 one {X} es n x h e = ap (λ (ys : List X). take 1 ys) (drop_more es n x h) ∙ (λ i. sym e i ∷ [])
 
@@ -16,7 +16,7 @@ one {X} es n x h e = ap (λ (ys : List X). take 1 ys) (drop_more es n x h) ∙ (
 pub at-append : {X : Type 0} (es : List X) (ms ns : List ℕ) → at_numbers es (ms ++ ns) ≡ at_numbers es ms ++ at_numbers es ns
 at-append es ms ns = flat_map-append (λ n. take 1 (drop n es)) ms ns
 
--- they are what is read at the numbers
+-- the entries are what is read in the slots of the numbers
 at-map : {X : Type 0} (es : List X) (ns : List ℕ) (d : X) → AreBelow (length es) ns → at_numbers es ns ≡ map (λ n. get_or es n d) ns
 at-map es [] d h = refl
 at-map {X} es (n ∷ ns) d h =
@@ -55,7 +55,7 @@ apart (y ∷ es) zero (suc v) x h = refl
 apart (y ∷ es) (suc n) zero x h = refl
 apart (y ∷ es) (suc n) (suc v) x h = apart es n v x (λ e. h (ap (λ (m : ℕ). suc m) e))
 
--- a number that is there occurs once at least
+-- a number counts itself at least once
 count-same : (v : ℕ) → 1 ≤ cond (v == v) 1 0
 count-same v = grind (arith, nat_tests)
 
@@ -161,7 +161,7 @@ at-moved_to {X} es ns k l below =
     ∙ (λ i. (take (k - 1) (take l (at_numbers es ns)) ++ drop k (take l (at_numbers es ns)))
     ++ (take 1 (drop (k - 1) (sym (at-take es l ns below) i)) ++ drop l (at_numbers es ns)))
 
--- what is read there
+-- what is read by the number at a position is the entry at this position
 pub at_entry : {X : Type 0} (es : List X) (ns : List ℕ) (k : ℕ) (d : X) → AreBelow (length es) ns → k < length ns
     → let x = get_or es (get_or ns k 0) d in x ≡ get_or (at_numbers es ns) k x
 at_entry {X} es ns k d below within =
@@ -169,5 +169,5 @@ at_entry {X} es ns k d below within =
     let x = get_or es v d in
     sym (at-get es ns k x 0 below within ∙ get_or_default es v x d (below k 0 within))
 
--- the entries at numbers as a list that is read
+-- the lemmas with which the entries by number are read as a list
 pub ruleset parts = (at-length, at-take, at-drop, at_entry)

@@ -14,7 +14,7 @@ unmarked_all : (x : Entry) (n : ℕ) (ys : List Entry) → position_from (depend
 unmarked_all x n [] h = refl
 unmarked_all x n (y ∷ ys) h = grind (arith, unmarked_all x (n + 1) ys)
 
--- undone alone, such a step is rolled back
+-- a step on which no later one depends is rolled back if it is undone alone
 pub alone_rolled : (k : ℕ) (old new : Journal) → 1 ≤ k → k ≤ length old.live → first_dependant old.live k ≡ None → IsUndoneAlone k old new → IsRolledBack k old new
 alone_rolled zero old new some within free out = absurd (omega arith)
 alone_rolled (suc i) old new some within free out =
@@ -58,7 +58,7 @@ reordered_run s w l i low h =
     sym (append_assoc xs (items_where_false ms ys) (x ∷ items_where_true ms ys)) ∙ (λ t. sym c.outside t ++ sym c.inside t) in
     subst (λ (qs : List Entry). run s (events qs) ≡ Ok (record { world = w; entries = qs })) same all
 
--- it is a run of the same start
+-- the journal with the closure gathered last is a run from the same start
 pub reordered : (j : Journal) (k : ℕ) → 1 ≤ k → k ≤ length j.live → IsRun j → IsRun (closure_last j k)
 reordered j zero some within runs = absurd (omega arith)
 reordered j (suc i) some within runs =
@@ -70,7 +70,7 @@ reordered j (suc i) some within runs =
 
 -- The session with the closure gathered last
 
--- the closure is after the other live entries, and all else is as it was
+-- the closure was gathered behind the other live entries, and all else is as it was
 pub record IsGatheredLast (k : ℕ) (old new : Journal) : Type 0 where
   pub start : new.start ≡ old.start
   pub world : new.world ≡ old.world
@@ -110,7 +110,7 @@ roll_goes k old new runs some within is start =
     let found = entry_found old k x.0 some within x.1 in
     (grind (arith, event_of_entry, rolled_state), grind arith)
 
--- what is answered where there is no such step
+-- the answer to rolling back a step, if it is not there
 pub roll_missing : (j : Journal) (n k : ℕ) → n ≡ length j.live → (k ≡ 0) ⊎ (n < k)
     → (roll (state_of j) k ≡ Err (refusal.NoSuchStep n)) × (Err (refusal.NoSuchStep n) ≡ roll_answer j k)
 roll_missing j n k len h = let none = entry_missing j n k len h in (grind (arith, event_of_entry), grind arith)

@@ -1,47 +1,48 @@
--- The room that redoing asks for, of the makers and in the index of dependants, which is counted for
--- each actor, place and segment, so it does not ask in which order entries are.
+-- The room that redoing needs, of the makers and in the index of dependants. The index counts room
+-- for each actor, place and segment, so the order of entries doesn't matter.
 use Rattle.rd_journal.proofs.Prelude.{◌≡◌, true, Result, is_err, arith, ℕ, ◌+◌, ◌≤◌, List, ◌∷◌, Ok, [], ◌++◌, take, drop, ap, World, step, Event, Entry, makes_segment, room_used, room_returned, room_used_returned, HasRoom, take-append-drop, DependIndex, touches, number_of, GivesRoom, HasRoomFor, HasRoomInstead, LacksIndexRoom, OnErr}
 use Rattle.rd_depend.proofs.IndexPositions.{number-append}
 
--- what holds in case of an error, where there is one
+-- what holds in case of an error holds of a result that is one
 pub err_then : {X E P : Type 0} (r : Result X E) → is_err r ≡ true → OnErr r P → P
 err_then r h p = grind arith
 
--- what holds where there is one holds in case of an error
+-- what follows from an error holds in case of one
 pub in_error : {X E P : Type 0} (r : Result X E) → (is_err r ≡ true → P) → OnErr r P
 in_error r f = grind arith
 
--- undoing a step gives back the room that redoing it wants
+-- undoing a step gives back the room that redoing it needs
 pub given_back : (xs ys : List Entry) (x : Entry) (before after : ℕ → ℕ) → ys ≡ x ∷ xs → HasRoom xs before
     → ((m : ℕ) → after m ≡ before m + room_returned x.place x.old_content m) → HasRoom ys after
 given_back xs ys x before after front has gives = grind arith
 
--- a making that is redone finds its room
+-- there is room for a making that is redone
 pub redo_room : (w v : World) (ys zs : List Entry) (x : Entry) (room : ℕ → ℕ) → ys ≡ x ∷ zs
     → step w x.event ≡ Ok (record { world = v; entry = x }) → HasRoom ys room → makes_segment w x.event ≡ true → 1 ≤ room x.event.actor
 redo_room w v ys zs x room first goes has makes = grind arith
 
--- and what is left is enough for the others
+-- after a redo there is room for the other steps
 pub redone_room : (w v : World) (ys zs : List Entry) (x : Entry) (before after : ℕ → ℕ) → ys ≡ x ∷ zs
     → step w x.event ≡ Ok (record { world = v; entry = x }) → HasRoom ys before
     → ((m : ℕ) → before m ≤ after m + room_used (makes_segment w x.event) x.event.actor m) → HasRoom zs after
 redone_room w v ys zs x before after first goes has left = grind arith
 
--- a step that is undone at once gives back the room that it took
+-- undoing a step that was just made gives back the room that it took
 pub stepped_back : (w v : World) (e : Event) (x : Entry) (before stepped after : ℕ → ℕ) → step w e ≡ Ok (record { world = v; entry = x })
     → ((m : ℕ) → before m ≤ stepped m + room_used (makes_segment w e) e.actor m) → ((m : ℕ) → after m ≡ stepped m + room_returned x.place x.old_content m)
     → (m : ℕ) → before m ≤ after m
 stepped_back w v e x before stepped after goes took gives m = omega (arith, room_used_returned w e (record { world = v; entry = x }) m goes, took m, gives m)
 
--- there is room for none
+-- there is room for no entries
 pub fits_none : (index : DependIndex) → HasRoomFor index []
 fits_none index = record { lists = λ t. omega arith }
 
--- where entries gave their room back there is room for them, and for those for which there was
+-- there is room for entries that gave their room back, together with others for which there was
+-- room
 pub fits_back : (old new : DependIndex) (gone rest : List Entry) → GivesRoom old new gone → HasRoomFor old rest → HasRoomFor new (gone ++ rest)
 fits_back old new gone rest gives has = record { lists = λ t. omega (arith, number-append (touches t) gone rest, has.lists t, gives t) }
 
--- what has no room in place of more entries has none in place of the first of them
+-- if room is missing in place of some entries, it is missing in place of the first of them
 pub lacks_fewer : (index : DependIndex) (m : ℕ) (front gone given : List Entry) → (HasRoomInstead index (front ++ gone) given → ⊥)
     → LacksIndexRoom index (front ++ take m gone) given
 lacks_fewer index m front gone given lacks has = lacks (record {
@@ -57,18 +58,18 @@ lacks_fewer index m front gone given lacks has = lacks (record {
       );
 })
 
--- there is room for the first ones
+-- if there is room for two lists of entries, there is for the first
 pub fits_first : (index : DependIndex) (xs ys : List Entry) → HasRoomFor index (xs ++ ys) → HasRoomFor index xs
 fits_first index xs ys has = record { lists = λ t. omega (arith, number-append (touches t) xs ys, has.lists t) }
 
--- where there is room for one and others there is room for it
+-- if there is room for an entry and others, there is for the entry
 pub fits_one : (index : DependIndex) (x : Entry) (rest : List Entry) → HasRoomFor index (x ∷ rest) → HasRoomFor index (x ∷ [])
 fits_one index x rest has = record { lists = λ t. omega (arith, has.lists t) }
 
--- one that was between others in front of them
+-- room for entries with one between them is room with that one in front
 pub fits_between : (index : DependIndex) (xs ys : List Entry) (x : Entry) → HasRoomFor index (xs ++ x ∷ ys) → HasRoomFor index (x ∷ (xs ++ ys))
 fits_between index xs ys x has = grind (arith, number-append)
 
--- the same in another order
+-- room for entries is room for them in another order
 pub fits_turned : (index : DependIndex) (xs ys rest : List Entry) → HasRoomFor index (xs ++ (ys ++ rest)) → HasRoomFor index (ys ++ (xs ++ rest))
 fits_turned index xs ys rest has = grind (arith, number-append)

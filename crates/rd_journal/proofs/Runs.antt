@@ -1,13 +1,13 @@
--- Runs and their entries: two runs joined, the first and the last step of a run, and a journal that
--- gains or loses a step.
+-- Runs and their entries: two runs joined, the first and the last step of a run, and journals that
+-- gain or lose a step.
 use Rattle.rd_journal.proofs.Prelude.{run_joined, ◌≡◌, refl, sym, ◌∙◌, ap, subst, List, [], ◌∷◌, ◌++◌, Result, Ok, arith, ℕ, ◌-◌, ◌<◌, ◌≤◌, ◌⊎◌, length, take, drop, get_or, slice_get, option_map, Some, None, map-append, Refusal, World, Stepped, step, unstep, Ran, run, IsFree, IsWellFormed, Event, Entry, preceded_by, and_then, result_map, WasStepped, IsTakenOut, took, undoes, run-cons, run_keeps, Middle, middle, Journal, events, IsRun, IsRunFrom, append-nil, taken_out, take_more, slice_get-map, slice_get_past, slice_get-get_or, LeadsTo, numbered, run_entries}
 use Rattle.rd_journal.proofs.ListLemmas.{drop_one_less}
 
--- an answer that is no refusal
+-- a result that is no refusal
 abbrev pub as_ok : {X : Type 0} → X → Result X Refusal
 as_ok x = Ok x
 
--- equal answers are of equal values
+-- equal results have equal values
 pub as_ok-same : {X : Type 0} (x y : X) → as_ok x ≡ Ok y → x ≡ y
 as_ok-same x y h = cc
 
@@ -15,13 +15,13 @@ as_ok-same x y h = cc
 pub step_event : (w : World) (e : Event) (s : Stepped) → step w e ≡ Ok s → s.entry.event ≡ e
 step_event w e s h = let t = took w e s h in ap (λ (x : Stepped). x.entry.event) (sym t.ends)
 
--- a journal is a run where its live entries are those of a run from its start, and the undone ones
--- run on
+-- a journal is a run if its live entries are those of a run from its start to its world, and its
+-- undone entries run on
 pub runs_since : (s : World) (j : Journal) → j.start ≡ s → IsWellFormed s → run s (events j.live) ≡ Ok (record { world = j.world; entries = j.live })
     → IsRunFrom j.world j.undone → IsRun j
 runs_since s j start formed ran on = grind arith
 
--- a run of entries, and one more step
+-- a run with one more step is a run
 pub ran_more : (s w v : World) (xs : List Entry) (x : Entry) → run s (events xs) ≡ Ok (record { world = w; entries = xs })
     → step w x.event ≡ Ok (record { world = v; entry = x }) → run s (events (xs ++ x ∷ [])) ≡ Ok (record { world = v; entries = xs ++ x ∷ [] })
 ran_more s w v xs x ran goes =
@@ -33,19 +33,19 @@ ran_more s w v xs x ran goes =
 pub now_formed : (j : Journal) → IsRun j → IsWellFormed j.world
 now_formed j runs = run_keeps j.start (events j.live) (record { world = j.world; entries = j.live }) runs.well_formed runs.live_ran
 
--- a step from a journal's world, with its entry put last, makes a journal of the same start, whatever
--- runs on from there being undone
+-- a step from a journal's world gives a journal from the same start, with the step's entry last and
+-- any entries undone that run on
 pub grown : (s w v : World) (xs zs ys : List Entry) (x : Entry) (e : Event) → IsRun (record { start = s; world = w; live = xs; undone = zs })
     → step w e ≡ Ok (record { world = v; entry = x }) → IsRunFrom v ys → IsRun (record { start = s; world = v; live = xs ++ x ∷ []; undone = ys })
 grown s w v xs zs ys x e runs h rest =
     let its : x.event ≡ e = step_event w e (record { world = v; entry = x }) h in
     record { well_formed = runs.well_formed; live_ran = ran_more s w v xs x runs.live_ran (ap (step w) its ∙ h); undone_run_on = rest }
 
--- entries that run on from a step's world run on, after the step's entry, from the world before it
+-- if entries run on after a step, they run with the step's entry in front
 pub preceded_entries : (x : Entry) (r : Result Ran Refusal) (ys : List Entry) → run_entries r ≡ Ok ys → run_entries (result_map (preceded_by x) r) ≡ Ok (x ∷ ys)
 preceded_entries x r ys h = grind arith
 
--- where a live step on which no later one depends is taken out of a run, what is left is a run of
+-- if a live step on which no later one depends is taken out of a run, what is left is a run from
 -- the same start, with the step's entry in front of the undone ones
 pub record MayTakeOut (s w : World) (xs ys zs : List Entry) (x : Entry) : Type 0 where
   pub was : WasStepped w x
@@ -84,7 +84,7 @@ may_take_out s w xs ys zs x runs free = record { was = was; left = left }
               ∙ preceded_entries x (run w (events zs)) zs runs.undone_run_on;
         }
 
--- a step that was just made may be undone, which gives the world before it
+-- a step that was just made may be undone, and undoing it restores the world before it
 pub record WasJustStepped (w v : World) (x : Entry) : Type 0 where
   pub was : WasStepped v x
   pub back : unstep v x ≡ w
@@ -107,8 +107,8 @@ just_stepped w v e x formed goes = record {
   back = undoes w e (record { world = v; entry = x }) formed goes;
 }
 
--- the last of the steps that lead to a world may be undone, and then the others lead to what is
--- left
+-- the last of the steps that lead to a world may be undone, and the others then lead to what
+-- undoing leaves
 pub record MayStepBack (start w : World) (xs : List Entry) (x : Entry) : Type 0 where
   pub was : WasStepped w x
   pub left : LeadsTo start (unstep w x) xs
@@ -129,11 +129,11 @@ may_step_back start w xs x leads =
 pub live_lead : (j : Journal) (steps : List Entry) → IsRun j → steps ≡ j.live → LeadsTo j.start j.world steps
 live_lead j steps runs all = subst (λ (xs : List Entry). LeadsTo j.start j.world xs) (sym all) (record { well_formed = runs.well_formed; ran = runs.live_ran })
 
--- no step leads from a world to that world alone
+-- no steps lead from a world only to itself
 pub led_nowhere : (start w : World) → LeadsTo start w [] → w ≡ start
 led_nowhere start w leads = grind arith
 
--- the first n and one more
+-- the first n elements are the first n - 1 and one more
 pub one_more : {X : Type 0} (xs : List X) (n : ℕ) (x : X) → 1 ≤ n → n ≤ length xs → x ≡ get_or xs (n - 1) x → take n xs ≡ take (n - 1) xs ++ x ∷ []
 one_more {X} xs n x some within here = grind (arith, take_more)
 
@@ -142,10 +142,10 @@ one_before {X} xs n x some within here = grind (arith, drop_one_less)
 
 -- The event of an undone step
 
--- none has this number
+-- no undone event has a number that is 0 or beyond the last
 pub event_missing : (xs : List Entry) (i : ℕ) → (i ≡ 0) ⊎ (length xs < i) → None ≡ numbered (events xs) i
 event_missing xs i h = grind (arith, slice_get-map, option_map, slice_get_past)
 
--- it is that of the entry at its place
+-- the undone event of a number is the event of the undone entry of that number
 pub event_found : (xs : List Entry) (i : ℕ) (x : Entry) → 1 ≤ i → i ≤ length xs → x ≡ get_or xs (i - 1) x → Some x.event ≡ numbered (events xs) i
 event_found xs i x some within here = grind (arith, slice_get, slice_get-get_or, slice_get-map, option_map)

@@ -1,4 +1,4 @@
--- Entries of a run put after the first live ones, and the room that their makings ask for.
+-- Entries of a run put after the first live ones, and the room that their makings need.
 use Rattle.rd_journal.proofs.Prelude.{run_joined, common_steps, take-suc, cases_Bool, cases_eq, cond-true, cond-false, map-append, take-map, length-take, length-take-le, get_or-set_same, get_or-set_other, SegName, Place, Content, after, World, Stepped, step, run, MOST_STEPS, Event, Entry, makes_segment, room_used, room_returned, took, with_actor-other, room_used_returned, Journal, events, IsRun, IsRunFrom, LeadsTo, IsSwitched, IsSession, room_returned_by, room_without, HasRoom, HasRoomForAll, state_of, switch, run_stays_actor, beginning, first_step, ◌≡◌, ◌≢◌, ℕ, zero, suc, ◌+◌, ◌-◌, ◌<◌, ◌≤◌, ◌==◌, Bool, true, false, refl, sym, ◌∙◌, ap, subst, arith, inl, inr, List, [], ◌∷◌, ◌++◌, length, take, drop, set, get_or, if◌then◌else◌, Option, Some, None, is_some, IsSome, Ok, eq-eqb, ne_eqb, length-append, made, made_at}
 use Rattle.rd_journal.proofs.Runs.{as_ok-same, live_lead}
 
@@ -15,22 +15,22 @@ pub returned_joined : (xs ys : List Entry) (m : ℕ) → room_returned_by (xs ++
 returned_joined [] ys m = omega arith
 returned_joined (x ∷ xs) ys m = omega (arith, returned_joined xs ys m)
 
--- an entry that is no making gives no room back
+-- an entry that isn't a making gives no room back
 none_returned : (p : Option Place) (c : Option Content) (m : ℕ) → made_at p c ≡ None → room_returned p c m ≡ 0
 none_returned p c m h = grind arith
 
--- and a making that of one segment to its maker
+-- a making gives the room of one segment back to its maker
 returned_made : (p : Option Place) (c : Option Content) (m : ℕ) (s : SegName) → made_at p c ≡ Some s → room_returned p c m ≡ (if m == s.maker then 1 else 0)
 returned_made p c m s h = grind (arith, h)
 
--- the makings among one more entry
+-- the makings among the first entries and the next one
 returned_next : (xs : List Entry) (i m count more next : ℕ) (d : Entry) → i < length xs → count ≡ room_returned_by (take i xs) m
     → more ≡ room_returned (get_or xs i d).place (get_or xs i d).old_content m → next ≡ count + more → next ≡ room_returned_by (take (i + 1) xs) m
 returned_next xs i m count more next d h counted one is = grind (arith, common_steps, take-suc, returned_joined)
 
 -- Who makes
 
--- a step brings no actor, and its own is there
+-- a step adds no actor, and its own actor is there
 not_its_actor : (w : World) (e : Event) (s : Stepped) (m : ℕ) → step w e ≡ Ok s → is_some (w.actor m) ≡ false → m ≢ e.actor
 not_its_actor w e s m k none same = grind arith
 
@@ -41,7 +41,7 @@ brings_no_actor w e s m k none = grind (arith, took, with_actor-other, not_its_a
 used_by_other : (made : Bool) (n m : ℕ) → m ≢ n → room_used made n m ≡ 0
 used_by_other made n m ne = grind arith
 
--- who is no actor makes nothing
+-- an actor that isn't in the world makes nothing
 none_made : (w : World) (xs : List Entry) (m : ℕ) → IsRunFrom w xs → is_some (w.actor m) ≡ false → room_returned_by xs m ≡ 0
 none_made w [] m h none = refl
 none_made w (x ∷ xs) m h none =
@@ -54,7 +54,7 @@ none_made w (x ∷ xs) m h none =
 
 -- Runs cut in two
 
--- where the first entries' run is known, the others run on from its world
+-- if one run begins another, the other entries run on from the one's last world
 pub runs_on : (s w : World) (xs ys : List Entry) → run s (events xs) ≡ Ok (record { world = w; entries = xs }) → IsRunFrom s (xs ++ ys)
     → IsRunFrom w ys
 runs_on s w [] ys h k = grind (arith, as_ok-same)
@@ -67,7 +67,7 @@ runs_on s w (x ∷ xs) ys h k =
 
 -- The session with these entries after the border
 
--- there is room for every maker where there is for those that are actors after the live steps
+-- there is room for every maker if there is for those that are actors after the live steps
 pub room_for_all : (s w : World) (xs ys : List Entry) (room : ℕ → ℕ) → run s (events xs) ≡ Ok (record { world = w; entries = xs })
     → (n : ℕ) → IsRunFrom s (take n xs ++ ys) → HasRoomForAll w ys room → HasRoom ys room
 room_for_all s w xs ys room ran n h has = record { at = each }
@@ -81,7 +81,8 @@ room_for_all s w xs ys room ran n h has = record { at = each }
           | inr e ↦ omega (arith, none_made s (take n xs ++ ys) m h e, returned_joined (take n xs) ys m)
         ]
 
--- after the first n live steps these were made, and lead on from the start
+-- the given steps were made after the first n live ones: the session is one, and its state is the
+-- switched one
 pub record IsExchanged (n : ℕ) (given : List Entry) (old new : Journal) (room : ℕ → ℕ) : Type 0 where
   pub session : IsSession new room
   pub state : state_of new ≡ switch (state_of old) n (events given)
@@ -104,7 +105,8 @@ exchanged n old new given again steps w room start runs within few all back_to s
       state = grind (arith, map-append, take-map);
     }
 
--- the given entries may be made after the first n live ones
+-- after undoing all but the first n live steps, the given entries run on and have room for their
+-- makings
 pub may_exchange : (n : ℕ) (old : Journal) (given again steps : List Entry) (w : World) (before after : ℕ → ℕ) → IsRun old → steps ≡ old.live
     → ((start : World) → LeadsTo start old.world steps → LeadsTo start w (take n steps)) → ((m : ℕ) → before m + room_returned_by (drop n steps) m ≤ after m)
     → IsRunFrom old.start (take n old.live ++ given) → HasRoomForAll old.world given (room_without (drop n old.live) before) → again ≡ given
@@ -120,7 +122,7 @@ may_exchange n old given again steps w before after runs all back_to gives run_o
           (record { at = λ m. omega (arith, has.at m, gives m, ap (λ (xs : List Entry). room_returned_by xs m) gone) }),
     )
 
--- room that was made for one actor after the other
+-- room made for the first actors, and then for one more, is room for all of these
 pub room_for_one_more : (xs : List Entry) (number : ℕ) (before after : ℕ → ℕ) → ((n : ℕ) → n < number → room_returned_by xs (suc n) ≤ before (suc n))
     → ((m : ℕ) → before m ≤ after m) → room_returned_by xs (number + 1) ≤ after (number + 1)
     → (n : ℕ) → n < number + 1 → room_returned_by xs (suc n) ≤ after (suc n)
@@ -138,18 +140,18 @@ room_for_actors w v xs number room same made none count =
 
 -- Counting the makings of each actor
 
--- there are no more makings among the first entries than these are
+-- among the first entries there are no more makings than entries
 pub few_makings : (xs : List Entry) (i m : ℕ) → room_returned_by (take i xs) m ≤ i
 few_makings xs i m = omega (arith, returned_few (take i xs) m, length-take i xs)
 
--- an entry that is no making leaves the counts
+-- an entry that isn't a making doesn't change the number of makings
 pub no_making_counted : (xs : List Entry) (i m count : ℕ) (d : Entry) → i < length xs → made (get_or xs i d) ≡ None
     → count ≡ room_returned_by (take i xs) m → count ≡ room_returned_by (take (i + 1) xs) m
 no_making_counted xs i m count d h none counted =
     let x = get_or xs i d in
     returned_next xs i m count 0 count d h counted (sym (none_returned x.place x.old_content m none)) (omega arith)
 
--- and one that is counts one for its maker
+-- a making adds one to its maker's number
 pub making_counted : (counts : List ℕ) (xs : List Entry) (i k m : ℕ) (d : Entry) (s : SegName) → i < length xs → made (get_or xs i d) ≡ Some s → k ≡ s.maker → k < length counts
     → get_or counts m 0 ≡ room_returned_by (take i xs) m → get_or (set counts k (get_or counts k 0 + 1)) m 0 ≡ room_returned_by (take (i + 1) xs) m
 making_counted counts xs i k m d s h makes its within counted =
@@ -166,7 +168,7 @@ making_counted counts xs i k m d s h makes its within counted =
           (get_or-set_other counts k m more 0 ne ∙ omega arith)
     ]
 
--- where the makings among other entries are taken off, one that is takes one off
+-- a making among the dropped entries takes one off its maker's number
 pub making_missed : (counts : List ℕ) (xs : List Entry) (i k m base : ℕ) (x : Entry) (s : SegName) → i < length xs → x ≡ get_or xs i x → made x ≡ Some s → k ≡ s.maker
     → k < length counts → get_or counts m 0 ≡ base - room_returned_by (take i xs) m
     → get_or (set counts k (get_or counts k 0 - 1)) m 0 ≡ base - room_returned_by (take (i + 1) xs) m
@@ -187,7 +189,7 @@ making_missed counts xs i k m base x s h here makes its within counted =
           omega (arith, get_or-set_other counts k m less 0 ne, counted, more)
     ]
 
--- and one that is no making none
+-- an entry that isn't a making takes nothing off
 pub no_making_missed : (xs : List Entry) (i m base count : ℕ) (x : Entry) → i < length xs → x ≡ get_or xs i x → made x ≡ None
     → count ≡ base - room_returned_by (take i xs) m → count ≡ base - room_returned_by (take (i + 1) xs) m
 no_making_missed xs i m base count x h here none counted =

@@ -1,11 +1,11 @@
--- Undoing a journal's last live steps and redoing its first undone ones, and how the state changes.
+-- Undoing a journal's last live steps, redoing its first undone ones, and how the state changes.
 use Rattle.rd_journal.proofs.Prelude.{run_joined, ◌≡◌, ℕ, ◌+◌, ◌-◌, ◌≤◌, sym, ◌∙◌, ap, subst, List, ◌++◌, length, take, drop, Ok, arith, length-append, le-ltb, cond-false, append_assoc, map-append, length-map, take-map, drop-map, take-append-drop, World, run, Entry, runs_to, Journal, events, IsRun, IsRunFrom, LeadsTo, IsSession, IsMovedBack, IsMovedForward, room_returned_by, HasRoom, state_of, back, forward, run_entries}
 use Rattle.rd_journal.proofs.Runs.{runs_since, live_lead}
 use Rattle.rd_journal.proofs.Switching.{returned_joined, runs_on}
 
 -- What is left is a session
 
--- the live and the undone entries are those of one run from the start
+-- the live entries followed by the undone ones are those of one run from the start
 pub whole_run : (j : Journal) → IsRun j → IsRunFrom j.start (j.live ++ j.undone)
 whole_run j runs =
     let on = runs_to j.world j.undone runs.undone_run_on in
@@ -13,7 +13,7 @@ whole_run j runs =
     ∙ run_joined j.start (events j.live) (events j.undone) (record { world = j.world; entries = j.live })
     (record { world = on.last; entries = j.undone }) runs.live_ran on.runs)
 
--- n steps back, where the others lead from the start to the world
+-- a session after n steps back, if the other live steps lead from the start to the new world
 pub moved_back : (n left : ℕ) (old new : Journal) (steps : List Entry) (before after : ℕ → ℕ) → new.start ≡ old.start → n ≤ length old.live → IsSession old before
     → steps ≡ old.live → left ≡ length old.live - n → ((start : World) → LeadsTo start old.world steps → LeadsTo start new.world (take left steps))
     → ((m : ℕ) → before m + room_returned_by (drop left steps) m ≤ after m) → IsMovedBack n old new → IsSession new after
@@ -38,7 +38,7 @@ moved_back n left old new steps before after start within session all many leads
           (record { at = λ m. omega (arith, session.has_room.at m, gives m, ap (λ (xs : List Entry). room_returned_by xs m) gone, returned_joined (drop k old.live) old.undone m) });
     }
 
--- n steps forward, where they run to the world
+-- a session after n steps forward, if these lead from the old world to the new one
 pub moved_forward : (n : ℕ) (old new : Journal) (steps : List Entry) (before after : ℕ → ℕ) → new.start ≡ old.start → IsSession old before → steps ≡ take n old.undone
     → run old.world (events steps) ≡ Ok (record { world = new.world; entries = steps }) → ((rest : List Entry) → HasRoom (steps ++ rest) before → HasRoom rest after)
     → IsMovedForward n old new → IsSession new after
@@ -58,7 +58,7 @@ moved_forward n old new steps before after start session first goes has moved =
       has_room = has new.undone (subst (λ (xs : List Entry). HasRoom xs before) (sym cut) session.has_room);
     }
 
--- there is room for the first of some entries where there is for all
+-- if there is room for the makings among some entries, there is for those among the first ones
 pub room_first : (n : ℕ) (xs : List Entry) (room : ℕ → ℕ) → HasRoom xs room → HasRoom (take n xs) room
 room_first n xs room has = record {
   at = λ m.

@@ -6,41 +6,41 @@ use Rattle.rd_step.specs.declared.entries.Entry.{Entry}
 use Rattle.rd_journal.specs.Journal.{Journal, events, entry_of, unless_depended}
 use Rattle.rd_journal.specs.Numbers.{just}
 
--- the journal got one more live entry, the last, and none is undone
+-- x has become the last live entry, and no step is undone
 pub record IsLengthened (x : Entry) (old new : Journal) : Type 0 where
   pub live : new.live ≡ old.live ++ x ∷ []
   pub undone : new.undone ≡ []
 
--- the step of an event leads from the old world to the new one, and its entry is the last live one,
--- with this number
+-- `done` is the number and the entry of the step that the event makes from the old world to the new
+-- one, and this entry has become the last live one
 pub record IsStepOf (e : Event) (done : ℕ × Entry) (old new : Journal) : Type 0 where
   pub goes : step old.world e ≡ Ok (record { world = new.world; entry = done.1 })
   pub entries : IsLengthened done.1 old new
   pub number : done.0 ≡ length new.live
 
--- the last n live entries became the front of the undone ones, in their order, and no entry
+-- the last n live entries have become the front of the undone ones, in their order, and no entry
 -- changed
 pub record IsMovedBack (n : ℕ) (old new : Journal) : Type 0 where
   pub live : new.live ≡ take (length old.live - n) old.live
   pub undone : new.undone ≡ drop (length old.live - n) old.live ++ old.undone
 
--- the first n undone entries became the last live ones, in their order, and no entry changed
+-- the first n undone entries have become the last live ones, in their order, and no entry changed
 pub record IsMovedForward (n : ℕ) (old new : Journal) : Type 0 where
   pub live : new.live ≡ old.live ++ take n old.undone
   pub undone : new.undone ≡ drop n old.undone
 
--- world and live entries are those of the run of all but the last n live events
+-- the new world and live entries are those of the run of the old live events without the last n
 abbrev pub IsBeforeLast : ℕ → Journal → Journal → Type 0
 IsBeforeLast n old new =
     run old.start (take (length old.live - n) (events old.live)) ≡ Ok (record { world = new.world; entries = new.live })
 
--- the k-th live entry became the front of the undone ones, all others are as they were, and no
--- entry changed
+-- the k-th live entry has become the front of the undone ones; the others are in their order, and
+-- no entry changed
 pub record IsUndoneAlone (k : ℕ) (old new : Journal) : Type 0 where
   pub live : new.live ≡ without old.live k
   pub undone : new.undone ≡ just old.live k ++ old.undone
 
--- world and live entries are those of the run of the live events without the k-th
+-- the new world and live entries are those of the run of the old live events without the k-th
 abbrev pub IsRunWithout : ℕ → Journal → Journal → Type 0
 IsRunWithout k old new = run old.start (without (events old.live) k) ≡ Ok (record { world = new.world; entries = new.live })
 
@@ -49,18 +49,19 @@ IsRunWithout k old new = run old.start (without (events old.live) k) ≡ Ok (rec
 abbrev pub answer_at : Journal → ℕ → Result Unit Refusal
 answer_at j k = and_then (entry_of j k) (λ _. unless_depended (first_dependant j.live k))
 
--- the first n live entries stayed, the given ones are after them now, and none is undone
+-- the first n live entries stayed and are followed by the given ones, and no step is undone
 pub record IsSwitched (n : ℕ) (given : List Entry) (old new : Journal) : Type 0 where
   pub live : new.live ≡ take n old.live ++ given
   pub undone : new.undone ≡ []
 
--- the entries of the causal closure of k became the front of the undone ones, in their order, all
--- others are as they were, and no entry changed
+-- the entries of the causal closure of k have become the front of the undone ones, in their order;
+-- the others are in their order, and no entry changed
 pub record IsRolledBack (k : ℕ) (old new : Journal) : Type 0 where
   pub live : new.live ≡ without_closure old.live k
   pub undone : new.undone ≡ closure_of old.live k ++ old.undone
 
--- world and live entries are those of the run of the live events outside the causal closure of k
+-- the new world and live entries are those of the run of the old live events outside the causal
+-- closure of k
 abbrev pub IsWithoutClosure : ℕ → Journal → Journal → Type 0
 IsWithoutClosure k old new =
     run old.start (items_where_false (closure old.live k) (events old.live)) ≡ Ok (record { world = new.world; entries = new.live })

@@ -1,5 +1,4 @@
--- The room that redoing asks for, which is what undoing gave back, and when an event may be out of
--- memory.
+-- The room that redoing needs, which undoing gave back, and when an event may be refused memory.
 use Rattle.std.specs.Prelude.{◌≡◌, ℕ, ◌+◌, ◌≤◌, ◌<◌, ◌⊎◌, IsSome, List, [], ◌∷◌, ◌++◌, length, drop, Result, Ok}
 use Rattle.rd_step.specs.Prelude.{Refusal, World, Stepped, step, MOST_STEPS}
 use Rattle.rd_step.specs.declared.entries.Event.{Event}
@@ -10,13 +9,12 @@ use Rattle.rd_depend.specs.Index.{HasRoomInstead}
 use Rattle.rd_journal.specs.Journal.{Journal}
 use Rattle.rd_cell.specs.declared.refusal.Refusal.TheVariants as refusal
 
--- how much of m's room undoing these entries gave back
+-- the number of segments for which undoing these entries gives room back to actor m
 abbrev pub room_returned_by : List Entry → ℕ → ℕ
 room_returned_by [] m = 0
 room_returned_by (x ∷ xs) m = room_returned x.place x.old_content m + room_returned_by xs m
 
--- each maker has the room that undoing these entries gave back, so that redoing them takes no
--- memory
+-- each maker has the room that undoing these entries gave back, so redoing them takes no memory
 pub record HasRoom (undone : List Entry) (room : ℕ → ℕ) : Type 0 where
   pub at : (m : ℕ) → room_returned_by undone m ≤ room m
 
@@ -24,29 +22,29 @@ pub record HasRoom (undone : List Entry) (room : ℕ → ℕ) : Type 0 where
 pub record HasRoomForAll (w : World) (given : List Entry) (room : ℕ → ℕ) : Type 0 where
   pub at : (m : ℕ) → IsSome (w.actor m) → room_returned_by given m ≤ room m
 
--- the index has no room for the given entries, even where the entries that go gave theirs back
+-- the index has no room for the given entries, even once the entries that go are removed
 abbrev pub LacksIndexRoom : DependIndex → List Entry → List Entry → Type 0
 LacksIndexRoom index gone given = HasRoomInstead index gone given → ⊥
 
--- the index has no room for the entry of a step in place of the undone ones
+-- the step succeeds, and the index has no room for its entry, even once the undone ones are removed
 pub record IsNotIndexed (stepped : Result Stepped Refusal) (undone : List Entry) (index : DependIndex) : Type 0 where
   pub after : Stepped
   pub goes : stepped ≡ Ok after
   pub lacks : LacksIndexRoom index undone (after.entry ∷ [])
 
--- memory was refused to the event, while fewer steps are live than may be: for one more entry,
--- where none is undone and the live ones fill the room that there is; for a segment that nothing
--- else refuses, where the maker has no room; or for the index of dependants
+-- the event may be refused memory: fewer than `MOST_STEPS` steps are live, and one of three things
+-- is so. No step is undone and the live entries fill the room; or the step makes a segment that
+-- nothing else refuses, and its maker has no room; or the index has no room for the step's entry
 pub record IsOutOfMemory (j : Journal) (capacity : ℕ) (room : ℕ → ℕ) (index : DependIndex) (e : Event) : Type 0 where
   pub not_full : length j.live < MOST_STEPS
   pub asked : ((j.undone ≡ []) × (capacity ≡ length j.live)) ⊎ FindsNoRoom (step j.world e) (makes_segment j.world e) (room e.actor)
       ⊎ IsNotIndexed (step j.world e) j.undone index
 
--- the refusal of the step itself is answered only where there is room for its entry
+-- a refusal other than `TooLong` and `NoMemory` comes only where there is room for one more entry
 abbrev pub ComesAfterRoom : ℕ → ℕ → Refusal → Type 0
 ComesAfterRoom live capacity cause = (cause ≡ refusal.TooLong) ⊎ (cause ≡ refusal.NoMemory) ⊎ (live < capacity)
 
--- the room of each maker after these entries were undone
+-- the room of each maker once the dropped entries are undone
 abbrev pub room_without : List Entry → (ℕ → ℕ) → ℕ → ℕ
 room_without dropped room m = room m + room_returned_by dropped m
 
@@ -54,8 +52,9 @@ room_without dropped room m = room m + room_returned_by dropped m
 abbrev pub LacksRoomForMakings : List Entry → (ℕ → ℕ) → Type 0
 LacksRoomForMakings given room = (m : ℕ) × (room m < room_returned_by given m)
 
--- room is missing for a switch: for the given entries after the first n, or, once the others are
--- undone, for the makings among them at some maker, or in the index
+-- room is missing for a switch: for the given entries after the first n, or, once the other live
+-- steps are undone, for the makings of some maker among the given entries, or for these in the
+-- index
 abbrev pub LacksRoom : ℕ → Journal → List Entry → ℕ → (ℕ → ℕ) → DependIndex → Type 0
 LacksRoom n j given capacity room index =
     (capacity < n + length given) ⊎ LacksRoomForMakings given (room_without (drop n j.live) room) ⊎ LacksIndexRoom index (drop n j.live ++ j.undone) given

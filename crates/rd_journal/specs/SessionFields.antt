@@ -1,4 +1,4 @@
--- The journal that entries are of in a world, and what a session keeps of it.
+-- The journal that a session's fields make, and what always holds of it.
 use Rattle.std.specs.Prelude.{ℕ, ◌+◌, ◌≤◌, length}
 use Rattle.std.specs.declared.snapshot.Snapshot.{Snapshot}
 use Rattle.rd_step.specs.Prelude.{World, model, MOST_STEPS}
@@ -12,12 +12,12 @@ use Rattle.rd_journal.specs.Room.{HasRoom}
 unfoldable pub opened_with : {R : ℕ} → Snapshot (CodeWorld R) → World
 opened_with opened = model opened.value
 
--- the journal of a start, a world and its entries, in which all that are ahead are undone
+-- the journal of a start, a world and entries, in which all steps ahead are undone
 abbrev pub whole_journal : World → World → Entries → Journal
 whole_journal start w r = record { start = start; world = w; live = live_entries r; undone = ahead_entries r }
 
--- a session's journal is one run that leads through its world, with no more entries than may be
--- live, and there is room for all that is undone
+-- what always holds of a session's journal: it has at most `MOST_STEPS` entries, it is a run, and
+-- there is room for the makings among its undone steps
 pub record IsSession (j : Journal) (room : ℕ → ℕ) : Type 0 where
   pub few : length j.live + length j.undone ≤ MOST_STEPS
   pub runs : IsRun j

@@ -1,12 +1,12 @@
-//! The entries of a session. An entry stays in the slot that it was put in; their order is a list
-//! of the slots' numbers: those of the live steps, then of those ahead of them, the next one in
-//! front, then of those whose entries were discarded. The steps ahead run on from the live ones and
-//! can be made again as they are: the undone ones, and after these the ones that the live ones went
+//! The entries of a session. An entry stays in the slot where it was put, and a list of the slots'
+//! numbers gives the order. First are the live steps, then the steps ahead of them, the next one in
+//! front, and last the discarded entries. The steps ahead run on from the live ones and can be made
+//! again as they are. They are the undone steps, and after these the steps that the session went
 //! back over.
 //!
-//! Only the border between the first two moves when a step is undone or redone last. An entry that
-//! leaves the middle first has its number moved after those of the other live ones. So the room
-//! that an undo needs was made by the step that it undoes.
+//! Undoing the last step, or redoing one, only moves the border between the live steps and those
+//! ahead. Undoing a step in the middle first moves its number behind the other live ones. So an
+//! undo needs no more room than the step that it undoes has made.
 
 #![tactic(auto, using(crate::proofs::EntryLemmas::lengths), unfolding(crate::specs::Entries::all_entries))]
 
@@ -26,20 +26,21 @@ use rd_step::Entry;
 use slots::{make_room_in, move_after, put_at};
 use std::alloc::{AllocError, Global};
 
-/// The entries of the live steps, in their order, and those of the steps ahead of them, the next
-/// one in front.
+/// The entries of the live steps, in their order, and of the steps ahead of them, the next one in
+/// front.
 #[derive(Drop)]
 pub(crate) struct Entries {
-    /// The entries, each where it was put, and those that were discarded and not yet written over.
+    /// The slots: each entry where it was put, and discarded entries that are not yet written over.
     slots: Vec<Entry>,
-    /// The numbers of the slots: of the live entries, of those ahead, and of the discarded ones.
+    /// The numbers of the slots: first of the live entries, then of those ahead, then of the
+    /// discarded ones.
     order: Vec<u32>,
-    /// The numbers that a rollback gathers; none at any other time. There is room for one of each
-    /// slot.
+    /// The slot numbers that a rollback gathers; empty at any other time. It has room for the
+    /// number of each slot.
     gathered: Vec<u32>,
-    /// How many are live.
+    /// The number of live entries.
     live: usize,
-    /// How many are ahead of the live ones.
+    /// The number of entries ahead of the live ones.
     ahead: usize,
     ghost order_of_all: { IsOrder (length slots.items) order.items },
     ghost within: { live + ahead ≤ length order.items },
@@ -51,7 +52,7 @@ pub(crate) struct Entries {
 impl Entries {
     ghost use Rattle.rd_journal.specs.Entries.{all_entries, live_entries, ahead_entries, kept_entries, entries_capacity};
 
-    /// Returns entries with none in them. It takes no memory.
+    /// Returns the entries of a session without steps. It takes no memory.
     pub(crate) fn new(alloc: Global) -> Entries
         ensures live { live_entries result ≡ [] }
         ensures ahead { ahead_entries result ≡ [] }
@@ -73,7 +74,7 @@ impl Entries {
         self.first(self.live)
     }
 
-    /// Returns the first `n` entries of the steps ahead.
+    /// Returns the entries of the first `n` steps ahead.
     pub(crate) fn ahead(&self, n: usize) -> EntryList<'_>
         requires within { n ≤ length (ahead_entries self.now) }
         ensures { result ≡ take n (ahead_entries self.now) }
@@ -81,7 +82,7 @@ impl Entries {
         self.first(self.live + n).after(self.live)
     }
 
-    /// Returns the first `n` entries, live or ahead.
+    /// Returns the first `n` entries of the live ones and, after them, those ahead.
     fn first(&self, n: usize) -> EntryList<'_>
         requires within { n ≤ self.now.live + self.now.ahead }
         ensures { result ≡ take n (all_entries self.now) }
@@ -89,21 +90,21 @@ impl Entries {
         EntryList::new(&self.slots, &self.order[..n])
     }
 
-    /// How many steps are live.
+    /// Returns the number of live steps.
     pub(crate) fn live_len(&self) -> usize
         ensures { result ≡ length (live_entries self.now) }
     {
         self.live
     }
 
-    /// How many steps are live or ahead.
+    /// Returns the number of steps that are live or ahead.
     pub(crate) fn kept_len(&self) -> usize
         ensures { result ≡ length (kept_entries self.now) }
     {
         self.live + self.ahead
     }
 
-    /// The entry of the live step at this position, from 0.
+    /// Returns the entry of the live step at this position, from 0.
     pub(crate) fn live_at(&self, position: usize) -> &Entry
         requires within { position < length (live_entries self.now) }
         ensures { result.now ≡ get_or (live_entries self.now) position result.now }
@@ -120,7 +121,7 @@ impl Entries {
         self.at(position)
     }
 
-    /// The entry of the step ahead at this position, from 0.
+    /// Returns the entry of the step ahead at this position, from 0.
     pub(crate) fn ahead_at(&self, position: usize) -> &Entry
         requires within { position < length (ahead_entries self.now) }
         ensures { result.now ≡ get_or (ahead_entries self.now) position result.now }
@@ -128,7 +129,7 @@ impl Entries {
         self.at(self.live + position)
     }
 
-    /// Returns the entry in the slot whose number is at this place of the order.
+    /// Returns the entry whose slot's number is at index `place` of the order.
     fn at(&self, place: usize) -> &Entry
         requires { place < length (all_entries self.now) }
         ensures { result.now ≡ get_or (all_entries self.now) place result.now }
@@ -136,7 +137,7 @@ impl Entries {
         entry_at(&self.slots, &self.order, place)
     }
 
-    /// Makes the last `n` live entries the next ones ahead.
+    /// Moves the border back: the last `n` live entries become the next ones ahead.
     pub(crate) fn step_back(&mut self, n: usize)
         requires enough { n ≤ length (live_entries self.old) }
         ensures live { live_entries self.new ≡ take (length (live_entries self.old) - n) (live_entries self.old) }
@@ -149,7 +150,7 @@ impl Entries {
         self.ahead += n;
     }
 
-    /// Makes the next `n` entries ahead the last live ones.
+    /// Moves the border forward: the next `n` entries ahead become the last live ones.
     pub(crate) fn step_forward(&mut self, n: usize)
         requires enough { n ≤ length (ahead_entries self.old) }
         ensures live { live_entries self.new ≡ live_entries self.old ++ take n (ahead_entries self.old) }
@@ -161,7 +162,8 @@ impl Entries {
         self.ahead -= n;
     }
 
-    /// Makes the `k`-th live entry the next one ahead. All others stay in their order.
+    /// Makes the `k`-th live entry, counted from 1, the next one ahead. All others stay in their
+    /// order.
     pub(crate) fn undo_alone(&mut self, k: usize)
         requires some { 1 ≤ k }
         requires position { k ≤ length (live_entries self.old) }
@@ -175,11 +177,12 @@ impl Entries {
         self.ahead += 1;
     }
 
-    /// Puts the `k`-th live entry and those that depend on it, directly or through others, after
-    /// the other live ones, all in their order. Returns how many these are.
+    /// Puts the `k`-th live entry, counted from 1, and those that depend on it, directly or through
+    /// others, behind the other live ones, and returns their number. Both parts keep their order.
     ///
-    /// The index is that of the entries before the `k`-th, with room for those after them; then it
-    /// is that of these entries and the ones that were moved, with room for the others.
+    /// The index must be that of the entries before the `k`-th, with room for all others.
+    /// Afterwards it is that of the entries before the `k`-th, followed by those put behind, with
+    /// room for the others.
     pub(crate) fn gather_closure(&mut self, k: usize, index: &mut DependIndex) -> usize
         requires some { 1 ≤ k }
         requires position { k ≤ length (live_entries self.old) }
@@ -203,7 +206,8 @@ impl Entries {
         )
     }
 
-    /// Makes room for this many entries. Memory is asked for only if the room is missing.
+    /// Makes room for this many entries in all. Fails only if memory is refused, which is asked for
+    /// only if room is missing.
     #[inline(always)]
     pub(crate) fn make_room_for(&mut self, needed: usize) -> Result<(), AllocError>
         ensures live { live_entries self.new ≡ live_entries self.old }
@@ -217,8 +221,8 @@ impl Entries {
         make_room_in(&mut self.gathered, needed)
     }
 
-    /// Keeps the first `n` live entries, and puts the given ones after them, in room that must be
-    /// there. All of these are then live, and none is ahead.
+    /// Keeps the first `n` live entries, puts the given ones after them, for which there must be
+    /// room, and discards all others. The kept and the given ones are then live, and none is ahead.
     pub(crate) fn exchange(&mut self, n: usize, given: &[Entry])
         requires within { n ≤ length (live_entries self.old) }
         requires room { n + length given.now ≤ entries_capacity self.old }
@@ -234,8 +238,8 @@ impl Entries {
         }
     }
 
-    /// Puts an entry last among the live ones, where none is ahead: over the first discarded one,
-    /// or where none is, into a new slot.
+    /// Makes an entry the last live one, if none is ahead. The entry is written over the first
+    /// discarded one, or into a new slot if there is none.
     fn push(&mut self, entry: &Entry)
         requires none_ahead { ahead_entries self.old ≡ [] }
         requires room { length (live_entries self.old) < entries_capacity self.old }

@@ -1,4 +1,4 @@
-//! Entries of the live steps, or of those ahead of them, lent to be read.
+//! A borrowed list of entries, of the live steps or of the steps ahead of them.
 
 #![tactic(auto, using(crate::proofs::Numbers::parts))]
 
@@ -9,11 +9,13 @@ ghost use Rattle.rd_journal.specs.Numbers.{at_numbers};
 use rd_step::{Entry, Event, EventList};
 use std::marker::Model;
 
-/// Entries of the live steps, or of those ahead of them, in their order: a list that is read where
-/// the entries are kept, by the numbers of their slots.
+/// A borrowed list of entries, of the live steps or of the steps ahead of them, in their order. It
+/// copies no entry: it reads each one in its slot, by the slot's number.
 #[derive(Drop)]
 pub struct EntryList<'a> {
+    /// The slots of the session's entries.
     slots: &'a [Entry],
+    /// The numbers of the listed entries' slots, in the order of the list.
     numbers: &'a [u32],
 }
 
@@ -31,7 +33,7 @@ impl<'a> Model for EntryList<'a> {
 }
 
 impl<'a> EntryList<'a> {
-    /// Returns the entries in the slots of these numbers.
+    /// Returns the list of the entries in the slots of these numbers.
     pub(crate) fn new(slots: &'a [Entry], numbers: &'a [u32]) -> EntryList<'a>
         requires { All (λ n. n < length slots.now) numbers.now }
         ensures { result ≡ at_numbers slots.now numbers.now }
@@ -46,7 +48,7 @@ impl<'a> EntryList<'a> {
         self.numbers.len()
     }
 
-    /// The entry at this position, from 0.
+    /// Returns the entry at this position, from 0, which must be below `len`.
     pub fn at(&self, position: usize) -> &'a Entry
         requires { position < length self.now }
         ensures { result.now ≡ slice_index_or self.now position result.now }
@@ -54,7 +56,7 @@ impl<'a> EntryList<'a> {
         entry_at(self.slots, self.numbers, position)
     }
 
-    /// The entry at this position, from 0, if there is one.
+    /// Returns the entry at this position, from 0; `None` if there is none.
     pub fn get(&self, position: usize) -> Option<&'a Entry>
         ensures { MatchOption result (slice_get self.now position ≡ None) (λ entry. slice_get self.now position ≡ Some entry.now) }
     {
@@ -88,7 +90,7 @@ impl EventList for EntryList<'_> {
     }
 }
 
-/// Returns the entry in the slot whose number is at this position, from 0, of the numbers.
+/// Returns the entry whose slot's number is at this position, from 0, among the numbers.
 pub(crate) fn entry_at<'a>(slots: &'a [Entry], numbers: &[u32], position: usize) -> &'a Entry
     requires within { position < length numbers.now }
     requires below { All (λ n. n < length slots.now) numbers.now }
@@ -97,7 +99,7 @@ pub(crate) fn entry_at<'a>(slots: &'a [Entry], numbers: &[u32], position: usize)
     &slots[numbers[position] as usize]
 }
 
-/// Returns the numbers of slots after the first `n`.
+/// Returns the numbers after the first `n`.
 fn numbers_after(numbers: &[u32], n: usize) -> &[u32]
     requires { n ≤ length numbers.now }
     ensures { result.now ≡ drop n numbers.now }

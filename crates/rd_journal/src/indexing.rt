@@ -1,9 +1,9 @@
 //! The index of dependants beside a session's entries: that of the live ones and, after them, of
 //! those ahead.
 //!
-//! A step that is undone or redone last changes nothing of that list. What takes entries out of it,
-//! or puts others in, takes the positions after the first ones that stay away and puts the new ones
-//! in. Room that positions had is kept, so those that were taken away can always be put back.
+//! Undoing the last step, or redoing one, leaves this list as it is. A call that changes the list
+//! removes all positions after the first ones that stay, and then puts the new ones in. The room of
+//! removed positions is kept, so these can always be put back.
 
 ghost use Rattle.std.specs.Prelude.{◌++◌, ◌+◌, ◌<◌, ◌≤◌, [], List, ◌∷◌, OnOk, OnErr, length, take, drop};
 ghost use Rattle.rd_step.specs.declared.entries.Entry.{Entry as SomeEntry};
@@ -16,16 +16,15 @@ use rd_depend::DependIndex;
 use rd_step::Entry;
 use std::alloc::AllocError;
 
-/// The most positions that are taken out of the index one by one.
+/// The greatest number of positions that are removed from the index one by one.
 const MOST_SINGLE_REMOVALS: usize = 1_000;
 
-/// Makes the index of the entries that of the first `n` of them and, after these, of the given
-/// ones.
+/// Replaces the entries after the first `n` in the index by the given ones.
 ///
 /// # Errors
 ///
-/// `AllocError` if memory was refused, which is asked for only where the room is missing after the
-/// first `n`. The index is as before then.
+/// `AllocError` if memory is refused, which is asked for only if room is missing once the entries
+/// after the first `n` are removed. The index is then that of the entries from before.
 #[inline(always)]
 pub(crate) fn index_instead(
     index: &mut DependIndex,
@@ -48,7 +47,7 @@ pub(crate) fn index_instead(
     put
 }
 
-/// Takes the positions after the first `n` out of the index: a few one by one, and many by one pass
+/// Removes the positions after the first `n` from the index: a few one by one, and many by one pass
 /// over all its lists. The room that they had is kept.
 pub(crate) fn cut_index(index: &mut DependIndex, entries: &Entries, n: usize)
     requires indexed { IsIndexOf index.old (kept_entries entries.now) }
@@ -63,7 +62,8 @@ pub(crate) fn cut_index(index: &mut DependIndex, entries: &Entries, n: usize)
     }
 }
 
-/// Takes the positions after the first `n` out of the index, one by one.
+/// Removes the positions after the first `n` from the index, one by one. The room that they had is
+/// kept.
 fn pop_after(index: &mut DependIndex, entries: &Entries, n: usize)
     requires indexed { IsIndexOf index.old (kept_entries entries.now) }
     requires within { n ≤ length (kept_entries entries.now) }
@@ -75,7 +75,7 @@ fn pop_after(index: &mut DependIndex, entries: &Entries, n: usize)
     }
 }
 
-/// Puts the entries after those in the index into it. There must be room for them.
+/// Puts into the index the entries after those that it has already. There must be room for them.
 pub(crate) fn fill_index(index: &mut DependIndex, entries: &Entries)
     requires indexed { IsIndexOf index.old (take (position_count index.old) (kept_entries entries.now)) }
     requires room { HasRoomFor index.old (drop (position_count index.old) (kept_entries entries.now)) }
@@ -86,7 +86,7 @@ pub(crate) fn fill_index(index: &mut DependIndex, entries: &Entries)
     }
 }
 
-/// Puts an entry into the index, which must have room for it.
+/// Puts an entry at the index's next position, for which there must be room.
 #[tactic(auto, using(rd_depend::proofs::IndexRoom::room_left))]
 pub(crate) fn put_back(index: &mut DependIndex, entry: &Entry)
     requires few { position_count index.old < MOST_STEPS }

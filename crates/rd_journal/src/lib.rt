@@ -1,11 +1,11 @@
-//! The journal: what was done and what was undone, walking up and down the run, undoing any step on
-//! which no later one depends, or a step together with all that depends on it, and going over to
-//! another run with the same beginning.
+//! The journal. A session keeps what was done and what was undone, and goes back and forth along a
+//! run. It undoes any step on which no later one depends, or a step together with all that depend
+//! on it, and switches to another run with the same beginning.
 //!
-//! A session is seen as a start world, the live events and the undone events. It keeps each entry
-//! where it was put, orders their numbers, with a border in that order, and undoes from the old
-//! words of the entries; the start is kept for contracts alone,
-//! and never replayed from.
+//! To its callers a session is a start world, the live events and the undone events. It keeps each
+//! entry in the slot where it was put, and orders the slots' numbers, with a border after the live
+//! ones. It undoes a step by the old record and the old content in its entry. The start is kept for
+//! contracts alone, and never replayed from.
 #![tactic(auto)]
 
 mod entries;

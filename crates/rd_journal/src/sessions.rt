@@ -1,19 +1,19 @@
-//! The session: the world and the entries of its live and undone steps.
+//! The session: a world, with the entries of its live and undone steps.
 //!
-//! Undoing puts the old words of a live entry back, and the entry goes to the front of the undone
-//! ones: the last one, or any other on which no later one depends, or an entry with all that depend
-//! on it. Redoing steps again. So the room that an undo needs was made by the step that it undoes.
-//! A switch undoes the steps after the first ones and makes others again.
+//! An undo puts back the old record and the old content that an entry has, and the entry goes to
+//! the front of the undone ones. It undoes the last step, any other on which no later one depends,
+//! or a step with all that depend on it, and needs no more room than these steps have made. A redo
+//! makes steps again. A switch undoes all but the first steps and makes others again.
 //!
-//! Beside the entries is their index of dependants, at every moment that of the live ones and,
-//! after them, of those ahead: a dependant that it finds after the live ones is none.
+//! Beside the entries is their index of dependants. Between calls it is that of the live ones and,
+//! after them, of those ahead; a dependant that it finds beyond the live ones doesn't count.
 //!
 //! The live steps with those ahead of them are the session's track. A caller that knows which steps
-//! are on it goes along it: the steps that this leaves ahead stay there, though no caller sees them
-//! as undone, and can be made again with no entry copied and the index as it is.
+//! are on it can go along it. The steps that this leaves ahead don't count as undone, but stay
+//! there, and can be made again with no entry copied and the index as it is.
 //!
-//! The calls that change a session are here, and how they move its steps in the other files of
-//! `sessions/`; `queries` has those that only read it.
+//! The calls that change a session are here. The files of `sessions/` move its steps for them, and
+//! `queries` has the calls that only read it.
 
 mod moving;
 mod queries;
@@ -44,13 +44,14 @@ use std::snapshot::Snapshot;
 
 /// A world of rings of `R` cells, with the steps that led to it and those that were undone.
 pub struct Session<const R: usize> {
+    /// The world to which the live steps have led.
     world: World<R>,
-    /// Of the live steps and of those ahead of them: these are the undone ones, and after them
-    /// those that the live ones went back over.
+    /// The entries of the live steps and of the steps ahead of them. The steps ahead are the undone
+    /// ones, and after them those that the session went back over.
     entries: Entries,
-    /// Of the live entries and, after them, of those ahead.
+    /// The index of dependants of the live entries and, after them, of those ahead.
     index: DependIndex,
-    /// How many of the steps ahead are undone.
+    /// The number of undone steps, which are the first ones ahead.
     undone: usize,
     /// The world that the session was opened with, for contracts alone: it takes no memory.
     opened: Snapshot<World<R>>,
@@ -60,8 +61,8 @@ pub struct Session<const R: usize> {
     ghost indexed: { IsIndexOf index (kept_entries entries) },
 }
 
-/// Written out and not derived, so that a proof of a function in which a session ends has one step
-/// for that, and not one for each list inside.
+/// Written out rather than derived, so that the proof of a function in which a session ends has one
+/// step for that, instead of one for each list inside.
 impl<const R: usize> Drop for Session<R> {
     /// Frees all memory of the session.
     fn drop(self) {
@@ -78,7 +79,7 @@ impl<const R: usize> Drop for Session<R> {
 impl<const R: usize> Session<R> {
     ghost use Rattle.rd_journal.specs.Sessions.{journal, state, track, room, capacity, index, MayRefuse, AnswersAs, GoesAlong, KeepsItsSteps};
 
-    /// Opens a session in a world, which is its start and keeps its room. It takes no memory.
+    /// Opens a session in a world, which is its start and keeps its room. Opening takes no memory.
     pub fn open(alloc: Global, world: World<R>) -> Session<R>
         ensures state { state result ≡ record { start = model world.entry; live = []; undone = [] } }
         ensures journal { journal result ≡ record { start = model world.entry; world = model world.entry; live = []; undone = [] } }
@@ -95,23 +96,27 @@ impl<const R: usize> Session<R> {
         }
     }
 
-    /// Makes an event happen as the last live step, and discards what was undone. Returns the
-    /// step's number and its entry.
+    /// Makes an event happen as the last live step, and discards the undone steps. Returns the
+    /// step's number, from 1, and its entry.
     ///
     /// # Errors
     ///
-    /// In this order: `TooLong` if `MOST_STEPS` steps are live; `NoMemory` if the room for one more
-    /// entry was refused, which is asked for only if no step is undone and the entries fill their
-    /// room; the refusal of the step itself, `NoMemory` for a making whose maker has no room;
-    /// `NoMemory` if the index of dependants has no room for the step and was refused it. Nothing
-    /// has changed then.
+    /// The first of these that applies:
+    /// - `TooLong` if `MOST_STEPS` steps are live;
+    /// - `NoMemory` if room for one more entry is refused, which is asked for only if no step is
+    ///   undone and the live entries fill the room;
+    /// - the refusal of the step itself, which is `NoMemory` for a making whose maker has no room;
+    /// - `NoMemory` if the index of dependants has no room for the step and is refused it.
+    ///
+    /// The steps and the world are then as before.
     pub fn apply(&mut self, event: Event) -> Result<(u64, Entry), Refusal>
         // A step is made in the world, and its event is put last in the state.
         ensures ok { OnOk result (apply (state self.old) event ≡ Ok (state self.new)) }
         ensures reply { IfOk result (λ done. reply_to (state self.old) event ≡ done.1.reply) }
         ensures step { IfOk result (λ done. IsStepOf event done (journal self.old) (journal self.new)) }
 
-        // It is refused in its state, or for lack of memory, and then nothing changes.
+        // The event is refused in the session's state, or for lack of memory, and then no step
+        // changes.
         ensures err { IfErr result (λ refusal. (apply (state self.old) event ≡ Err refusal)
             ⊎ ((refusal ≡ Refusal.NoMemory) × MayLackMemory (state self.old) event)) }
         ensures memory { IfErr result (MayRefuse self.old event) }
@@ -151,16 +156,16 @@ impl<const R: usize> Session<R> {
         Ok(())
     }
 
-    /// Undoes the `k`-th live step alone, counted from 1, if no later live step depends on it. It
-    /// becomes the front of the undone steps, and all other steps stay as they are. It takes no
-    /// memory and makes no step again; it looks for the first later step that depends on it, and
-    /// moves the entries after it.
+    /// Undoes the `k`-th live step alone, counted from 1, if no later live step depends on it. The
+    /// step becomes the front of the undone ones, and all other steps stay as they are. The call
+    /// takes no memory and makes no step again; it looks for the step's first dependant, and moves
+    /// the numbers of the entries after it.
     ///
     /// # Errors
     ///
-    /// `NoSuchStep`, with the number of live steps, if `k` is not from 1 to it; `Depended`, with
-    /// the number of the first live step that depends on the `k`-th, if there is one. Nothing has
-    /// changed then.
+    /// `NoSuchStep`, with the number of live steps, if `k` is 0 or above that number; `Depended`,
+    /// with the number of the first live step that depends on the `k`-th, if there is one. Nothing
+    /// has changed then.
     pub fn undo_at(&mut self, k: u64) -> Result<(), Refusal>
         ensures state { AnswersAs (undo_at (state self.old) k) result self.old self.new }
         ensures entries { OnOk result (IsUndoneAlone k (journal self.old) (journal self.new)) }
@@ -181,15 +186,16 @@ impl<const R: usize> Session<R> {
 
     /// Undoes the `k`-th live step, counted from 1, and just the later ones that depend on it,
     /// directly or through others. In their order they become the front of the undone steps, and
-    /// all other steps stay as they are. It takes no memory and makes no step again.
+    /// all other steps stay as they are. The call takes no memory and makes no step again.
     ///
-    /// Its time is one pass over the later live steps: a few look-ups decide whether one depends on
-    /// a step that is undone, and the index of dependants is put together again after the step.
+    /// If a later step depends on the `k`-th, the call goes once over the later live steps, and a
+    /// few look-ups decide for each whether it depends on a step that is undone. Then it puts all
+    /// later entries into the index of dependants again.
     ///
     /// # Errors
     ///
-    /// `NoSuchStep`, with the number of live steps, if `k` is not from 1 to it. Nothing has changed
-    /// then.
+    /// `NoSuchStep`, with the number of live steps, if `k` is 0 or above that number. Nothing has
+    /// changed then.
     pub fn roll(&mut self, k: u64) -> Result<(), Refusal>
         ensures state { AnswersAs (roll (state self.old) k) result self.old self.new }
         ensures entries { OnOk result (IsRolledBack k (journal self.old) (journal self.new)) }
@@ -210,8 +216,8 @@ impl<const R: usize> Session<R> {
     ///
     /// # Errors
     ///
-    /// `NothingToUndo`, with the number of live steps, if `n` is above it. Nothing has changed
-    /// then.
+    /// `NothingToUndo`, with the number of live steps, if fewer than `n` steps are live. Nothing
+    /// has changed then.
     pub fn back(&mut self, n: u64) -> Result<(), Refusal>
         ensures state { AnswersAs (back (state self.old) n) result self.old self.new }
         ensures entries { OnOk result (IsMovedBack n (journal self.old) (journal self.new)) }
@@ -227,8 +233,7 @@ impl<const R: usize> Session<R> {
         Ok(())
     }
 
-    /// Redoes the step that was undone last, which leaves the entry that it left before. It takes
-    /// no memory.
+    /// Redoes the step that was undone last, which leaves the same entry again. It takes no memory.
     ///
     /// # Errors
     ///
@@ -263,15 +268,16 @@ impl<const R: usize> Session<R> {
         Ok(())
     }
 
-    /// Keeps the first `n` live steps, undoes the others, discards what was undone, and makes the
-    /// steps of the given entries again, which become the last live ones. Room for the entries, in
-    /// the index of dependants, and for each maker for the makings among them is asked for before
-    /// the first undo.
+    /// Keeps the first `n` live steps, undoes the others, and makes the steps of the given entries
+    /// again, which become the last live ones. Undone steps are discarded. Room for the entries,
+    /// for the makings among them and in the index of dependants is asked for before the first
+    /// undo.
     ///
     /// # Errors
     ///
-    /// `NoMemory` if room was refused, which is asked for only where it is missing once the others
-    /// are undone, and never if no entry is given. Nothing has changed then.
+    /// `NoMemory` if memory is refused, which is asked for only if room is missing once the other
+    /// steps are undone, and never if no entry is given. The steps and the world are then as
+    /// before.
     pub fn switch(&mut self, n: u64, entries: &[Entry]) -> Result<(), Refusal>
         requires within { n ≤ length (journal self.old).live }
         requires few { n + length entries.now ≤ MOST_STEPS }
@@ -288,10 +294,10 @@ impl<const R: usize> Session<R> {
         self.exchange(n as usize, entries)
     }
 
-    /// Goes along the session's track, which is the live steps with those ahead of them: its first
-    /// `n` steps become the live ones, and none is undone. The track stays as it is. It copies no
-    /// entry and takes no memory, and its time grows only with the number of steps that it undoes
-    /// or makes again.
+    /// Goes along the session's track, which is the live steps with those ahead of them: the
+    /// track's first `n` steps become the live ones, and no step is undone. The track stays as it
+    /// is. The call copies no entry and takes no memory, and its time grows only with the number of
+    /// steps that it undoes or makes again.
     pub fn go_along(&mut self, n: u64)
         requires within { n ≤ length (track self.old) }
         ensures state { state self.new ≡ record { start = (state self.old).start; live = take n (track self.old); undone = [] } }

@@ -1,8 +1,8 @@
-//! The causal closure of a step, gathered after the other live entries in one pass.
+//! The causal closure of a step, gathered behind the other live entries in one pass.
 //!
-//! An entry that is gathered is put into the index of dependants after those before the step. So
-//! the next one depends on one that was gathered exactly where the index shows that it depends on
-//! one after them.
+//! An entry that is gathered is put into the index of dependants, after the entries before the
+//! step. So the next entry depends on a gathered one exactly if the index finds it to depend on one
+//! after these.
 
 ghost use Rattle.std.specs.Prelude.{◌≡◌, ◌++◌, ◌-◌, ◌<◌, ◌≤◌, [], List, length, take, drop, slice_index_or, vec_capacity};
 ghost use Rattle.rd_step.specs.declared.entries.Entry.{Entry as SomeEntry};
@@ -14,9 +14,9 @@ use crate::indexing::put_back;
 use rd_depend::DependIndex;
 use rd_step::Entry;
 
-/// Moves the number of the `k`-th of the first `live` entries and those of the entries among them
-/// that depend on it, directly or through others, after those of the others, all in their order.
-/// Returns how many these are.
+/// Puts, of the numbers of the first `live` entries, the `k`-th, counted from 1, and those whose
+/// entries depend on its entry, directly or through others, behind the rest. Both parts keep their
+/// order. Returns how long the second part is.
 pub(crate) fn gather(
     slots: &[Entry],
     order: &mut Vec<u32>,
@@ -68,7 +68,7 @@ pub(crate) fn gather(
     live - front
 }
 
-/// The entry in the slot of this number.
+/// Returns the entry in the slot of this number.
 fn entry_in(slots: &[Entry], number: u32) -> &Entry
     requires { number < length slots.now }
     ensures { result.now ≡ slice_index_or slots.now number result.now }

@@ -8,8 +8,8 @@ ghost use Rattle.rd_journal.specs.Numbers.{at_numbers, IsOrder};
 use rd_step::Entry;
 use std::alloc::AllocError;
 
-/// Puts an entry at this place of the order: into the slot whose number is there, or into a new one
-/// at the end.
+/// Puts an entry at index `place` of the order: into the slot whose number is there, or at the end
+/// of the order into a new slot.
 pub(crate) fn put_at(slots: &mut Vec<Entry>, order: &mut Vec<u32>, place: usize, entry: &Entry)
     requires ordered { IsOrder (length slots.old.items) order.old.items }
     requires within { place ≤ length order.old.items }
@@ -32,8 +32,8 @@ pub(crate) fn put_at(slots: &mut Vec<Entry>, order: &mut Vec<u32>, place: usize,
     }
 }
 
-/// Makes room for this many elements, or fails if memory was refused. Memory is asked for only if
-/// the room is missing.
+/// Makes room for this many elements in all. Fails only if memory is refused, which is asked for
+/// only if room is missing.
 pub(crate) fn make_room_in<T>(items: &mut Vec<T>, needed: usize) -> Result<(), AllocError>
     ensures items { items.new.items ≡ items.old.items }
     ensures ok { OnOk result (needed ≤ vec_capacity items.new) }
@@ -47,7 +47,8 @@ pub(crate) fn make_room_in<T>(items: &mut Vec<T>, needed: usize) -> Result<(), A
     items.reserve(needed - items.len())
 }
 
-/// Moves the `k`-th of the first `live` numbers after the others of them, which keep their order.
+/// Moves the `k`-th of the first `live` numbers, counted from 1, behind the others of these, which
+/// keep their order.
 pub(crate) fn move_after(order: &mut Vec<u32>, k: usize, live: usize)
     requires some { 1 ≤ k }
     requires position { k ≤ live }

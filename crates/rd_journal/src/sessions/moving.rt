@@ -1,4 +1,4 @@
-//! Undoing the last live steps and redoing those that were undone last.
+//! Undoing the last live steps, and redoing the steps that were undone last.
 
 ghost use Rattle.std.specs.Prelude.{◌≡◌, ◌≤◌, length, Ok};
 ghost use Rattle.rd_journal.specs.Moves.{IsMovedBack, IsMovedForward};
@@ -10,7 +10,8 @@ use super::starting::{step_all, undo_after};
 impl<const R: usize> Session<R> {
     ghost use Rattle.rd_journal.specs.Sessions.{journal, state, GoesAlong};
 
-    /// Undoes the last `n` live steps, the last one first: their old words are put back.
+    /// Undoes the last `n` live steps, the last one first, each by the old record and the old
+    /// content in its entry.
     pub(super) fn undo_many(&mut self, n: u64)
         requires enough { n ≤ length (journal self.old).live }
         ensures entries { IsMovedBack n (journal self.old) (journal self.new) }
@@ -23,9 +24,9 @@ impl<const R: usize> Session<R> {
         self.undone += n as usize;
     }
 
-    /// Steps the `n` events again that were undone last, one after another. The undone entries are
-    /// those of the run of their events from here, so it is never refused, and leaves the entries
-    /// that are there.
+    /// Makes the `n` steps again that were undone last, one after another. Their entries are those
+    /// of a run from the present world, so no step is refused, and each leaves the entry that it
+    /// has.
     pub(super) fn redo_many(&mut self, n: u64)
         requires enough { n ≤ length (journal self.old).undone }
         ensures entries { IsMovedForward n (journal self.old) (journal self.new) }

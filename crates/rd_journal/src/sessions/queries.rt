@@ -19,7 +19,7 @@ use std::alloc::Global;
 impl<const R: usize> Session<R> {
     ghost use Rattle.rd_journal.specs.Sessions.{journal, state};
 
-    /// The number of live steps.
+    /// Returns the number of live steps.
     pub fn len(&self) -> u64
         ensures count { result ≡ length (state self.now).live }
         ensures entries { result ≡ length (journal self.now).live }
@@ -27,7 +27,7 @@ impl<const R: usize> Session<R> {
         self.entries.live_len() as u64
     }
 
-    /// The number of undone steps.
+    /// Returns the number of undone steps.
     pub fn undone_len(&self) -> u64
         ensures count { result ≡ length (state self.now).undone }
         ensures entries { result ≡ length (journal self.now).undone }
@@ -35,7 +35,8 @@ impl<const R: usize> Session<R> {
         self.undone as u64
     }
 
-    /// The entries of the live steps, in their order. They are those of a run from the start.
+    /// Returns the entries of the live steps, in their order. They are the entries of a run from
+    /// the start.
     pub fn live(&self) -> EntryList<'_>
         ensures entries { result ≡ (journal self.now).live }
         ensures run { IsRunFrom (state self.now).start result }
@@ -45,11 +46,11 @@ impl<const R: usize> Session<R> {
         self.entries.live()
     }
 
-    /// The entry of the live step of this number, from 1.
+    /// Returns the entry of the live step of this number, from 1.
     ///
     /// # Errors
     ///
-    /// `NoSuchStep`, with the number of live steps, if `k` is not from 1 to it.
+    /// `NoSuchStep`, with the number of live steps, if `k` is 0 or above that number.
     pub fn entry(&self, k: u64) -> Result<Entry, Refusal>
         ensures found { result ≡ entry_of (journal self.now) k }
         ensures step { IfOk result (λ entry. IsStepAfter (k - 1) (journal self.now) entry) }
@@ -62,8 +63,8 @@ impl<const R: usize> Session<R> {
         Ok(*self.entries.live_at(k as usize - 1))
     }
 
-    /// The number of the last live step that wrote this place, or one of the places that it names;
-    /// none if no live step did. It asks the index of dependants, and takes no memory.
+    /// Returns the number of the last live step that wrote this place, or one of the places that it
+    /// names; `None` if no live step did. It asks the index of dependants, and takes no memory.
     pub fn last_writer(&self, place: Place) -> Option<u64>
         ensures { result ≡ last_position (writes_to place) (journal self.now).live }
     {
@@ -71,7 +72,8 @@ impl<const R: usize> Session<R> {
         self.index.last_writer(self.len(), place, &mut probes)
     }
 
-    /// The number of the first live step after the `k`-th that depends on it, or none.
+    /// Returns the number of the first live step after the `k`-th that depends on it; `None` if no
+    /// later live step does.
     pub(super) fn first_dependant(&self, k: u64) -> Option<u64>
         requires some { 1 ≤ k }
         requires within { k ≤ length (journal self.now).live }
@@ -91,8 +93,8 @@ impl<const R: usize> Session<R> {
         }
     }
 
-    /// Returns the event of the undone step of this number, from 1, if there is one. The first step
-    /// is the one undone last.
+    /// Returns the event of the undone step of this number, from 1; `None` if there is no such
+    /// step. Number 1 is the step that was undone last.
     pub fn undone_event(&self, i: u64) -> Option<Event>
         ensures { result ≡ numbered (state self.now).undone i }
     {
@@ -107,7 +109,7 @@ impl<const R: usize> Session<R> {
     ///
     /// # Errors
     ///
-    /// `NoMemory` if memory was refused.
+    /// `NoMemory` if memory is refused.
     pub fn start_world(&self, alloc: Global) -> Result<World<R>, Refusal>
         ensures ok { IfOk result (λ world. model world ≡ (state self.now).start) }
         ensures err { IfErr result (λ refusal. refusal ≡ Refusal.NoMemory) }
@@ -117,7 +119,7 @@ impl<const R: usize> Session<R> {
         Ok(world)
     }
 
-    /// Returns the session's world, to which the live events run from its start.
+    /// Returns the session's world, to which the live events lead from its start.
     pub fn world(&self) -> &World<R>
         ensures value { model result.now ≡ (journal self.now).world }
         ensures run { run_of (state self.now) ≡ Ok (record { world = model result.now; entries = (journal self.now).live }) }

@@ -1,5 +1,5 @@
-//! Undoing steps in the middle of the live ones: one on which no later one depends, or one together
-//! with all that depend on it.
+//! Undoing steps in the middle of the live ones: a step on which no later one depends, or a step
+//! together with all that depend on it.
 
 ghost use Rattle.std.specs.Prelude.{◌≡◌, ◌≤◌, length, None};
 ghost use Rattle.rd_step.specs.Prelude.{first_dependant};
@@ -12,8 +12,8 @@ use rd_inverse::unstep;
 impl<const R: usize> Session<R> {
     ghost use Rattle.rd_journal.specs.Sessions.{journal, capacity};
 
-    /// Undoes the `k`-th live step alone, on which no later one depends: its old words are put
-    /// back.
+    /// Undoes the `k`-th live step alone, counted from 1, by the old record and the old content in
+    /// its entry. No later live step may depend on it.
     pub(super) fn undo_alone(&mut self, k: u64)
         requires some { 1 ≤ k }
         requires position { k ≤ length (journal self.old).live }
@@ -28,8 +28,8 @@ impl<const R: usize> Session<R> {
         self.undone += 1;
     }
 
-    /// Undoes the `k`-th live step and all later ones that depend on it, directly or through
-    /// others. If none depends on it directly, none does.
+    /// Undoes the `k`-th live step, counted from 1, and all later ones that depend on it, directly
+    /// or through others. If no step depends on it directly, it is undone alone.
     pub(super) fn roll_back(&mut self, k: u64)
         requires some { 1 ≤ k }
         requires position { k ≤ length (journal self.old).live }
@@ -43,11 +43,11 @@ impl<const R: usize> Session<R> {
         }
     }
 
-    /// Undoes the `k`-th live step and all later ones that depend on it, directly or through
-    /// others: the entries of these steps are first put after the other live ones, none of which
-    /// depends on them. Meanwhile the index is that of the entries before the `k`-th and of those
-    /// that go, so it shows which later one depends on one of these; then the positions of all that
-    /// is after the `k`-th are put in again, in their new order.
+    /// Undoes the `k`-th live step, counted from 1, and all later ones that depend on it, directly
+    /// or through others. Their entries are first moved behind the other live ones, none of which
+    /// depends on them. While they are gathered, the index is that of the entries before the `k`-th
+    /// and of those gathered so far, so it shows whether the next one depends on one of these. Then
+    /// all entries from the `k`-th position on are put into the index again, in their new order.
     fn undo_block(&mut self, k: u64)
         requires some { 1 ≤ k }
         requires position { k ≤ length (journal self.old).live }

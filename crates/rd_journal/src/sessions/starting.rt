@@ -1,5 +1,5 @@
-//! Undoing the last steps of a run in a world that it leads to, and making the steps of a run in
-//! the world that it starts from.
+//! Undoing the last steps of a run in the world that it leads to, and making the steps of a run
+//! again in the world that it starts from.
 
 ghost use Rattle.std.specs.Prelude.{◌≡◌, ◌++◌, ◌+◌, ◌≤◌, ℕ, List, Ok, length, take, drop};
 ghost use Rattle.rd_step.specs.declared.entries.Entry.{Entry as SomeEntry};
@@ -11,8 +11,8 @@ use super::super::entry_list::EntryList;
 use rd_inverse::unstep;
 use rd_step::World;
 
-/// Undoes all steps that led to the world except the first `n`, the last one first. It gives the
-/// room of their makings back, and takes no memory.
+/// Undoes all but the first `n` of the steps that led to the world, the last one first. It gives
+/// the room of their makings back, and takes no memory.
 pub(super) fn undo_after<const R: usize>(world: &mut World<R>, steps: &EntryList, n: usize)
     requires within { n ≤ length steps.now }
     requires leads { (start : Model) × LeadsTo start (model world.old) steps.now }
@@ -24,8 +24,8 @@ pub(super) fn undo_after<const R: usize>(world: &mut World<R>, steps: &EntryList
     }
 }
 
-/// Makes the steps of a run from the world again, one after another. There is room for their
-/// makings, and that for others stays.
+/// Makes the steps of a run from this world again, one after another. There must be room for their
+/// makings; room for further ones stays.
 pub(super) fn step_all<const R: usize>(world: &mut World<R>, steps: &EntryList)
     requires runs { IsRunFrom (model world.old) steps.now }
     requires room { HasRoom steps.now (room world.old) }

@@ -1,5 +1,5 @@
-//! Exchanging the entries after the first live ones: room for entries, makings and positions in the
-//! index first, then the undoing, then the steps of the given ones.
+//! Exchanging the steps after the first live ones. Room for entries, for makings and in the index
+//! comes first; then the old steps are undone, and the given ones made.
 
 ghost use Rattle.std.specs.Prelude.{◌≡◌, ◌++◌, ◌+◌, ◌-◌, ◌<◌, ◌≤◌, [], ℕ, length, take, drop, get_or, IsOk, OnOk, OnErr, IfErr};
 ghost use Rattle.rd_step.specs.Prelude.{model, room as world_room};
@@ -17,18 +17,18 @@ use rd_cell::Refusal;
 use rd_cell::limits::MOST_STEPS;
 use rd_step::{Entry, World};
 
-/// How many numbers a `u8` has, one for each that an actor could have.
+/// The number of values of a `u8`, one for each number that an actor could have.
 const ACTOR_NUMBERS: usize = 256;
 
 impl<const R: usize> Session<R> {
     ghost use Rattle.rd_journal.specs.Sessions.{journal, state, room, capacity, index, GoesAlong, KeepsItsSteps};
 
-    /// Makes room for the given entries after the first `kept` ones, and for the makings among
-    /// them. Memory is asked for only if room is missing.
+    /// Makes room for the given entries after the first `kept` live ones, and for the makings among
+    /// them once the other live steps are undone. Memory is asked for only if room is missing.
     ///
     /// # Errors
     ///
-    /// `NoMemory` if room was refused.
+    /// `NoMemory` if memory is refused.
     pub(super) fn make_room_to_switch(&mut self, kept: u64, given: &[Entry]) -> Result<(), Refusal>
         requires within { kept ≤ length (journal self.old).live }
         requires few { kept + length given.now ≤ MOST_STEPS }
@@ -50,13 +50,13 @@ impl<const R: usize> Session<R> {
         )
     }
 
-    /// Makes the index that of the first `n` live entries and, after them, of the given ones,
-    /// undoes the live steps after the first `n`, and makes the given ones again, which then
-    /// replace all others.
+    /// Replaces all entries after the first `n` live ones by the given ones in the index, undoes
+    /// the live steps after the first `n`, and makes the given steps again. These then replace all
+    /// others.
     ///
     /// # Errors
     ///
-    /// `NoMemory` if the index was refused memory. Nothing has changed then.
+    /// `NoMemory` if the index is refused memory. The steps and the world are then as before.
     pub(super) fn exchange(&mut self, n: usize, given: &[Entry]) -> Result<(), Refusal>
         requires within { n ≤ length (journal self.old).live }
         requires few { n + length given.now ≤ MOST_STEPS }
@@ -89,12 +89,12 @@ impl<const R: usize> Session<R> {
     }
 }
 
-/// Makes room for each actor's makings among the given entries, except for as many as undoing the
+/// Makes room for each actor's makings among the given entries, beyond the room that undoing the
 /// dropped entries gives back.
 ///
 /// # Errors
 ///
-/// `NoMemory` if room was refused.
+/// `NoMemory` if memory is refused.
 fn make_room_for_makings<const R: usize>(
     world: &mut World<R>,
     dropped: &EntryList,
@@ -114,7 +114,7 @@ fn make_room_for_makings<const R: usize>(
     Ok(())
 }
 
-/// Returns, for each actor's number, how many of these entries are makings by that actor.
+/// Returns, for each actor's number, the number of makings by that actor among these entries.
 fn makings_of(entries: &[Entry]) -> [usize; ACTOR_NUMBERS]
     ensures { (m : ℕ) → m < ACTOR_NUMBERS → get_or result m 0 ≡ room_returned_by entries.now m }
 {
@@ -127,8 +127,8 @@ fn makings_of(entries: &[Entry]) -> [usize; ACTOR_NUMBERS]
     counts
 }
 
-/// Returns, for each actor's number, by how many its makings exceed those among the dropped
-/// entries.
+/// Returns, for each actor's number, the given number of makings without as many as that actor has
+/// among the dropped entries; 0 if those are more.
 fn makings_missing(dropped: &EntryList, given: [usize; ACTOR_NUMBERS]) -> [usize; ACTOR_NUMBERS]
     ensures { (m : ℕ) → m < ACTOR_NUMBERS → get_or result m 0 ≡ get_or given m 0 - room_returned_by dropped.now m }
 {
