@@ -1,10 +1,32 @@
 -- Words that spell numbers, and the parts of a segment's name.
-use Rattle.rd_script.proofs.Prelude.{◌≡◌, ◌≢◌, ℕ, ◌^◌, ◌<◌, ◌==◌, List, [], ◌∷◌, length, Option, Some, None, IfSome, IfNone, arith, sym, ◌∙◌, ap, append_assoc, decimal, slice_split, join_with_byte, IsUtf8, IsAscii-decimal, SegName, name_words, IsSegmentInRange, IsUtf8-from_ascii}
+use Rattle.rd_script.proofs.Prelude.{◌≡◌, ◌≢◌, ℕ, suc, ◌^◌, ◌<◌, ◌==◌, ◌⊎◌, List, [], ◌∷◌, get_or, length, Option, Some, None, IfSome, IfNone, Result, Ok, Err, ParsesUnsigned, parse_plain, numerals_by_value, tells_digits, decimal-digits_value, decimal_digit, first_decimal, parse-decimal, subst, arith, sym, ◌∙◌, ap, append_assoc, decimal, slice_split, join_with_byte, IsUtf8, IsAscii-decimal, SegName, name_words, IsSegmentInRange, IsUtf8-from_ascii}
+use Rattle.std.specs.Prelude.{zero}
+use Rattle.std.specs.Result.{result_ok}
 use Rattle.rd_script.proofs.SplitLemmas.{parts_of_join, join_of_parts, is_free_decimal}
 
 -- the digits of a number are UTF-8
 pub IsUtf8-decimal : (n : ℕ) → n < 2 ^ 64 → IsUtf8 (decimal n)
 IsUtf8-decimal n h = IsUtf8-from_ascii (decimal n) (IsAscii-decimal n h)
+
+-- no number begins with a plus sign, or with a zero before another byte
+pub begins_as_number : (n : ℕ) → n < 2 ^ 64 → (get_or (decimal n) 0 0 ≡ 43) ⊎ ((get_or (decimal n) 0 0 ≡ 48) × (1 < length (decimal n))) → ⊥
+begins_as_number zero small begins = grind (arith, decimal_digit zero (omega arith))
+begins_as_number (suc n) small begins = grind (arith, first_decimal (suc n) (omega arith) small)
+
+-- a word that begins otherwise is how the number is spelled that std reads from it
+pub read_as_spelled : {E : Type 0} (word digits : List ℕ) (r : Result ℕ E) (o : Option ℕ) → digits ≡ word → ParsesUnsigned 64 10 digits r → o ≡ result_ok r → get_or word 0 0 ≢ 43
+    → (get_or word 0 0 ≡ 48 → length word ≡ 1) → IfSome o (λ n. word ≡ decimal n)
+read_as_spelled word digits (Err e) o same reads left plain alone = rw left tt
+read_as_spelled {E} word digits (Ok n) o same reads left plain alone =
+    let own = numerals_by_value _ tells_digits in
+    let is = parse_plain own {E = E} 64 word (Ok n) (subst (λ (ds : List ℕ). ParsesUnsigned {E = E} 64 10 ds (Ok n)) same reads) plain in
+    rw left (sym (decimal-digits_value own word is.0.0 is.0.1 alone is.0.2) ∙ ap decimal (sym is.1))
+
+-- and a word from which std reads none spells none
+pub none_spelled : {E : Type 0} (word digits : List ℕ) (r : Result ℕ E) (o : Option ℕ) → digits ≡ word → ParsesUnsigned 64 10 digits r → o ≡ result_ok r
+    → IfNone o ((n : ℕ) → n < 2 ^ 64 → word ≢ decimal n)
+none_spelled word digits (Ok m) o same reads left = rw left tt
+none_spelled word digits (Err e) o same reads left = rw left (λ n small is. let no = parse-decimal 64 n digits (Err e) small small (same ∙ is) reads in cc)
 
 -- a segment's name is its two parts, joined by a full stop
 name_join : (s : SegName) → name_words s ≡ join_with_byte 46 (decimal s.maker ∷ decimal s.n ∷ [])

@@ -1,6 +1,8 @@
 -- The words that several proofs of the crate use: definitions of this crate and of those below,
 -- generated types and their variants, and lemmas of these crates and of std.
-pub use Rattle.std.proofs.lemmas.Fmt.{IsAscii-decimal, decimal_by_steps, decimal_injective, parse-decimal}
+pub use Rattle.std.proofs.lemmas.Fmt.{IsAscii-decimal, decimal-digits_value, decimal_by_steps, decimal_digit, decimal_injective, first_decimal, parse-decimal}
+pub use Rattle.std.proofs.lemmas.Str.Parse.{numerals_by_value, parse_plain, tells_digits}
+pub use Rattle.std.specs.Str.Parse.{ParsesUnsigned}
 pub use Rattle.std.proofs.lemmas.Iterator.Splits.{YieldsList-from_slice_split}
 pub use Rattle.rd_cell.proofs.Prelude.{AllZip, Appends, Bool, Bor, Consumes, Decides-eqb, Err, IfNone, IfSome, IsAtEnd, IsErrAnd, IsOkAnd, IsUtf8, IsUtf8-from_ascii, Keeps, List, None, Ok, Option, Result, Some, YieldsList, YieldsList-end, YieldsList-turn, [], and_parts, ap, append-nil, append_assoc, arith, codes, common_steps, decimal, drop, eq-eqb, false, flat_map-append, get_or, if◌then◌else◌, inl, inr, is_some, join_with_byte, length, length-append, length-drop, length-map, list_all, list_all-append, map, map-append, nat_eq, nat_tests, ne_eqb, not, onto_first, refl, rules, slice_index_or, slice_split, strip_suffix_is, subst, suc, sym, take, take-add, take-append-drop, take_rest, tests, true, true≢false, unwrap_or, ℕ, ◌%◌, ◌&&◌, ◌++◌, ◌+◌, ◌-◌, ◌<◌, ◌==◌, ◌^◌, ◌∙◌, ◌∷◌, ◌≡◌, ◌≢◌, ◌≤◌, ◌⊎◌}
 pub use Rattle.rd_step.proofs.Prelude.{Place, Refusal}

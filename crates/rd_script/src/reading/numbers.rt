@@ -1,16 +1,15 @@
 //! Numbers that a word spells: decimal digits without leading zeros.
 //!
-//! A number is read as std reads it, and then its digits are compared with the word, so that it has
-//! just one spelling.
+//! A number is read as std reads it. Std also reads a plus sign and leading zeros, so a word that
+//! begins with one of these is refused first: a number has just one spelling.
 
-ghost use Rattle.std.specs.Prelude.{◌≡◌, ◌≢◌, ℕ, ◌^◌, ◌<◌, [], ◌∷◌, map, Some, IfSome, IfNone};
+ghost use Rattle.std.specs.Prelude.{◌≡◌, ◌≢◌, ◌⊎◌, ℕ, ◌^◌, ◌<◌, [], ◌∷◌, true, false, get_or, length, map, IfSome, IfNone};
 ghost use Rattle.std.specs.Fmt.{decimal};
 ghost use Rattle.rd_step.specs.Prelude.{SegName as Segment};
 ghost use Rattle.rd_script.specs.Contents.{name_words};
 ghost use Rattle.rd_script.specs.Grammar.{IsSegmentInRange};
 
 use super::words::parts_of;
-use itoa::Buffer;
 use rd_cell::SegName;
 
 /// Returns the number from 0 to 2^64 - 1 that a word spells, or none.
@@ -18,12 +17,24 @@ pub fn number_in(word: &[u8]) -> Option<u64>
     ensures spelled { IfSome result (λ n. word.now ≡ decimal n) }
     ensures unspelled { IfNone result ((n : ℕ) → n < 2 ^ 64 → word.now ≢ decimal n) }
 {
-    let number = std_number_in(word)?;
-    let mut digits = Buffer::new();
-    if digits.format(number).as_bytes() == word {
-        Some(number)
-    } else {
-        None
+    if begins_otherwise(word) {
+        return None;
+    }
+    let Ok(digits) = str::from_utf8(word) else {
+        return None;
+    };
+    digits.parse().ok()
+}
+
+/// Whether a word begins as no number is spelled, though std may read one there: with a plus sign,
+/// or with a zero before another byte.
+fn begins_otherwise(word: &[u8]) -> bool
+    ensures yes { result ≡ true → (get_or word.now 0 0 ≡ 43) ⊎ ((get_or word.now 0 0 ≡ 48) × (1 < length word.now)) }
+    ensures no { result ≡ false → (get_or word.now 0 0 ≢ 43) × (get_or word.now 0 0 ≡ 48 → length word.now ≡ 1) }
+{
+    match word {
+        [b'+', ..] | [b'0', _, ..] => true,
+        _ => false,
     }
 }
 
@@ -78,15 +89,4 @@ fn u32_in(word: &[u8]) -> Option<u32>
     } else {
         None
     }
-}
-
-/// Returns the number that std reads from a word, or none. Std also accepts a plus sign and leading
-/// zeros.
-fn std_number_in(word: &[u8]) -> Option<u64>
-    ensures { (n : ℕ) → n < 2 ^ 64 → word.now ≡ decimal n → result ≡ Some n }
-{
-    let Ok(digits) = str::from_utf8(word) else {
-        return None;
-    };
-    digits.parse().ok()
 }
