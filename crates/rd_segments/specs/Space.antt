@@ -1,5 +1,5 @@
 -- The space, as public clauses see it.
-use Rattle.std.specs.Prelude.{ℕ, length, vec_capacity}
+use Rattle.std.specs.Prelude.{ℕ, length}
 use Rattle.rd_ring.specs.Prelude.{SegName, Contents}
 use Rattle.rd_segments.specs.declared.array.ArrayParts.{ArrayParts}
 use Rattle.rd_segments.specs.declared.space.Space.{Space}
@@ -22,10 +22,6 @@ making_count s m = count s.makers.items m
 -- how many more segments a maker can make without memory being asked for
 abbrev pub room : {R : ℕ} → Space R → ℕ → ℕ
 room s m = spare s.makers.items m
-
--- how many makers' lists there is room for; only a constructor changes it
-abbrev pub capacity : {R : ℕ} → Space R → ℕ
-capacity s = vec_capacity s.makers
 
 -- the name of the segment at the queue's head
 abbrev pub head_name : {R : ℕ} → Space R → SegName

@@ -38,7 +38,6 @@ pub fn operate_in<const R: usize>(
     ensures unchanged { OnErr result (segments_of makers.new.items ≡ segments_of makers.old.items) }
     ensures room { (m : ℕ) → spare makers.new.items m ≡ spare makers.old.items m }
     ensures number { length makers.new.items ≡ length makers.old.items }
-    ensures capacity { vec_capacity makers.new ≡ vec_capacity makers.old }
 {
     let (maker, n) = (usize::from(name.maker), name.n as usize);
     if maker >= makers.len() || n >= makers[maker].len() {
@@ -61,7 +60,6 @@ pub fn restore_in<const R: usize>(
     ensures done { Restores everywhere place (Some content) (segments_of makers.old.items) (segments_of makers.new.items) }
     ensures room { (m : ℕ) → spare makers.new.items m ≡ spare makers.old.items m }
     ensures number { length makers.new.items ≡ length makers.old.items }
-    ensures capacity { vec_capacity makers.new ≡ vec_capacity makers.old }
 {
     makers[usize::from(name.maker)][name.n as usize].restore(place, content);
 }
@@ -87,7 +85,6 @@ pub fn make_in<const R: usize>(
     ensures others { (m : ℕ) → m ≢ maker → spare makers.new.items m ≡ spare makers.old.items m }
     ensures ended { result ≡ Err Refusal.SegmentsEnd → (m : ℕ) → spare makers.new.items m ≡ spare makers.old.items m }
     ensures number { length makers.new.items ≡ length makers.old.items }
-    ensures capacity { vec_capacity makers.new ≡ vec_capacity makers.old }
 {
     make_next(&mut makers[usize::from(maker)], maker, value)
 }
@@ -124,7 +121,6 @@ pub fn unmake_in<const R: usize>(makers: &mut Vec<Vec<Segment<R>>>, maker: u8)
     ensures gone { Restores everywhere (Place.Whole (record { maker = maker; n = count makers.old.items maker - 1 })) None (segments_of makers.old.items) (segments_of makers.new.items) }
     ensures room { (m : ℕ) → spare makers.new.items m ≡ spare makers.old.items m + room_used true maker m }
     ensures number { length makers.new.items ≡ length makers.old.items }
-    ensures capacity { vec_capacity makers.new ≡ vec_capacity makers.old }
 {
     take_last(&mut makers[usize::from(maker)]);
 }
@@ -157,7 +153,6 @@ pub fn make_room_in<const R: usize>(
     ensures room { (m : ℕ) → spare makers.old.items m ≤ spare makers.new.items m }
     ensures others { (m : ℕ) → m ≢ maker → spare makers.new.items m ≡ spare makers.old.items m }
     ensures number { length makers.new.items ≡ length makers.old.items }
-    ensures capacity { vec_capacity makers.new ≡ vec_capacity makers.old }
 {
     reserve(&mut makers[usize::from(maker)], more)
 }

@@ -32,7 +32,7 @@ pub struct Space<const R: usize> {
 }
 
 impl<const R: usize> Space<R> {
-    ghost use Rattle.rd_segments.specs.Space.{contents, lists, making_count, room, capacity, head_name, tail_name, array_words};
+    ghost use Rattle.rd_segments.specs.Space.{contents, lists, making_count, room, head_name, tail_name, array_words};
 
     /// Returns a fresh space for this many actors: the root is there and fresh, the queue's two
     /// ends name it, and the array is fresh.
@@ -177,7 +177,6 @@ impl<const R: usize> Space<R> {
         ensures unchanged { OnErr result (contents self.new ≡ contents self.old) }
         ensures kept { (m : ℕ) → room self.new m ≡ room self.old m }
         ensures number { lists self.new ≡ lists self.old }
-        ensures capacity { capacity self.new ≡ capacity self.old }
     {
         match place.segment() {
             Some(name) => operate_in(&mut self.makers, name, place, operation),
@@ -206,7 +205,6 @@ impl<const R: usize> Space<R> {
         ensures ended { result ≡ Err Refusal.SegmentsEnd → (m : ℕ) → room self.new m ≡ room self.old m }
         ensures others { (m : ℕ) → m ≢ maker → room self.new m ≡ room self.old m }
         ensures number { lists self.new ≡ lists self.old }
-        ensures capacity { capacity self.new ≡ capacity self.old }
     {
         make_in(&mut self.makers, maker, value)
     }
@@ -217,7 +215,6 @@ impl<const R: usize> Space<R> {
         ensures gone { contents self.new ≡ restore (Some (Place.Whole (record { maker = maker; n = making_count self.old maker - 1 }))) None (contents self.old) }
         ensures given { (m : ℕ) → room self.new m ≡ room self.old m + room_used true maker m }
         ensures number { lists self.new ≡ lists self.old }
-        ensures capacity { capacity self.new ≡ capacity self.old }
     {
         unmake_in(&mut self.makers, maker);
     }
@@ -229,7 +226,6 @@ impl<const R: usize> Space<R> {
         ensures done { contents self.new ≡ restore (Some place) (Some content) (contents self.old) }
         ensures kept { (m : ℕ) → room self.new m ≡ room self.old m }
         ensures number { lists self.new ≡ lists self.old }
-        ensures capacity { capacity self.new ≡ capacity self.old }
     {
         match (place.segment(), place, content) {
             (Some(name), _, _) => restore_in(&mut self.makers, name, place, content),
@@ -253,7 +249,6 @@ impl<const R: usize> Space<R> {
         ensures kept { (m : ℕ) → room self.old m ≤ room self.new m }
         ensures others { (m : ℕ) → m ≢ maker → room self.new m ≡ room self.old m }
         ensures number { lists self.new ≡ lists self.old }
-        ensures capacity { capacity self.new ≡ capacity self.old }
     {
         make_room_in(&mut self.makers, maker, more)
     }

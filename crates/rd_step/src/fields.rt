@@ -1,12 +1,12 @@
 //! What a step and its undoing do to the fields of a world: an access, an actor's words, and what
 //! is put back.
 
-ghost use Rattle.std.specs.Prelude.{◌≡◌, ◌≢◌, ◌+◌, ◌<◌, ◌≤◌, ◌↔◌, ℕ, true, Some, None, Ok, Err, IsSome, IsTrue, IfOk, IfErr, OnErr, length, vec_capacity};
+ghost use Rattle.std.specs.Prelude.{◌≡◌, ◌≢◌, ◌+◌, ◌<◌, ◌≤◌, ◌↔◌, ℕ, true, Some, None, Ok, Err, IsSome, IsTrue, IfOk, IfErr, OnErr, length};
 ghost use Rattle.rd_ring.specs.Prelude.{MOST_CELLS, MOST_SEGMENTS, Make, perform, restore, everywhere, HasEffect};
 ghost use Rattle.std.specs.List.{All};
 ghost use Rattle.rd_segments.specs.Room.{room_used, room_returned};
 ghost use Rattle.rd_actor.specs.Actors.{idle};
-ghost use Rattle.rd_segments.specs.Space.{contents, lists, making_count, room, capacity};
+ghost use Rattle.rd_segments.specs.Space.{contents, lists, making_count, room};
 ghost use Rattle.rd_step.specs.Step.{revert, with_actor, CanPutBack};
 ghost use Rattle.rd_step.specs.CodeWorldFields.{world_of_fields, access_suits};
 ghost use Rattle.rd_step.specs.Lists.{numbered};
@@ -31,9 +31,7 @@ pub fn revert_fields<const R: usize>(
     requires small { R ≤ MOST_CELLS }
     ensures done { world_of_fields space.new actors.new.items ≡ revert (world_of_fields space.old actors.old.items) actor words place content }
     ensures number { lists space.new ≡ lists space.old }
-    ensures capacity { capacity space.new ≡ capacity space.old }
     ensures actors { length actors.new.items ≡ length actors.old.items }
-    ensures actor_capacity { vec_capacity actors.new ≡ vec_capacity actors.old }
     ensures room { (m : ℕ) → room space.new m ≡ room space.old m + room_returned place content m }
 {
     put_back(space, place, content);
@@ -47,7 +45,6 @@ fn put_back<const R: usize>(space: &mut Space<R>, place: Option<Place>, content:
     requires small { R ≤ MOST_CELLS }
     ensures done { contents space.new ≡ restore place content (contents space.old) }
     ensures number { lists space.new ≡ lists space.old }
-    ensures capacity { capacity space.new ≡ capacity space.old }
     ensures room { (m : ℕ) → room space.new m ≡ room space.old m + room_returned place content m }
 {
     match (place, content) {
@@ -63,7 +60,6 @@ fn take_away<const R: usize>(space: &mut Space<R>, place: Place)
     requires small { R ≤ MOST_CELLS }
     ensures done { contents space.new ≡ restore (Some place) None (contents space.old) }
     ensures number { lists space.new ≡ lists space.old }
-    ensures capacity { capacity space.new ≡ capacity space.old }
     ensures room { (m : ℕ) → room space.new m ≡ room space.old m + room_returned (Some place) None m }
 {
     if let Some(name) = made_at(Some(place), None) {
@@ -86,7 +82,6 @@ pub fn set_actor(actors: &mut Vec<Actor>, number: u8, words: Actor)
     requires { IsSome (numbered actors.old.items number) }
     ensures done { numbered actors.new.items ≡ with_actor number words (numbered actors.old.items) }
     ensures number { length actors.new.items ≡ length actors.old.items }
-    ensures capacity { vec_capacity actors.new ≡ vec_capacity actors.old }
 {
     actors[usize::from(number) - 1] = words;
 }
@@ -109,7 +104,6 @@ pub fn perform<const R: usize>(
     ensures others { (m : ℕ) → (IsTrue (makes access) → m ≢ actor) → room space.new m ≡ room space.old m }
     ensures ended { result ≡ Err Refusal.SegmentsEnd → (m : ℕ) → room space.new m ≡ room space.old m }
     ensures kept { OnErr result ((m : ℕ) → room space.old m ≤ room space.new m) }
-    ensures capacity { capacity space.new ≡ capacity space.old }
 {
     match access {
         Access::NoPlace => Ok(nothing_done()),
@@ -144,7 +138,6 @@ fn make<const R: usize>(space: &mut Space<R>, actor: u8, value: u64) -> Result<D
     ensures others { (m : ℕ) → m ≢ actor → room space.new m ≡ room space.old m }
     ensures ended { result ≡ Err Refusal.SegmentsEnd → (m : ℕ) → room space.new m ≡ room space.old m }
     ensures kept { OnErr result ((m : ℕ) → room space.old m ≤ room space.new m) }
-    ensures capacity { capacity space.new ≡ capacity space.old }
 {
     let name = space.make(actor, value)?;
     Ok(Done {

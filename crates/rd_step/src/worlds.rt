@@ -43,7 +43,7 @@ impl<const R: usize> Drop for World<R> {
 }
 
 impl<const R: usize> World<R> {
-    ghost use Rattle.rd_step.specs.CodeWorld.{model, room, list_capacity, actor_capacity};
+    ghost use Rattle.rd_step.specs.CodeWorld.{model, room};
 
     /// Returns the fresh world: the root alone is there, fresh, and this many actors are idle.
     ///
@@ -213,8 +213,6 @@ impl<const R: usize> World<R> {
         ensures others { (m : ℕ) → (IsTrue (makes_segment (model self.old) event) → m ≢ event.actor) → room self.new m ≡ room self.old m }
         ensures ended { result ≡ Err Refusal.SegmentsEnd → (m : ℕ) → room self.new m ≡ room self.old m }
         ensures kept { OnErr result ((m : ℕ) → room self.old m ≤ room self.new m) }
-        ensures lists { list_capacity self.new ≡ list_capacity self.old }
-        ensures actors { actor_capacity self.new ≡ actor_capacity self.old }
     {
         let actor = match actor_in(&self.actors, event.actor) {
             None => return Err(Refusal::NoActor),
@@ -245,8 +243,6 @@ impl<const R: usize> World<R> {
         ensures done { step (model self.old) entry.now.event ≡ Ok (record { world = model self.new; entry = entry.now }) }
         ensures room { (m : ℕ) → room self.old m ≤ room self.new m + room_used (makes_segment (model self.old) entry.now.event) entry.now.event.actor m }
         ensures others { (m : ℕ) → (IsTrue (makes_segment (model self.old) entry.now.event) → m ≢ entry.now.event.actor) → room self.new m ≡ room self.old m }
-        ensures lists { list_capacity self.new ≡ list_capacity self.old }
-        ensures actors { actor_capacity self.new ≡ actor_capacity self.old }
     {
         let actor = entry.event.actor;
         let (next, _) = after::<R>(&entry.old_actor, entry.event.act, entry.answer);
@@ -276,8 +272,6 @@ impl<const R: usize> World<R> {
         requires well_formed { IsWellFormed (revert (model self.old) actor words place content) }
         ensures done { model self.new ≡ revert (model self.old) actor words place content }
         ensures room { (m : ℕ) → room self.new m ≡ room self.old m + room_returned place content m }
-        ensures lists { list_capacity self.new ≡ list_capacity self.old }
-        ensures actors { actor_capacity self.new ≡ actor_capacity self.old }
     {
         revert_fields(
             &mut self.space,
@@ -303,8 +297,6 @@ impl<const R: usize> World<R> {
         ensures unchanged { model self.new ≡ model self.old }
         ensures room { (m : ℕ) → room self.old m ≤ room self.new m }
         ensures others { (m : ℕ) → m ≢ actor → room self.new m ≡ room self.old m }
-        ensures lists { list_capacity self.new ≡ list_capacity self.old }
-        ensures actors { actor_capacity self.new ≡ actor_capacity self.old }
     {
         self.space.make_room(actor, more)?;
         Ok(())
