@@ -1,8 +1,8 @@
 //! The inverse of the plain step.
 
-ghost use Rattle.std.specs.Prelude.{◌≡◌, ◌+◌, ℕ};
-ghost use Rattle.rd_step.specs.Room.{room_returned};
-ghost use Rattle.rd_step.specs.Prelude.{model, room, unstep};
+ghost use Rattle.std.specs.Prelude.{◌≡◌};
+ghost use Rattle.rd_step.specs.Room.{room_returned, ReturnsMakersRoom};
+ghost use Rattle.rd_step.specs.Prelude.{model, makers_room, unstep};
 ghost use Rattle.rd_step.specs.Laws.{WasStepped, IsTakenOut};
 
 use rd_step::{Entry, World};
@@ -19,7 +19,7 @@ pub fn unstep<const R: usize>(world: &mut World<R>, entry: &Entry)
     ensures back { model world.new ≡ unstep (model world.old) entry.now }
     ensures taken_out { (was : WasStepped (model world.old) entry.now)
         → IsTakenOut (model world.old) (model world.new) entry.now was }
-    ensures room { (m : ℕ) → room world.new m ≡ room world.old m + room_returned entry.now.place entry.now.old_content m }
+    ensures room { ReturnsMakersRoom (room_returned entry.now.place entry.now.old_content) (makers_room world.old) (makers_room world.new) }
 {
     let actor = entry.event.actor;
     if entry.wrote.is_nothing() {

@@ -1,6 +1,9 @@
 -- The makers' lists after a change of one segment.
-use Rattle.rd_segments.proofs.Prelude.{◌≡◌, ◌≢◌, ℕ, ◌+◌, ◌-◌, ◌<◌, ◌≤◌, Bool, true, ◌==◌, ◌&&◌, if◌then◌else◌, ◌⊎◌, sym, ◌∙◌, ap, subst, arith, List, [], ◌∷◌, ◌++◌, take, length, set, get_or, Option, Some, None, is_some, slice_get, eq-eqb, ne_eqb, Result, OnErr, OnOk, with_item, cond-true, cond-false, and_left, and_right, slice_get_past, slice_get-get_or, SegName, Place, root, name_eq, operand, slice_get-set_same, slice_get-set_other, Segment, ListOf, by_number, by_name, part_of, count_in, count, Changes, IsLengthened, spare_in, spare, and_from, slice_get_cases, slice_get_within, slice_get-push_same, slice_get-push_other, slice_get-take_same, slice_get-take_other, room_used}
+use Rattle.rd_segments.proofs.Prelude.{◌≡◌, ◌≢◌, ℕ, ◌+◌, ◌-◌, ◌<◌, ◌≤◌, Bool, true, ◌==◌, ◌&&◌, if◌then◌else◌, ◌⊎◌, sym, ◌∙◌, ap, subst, arith, List, [], ◌∷◌, ◌++◌, take, length, set, get_or, Option, Some, None, is_some, slice_get, eq-eqb, ne_eqb, Result, OnErr, OnOk, with_item, cond-true, cond-false, and_left, and_right, slice_get_past, slice_get-get_or, SegName, Place, root, name_eq, operand, slice_get-set_same, slice_get-set_other, Segment, ListOf, by_number, by_name, part_of, count_in, count, Changes, IsLengthened, spare_in, spare, and_from, slice_get_cases, slice_get_within, slice_get-push_same, slice_get-push_other, slice_get-take_same, slice_get-take_other, room_used, refl, Ok, Err, Refusal, KeepsMakersRoom, UsesMakersRoom, ReturnsMakersRoom, AddsMakersRoom, makers_room}
 use Rattle.std.specs.declared.alloc.AllocError.{AllocError}
+use Rattle.std.specs.Result.{is_ok}
+use Rattle.std.proofs.lemmas.List.{length-set}
+use Rattle.rd_cell.specs.declared.refusal.Refusal.TheVariants as refusal
 
 -- a maker's list was changed at one number
 pub list_changed : {R : ℕ} (old : List (ListOf (Segment R))) (m n : ℕ) (was now : ListOf (Segment R)) (o : Option (Segment R)) → slice_get old m ≡ Some was
@@ -35,9 +38,16 @@ segment_written {R} makers name m list segment is there read =
     (λ k ne. slice_get-set_other list.items name.n k segment ne) (slice_get-set_same list.items name.n segment within))
 
 -- a list with one element written has the room that it had
-pub spare_written : {R : ℕ} (makers : List (ListOf (Segment R))) (m n : ℕ) (list : ListOf (Segment R)) (segment : Segment R) → m < length makers → list ≡ get_or makers m list
+spare_written : {R : ℕ} (makers : List (ListOf (Segment R))) (m n : ℕ) (list : ListOf (Segment R)) (segment : Segment R) → m < length makers → list ≡ get_or makers m list
     → (k : ℕ) → spare (set makers m (with_item list n segment)) k ≡ spare makers k
 spare_written makers m n list segment within read k = grind (arith, slice_get, slice_get-set_same, slice_get-get_or, slice_get-set_other)
+
+pub written_keeps : {R : ℕ} (makers : List (ListOf (Segment R))) (m n : ℕ) (list : ListOf (Segment R)) (segment : Segment R) → m < length makers → list ≡ get_or makers m list
+    → KeepsMakersRoom (makers_room makers) (makers_room (set makers m (with_item list n segment)))
+written_keeps makers m n list segment within read = record {
+  makers = length-set makers m (with_item list n segment);
+  same = spare_written makers m n list segment within read;
+}
 
 pub maker_within : {R : ℕ} (makers : List (ListOf (Segment R))) (name : SegName) → is_some (by_name makers name) ≡ true → name.maker < length makers
 maker_within makers name there = grind (arith, is_some, slice_get_past)
@@ -84,38 +94,58 @@ pub list_same : {R : ℕ} (makers : List (ListOf (Segment R))) (maker m : ℕ) (
     → list ≡ get_or makers m list → left.items ≡ list.items → (t : SegName) → by_name (set makers m left) t ≡ by_name makers t
 list_same makers maker m list left is within read same t = grind (arith, slice_get, slice_get-set_same, list_read, slice_get-set_other)
 
--- the room after a list took another's place
-pub spare_lessened : {R : ℕ} (makers : List (ListOf (Segment R))) (maker m : ℕ) (list left : ListOf (Segment R)) (made : Bool) → m ≡ maker → maker < length makers
-    → list ≡ get_or makers m list → spare_in (Some list) ≤ spare_in (Some left) + (if made then 1 else 0)
-    → (k : ℕ) → spare makers k ≤ spare (set makers m left) k + room_used made maker k
-spare_lessened makers maker m list left made is within read room k = grind (arith, spare_replaced, room_used-same)
+-- The room after a list took another's place
 
-pub spare_kept : {R : ℕ} (makers : List (ListOf (Segment R))) (maker m : ℕ) (list left : ListOf (Segment R)) → m ≡ maker → maker < length makers
-    → list ≡ get_or makers m list → spare_in (Some list) ≤ spare_in (Some left) → (k : ℕ) → spare makers k ≤ spare (set makers m left) k
-spare_kept makers maker m list left is within read room k = grind (arith, spare_replaced)
+pub made_uses : {R : ℕ} {T : Type 0} (makers : List (ListOf (Segment R))) (maker m : ℕ) (list left : ListOf (Segment R)) (r : Result T Refusal) → m ≡ maker
+    → maker < length makers → list ≡ get_or makers m list → spare_in (Some list) ≤ spare_in (Some left) + (if is_ok r then 1 else 0)
+    → (r ≡ Err refusal.SegmentsEnd → spare_in (Some left) ≡ spare_in (Some list)) → UsesMakersRoom r true maker (makers_room makers) (makers_room (set makers m left))
+made_uses {T = T} makers maker m list left r is within read room ended = record {
+  makers = length-set makers m left;
+  used = used r room;
+  others = λ k ne. ap spare_in (slice_get-set_other makers m k left (λ e. ne refl (e ∙ is)));
+  ended = λ e k. let same = ended e in grind (arith, spare_replaced);
+}
+  where
+    used : (q : Result T Refusal) → spare_in (Some list) ≤ spare_in (Some left) + (if is_ok q then 1 else 0)
+        → (k : ℕ) → spare makers k ≤ spare (set makers m left) k + room_used (is_ok q && true) maker k
+    used (Ok x) h k = grind (arith, spare_replaced, room_used-same)
+    used (Err x) h k = grind (arith, spare_replaced)
 
-pub spare_same : {R : ℕ} (makers : List (ListOf (Segment R))) (maker m : ℕ) (list left : ListOf (Segment R)) → m ≡ maker → maker < length makers
-    → list ≡ get_or makers m list → spare_in (Some left) ≡ spare_in (Some list) → (k : ℕ) → spare (set makers m left) k ≡ spare makers k
-spare_same makers maker m list left is within read room k = grind (arith, spare_replaced)
-
--- the room of another maker
-pub spare_others : {R : ℕ} (makers : List (ListOf (Segment R))) (maker m : ℕ) (left : ListOf (Segment R)) → m ≡ maker
-    → (k : ℕ) → k ≢ maker → spare (set makers m left) k ≡ spare makers k
-spare_others makers maker m left is k ne = ap spare_in (slice_get-set_other makers m k left (λ e. ne (e ∙ is)))
-
-pub spare_given : {R : ℕ} (makers : List (ListOf (Segment R))) (maker m : ℕ) (list left : ListOf (Segment R)) → m ≡ maker → maker < length makers
+pub given_returns : {R : ℕ} (makers : List (ListOf (Segment R))) (maker m : ℕ) (list left : ListOf (Segment R)) → m ≡ maker → maker < length makers
     → list ≡ get_or makers m list → spare_in (Some left) ≡ spare_in (Some list) + 1
-    → (k : ℕ) → spare (set makers m left) k ≡ spare makers k + room_used true maker k
-spare_given makers maker m list left is within read room k = grind (arith, spare_replaced, room_used-same, room_used-other)
+    → ReturnsMakersRoom (room_used true maker) (makers_room makers) (makers_room (set makers m left))
+given_returns makers maker m list left is within read room = record {
+  makers = length-set makers m left;
+  returns = λ k. grind (arith, spare_replaced, room_used-same, room_used-other);
+}
 
 -- the room at the maker's own list
-pub spare_here : {R : ℕ} (makers : List (ListOf (Segment R))) (maker m : ℕ) (left : ListOf (Segment R)) → m ≡ maker → maker < length makers
+spare_here : {R : ℕ} (makers : List (ListOf (Segment R))) (maker m : ℕ) (left : ListOf (Segment R)) → m ≡ maker → maker < length makers
     → spare (set makers m left) maker ≡ spare_in (Some left)
 spare_here makers maker m left is within = grind (arith, slice_get, slice_get-set_same)
 
-pub spare_read : {R : ℕ} (makers : List (ListOf (Segment R))) (maker m : ℕ) (list : ListOf (Segment R)) → m ≡ maker → maker < length makers
+spare_read : {R : ℕ} (makers : List (ListOf (Segment R))) (maker m : ℕ) (list : ListOf (Segment R)) → m ≡ maker → maker < length makers
     → list ≡ get_or makers m list → spare makers maker ≡ spare_in (Some list)
 spare_read makers maker m list is within read = ap spare_in (list_read makers maker list within (read ∙ ap (λ (k : ℕ). get_or makers k list) is))
+
+room_made : {R : ℕ} (makers : List (ListOf (Segment R))) (maker m : ℕ) (left : ListOf (Segment R)) (more : ℕ) → m ≡ maker → maker < length makers
+    → (r : Result (Unit {0}) AllocError) → OnOk r (more ≤ spare_in (Some left)) → OnOk r (more ≤ spare (set makers m left) maker)
+room_made makers maker m left more is within r h = grind (arith, spare_here)
+
+room_refused : {R : ℕ} (makers : List (ListOf (Segment R))) (maker m : ℕ) (list : ListOf (Segment R)) (more : ℕ) → m ≡ maker → maker < length makers
+    → list ≡ get_or makers m list → (r : Result (Unit {0}) AllocError) → OnErr r (spare_in (Some list) < more) → OnErr r (spare makers maker < more)
+room_refused makers maker m list more is within read r h = grind (arith, spare_read)
+
+pub reserved_adds : {R : ℕ} (makers : List (ListOf (Segment R))) (maker m more : ℕ) (list left : ListOf (Segment R)) (r : Result (Unit {0}) AllocError) → m ≡ maker
+    → maker < length makers → list ≡ get_or makers m list → OnOk r (more ≤ spare_in (Some left)) → OnErr r (spare_in (Some list) < more)
+    → spare_in (Some list) ≤ spare_in (Some left) → AddsMakersRoom r maker more (makers_room makers) (makers_room (set makers m left))
+reserved_adds makers maker m more list left r is within read ok err room = record {
+  makers = length-set makers m left;
+  ok = room_made makers maker m left more is within r ok;
+  err = room_refused makers maker m list more is within read r err;
+  kept = λ k. grind (arith, spare_replaced);
+  others = λ k ne. ap spare_in (slice_get-set_other makers m k left (λ e. ne (e ∙ is)));
+}
 
 -- a maker that has a segment has a list
 pub count_within : {R : ℕ} (makers : List (ListOf (Segment R))) (m : ℕ) → 0 < count makers m → m < length makers
@@ -137,14 +167,6 @@ last_taken {R} makers maker m list left is within read items =
     (list_changed makers maker (length list.items - 1) list left None found
     (λ k ne. ap (λ xs. slice_get xs k) items ∙ slice_get-take_other list.items (length list.items - 1) k (omega arith) ne)
     (ap (λ xs. slice_get xs (length list.items - 1)) items ∙ slice_get-take_same list.items (length list.items - 1))))
-
-pub room_made : {R : ℕ} (makers : List (ListOf (Segment R))) (maker m : ℕ) (left : ListOf (Segment R)) (more : ℕ) → m ≡ maker → maker < length makers
-    → (r : Result (Unit {0}) AllocError) → OnOk r (more ≤ spare_in (Some left)) → OnOk r (more ≤ spare (set makers m left) maker)
-room_made makers maker m left more is within r h = grind (arith, spare_here)
-
-pub room_refused : {R : ℕ} (makers : List (ListOf (Segment R))) (maker m : ℕ) (list : ListOf (Segment R)) (more : ℕ) → m ≡ maker → maker < length makers
-    → list ≡ get_or makers m list → (r : Result (Unit {0}) AllocError) → OnErr r (spare_in (Some list) < more) → OnErr r (spare makers maker < more)
-room_refused makers maker m list more is within read r h = grind (arith, spare_read)
 
 -- The lists of a fresh space
 

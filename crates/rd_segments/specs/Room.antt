@@ -1,10 +1,11 @@
 -- Room: how many segments of each maker can be made before its list has to grow.
 use Rattle.std.specs.Option.{option_map_or}
-use Rattle.std.specs.Prelude.{ℕ, ◌-◌, ◌==◌, ◌&&◌, Bool, true, List, Option, Some, None, slice_get, if◌then◌else◌, vec_len, vec_capacity}
-use Rattle.rd_ring.specs.Prelude.{Place, Content}
+use Rattle.std.specs.Prelude.{◌≡◌, ◌≢◌, ℕ, ◌+◌, ◌-◌, ◌<◌, ◌≤◌, ◌==◌, ◌&&◌, Bool, true, IsTrue, List, Option, Some, None, Result, Err, OnOk, OnErr, is_ok, slice_get, if◌then◌else◌, length, vec_len, vec_capacity}
+use Rattle.rd_ring.specs.Prelude.{Place, Content, Refusal}
 use Rattle.rd_ring.specs.declared.segments.Segment.{Segment}
 use Rattle.rd_segments.specs.Lists.{ListOf}
 use Rattle.rd_cell.specs.declared.places.Place.TheVariants as place
+use Rattle.rd_cell.specs.declared.refusal.Refusal.TheVariants as refusal
 
 -- how many more segments a list has room for, if there is one
 abbrev pub spare_in : {R : ℕ} → Option (ListOf (Segment R)) → ℕ
@@ -30,3 +31,41 @@ room_of_place _ m = 0
 abbrev pub room_returned : Option Place → Option Content → ℕ → ℕ
 room_returned p (Some c) m = 0
 room_returned p None m = room_of_place p m
+
+-- the room of all makers: how many of them have a list, and how many more segments each list has
+-- room for
+pub record MakersRoom : Type 0 where
+  pub makers : ℕ
+  pub at : ℕ → ℕ
+
+-- the room of all makers in these lists
+abbrev pub makers_room : {R : ℕ} → List (ListOf (Segment R)) → MakersRoom
+makers_room makers = record { makers = length makers; at = spare makers }
+
+-- the room of every maker stays
+pub record KeepsMakersRoom (old new : MakersRoom) : Type 0 where
+  pub makers : new.makers ≡ old.makers
+  pub same : (m : ℕ) → new.at m ≡ old.at m
+
+-- a call with this result, which makes a segment of this maker if `makes` holds, used room for one
+-- segment of that maker at most, and none if it was refused. All other room stays, and all room if
+-- the call was refused with SegmentsEnd
+pub record UsesMakersRoom {T : Type 0} (result : Result T Refusal) (makes : Bool) (maker : ℕ) (old new : MakersRoom) : Type 0 where
+  pub makers : new.makers ≡ old.makers
+  pub used : (m : ℕ) → old.at m ≤ new.at m + room_used (is_ok result && makes) maker m
+  pub others : (m : ℕ) → (IsTrue makes → m ≢ maker) → new.at m ≡ old.at m
+  pub ended : result ≡ Err refusal.SegmentsEnd → (m : ℕ) → new.at m ≡ old.at m
+
+-- each maker has its old room, and as much more as is returned to it
+pub record ReturnsMakersRoom (returned : ℕ → ℕ) (old new : MakersRoom) : Type 0 where
+  pub makers : new.makers ≡ old.makers
+  pub returns : (m : ℕ) → new.at m ≡ old.at m + returned m
+
+-- a call with this result gave this maker room for `more` segments, or was refused, and then the
+-- maker had less room. No maker has less room than before, and the room of other makers stays
+pub record AddsMakersRoom {T E : Type 0} (result : Result T E) (maker more : ℕ) (old new : MakersRoom) : Type 0 where
+  pub makers : new.makers ≡ old.makers
+  pub ok : OnOk result (more ≤ new.at maker)
+  pub err : OnErr result (old.at maker < more)
+  pub kept : (m : ℕ) → old.at m ≤ new.at m
+  pub others : (m : ℕ) → m ≢ maker → new.at m ≡ old.at m

@@ -4,7 +4,7 @@ use Rattle.rd_ring.specs.Prelude.{SegName, Contents}
 use Rattle.rd_segments.specs.declared.array.ArrayParts.{ArrayParts}
 use Rattle.rd_segments.specs.declared.space.Space.{Space}
 use Rattle.rd_segments.specs.Lists.{count}
-use Rattle.rd_segments.specs.Room.{spare}
+use Rattle.rd_segments.specs.Room.{MakersRoom, makers_room as room_of_lists, spare}
 use Rattle.rd_segments.specs.SpaceFields.{contents_of}
 
 -- the content of each place of the space
@@ -22,6 +22,10 @@ making_count s m = count s.makers.items m
 -- how many more segments a maker can make without memory being asked for
 abbrev pub room : {R : ℕ} → Space R → ℕ → ℕ
 room s m = spare s.makers.items m
+
+-- the room of all makers
+abbrev pub makers_room : {R : ℕ} → Space R → MakersRoom
+makers_room s = room_of_lists s.makers.items
 
 -- the name of the segment at the queue's head
 abbrev pub head_name : {R : ℕ} → Space R → SegName

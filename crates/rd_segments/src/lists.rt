@@ -4,7 +4,7 @@ ghost use Rattle.std.specs.Prelude.{◌≡◌, ◌≢◌, ◌+◌, ◌-◌, ◌<
 ghost use Rattle.rd_ring.specs.Prelude.{MOST_CELLS, SegName, Place, segment_of, can_hold, operand, operate, holding, everywhere, Operates, Makes, Restores, RefusesMaking};
 ghost use Rattle.rd_cell.specs.Operations.{suits_segments};
 ghost use Rattle.rd_segments.specs.Lists.{by_name, part_of, segments_of, count, IsLengthened};
-ghost use Rattle.rd_segments.specs.Room.{spare, room_used};
+ghost use Rattle.rd_segments.specs.Room.{spare, room_used, makers_room, KeepsMakersRoom, UsesMakersRoom, ReturnsMakersRoom, AddsMakersRoom};
 
 use rd_cell::limits::MOST_SEGMENTS;
 use rd_cell::{Content, Done, Operation, Place, Refusal, SegName};
@@ -36,8 +36,7 @@ pub fn operate_in<const R: usize>(
     ensures ok { IfOk result (λ done. Operates everywhere place operation done (segments_of makers.old.items) (segments_of makers.new.items)) }
     ensures err { IfErr result (λ e. operate place operation (operand (segments_of makers.old.items) place) ≡ Err e) }
     ensures unchanged { OnErr result (segments_of makers.new.items ≡ segments_of makers.old.items) }
-    ensures room { (m : ℕ) → spare makers.new.items m ≡ spare makers.old.items m }
-    ensures number { length makers.new.items ≡ length makers.old.items }
+    ensures room { KeepsMakersRoom (makers_room makers.old.items) (makers_room makers.new.items) }
 {
     let (maker, n) = (usize::from(name.maker), name.n as usize);
     if maker >= makers.len() || n >= makers[maker].len() {
@@ -58,8 +57,7 @@ pub fn restore_in<const R: usize>(
     requires its { segment_of place ≡ Some name }
     requires kind { IsTrue (can_hold place content) }
     ensures done { Restores everywhere place (Some content) (segments_of makers.old.items) (segments_of makers.new.items) }
-    ensures room { (m : ℕ) → spare makers.new.items m ≡ spare makers.old.items m }
-    ensures number { length makers.new.items ≡ length makers.old.items }
+    ensures room { KeepsMakersRoom (makers_room makers.old.items) (makers_room makers.new.items) }
 {
     makers[usize::from(name.maker)][name.n as usize].restore(place, content);
 }
@@ -81,10 +79,7 @@ pub fn make_in<const R: usize>(
     ensures ok { IfOk result (λ name. Makes name (holding R value) (segments_of makers.old.items) (segments_of makers.new.items)) }
     ensures err { IfErr result (λ e. RefusesMaking (count makers.old.items maker) (spare makers.old.items maker) e) }
     ensures unchanged { OnErr result (segments_of makers.new.items ≡ segments_of makers.old.items) }
-    ensures room { (m : ℕ) → spare makers.old.items m ≤ spare makers.new.items m + room_used (is_ok result) maker m }
-    ensures others { (m : ℕ) → m ≢ maker → spare makers.new.items m ≡ spare makers.old.items m }
-    ensures ended { result ≡ Err Refusal.SegmentsEnd → (m : ℕ) → spare makers.new.items m ≡ spare makers.old.items m }
-    ensures number { length makers.new.items ≡ length makers.old.items }
+    ensures room { UsesMakersRoom result true maker (makers_room makers.old.items) (makers_room makers.new.items) }
 {
     make_next(&mut makers[usize::from(maker)], maker, value)
 }
@@ -119,8 +114,7 @@ pub fn unmake_in<const R: usize>(makers: &mut Vec<Vec<Segment<R>>>, maker: u8)
     requires small { R ≤ MOST_CELLS }
     requires has_one { 0 < count makers.old.items maker }
     ensures gone { Restores everywhere (Place.Whole (record { maker = maker; n = count makers.old.items maker - 1 })) None (segments_of makers.old.items) (segments_of makers.new.items) }
-    ensures room { (m : ℕ) → spare makers.new.items m ≡ spare makers.old.items m + room_used true maker m }
-    ensures number { length makers.new.items ≡ length makers.old.items }
+    ensures room { ReturnsMakersRoom (room_used true maker) (makers_room makers.old.items) (makers_room makers.new.items) }
 {
     take_last(&mut makers[usize::from(maker)]);
 }
@@ -147,12 +141,8 @@ pub fn make_room_in<const R: usize>(
 ) -> Result<(), AllocError>
     requires small { R ≤ MOST_CELLS }
     requires maker_there { maker < length makers.old.items }
-    ensures ok { OnOk result (more ≤ spare makers.new.items maker) }
-    ensures err { OnErr result (spare makers.old.items maker < more) }
     ensures unchanged { segments_of makers.new.items ≡ segments_of makers.old.items }
-    ensures room { (m : ℕ) → spare makers.old.items m ≤ spare makers.new.items m }
-    ensures others { (m : ℕ) → m ≢ maker → spare makers.new.items m ≡ spare makers.old.items m }
-    ensures number { length makers.new.items ≡ length makers.old.items }
+    ensures room { AddsMakersRoom result maker more (makers_room makers.old.items) (makers_room makers.new.items) }
 {
     reserve(&mut makers[usize::from(maker)], more)
 }

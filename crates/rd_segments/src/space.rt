@@ -3,7 +3,7 @@
 ghost use Rattle.std.specs.Prelude.{◌≡◌, ◌≢◌, ◌+◌, ◌-◌, ◌<◌, ◌≤◌, ◌↔◌, ℕ, suc, true, Some, None, is_ok, is_some, Err, IsTrue, IfOk, IfErr, OnOk, OnErr, length};
 ghost use Rattle.rd_ring.specs.Prelude.{MOST_CELLS, root, content_at, can_hold, operand, operate, restore, holding, everywhere, Operates, Makes, RefusesMaking};
 ghost use Rattle.rd_cell.specs.Operations.{suits};
-ghost use Rattle.rd_segments.specs.Room.{room_used};
+ghost use Rattle.rd_segments.specs.Room.{room_used, KeepsMakersRoom, UsesMakersRoom, ReturnsMakersRoom, AddsMakersRoom};
 ghost use Rattle.rd_segments.specs.SpaceFields.{fresh_space};
 ghost use Rattle.rd_segments.specs.Lists.{IsFresh};
 ghost use Rattle.rd_segments.specs.Array.{array_part, fresh_array};
@@ -32,7 +32,7 @@ pub struct Space<const R: usize> {
 }
 
 impl<const R: usize> Space<R> {
-    ghost use Rattle.rd_segments.specs.Space.{contents, lists, making_count, room, head_name, tail_name, array_words};
+    ghost use Rattle.rd_segments.specs.Space.{contents, lists, making_count, room, makers_room, head_name, tail_name, array_words};
 
     /// Returns a fresh space for this many actors: the root is there and fresh, the queue's two
     /// ends name it, and the array is fresh.
@@ -175,8 +175,7 @@ impl<const R: usize> Space<R> {
         ensures ok { IfOk result (λ done. Operates everywhere place operation done (contents self.old) (contents self.new)) }
         ensures err { IfErr result (λ e. operate place operation (operand (contents self.old) place) ≡ Err e) }
         ensures unchanged { OnErr result (contents self.new ≡ contents self.old) }
-        ensures kept { (m : ℕ) → room self.new m ≡ room self.old m }
-        ensures number { lists self.new ≡ lists self.old }
+        ensures room { KeepsMakersRoom (makers_room self.old) (makers_room self.new) }
     {
         match place.segment() {
             Some(name) => operate_in(&mut self.makers, name, place, operation),
@@ -201,10 +200,7 @@ impl<const R: usize> Space<R> {
         ensures ok { IfOk result (λ name. Makes name (holding R value) (contents self.old) (contents self.new)) }
         ensures err { IfErr result (λ e. RefusesMaking (making_count self.old maker) (room self.old maker) e) }
         ensures unchanged { OnErr result (contents self.new ≡ contents self.old) }
-        ensures used { (m : ℕ) → room self.old m ≤ room self.new m + room_used (is_ok result) maker m }
-        ensures ended { result ≡ Err Refusal.SegmentsEnd → (m : ℕ) → room self.new m ≡ room self.old m }
-        ensures others { (m : ℕ) → m ≢ maker → room self.new m ≡ room self.old m }
-        ensures number { lists self.new ≡ lists self.old }
+        ensures room { UsesMakersRoom result true maker (makers_room self.old) (makers_room self.new) }
     {
         make_in(&mut self.makers, maker, value)
     }
@@ -213,8 +209,7 @@ impl<const R: usize> Space<R> {
     pub fn unmake(&mut self, maker: u8)
         requires { 0 < making_count self.old maker }
         ensures gone { contents self.new ≡ restore (Some (Place.Whole (record { maker = maker; n = making_count self.old maker - 1 }))) None (contents self.old) }
-        ensures given { (m : ℕ) → room self.new m ≡ room self.old m + room_used true maker m }
-        ensures number { lists self.new ≡ lists self.old }
+        ensures room { ReturnsMakersRoom (room_used true maker) (makers_room self.old) (makers_room self.new) }
     {
         unmake_in(&mut self.makers, maker);
     }
@@ -224,8 +219,7 @@ impl<const R: usize> Space<R> {
         requires there { IsTrue (is_some (operand (contents self.old) place)) }
         requires kind { IsTrue (can_hold place content) }
         ensures done { contents self.new ≡ restore (Some place) (Some content) (contents self.old) }
-        ensures kept { (m : ℕ) → room self.new m ≡ room self.old m }
-        ensures number { lists self.new ≡ lists self.old }
+        ensures room { KeepsMakersRoom (makers_room self.old) (makers_room self.new) }
     {
         match (place.segment(), place, content) {
             (Some(name), _, _) => restore_in(&mut self.makers, name, place, content),
@@ -243,12 +237,8 @@ impl<const R: usize> Space<R> {
     /// Only if the growth was refused. No place changes.
     pub fn make_room(&mut self, maker: u8, more: usize) -> Result<(), AllocError>
         requires { maker < lists self.old }
-        ensures ok { OnOk result (more ≤ room self.new maker) }
-        ensures err { OnErr result (room self.old maker < more) }
         ensures unchanged { contents self.new ≡ contents self.old }
-        ensures kept { (m : ℕ) → room self.old m ≤ room self.new m }
-        ensures others { (m : ℕ) → m ≢ maker → room self.new m ≡ room self.old m }
-        ensures number { lists self.new ≡ lists self.old }
+        ensures room { AddsMakersRoom result maker more (makers_room self.old) (makers_room self.new) }
     {
         make_room_in(&mut self.makers, maker, more)
     }

@@ -1,6 +1,7 @@
 -- The code's world, as the model's.
 use Rattle.rd_step.proofs.Prelude.{◌≡◌, ℕ, zero, suc, ◌-◌, ◌<◌, ◌≤◌, true, false, nat_lt, inl, inr, refl, sym, ◌∙◌, ap, subst, arith, List, [], ◌∷◌, length, set, slice_get, Option, Some, None, is_some, IsSome, is_ok, IsOk, IfOk, OnErr, Result, Ok, Err, lt-ltb, le-ltb, leb-true, holding, cases_lt, cond-true, cond-false, COUNTER_END, MOST_SEGMENTS, MOST_CELLS, MOST_ACTORS, SegName, Place, Access, Make, Done, Refusal, Contents, is_there, perform, restore, everywhere, HasEffect, Space, contents, room, lists, Actor, OpReply, need, after, World, Event, Entry, with_actor, step, world_of_fields, numbered, makes, makes_segment, IsRefused, Presence, actor_fits, record_fits, maker_fits, is_actor, IsWellFormed, IfOk-at_ok, number_made, Makes, RefusesMaking, making_count, counts, there_below, absent_from, IsRepresentable, IsLast, access_suits, made_at}
 use Rattle.rd_actor.proofs.Representable.{representable}
+use Rattle.rd_step.specs.declared.worlds.World.{World as CodeWorld}
 use Rattle.rd_step.proofs.Actors.{numbered-set, numbered-within}
 use Rattle.rd_step.proofs.Fits.{parts_of, words_of, access_fits, need_fits}
 use Rattle.rd_step.proofs.Keeps.{keeps}
@@ -114,13 +115,18 @@ need_suits R space xs e a x formed has needs =
 
 -- what an actor of a well-formed world asks for is representable: its head position has room for
 -- the ring's size behind it, and its words fit its place
-pub representable_here : (R : ℕ) (space : Space R) (xs : List Actor) (e : Event) (a : Actor) → IsWellFormed (world_of_fields space xs) → R ≤ MOST_CELLS
+representable_here : (R : ℕ) (space : Space R) (xs : List Actor) (e : Event) (a : Actor) → IsWellFormed (world_of_fields space xs) → R ≤ MOST_CELLS
     → numbered xs e.actor ≡ Some a → IsRepresentable R a e.act
 representable_here R space xs e a formed small has =
     let there = is_there (contents space) in
     let fits : record_fits R there a ≡ true = subst (λ (o : Option Actor). actor_fits R there o ≡ true) has (formed.actors e.actor) in
     let h = leb-true a.h COUNTER_END (parts_of R there a fits).h in
     representable R a e.act (omega arith) (words_of R there a fits)
+
+-- what an actor asks for is what the code's table says
+pub needs_by : {R : ℕ} (self : CodeWorld R) (e : Event) (a : Actor) (r : Result Access Refusal) → numbered self.actors.items e.actor ≡ Some a
+    → (IsRepresentable R a e.act → r ≡ need R a e.act) → need R a e.act ≡ r
+needs_by {R} self e a r has by = sym (by (representable_here R self.space self.actors.items e a self.well_formed self.small has))
 
 -- whether an actor's event makes a segment, by its access
 pub makes_by : (w : World) (e : Event) (a : Actor) (x : Access) → w.actor e.actor ≡ Some a → need w.ring a e.act ≡ Ok x

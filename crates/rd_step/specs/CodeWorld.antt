@@ -1,6 +1,7 @@
 -- The code's world, as a world of the model: what public clauses cite.
 use Rattle.std.specs.Prelude.{ℕ}
-use Rattle.rd_segments.specs.Space.{room as space_room}
+use Rattle.rd_segments.specs.Room.{MakersRoom}
+use Rattle.rd_segments.specs.Space.{room as space_room, makers_room as room_of_space}
 use Rattle.rd_step.specs.declared.worlds.World.{World as CodeWorld}
 use Rattle.rd_step.specs.World.{World}
 use Rattle.rd_step.specs.CodeWorldFields.{world_of_fields}
@@ -13,3 +14,7 @@ model w = world_of_fields w.space w.actors.items
 -- how many more segments an actor can make without memory being asked for
 abbrev pub room : {R : ℕ} → CodeWorld R → ℕ → ℕ
 room w m = space_room w.space m
+
+-- the room of all makers: the actors, by their numbers, and maker 0
+abbrev pub makers_room : {R : ℕ} → CodeWorld R → MakersRoom
+makers_room w = room_of_space w.space

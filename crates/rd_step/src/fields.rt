@@ -4,9 +4,9 @@
 ghost use Rattle.std.specs.Prelude.{◌≡◌, ◌≢◌, ◌+◌, ◌<◌, ◌≤◌, ◌↔◌, ℕ, true, Some, None, Ok, Err, IsSome, IsTrue, IfOk, IfErr, OnErr, length};
 ghost use Rattle.rd_ring.specs.Prelude.{MOST_CELLS, MOST_SEGMENTS, Make, perform, restore, everywhere, HasEffect};
 ghost use Rattle.std.specs.List.{All};
-ghost use Rattle.rd_segments.specs.Room.{room_used, room_returned};
+ghost use Rattle.rd_segments.specs.Room.{room_returned, UsesMakersRoom, ReturnsMakersRoom};
 ghost use Rattle.rd_actor.specs.Actors.{idle};
-ghost use Rattle.rd_segments.specs.Space.{contents, lists, making_count, room};
+ghost use Rattle.rd_segments.specs.Space.{contents, lists, making_count, room, makers_room};
 ghost use Rattle.rd_step.specs.Step.{revert, with_actor, CanPutBack};
 ghost use Rattle.rd_step.specs.CodeWorldFields.{world_of_fields, access_suits};
 ghost use Rattle.rd_step.specs.Lists.{numbered};
@@ -30,9 +30,8 @@ pub fn revert_fields<const R: usize>(
     requires place_there { CanPutBack (contents space.old) place content }
     requires small { R ≤ MOST_CELLS }
     ensures done { world_of_fields space.new actors.new.items ≡ revert (world_of_fields space.old actors.old.items) actor words place content }
-    ensures number { lists space.new ≡ lists space.old }
     ensures actors { length actors.new.items ≡ length actors.old.items }
-    ensures room { (m : ℕ) → room space.new m ≡ room space.old m + room_returned place content m }
+    ensures room { ReturnsMakersRoom (room_returned place content) (makers_room space.old) (makers_room space.new) }
 {
     put_back(space, place, content);
     set_actor(actors, actor, words);
@@ -44,8 +43,7 @@ fn put_back<const R: usize>(space: &mut Space<R>, place: Option<Place>, content:
     requires can { CanPutBack (contents space.old) place content }
     requires small { R ≤ MOST_CELLS }
     ensures done { contents space.new ≡ restore place content (contents space.old) }
-    ensures number { lists space.new ≡ lists space.old }
-    ensures room { (m : ℕ) → room space.new m ≡ room space.old m + room_returned place content m }
+    ensures room { ReturnsMakersRoom (room_returned place content) (makers_room space.old) (makers_room space.new) }
 {
     match (place, content) {
         (Some(place), Some(content)) => space.restore(place, content),
@@ -59,8 +57,7 @@ fn take_away<const R: usize>(space: &mut Space<R>, place: Place)
     requires can { CanPutBack (contents space.old) (Some place) None }
     requires small { R ≤ MOST_CELLS }
     ensures done { contents space.new ≡ restore (Some place) None (contents space.old) }
-    ensures number { lists space.new ≡ lists space.old }
-    ensures room { (m : ℕ) → room space.new m ≡ room space.old m + room_returned (Some place) None m }
+    ensures room { ReturnsMakersRoom (room_returned (Some place) None) (makers_room space.old) (makers_room space.new) }
 {
     if let Some(name) = made_at(Some(place), None) {
         space.unmake(name.maker);
@@ -99,11 +96,7 @@ pub fn perform<const R: usize>(
     ensures ok { IfOk result (λ done. HasEffect everywhere (perform R actor (contents space.old) access) done (contents space.old) (contents space.new)) }
     ensures err { IfErr result (λ e. IsRefused (perform R actor (contents space.old) access) (makes access) (room space.old actor) e) }
     ensures unchanged { OnErr result (contents space.new ≡ contents space.old) }
-    ensures number { lists space.new ≡ lists space.old }
-    ensures room { (m : ℕ) → room space.old m ≤ room space.new m + room_used (makes access) actor m }
-    ensures others { (m : ℕ) → (IsTrue (makes access) → m ≢ actor) → room space.new m ≡ room space.old m }
-    ensures ended { result ≡ Err Refusal.SegmentsEnd → (m : ℕ) → room space.new m ≡ room space.old m }
-    ensures kept { OnErr result ((m : ℕ) → room space.old m ≤ room space.new m) }
+    ensures room { UsesMakersRoom result (makes access) actor (makers_room space.old) (makers_room space.new) }
 {
     match access {
         Access::NoPlace => Ok(nothing_done()),
@@ -133,11 +126,7 @@ fn make<const R: usize>(space: &mut Space<R>, actor: u8, value: u64) -> Result<D
     ensures ok { IfOk result (λ done. HasEffect everywhere (perform R actor (contents space.old) (Make value)) done (contents space.old) (contents space.new)) }
     ensures err { IfErr result (λ e. IsRefused (perform R actor (contents space.old) (Make value)) true (room space.old actor) e) }
     ensures unchanged { OnErr result (contents space.new ≡ contents space.old) }
-    ensures number { lists space.new ≡ lists space.old }
-    ensures room { (m : ℕ) → room space.old m ≤ room space.new m + room_used true actor m }
-    ensures others { (m : ℕ) → m ≢ actor → room space.new m ≡ room space.old m }
-    ensures ended { result ≡ Err Refusal.SegmentsEnd → (m : ℕ) → room space.new m ≡ room space.old m }
-    ensures kept { OnErr result ((m : ℕ) → room space.old m ≤ room space.new m) }
+    ensures room { UsesMakersRoom result true actor (makers_room space.old) (makers_room space.new) }
 {
     let name = space.make(actor, value)?;
     Ok(Done {

@@ -2,7 +2,7 @@
 
 ghost use Rattle.std.specs.Prelude.{◌≡◌, ◌≢◌, ◌+◌, ◌<◌, ◌≤◌, ◌↔◌, ℕ, suc, None, Ok, Err, IsSome, IsTrue, IfOk, IfErr, OnOk, OnErr, length};
 ghost use Rattle.rd_ring.specs.Prelude.{MOST_CELLS, MOST_ACTORS, content_at};
-ghost use Rattle.rd_segments.specs.Room.{room_used, room_returned};
+ghost use Rattle.rd_segments.specs.Room.{room_returned, UsesMakersRoom, ReturnsMakersRoom, AddsMakersRoom};
 ghost use Rattle.rd_segments.specs.Space.{lists};
 ghost use Rattle.rd_step.specs.Step.{step, revert, CanPutBack};
 ghost use Rattle.rd_step.specs.CodeWorldFields.{world_of_fields};
@@ -43,7 +43,7 @@ impl<const R: usize> Drop for World<R> {
 }
 
 impl<const R: usize> World<R> {
-    ghost use Rattle.rd_step.specs.CodeWorld.{model, room};
+    ghost use Rattle.rd_step.specs.CodeWorld.{model, room, makers_room};
 
     /// Returns the fresh world: the root alone is there, fresh, and this many actors are idle.
     ///
@@ -209,10 +209,7 @@ impl<const R: usize> World<R> {
         ensures ok { IfOk result (λ entry. step (model self.old) event ≡ Ok (record { world = model self.new; entry = entry })) }
         ensures err { IfErr result (λ refusal. IsRefused (step (model self.old) event) (makes_segment (model self.old) event) (room self.old event.actor) refusal) }
         ensures unchanged { OnErr result (model self.new ≡ model self.old) }
-        ensures room { (m : ℕ) → room self.old m ≤ room self.new m + room_used (makes_segment (model self.old) event) event.actor m }
-        ensures others { (m : ℕ) → (IsTrue (makes_segment (model self.old) event) → m ≢ event.actor) → room self.new m ≡ room self.old m }
-        ensures ended { result ≡ Err Refusal.SegmentsEnd → (m : ℕ) → room self.new m ≡ room self.old m }
-        ensures kept { OnErr result ((m : ℕ) → room self.old m ≤ room self.new m) }
+        ensures room { UsesMakersRoom result (makes_segment (model self.old) event) event.actor (makers_room self.old) (makers_room self.new) }
     {
         let actor = match actor_in(&self.actors, event.actor) {
             None => return Err(Refusal::NoActor),
@@ -241,8 +238,7 @@ impl<const R: usize> World<R> {
         requires goes { (after : Model) × (step (model self.old) entry.now.event ≡ Ok (record { world = after; entry = entry.now })) }
         requires room { IsTrue (makes_segment (model self.old) entry.now.event) → 1 ≤ room self.old entry.now.event.actor }
         ensures done { step (model self.old) entry.now.event ≡ Ok (record { world = model self.new; entry = entry.now }) }
-        ensures room { (m : ℕ) → room self.old m ≤ room self.new m + room_used (makes_segment (model self.old) entry.now.event) entry.now.event.actor m }
-        ensures others { (m : ℕ) → (IsTrue (makes_segment (model self.old) entry.now.event) → m ≢ entry.now.event.actor) → room self.new m ≡ room self.old m }
+        ensures room { UsesMakersRoom (Ok entry.now) (makes_segment (model self.old) entry.now.event) entry.now.event.actor (makers_room self.old) (makers_room self.new) }
     {
         let actor = entry.event.actor;
         let (next, _) = after::<R>(&entry.old_actor, entry.event.act, entry.answer);
@@ -271,7 +267,7 @@ impl<const R: usize> World<R> {
         requires place_there { CanPutBack (model self.old).at place content }
         requires well_formed { IsWellFormed (revert (model self.old) actor words place content) }
         ensures done { model self.new ≡ revert (model self.old) actor words place content }
-        ensures room { (m : ℕ) → room self.new m ≡ room self.old m + room_returned place content m }
+        ensures room { ReturnsMakersRoom (room_returned place content) (makers_room self.old) (makers_room self.new) }
     {
         revert_fields(
             &mut self.space,
@@ -292,11 +288,9 @@ impl<const R: usize> World<R> {
     /// `NoMemory` if memory was refused. The world does not change.
     pub fn make_room(&mut self, actor: u8, more: usize) -> Result<(), Refusal>
         requires { IsSome ((model self.old).actor actor) }
-        ensures ok { OnOk result (more ≤ room self.new actor) }
-        ensures err { IfErr result (λ e. (e ≡ Refusal.NoMemory) × (room self.old actor < more)) }
+        ensures err { IfErr result (λ e. e ≡ Refusal.NoMemory) }
         ensures unchanged { model self.new ≡ model self.old }
-        ensures room { (m : ℕ) → room self.old m ≤ room self.new m }
-        ensures others { (m : ℕ) → m ≢ actor → room self.new m ≡ room self.old m }
+        ensures room { AddsMakersRoom result actor more (makers_room self.old) (makers_room self.new) }
     {
         self.space.make_room(actor, more)?;
         Ok(())

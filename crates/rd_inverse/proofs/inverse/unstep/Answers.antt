@@ -1,7 +1,7 @@
-use Rattle.std.proofs.Common.{◌+◌, sym, ◌∙◌, ap, subst, ℕ, arith}
+use Rattle.std.proofs.Common.{sym, ◌∙◌, subst, arith}
 use Rattle.rd_step.specs.World.{World}
 use Rattle.rd_step.specs.Laws.{IsTakenOut}
-use Rattle.rd_step.specs.Prelude.{model, room}
+use Rattle.rd_step.specs.Prelude.{model}
 use Rattle.rd_step.proofs.Removal.{can_undo, taken_out}
 use Rattle.rd_inverse.proofs.Reading.{undone_by_words}
 use Rattle.rd_inverse.proofs.inverse.unstep.Goals as goal
@@ -26,9 +26,9 @@ returns-then-is_nothing-clause-taken_out g c = λ was.
     (taken_out (model c.args.world.now) c.args.entry.now was)
 
 pub returns-then-is_nothing-clause-room : goal.returns-then-is_nothing-clause-room
-returns-then-is_nothing-clause-room g c = λ m.
-    c.revert.ensures.room m
-    ∙ ap (λ (n : ℕ). room c.args.world.now m + n) (sym ((undone_by_words _ _ c.requires (sym c.if-is_nothing.ensures)).room m))
+returns-then-is_nothing-clause-room g c =
+    let none = (undone_by_words _ _ c.requires (sym c.if-is_nothing.ensures)).room in
+    record { makers = c.revert.ensures.room.makers; returns = λ m. let is = none m in let stays = c.revert.ensures.room.returns m in omega arith }
 
 pub returns-else-is_nothing-clause-taken_out : goal.returns-else-is_nothing-clause-taken_out
 returns-else-is_nothing-clause-taken_out g c = λ was.

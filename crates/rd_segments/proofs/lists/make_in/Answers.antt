@@ -1,5 +1,5 @@
 use Rattle.std.proofs.Common.{arith}
-use Rattle.rd_segments.proofs.ListsLemmas.{spare_lessened, spare_same, spare_others}
+use Rattle.rd_segments.proofs.ListsLemmas.{made_uses}
 use Rattle.rd_segments.proofs.SegmentsLemmas.{makes_in, named_in, refuses_making, making_same}
 use Rattle.rd_segments.proofs.lists.make_in.Goals as goal
 
@@ -20,10 +20,6 @@ pub returns-clause-unchanged : goal.returns-clause-unchanged
 returns-clause-unchanged g c = grind (arith, making_same)
 
 pub returns-clause-room : goal.returns-clause-room
-returns-clause-room g c = grind (arith, spare_lessened)
-
-pub returns-clause-others : goal.returns-clause-others
-returns-clause-others g c = spare_others c.args.makers.now.items c.args.maker c.from.result c.make_next.new.list c.from.ensures
-
-pub returns-clause-ended : goal.returns-clause-ended
-returns-clause-ended g c = grind (arith, spare_same)
+returns-clause-room g c =
+    made_uses c.args.makers.now.items c.args.maker c.from.result c.index_mut.result.now c.make_next.new.list c.make_next.result c.from.ensures
+    c.requires.maker_there c.index_mut.ensures.value c.make_next.ensures.room c.make_next.ensures.ended

@@ -1,5 +1,5 @@
 use Rattle.std.proofs.Common.{arith}
-use Rattle.rd_segments.proofs.ListsLemmas.{list_read, spare_written, found_there}
+use Rattle.rd_segments.proofs.ListsLemmas.{list_read, written_keeps, found_there}
 use Rattle.rd_segments.proofs.SegmentsLemmas.{operates_in, refuses_in, unchanged_in}
 use Rattle.rd_segments.proofs.lists.operate_in.Goals as goal
 
@@ -19,4 +19,5 @@ returns-clause-unchanged g c =
     (grind (arith, found_there, list_read)) c.operate.result c.operate.ensures.unchanged
 
 pub returns-clause-room : goal.returns-clause-room
-returns-clause-room g c = grind (arith, spare_written)
+returns-clause-room g c =
+    written_keeps c.args.makers.now.items c.from-maker.result c.args.name.n c.index_mut.result.now c.operate.new.self (omega arith) c.index_mut.ensures.value

@@ -1,5 +1,5 @@
-use Rattle.rd_segments.proofs.Prelude.{arith, common_steps}
-use Rattle.rd_segments.proofs.ListsLemmas.{segment_there, spare_written, maker_within}
+use Rattle.rd_segments.proofs.Prelude.{arith}
+use Rattle.rd_segments.proofs.ListsLemmas.{segment_there, written_keeps, maker_within}
 use Rattle.rd_segments.proofs.SegmentsLemmas.{restores_in}
 use Rattle.rd_segments.proofs.lists.restore_in.Goals as goal
 
@@ -17,4 +17,8 @@ returns-clause-done g c =
     c.restore.ensures
 
 pub returns-clause-room : goal.returns-clause-room
-returns-clause-room g c = grind (arith, common_steps, maker_within, segment_there, spare_written)
+returns-clause-room g c =
+    let there = segment_there _ c.args.place c.requires.there in
+    let is = c.from.ensures in
+    written_keeps c.args.makers.now.items c.from.result c.args.name.n c.index_mut.result.now c.restore.new.self
+    (let within = maker_within c.args.makers.now.items c.args.name there in omega arith) c.index_mut.ensures.value

@@ -1,5 +1,5 @@
 use Rattle.std.proofs.Common.{arith}
-use Rattle.rd_segments.proofs.ListsLemmas.{spare_given, count_within, count_read}
+use Rattle.rd_segments.proofs.ListsLemmas.{given_returns, count_within, count_read}
 use Rattle.rd_segments.proofs.SegmentsLemmas.{unmakes_in}
 use Rattle.rd_segments.proofs.lists.unmake_in.Goals as goal
 
@@ -17,4 +17,6 @@ returns-clause-gone g c =
     c.take_last.ensures.items
 
 pub returns-clause-room : goal.returns-clause-room
-returns-clause-room g c = grind (arith, spare_given, count_within)
+returns-clause-room g c =
+    given_returns c.args.makers.now.items c.args.maker c.from.result c.index_mut.result.now c.take_last.new.list c.from.ensures
+    (count_within c.args.makers.now.items c.args.maker c.requires.has_one) c.index_mut.ensures.value c.take_last.ensures.room

@@ -1,4 +1,5 @@
-use Rattle.rd_step.proofs.Prelude.{sym, ◌∙◌, subst, arith, Some, None, Place, restore, CanPutBack, contents}
+use Rattle.rd_step.proofs.Prelude.{sym, ◌∙◌, subst, arith, Some, None, Place, restore, CanPutBack, contents, room_returned, ReturnsMakersRoom}
+use Rattle.rd_segments.specs.Space.{makers_room}
 use Rattle.rd_step.proofs.WorldLemmas.{made_whole, last_some, last_taken}
 use Rattle.rd_step.proofs.fields.take_away.Goals as goal
 
@@ -11,3 +12,8 @@ returns-in-Some-clause-done g c =
     let last = subst (λ (p : Place). CanPutBack (contents c.args.space.now) (Some p) None) whole c.requires.can in
     last_taken c.args.space.now (contents c.unmake.new.self) c.in-Some.name last c.unmake.ensures.gone
     ∙ (λ i. restore (Some (sym whole i)) None (contents c.args.space.now))
+
+pub returns-in-Some-clause-room : goal.returns-in-Some-clause-room
+returns-in-Some-clause-room g c =
+    let whole = made_whole c.args.place c.in-Some.name (sym c.made_at.ensures ∙ c.in-Some.is) in
+    subst (λ (p : Place). ReturnsMakersRoom (room_returned (Some p) None) (makers_room c.args.space.now) (makers_room c.unmake.new.self)) (sym whole) c.unmake.ensures.room

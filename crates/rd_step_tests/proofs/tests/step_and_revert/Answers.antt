@@ -55,4 +55,4 @@ returns-clause-room c = λ makes.
     let one : room_used (makes_segment u x.event) n n ≡ 1 =
     cond-true (makes_segment u x.event && (n == n)) 1 0 (and_from (makes_segment u x.event) (n == n) makes (eq-eqb n n refl)) in
     let back = room_used_returned u x.event (record { world = model c.step.new.self; entry = x }) n again in
-    omega (arith, one, back, c.revert.ensures.room n)
+    omega (arith, one, back, c.revert.ensures.room.returns n)

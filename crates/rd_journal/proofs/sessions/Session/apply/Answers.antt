@@ -23,7 +23,7 @@ returns-in_err-make_room_for-clause-unchanged g c =
 pub invariant_of-self-in-Break-branch-2 : goal.invariant_of-self-in-Break-branch-2
 invariant_of-self-in-Break-branch-2 g c =
     let is = still c.args.self.now c.step.new.self c.make_room_for.new.self c.in_err-entry.ensures.unchanged c.make_room_for.ensures.live c.make_room_for.ensures.ahead
-    c.in_err-entry.ensures.kept in
+    (λ m. let used = c.in_err-entry.ensures.room.used m in omega arith) in
     record { kept = is.kept; within = is.within; indexed = is.indexed }
 
 pub returns-in_err-entry-clause-memory : goal.returns-in_err-entry-clause-memory
@@ -60,7 +60,7 @@ invariant_of-self-then-is_err g c =
     c.in_ok-entry.ensures.ok).back in
     let is = still self c.unstep.new.world c.make_room_for.new.self (c.unstep.ensures.back ∙ back) c.make_room_for.ensures.live c.make_room_for.ensures.ahead
     (stepped_back (model self.world) (model c.step.new.self) c.args.event c.in_ok-entry.entry (room self.world) (room c.step.new.self) (room c.unstep.new.world)
-    c.in_ok-entry.ensures.ok c.in_ok-entry.ensures.room c.unstep.ensures.room) in
+    c.in_ok-entry.ensures.ok c.in_ok-entry.ensures.room.used c.unstep.ensures.room.returns) in
     record {
       kept = is.kept;
       within = is.within;

@@ -26,7 +26,7 @@ invariant_of-self g c =
       kept = record {
         few = taken_out_few c.args.k old new x at moved self.kept.few;
         runs = may.left new refl (c.unstep.ensures.taken_out may.was) moved;
-        has_room = given_back old.undone new.undone x (room self.world) (room c.unstep.new.world) front self.kept.has_room c.unstep.ensures.room;
+        has_room = given_back old.undone new.undone x (room self.world) (room c.unstep.new.world) front self.kept.has_room c.unstep.ensures.room.returns;
       };
       within = omega (arith, self.within, ap length front);
       indexed =

@@ -42,10 +42,10 @@ loop-next-preserved g c =
       rest = subst (λ (u : World). IsRunFrom u (drop (n + 1) xs)) same first.rest;
       room =
           redone_room w v (drop n xs) (drop (n + 1) xs) x (room c.loop-next.world) (room c.step_again.new.self) here c.step_again.ensures.done
-          c.loop-next.invariant.room c.step_again.ensures.room;
+          c.loop-next.invariant.room c.step_again.ensures.room.used;
       more = λ rest has.
           redone_room w v (drop n xs ++ rest) (drop (n + 1) xs ++ rest) x (room c.loop-next.world) (room c.step_again.new.self)
-          (ap (λ (ys : List Entry). ys ++ rest) here) c.step_again.ensures.done (c.loop-next.invariant.more rest has) c.step_again.ensures.room;
+          (ap (λ (ys : List Entry). ys ++ rest) here) c.step_again.ensures.done (c.loop-next.invariant.more rest has) c.step_again.ensures.room.used;
     }
 
 pub returns-clause-ran : goal.returns-clause-ran

@@ -40,7 +40,7 @@ loop-last-preserved g c =
           (subst (λ (ys : List Entry). LeadsTo start (model c.loop-last.world) ys) cut (c.loop-last.invariant.leads start first))).left;
       room = λ m.
           let more = ap (λ (ys : List Entry). room_returned_by ys m) behind in
-          omega (arith, more, c.loop-last.invariant.room m, c.unstep.ensures.room m);
+          omega (arith, more, c.loop-last.invariant.room m, c.unstep.ensures.room.returns m);
     }
 
 pub returns : goal.returns

@@ -25,9 +25,9 @@ loop-number-preserved g c = record {
   same = c.make_room.ensures.unchanged ∙ c.loop-number.invariant.same;
   made =
       room_for_one_more c.args.given.now c.loop-number.number (room_without c.args.dropped.now (room c.loop-number.world)) (room_without c.args.dropped.now (room c.make_room.new.self))
-      c.loop-number.invariant.made (λ m. let b = c.make_room.ensures.room m in omega arith) (let h = c.in_ok-make_room.ensures.ok in let its = asked c.args.dropped.now c.args.given.now c.makings_of.result c.makings_missing-counts.result c.loop-number.number c.from.result c.makings_of.ensures
+      c.loop-number.invariant.made (λ m. let b = c.make_room.ensures.room.kept m in omega arith) (let h = c.in_ok-make_room.ensures.room.ok in let its = asked c.args.dropped.now c.args.given.now c.makings_of.result c.makings_missing-counts.result c.loop-number.number c.from.result c.makings_of.ensures
       c.makings_missing-counts.ensures c.from.ensures (omega (arith, c.loop-number-test.true, c.actors-number-end.ensures.within)) in omega arith);
-  more = λ m. let a = c.loop-number.invariant.more m in let b = c.make_room.ensures.room m in omega arith;
+  more = λ m. let a = c.loop-number.invariant.more m in let b = c.make_room.ensures.room.kept m in omega arith;
 }
 
 pub returns-clause-ok : goal.returns-clause-ok
@@ -40,9 +40,9 @@ returns-clause-ok g c =
 pub returns-in_err-make_room-clause-err : goal.returns-in_err-make_room-clause-err
 returns-in_err-make_room-clause-err g c =
     let more = c.loop-number.invariant.more (c.loop-number.number + 1) in
-    let lacks = c.in_err-make_room.ensures.err in
+    let lacks = c.in_err-make_room.ensures.room.err in
     error_passed_up _ c.in_err-make_room.field-0.0 c.from_residual.result c.from_residual.ensures.1 (
-      lacks.0,
+      c.in_err-make_room.ensures.err,
       (
         c.loop-number.number + 1,
         let its = asked c.args.dropped.now c.args.given.now c.makings_of.result c.makings_missing-counts.result c.loop-number.number c.from.result c.makings_of.ensures
@@ -54,9 +54,9 @@ pub returns-in_err-make_room-clause-succeeds : goal.returns-in_err-make_room-cla
 returns-in_err-make_room-clause-succeeds g c none =
     let its = asked c.args.dropped.now c.args.given.now c.makings_of.result c.makings_missing-counts.result c.loop-number.number c.from.result c.makings_of.ensures
     c.makings_missing-counts.ensures c.from.ensures (omega (arith, c.loop-number-test.true, c.actors-number-end.ensures.within)) in
-    let lacks = c.in_err-make_room.ensures.err in
+    let lacks = c.in_err-make_room.ensures.room.err in
     let zero_of : room_returned_by c.args.given.now (c.loop-number.number + 1) ≡ 0 = ap (λ xs. room_returned_by xs (c.loop-number.number + 1)) none in
-    absurd (omega (arith, lacks.1))
+    absurd (omega arith)
 
 pub returns-in_err-make_room-clause-room : goal.returns-in_err-make_room-clause-room
 returns-in_err-make_room-clause-room g c m = search (rules, arith)

@@ -9,7 +9,7 @@ pub invariant_of-self : goal.invariant_of-self
 invariant_of-self g c = record {
   positive = c.args.self.now.positive;
   small = c.args.self.now.small;
-  makers = c.make_room.ensures.number ∙ c.args.self.now.makers;
+  makers = c.make_room.ensures.room.makers ∙ c.args.self.now.makers;
   well_formed =
       subst (λ (w : World). IsWellFormed w)
       (sym (same_world c.args.self.now.space c.make_room.new.self c.args.self.now.actors.items c.make_room.ensures.unchanged)) c.args.self.now.well_formed;

@@ -1,21 +1,21 @@
-use Rattle.rd_step.proofs.Prelude.{Bool, suc, ◌∙◌, ◌≤◌, ◌+◌, refl, sym, ap, subst, inl, arith, Ok, Err, room_used, room, world_of_fields}
-use Rattle.rd_step.proofs.PassedUp.{error_passed_up, same_passed_up, fact_passed_up}
+use Rattle.rd_step.proofs.Prelude.{suc, ◌∙◌, refl, sym, ap, inl, arith, Ok, Err, makes, model, world_of_fields, uses_passed_up, uses_too}
+use Rattle.rd_step.proofs.PassedUp.{error_passed_up, fact_passed_up}
 use Rattle.rd_step.proofs.Steps.{step_not_needed}
-use Rattle.rd_step.proofs.WorldLemmas.{representable_here, actor_maker, few_made, need_suits, step_refuses, step_goes, makes_by, still_well_formed, same_world}
+use Rattle.rd_step.proofs.WorldLemmas.{needs_by, actor_maker, few_made, need_suits, step_refuses, step_goes, makes_by, still_well_formed, same_world}
 use Rattle.rd_step.proofs.worlds.World.step.Goals as goal
 
 pub returns-in_err-access-clause-err : goal.returns-in_err-access-clause-err
 returns-in_err-access-clause-err g c =
     let self = c.args.self.now in
-    let can = representable_here _ self.space self.actors.items c.args.event c.in-Some.actor self.well_formed self.small (sym c.in-Some.ensures) in
+    let needs = needs_by self c.args.event c.in-Some.actor _ (sym c.in-Some.ensures) c.in_err-access.ensures in
     error_passed_up _ c.in_err-access.field-0.0 c.from_residual.result c.from_residual.ensures.1
     (inl (step_not_needed (world_of_fields self.space self.actors.items) c.args.event c.in-Some.actor c.in_err-access.field-0.0
-    (sym c.in-Some.ensures) (sym (c.in_err-access.ensures can))))
+    (sym c.in-Some.ensures) needs))
 
 pub perform-requires : goal.perform-requires
 perform-requires g c =
     let self = c.args.self.now in
-    let can = representable_here _ self.space self.actors.items c.args.event c.in-Some.actor self.well_formed self.small (sym c.in-Some.ensures) in (
+    let needs = needs_by self c.args.event c.in-Some.actor _ (sym c.in-Some.ensures) c.in_ok-access.ensures in (
       omega arith,
       (
         self.small,
@@ -24,7 +24,7 @@ perform-requires g c =
           (
             few_made self.space self.actors.items c.args.event.actor self.well_formed,
             need_suits _ self.space self.actors.items c.args.event c.in-Some.actor c.in_ok-access.access self.well_formed
-                (sym c.in-Some.ensures) (sym (c.in_ok-access.ensures can)),
+                (sym c.in-Some.ensures) needs,
           ),
         ),
       ),
@@ -36,7 +36,7 @@ invariant_of-self g c =
     record {
       positive = self.positive;
       small = self.small;
-      makers = c.in_err-done.ensures.number ∙ self.makers;
+      makers = c.in_err-done.ensures.room.makers ∙ self.makers;
       well_formed =
           still_well_formed _ self.space c.perform.new.space self.actors.items self.actors.items c.args.event (Err c.in_err-done.field-0.0)
           self.well_formed tt (c.in_err-done.ensures.unchanged, refl);
@@ -45,10 +45,10 @@ invariant_of-self g c =
 pub returns-in_err-done-clause-err : goal.returns-in_err-done-clause-err
 returns-in_err-done-clause-err g c =
     let self = c.args.self.now in
-    let can = representable_here _ self.space self.actors.items c.args.event c.in-Some.actor self.well_formed self.small (sym c.in-Some.ensures) in
+    let needs = needs_by self c.args.event c.in-Some.actor _ (sym c.in-Some.ensures) c.in_ok-access.ensures in
     error_passed_up _ c.in_err-done.field-0.0 c.from_residual-in_err-done.result c.from_residual-in_err-done.ensures.1
     (step_refuses _ self.space self.actors.items c.args.event c.in-Some.actor c.in_ok-access.access c.in_err-done.field-0.0
-    (sym c.in-Some.ensures) (sym (c.in_ok-access.ensures can)) c.in_err-done.ensures.err)
+    (sym c.in-Some.ensures) needs c.in_err-done.ensures.err)
 
 pub returns-in_err-done-clause-unchanged : goal.returns-in_err-done-clause-unchanged
 returns-in_err-done-clause-unchanged g c =
@@ -56,57 +56,38 @@ returns-in_err-done-clause-unchanged g c =
     (same_world c.args.self.now.space c.perform.new.space c.args.self.now.actors.items c.in_err-done.ensures.unchanged)
 
 pub returns-in_err-done-clause-room : goal.returns-in_err-done-clause-room
-returns-in_err-done-clause-room g c = λ m.
-    let self = c.args.self.now in
-    let can = representable_here _ self.space self.actors.items c.args.event c.in-Some.actor self.well_formed self.small (sym c.in-Some.ensures) in
-    let e = makes_by (world_of_fields self.space self.actors.items) c.args.event c.in-Some.actor c.in_ok-access.access (sym c.in-Some.ensures) (sym (c.in_ok-access.ensures can)) in
-    subst (λ (b : Bool). room self.space m ≤ room c.perform.new.space m + room_used b c.args.event.actor m) (sym e) (c.in_err-done.ensures.room m)
+returns-in_err-done-clause-room g c =
+    let has = sym c.in-Some.ensures in
+    uses_passed_up c.in_err-done.field-0.0 c.from_residual-in_err-done.result (makes c.in_ok-access.access) _ c.args.event.actor _ _
+    (makes_by (model c.args.self.now) c.args.event c.in-Some.actor c.in_ok-access.access has (needs_by c.args.self.now c.args.event c.in-Some.actor _ has c.in_ok-access.ensures))
+    c.from_residual-in_err-done.ensures.1 c.in_err-done.ensures.room
 
 pub invariant_of-self-2 : goal.invariant_of-self-2
 invariant_of-self-2 g c =
     let self = c.args.self.now in
-    let can = representable_here _ self.space self.actors.items c.args.event c.in-Some.actor self.well_formed self.small (sym c.in-Some.ensures) in
+    let needs = needs_by self c.args.event c.in-Some.actor _ (sym c.in-Some.ensures) c.in_ok-access.ensures in
     record {
       positive = self.positive;
       small = self.small;
-      makers = c.in_ok-done.ensures.number ∙ self.makers ∙ ap suc (sym c.set_actor.ensures.number);
+      makers = c.in_ok-done.ensures.room.makers ∙ self.makers ∙ ap suc (sym c.set_actor.ensures.number);
       well_formed =
           still_well_formed _ self.space c.perform.new.space self.actors.items c.set_actor.new.actors.items c.args.event (Ok _)
           self.well_formed (step_goes _ self.space c.perform.new.space self.actors.items c.set_actor.new.actors.items c.args.event c.in-Some.actor
           c.in_ok-access.access c.in_ok-done.done c.after-reply.result
-          (sym c.in-Some.ensures) (sym (c.in_ok-access.ensures can)) c.in_ok-done.ensures.ok c.after-reply.ensures c.set_actor.ensures.done) tt;
+          (sym c.in-Some.ensures) needs c.in_ok-done.ensures.ok c.after-reply.ensures c.set_actor.ensures.done) tt;
     }
 
 pub returns-clause-ok : goal.returns-clause-ok
 returns-clause-ok g c =
     let self = c.args.self.now in
-    let can = representable_here _ self.space self.actors.items c.args.event c.in-Some.actor self.well_formed self.small (sym c.in-Some.ensures) in
+    let needs = needs_by self c.args.event c.in-Some.actor _ (sym c.in-Some.ensures) c.in_ok-access.ensures in
     step_goes _ self.space c.perform.new.space self.actors.items c.set_actor.new.actors.items c.args.event c.in-Some.actor
     c.in_ok-access.access c.in_ok-done.done c.after-reply.result
-    (sym c.in-Some.ensures) (sym (c.in_ok-access.ensures can)) c.in_ok-done.ensures.ok c.after-reply.ensures c.set_actor.ensures.done
+    (sym c.in-Some.ensures) needs c.in_ok-done.ensures.ok c.after-reply.ensures c.set_actor.ensures.done
 
 pub returns-clause-room : goal.returns-clause-room
-returns-clause-room g c = λ m.
-    let self = c.args.self.now in
-    let can = representable_here _ self.space self.actors.items c.args.event c.in-Some.actor self.well_formed self.small (sym c.in-Some.ensures) in
-    let e = makes_by (world_of_fields self.space self.actors.items) c.args.event c.in-Some.actor c.in_ok-access.access (sym c.in-Some.ensures) (sym (c.in_ok-access.ensures can)) in
-    subst (λ (b : Bool). room self.space m ≤ room c.perform.new.space m + room_used b c.args.event.actor m) (sym e) (c.in_ok-done.ensures.room m)
-
-pub returns-in_err-done-clause-others : goal.returns-in_err-done-clause-others
-returns-in_err-done-clause-others g c = λ m other.
-    let self = c.args.self.now in
-    let can = representable_here _ self.space self.actors.items c.args.event c.in-Some.actor self.well_formed self.small (sym c.in-Some.ensures) in
-    let e = makes_by (world_of_fields self.space self.actors.items) c.args.event c.in-Some.actor c.in_ok-access.access (sym c.in-Some.ensures) (sym (c.in_ok-access.ensures can)) in
-    c.in_err-done.ensures.others m (λ makes. other (e ∙ makes))
-
-pub returns-clause-others : goal.returns-clause-others
-returns-clause-others g c = λ m other.
-    let self = c.args.self.now in
-    let can = representable_here _ self.space self.actors.items c.args.event c.in-Some.actor self.well_formed self.small (sym c.in-Some.ensures) in
-    let e = makes_by (world_of_fields self.space self.actors.items) c.args.event c.in-Some.actor c.in_ok-access.access (sym c.in-Some.ensures) (sym (c.in_ok-access.ensures can)) in
-    c.in_ok-done.ensures.others m (λ makes. other (e ∙ makes))
-
-pub returns-in_err-done-clause-ended : goal.returns-in_err-done-clause-ended
-returns-in_err-done-clause-ended g c = λ ended.
-    c.in_err-done.ensures.ended
-    (same_passed_up c.in_err-done.field-0.0 _ (Err c.in_err-done.field-0.0) c.from_residual-in_err-done.result refl c.from_residual-in_err-done.ensures.1 ended)
+returns-clause-room g c =
+    let has = sym c.in-Some.ensures in
+    uses_too c.in_ok-done.done _ (makes c.in_ok-access.access) _ c.args.event.actor _ _
+    (makes_by (model c.args.self.now) c.args.event c.in-Some.actor c.in_ok-access.access has (needs_by c.args.self.now c.args.event c.in-Some.actor _ has c.in_ok-access.ensures))
+    c.in_ok-done.ensures.room

@@ -1,6 +1,6 @@
-use Rattle.rd_step.proofs.Prelude.{Bool, suc, ◌∙◌, ◌≤◌, ◌+◌, sym, ap, subst, arith, room_used, room, world_of_fields, model}
+use Rattle.rd_step.proofs.Prelude.{suc, ◌∙◌, sym, ap, arith, makes, model, uses_too}
 use Rattle.rd_step.proofs.MadeAgain.{leaves, not_refused, read_again, access_again}
-use Rattle.rd_step.proofs.WorldLemmas.{representable_here, actor_maker, few_made, need_suits, makes_by}
+use Rattle.rd_step.proofs.WorldLemmas.{needs_by, actor_maker, few_made, need_suits, makes_by}
 use Rattle.rd_step.proofs.worlds.World.step_again.Goals as goal
 
 pub unreachable-requires : goal.unreachable-requires
@@ -8,15 +8,15 @@ unreachable-requires g c =
     let self = c.args.self.now in
     let x = c.args.entry.now in
     let l = leaves (model self) c.requires.goes.0 x c.requires.goes.1 in
-    let can = representable_here _ self.space self.actors.items x.event x.old_actor self.well_formed self.small l.has in
-    cc (l.needs, c.need.ensures can)
+    let needs = needs_by self x.event x.old_actor _ l.has c.need.ensures in
+    cc (l.needs, needs)
 
 pub perform-requires : goal.perform-requires
 perform-requires g c =
     let self = c.args.self.now in
     let x = c.args.entry.now in
     let l = leaves (model self) c.requires.goes.0 x c.requires.goes.1 in
-    let can = representable_here _ self.space self.actors.items x.event x.old_actor self.well_formed self.small l.has in (
+    let needs = needs_by self x.event x.old_actor _ l.has c.in-Ok.ensures in (
       omega arith,
       (
         self.small,
@@ -24,7 +24,7 @@ perform-requires g c =
           actor_maker self.space self.actors.items x.event.actor x.old_actor self.makers l.has,
           (
             few_made self.space self.actors.items x.event.actor self.well_formed,
-            need_suits _ self.space self.actors.items x.event x.old_actor c.in-Ok.access self.well_formed l.has (sym (c.in-Ok.ensures can)),
+            need_suits _ self.space self.actors.items x.event x.old_actor c.in-Ok.access self.well_formed l.has needs,
           ),
         ),
       ),
@@ -35,15 +35,15 @@ invariant_of-self g c =
     let self = c.args.self.now in
     let x = c.args.entry.now in
     let l = leaves (model self) c.requires.goes.0 x c.requires.goes.1 in
-    let can = representable_here _ self.space self.actors.items x.event x.old_actor self.well_formed self.small l.has in
+    let needs = needs_by self x.event x.old_actor _ l.has c.in-Ok.ensures in
     let again =
     access_again _ self.space c.perform.new.space self.actors.items c.set_actor.new.actors.items c.requires.goes.0 x c.after.result c.in-Ok.access
-    c.perform.result self.well_formed c.requires.goes.1 c.requires.room c.after.ensures c.set_actor.ensures.done (sym (c.in-Ok.ensures can))
+    c.perform.result self.well_formed c.requires.goes.1 c.requires.room c.after.ensures c.set_actor.ensures.done needs
     c.perform.ensures.ok c.perform.ensures.err in
     record {
       positive = self.positive;
       small = self.small;
-      makers = c.perform.ensures.number ∙ self.makers ∙ ap suc (sym c.set_actor.ensures.number);
+      makers = c.perform.ensures.room.makers ∙ self.makers ∙ ap suc (sym c.set_actor.ensures.number);
       well_formed = again.formed;
     }
 
@@ -52,9 +52,9 @@ unreachable-requires-in-Err g c =
     let self = c.args.self.now in
     let x = c.args.entry.now in
     let l = leaves (model self) c.requires.goes.0 x c.requires.goes.1 in
-    let can = representable_here _ self.space self.actors.items x.event x.old_actor self.well_formed self.small l.has in
+    let needs = needs_by self x.event x.old_actor _ l.has c.in-Ok.ensures in
     not_refused _ self.space self.actors.items c.requires.goes.0 x c.in-Ok.access c.in-Err.field-0 c.requires.goes.1
-    (sym (c.in-Ok.ensures can)) c.requires.room c.in-Err.ensures.err
+    needs c.requires.room c.in-Err.ensures.err
 
 pub invariant_of-self-else-not-is_nothing : goal.invariant_of-self-else-not-is_nothing
 invariant_of-self-else-not-is_nothing g c =
@@ -73,31 +73,21 @@ returns-in-Ok-perform-clause-done g c =
     let self = c.args.self.now in
     let x = c.args.entry.now in
     let l = leaves (model self) c.requires.goes.0 x c.requires.goes.1 in
-    let can = representable_here _ self.space self.actors.items x.event x.old_actor self.well_formed self.small l.has in
+    let needs = needs_by self x.event x.old_actor _ l.has c.in-Ok.ensures in
     (access_again _ self.space c.perform.new.space self.actors.items c.set_actor.new.actors.items c.requires.goes.0 x c.after.result c.in-Ok.access
-    c.perform.result self.well_formed c.requires.goes.1 c.requires.room c.after.ensures c.set_actor.ensures.done (sym (c.in-Ok.ensures can))
+    c.perform.result self.well_formed c.requires.goes.1 c.requires.room c.after.ensures c.set_actor.ensures.done needs
     c.perform.ensures.ok c.perform.ensures.err).goes
 
 pub returns-in-Ok-perform-clause-room : goal.returns-in-Ok-perform-clause-room
-returns-in-Ok-perform-clause-room g c = λ m.
+returns-in-Ok-perform-clause-room g c =
     let self = c.args.self.now in
     let x = c.args.entry.now in
     let l = leaves (model self) c.requires.goes.0 x c.requires.goes.1 in
-    let can = representable_here _ self.space self.actors.items x.event x.old_actor self.well_formed self.small l.has in
-    let e = makes_by (world_of_fields self.space self.actors.items) x.event x.old_actor c.in-Ok.access l.has (sym (c.in-Ok.ensures can)) in
-    subst (λ (b : Bool). room self.space m ≤ room c.perform.new.space m + room_used b x.event.actor m) (sym e) (c.in-Ok-perform.ensures.room m)
+    uses_too _ _ (makes c.in-Ok.access) _ x.event.actor _ _
+    (makes_by (model self) x.event x.old_actor c.in-Ok.access l.has (needs_by self x.event x.old_actor _ l.has c.in-Ok.ensures)) c.in-Ok-perform.ensures.room
 
 pub returns-else-not-is_nothing-clause-done : goal.returns-else-not-is_nothing-clause-done
 returns-else-not-is_nothing-clause-done g c =
     let self = c.args.self.now in
     (read_again _ self.space self.actors.items c.set_actor.new.actors.items c.requires.goes.0 c.args.entry.now c.after.result self.well_formed
     c.requires.goes.1 c.after.ensures c.set_actor.ensures.done (sym c.if-not-is_nothing.ensures)).goes
-
-pub returns-in-Ok-perform-clause-others : goal.returns-in-Ok-perform-clause-others
-returns-in-Ok-perform-clause-others g c = λ m other.
-    let self = c.args.self.now in
-    let x = c.args.entry.now in
-    let l = leaves (model self) c.requires.goes.0 x c.requires.goes.1 in
-    let can = representable_here _ self.space self.actors.items x.event x.old_actor self.well_formed self.small l.has in
-    let e = makes_by (world_of_fields self.space self.actors.items) x.event x.old_actor c.in-Ok.access l.has (sym (c.in-Ok.ensures can)) in
-    c.in-Ok-perform.ensures.others m (λ makes. other (e ∙ makes))
