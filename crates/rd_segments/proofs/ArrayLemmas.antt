@@ -1,10 +1,8 @@
 -- The array's map after an operation on one of its places.
-use Rattle.rd_segments.proofs.Prelude.{◌≡◌, ℕ, ◌<◌, false, nat_lt, inl, inr, refl, sym, ◌∙◌, ap, subst, List, length, set, get_or, Some, None, option_map, slice_get, Result, IfOk, lt-ltb, le-ltb, arith, cases_lt, cond-true, cond-false, slice_get_past, slice_get-get_or, SLOTS, Place, Operation, Read, Done, Refusal, place_eq, effect, everywhere, Operates, OperatesOn, slice_get-set_same, slice_get-set_other, read_on, place_operates, fresh_array, eqb-false, get_or-replicate, ArrSlot, array_of, replicate}
+use Rattle.rd_segments.proofs.Prelude.{◌≡◌, ℕ, ◌<◌, false, nat_lt, inl, inr, refl, sym, ◌∙◌, ap, subst, List, length, set, get_or, Some, None, option_map, slice_get, Result, IfOk, lt-ltb, le-ltb, arith, cases_lt, cond-true, cond-false, slice_get_past, slice_get-get_or, SLOTS, Place, Operation, Done, Refusal, place_eq, everywhere, Operates, OperatesOn, slice_get-set_same, slice_get-set_other, place_operates, fresh_array, eqb-false, get_or-replicate, ArrSlot, array_of, replicate}
 use Rattle.rd_cell.specs.declared.places.Place.TheVariants as place
-use Rattle.rd_cell.specs.declared.places.Wrote.TheVariants as wrote
 use Rattle.rd_cell.specs.declared.contents.ArrSlot.TheVariants as slot
 use Rattle.rd_cell.specs.declared.contents.Content.TheVariants as content
-use Rattle.rd_cell.specs.declared.operations.Answer.TheVariants as answer
 
 -- each slot of a fresh array is empty
 fresh_slot : (i : ℕ) → option_map content.Slot (slice_get (replicate SLOTS slot.Empty) i) ≡ fresh_array (place.ArrCell i)
@@ -20,12 +18,6 @@ fresh_slot i =
 
 pub fresh_by : array_of 0 0 (replicate SLOTS slot.Empty) ≡ fresh_array
 fresh_by = grind (arith, replicate, fresh_slot)
-
--- A counter and a slot
-
-pub reads_counter : (p : Place) (op : Operation) (n : ℕ) (done : Done) → op ≡ Read
-    → done ≡ record { place = Some p; old = Some (content.Number n); answer = answer.Found (content.Number n); wrote = wrote.Nothing } → OperatesOn p op done (content.Number n) (content.Number n)
-reads_counter p op n done is notes = read_on p op (content.Number n) (answer.Found (content.Number n)) done (ap (λ (o : Operation). effect o (content.Number n)) is) notes
 
 -- One place of the array
 

@@ -1,6 +1,5 @@
 pub mod Prelude
 pub mod RoomLemmas
-pub mod EndsLemmas
 pub mod ArrayLemmas
 pub mod ListsLemmas
 pub mod SegmentsLemmas

@@ -1,5 +1,5 @@
 -- How a relation on the makers' room follows from another one.
-use Rattle.rd_segments.proofs.Prelude.{◌≡◌, ℕ, ◌+◌, Bool, refl, sym, ◌∙◌, ap, subst, arith, Result, Ok, Err, IsErrAnd, Refusal, MakersRoom, KeepsMakersRoom, UsesMakersRoom, ReturnsMakersRoom}
+use Rattle.rd_segments.proofs.Prelude.{◌≡◌, ℕ, Bool, refl, sym, ◌∙◌, ap, subst, arith, Result, Ok, Err, IsErrAnd, Refusal, MakersRoom, KeepsMakersRoom, UsesMakersRoom, ReturnsMakersRoom}
 use Rattle.rd_cell.specs.declared.refusal.Refusal.TheVariants as refusal
 
 -- a call after which all room stays uses none, whatever it was to make

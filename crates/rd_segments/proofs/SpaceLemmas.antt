@@ -1,5 +1,5 @@
 -- The space's map after a change of its segments, of one of the queue's ends, or of the array.
-use Rattle.rd_segments.proofs.Prelude.{◌≡◌, ℕ, true, false, Bool, if◌then◌else◌, refl, sym, ap, subst, List, Some, None, Result, Ok, Err, IfOk, OnErr, arith, fun_ext, SegName, Place, Content, Operation, Done, Refusal, root, name_eq, is_of, place_eq, segment_of, Contents, fresh_segment, operand, operate, everywhere, Operates, OperatesOn, Makes, Restores, Agrees, lift_operates, lift_restore, place_operates, Segment, ListOf, by_name, part_of, segments_of, IsFresh, ArrayParts, array_part, fresh_array, contents_of, fresh_space, is_array, restore, make, holding, lift, narrow, contents_by, place-make}
+use Rattle.rd_segments.proofs.Prelude.{◌≡◌, ℕ, true, false, Bool, if◌then◌else◌, refl, sym, ap, subst, List, Some, None, Result, Ok, Err, IfOk, OnErr, arith, fun_ext, SegName, Place, Content, Operation, Done, Refusal, root, name_eq, is_of, place_eq, segment_of, Contents, fresh_segment, operand, operate, everywhere, Operates, OperatesOn, Agrees, lift_operates, lift_restore, place_operates, Segment, ListOf, by_name, part_of, segments_of, IsFresh, ArrayParts, array_part, fresh_array, contents_of, fresh_space, is_array, restore, narrow, contents_by}
 use Rattle.rd_cell.specs.declared.places.Place.TheVariants as place
 use Rattle.rd_cell.specs.declared.contents.Content.TheVariants as content
 
@@ -33,13 +33,6 @@ space_operates old new qhead qtail array name p op own (Ok done) h =
     (segments_agree (segments_of old) (segments_of new) qhead qtail (array_part array) p (own_of p name own))
     (narrow of_segments (operate p op (operand (segments_of old) p)) done (segments_of old) (segments_of new) h)
 
-pub space_restored : {R : ℕ} (old new : List (ListOf (Segment R))) (qhead qtail : SegName) (array : ArrayParts) (name : SegName) (p : Place) (c : Content) → segment_of p ≡ Some name
-    → Restores everywhere p (Some c) (segments_of old) (segments_of new)
-    → contents_of new qhead qtail array ≡ restore (Some p) (Some c) (contents_of old qhead qtail array)
-space_restored old new qhead qtail array name p c own h =
-    fun_ext (lift_restore of_segments p (Some c) (segments_of old) (segments_of new) (contents_of old qhead qtail array) (contents_of new qhead qtail array)
-    (segments_agree (segments_of old) (segments_of new) qhead qtail (array_part array) p (own_of p name own)) (λ q _. h q refl))
-
 -- the map is that of the segments' places
 pub unchanged_fields : {R : ℕ} (old new : List (ListOf (Segment R))) (qhead qtail : SegName) (array : ArrayParts) {T : Type 0} → (r : Result T Refusal)
     → OnErr r (segments_of new ≡ segments_of old) → OnErr r (contents_of new qhead qtail array ≡ contents_of old qhead qtail array)
@@ -48,15 +41,6 @@ unchanged_fields old new qhead qtail array r h = grind arith
 pub same_fields : {R : ℕ} (old new : List (ListOf (Segment R))) (qhead qtail : SegName) (array : ArrayParts) → segments_of new ≡ segments_of old
     → contents_of new qhead qtail array ≡ contents_of old qhead qtail array
 same_fields old new qhead qtail array h = ap (λ (at : Contents). contents_by at qhead qtail (array_part array)) h
-
-pub space_makes : {R : ℕ} (old new : List (ListOf (Segment R))) (qhead qtail : SegName) (array : ArrayParts) (x : ℕ) (r : Result SegName Refusal)
-    → IfOk r (λ name. Makes name (holding R x) (segments_of old) (segments_of new))
-    → IfOk r (λ name. Makes name (holding R x) (contents_of old qhead qtail array) (contents_of new qhead qtail array))
-space_makes old new qhead qtail array x (Err e) h = tt
-space_makes {R} old new qhead qtail array x (Ok name) h =
-    lift of_segments (place.Whole name) (make name (holding R x)) (make name (holding R x)) _ (segments_of old) (segments_of new) (contents_of old qhead qtail array) (contents_of new qhead qtail array)
-    refl (place-make name (holding R x)) (segments_agree (segments_of old) (segments_of new) qhead qtail (array_part array) (place.Whole name) refl)
-    (narrow of_segments (make name (holding R x)) _ (segments_of old) (segments_of new) h)
 
 -- An operation on one of the queue's ends
 
@@ -103,13 +87,7 @@ array_operates makers qhead qtail old new p op own (Ok done) h =
 pub array_unchanged : {R : ℕ} (makers : List (ListOf (Segment R))) (qhead qtail : SegName) (old new : ArrayParts) {T : Type 0} → (r : Result T Refusal)
     → OnErr r (array_part new ≡ array_part old) → OnErr r (contents_of makers qhead qtail new ≡ contents_of makers qhead qtail old)
 array_unchanged makers qhead qtail old new (Ok done) h = tt
-array_unchanged {R} makers qhead qtail old new (Err e) h = fun_ext each
-  where
-    each : (q : Place) → contents_of makers qhead qtail new q ≡ contents_of makers qhead qtail old q
-    each place.ArrHead = ap (λ (at : Contents). at place.ArrHead) h
-    each place.ArrTail = ap (λ (at : Contents). at place.ArrTail) h
-    each (place.ArrCell i) = ap (λ (at : Contents). at (place.ArrCell i)) h
-    each _ = refl
+array_unchanged makers qhead qtail old new (Err e) h = ap (λ (at : Contents). contents_by (segments_of makers) qhead qtail at) h
 
 pub array_restored : {R : ℕ} (makers : List (ListOf (Segment R))) (qhead qtail : SegName) (old new : ArrayParts) (p : Place) (c : Content) → is_array p ≡ true
     → array_part new ≡ restore (Some p) (Some c) (array_part old)
@@ -126,18 +104,7 @@ fresh_parts {R} makers t q h of = grind arith
 
 pub space_fresh : {R : ℕ} (makers : List (ListOf (Segment R))) (array : ArrayParts) → IsFresh makers → array_part array ≡ fresh_array
     → contents_of makers root root array ≡ fresh_space R
-space_fresh {R} makers array h k = fun_ext each
+space_fresh {R} makers array h k = λ i. contents_by (fun_ext each i) root root (k i)
   where
-    each : (q : Place) → contents_of makers root root array q ≡ fresh_space R q
-    each place.QHead = refl
-    each place.QTail = refl
-    each (place.Head t) = fresh_parts makers t (place.Head t) h refl
-    each (place.Tail t) = fresh_parts makers t (place.Tail t) h refl
-    each (place.Next t) = fresh_parts makers t (place.Next t) h refl
-    each (place.Val t i) = fresh_parts makers t (place.Val t i) h refl
-    each (place.Idx t i) = fresh_parts makers t (place.Idx t i) h refl
-    each (place.Cell t i) = fresh_parts makers t (place.Cell t i) h refl
-    each (place.Whole t) = fresh_parts makers t (place.Whole t) h refl
-    each place.ArrHead = ap (λ (at : Contents). at place.ArrHead) k
-    each place.ArrTail = ap (λ (at : Contents). at place.ArrTail) k
-    each (place.ArrCell i) = ap (λ (at : Contents). at (place.ArrCell i)) k
+    each : (q : Place) → segments_of makers q ≡ (if is_of root q then fresh_segment R q else None)
+    each q = grind (arith, fresh_parts)

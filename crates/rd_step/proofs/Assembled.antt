@@ -53,12 +53,12 @@ within xs n h = elim (cases_lt n (length xs)) [ inl lt ↦ lt | inr past ↦ abs
 actors_numbered : (xs : List Actor) → 1 ≤ length xs → length xs ≤ MOST_ACTORS → IsNumbered (is_actor (numbered xs))
 actors_numbered xs some few = grind (arith, in_list, within)
 
--- a segment is there if it has its head
-there_if : {R : ℕ} (o : Option (SegmentParts R)) (s : SegName) → is_some (part_of_parts o (place.Head s)) ≡ is_some o
-there_if o s = grind arith
+-- a segment is there if it has a place that each has
+there_if : {R : ℕ} (o : Option (SegmentParts R)) (q : Place) → ((x : SegmentParts R) → is_some (part_from x q) ≡ true) → is_some (part_of_parts o q) ≡ is_some o
+there_if o q each = grind arith
 
 pub presence : {R : ℕ} (p : Parts R) → is_there (world_of_parts p).at ≡ has p
-presence p = fun_ext (λ s. there_if (by_name p.segments.items s) s)
+presence p = fun_ext (λ s. there_if (by_name p.segments.items s) (place.Head s) (λ x. refl))
 
 pub numbered_below : {R : ℕ} (o : Option (ListOf (SegmentParts R))) (n : ℕ) → is_some (by_number o n) ≡ true → n < count_in o
 numbered_below o n h = grind (arith, both_ways, is_some, numbered_absent)
@@ -97,51 +97,31 @@ value_there R o s i = grind (arith, and_false, nat_lt, some_in, and_true)
 index_there : (R : ℕ) (o : Option (SegmentParts R)) (s : SegName) (i : ℕ) → is_some (part_of_parts o (place.Idx s i)) ≡ (nat_lt i R && is_some o)
 index_there R o s i = grind (arith, and_false, nat_lt, some_in, and_true)
 
-tail_there : {R : ℕ} (o : Option (SegmentParts R)) (s : SegName) → is_some (part_of_parts o (place.Tail s)) ≡ is_some o
-tail_there o s = grind arith
-
-next_there : {R : ℕ} (o : Option (SegmentParts R)) (s : SegName) → is_some (part_of_parts o (place.Next s)) ≡ is_some o
-next_there o s = grind arith
-
 no_place : {R : ℕ} (o : Option (SegmentParts R)) (q : Place) → ((x : SegmentParts R) → part_from x q ≡ None) → is_some (part_of_parts o q) ≡ false
 no_place None q none = refl
 no_place (Some x) q none = ap is_some (none x)
 
 places_belong : {R : ℕ} (p : Parts R) (q : Place) → is_some ((world_of_parts p).at q) ≡ belongs R (has p) q
-places_belong p q = grind (arith, there_if, tail_there, next_there, value_there, index_there, no_place, some_in)
+places_belong p q = grind (arith, there_if, value_there, index_there, no_place, some_in)
 
 -- What is there fits
-
-head_fits : {R : ℕ} (p : Parts R) (s : SegName) (o : Option (SegmentParts R)) → NoFlaw p → by_name p.segments.items s ≡ o
-    → place_fits R (has p) (place.Head s) (part_of_parts o (place.Head s)) ≡ true
-head_fits p s o f e = grind (arith, and_parts, nat_le, each_at)
-
-tail_fits : {R : ℕ} (p : Parts R) (s : SegName) (o : Option (SegmentParts R)) → NoFlaw p → by_name p.segments.items s ≡ o
-    → place_fits R (has p) (place.Tail s) (part_of_parts o (place.Tail s)) ≡ true
-tail_fits p s o f e = grind (arith, and_parts, nat_le, each_at)
-
-link_fits : {R : ℕ} (p : Parts R) (s : SegName) (o : Option (SegmentParts R)) → NoFlaw p → by_name p.segments.items s ≡ o
-    → place_fits R (has p) (place.Next s) (part_of_parts o (place.Next s)) ≡ true
-link_fits p s o f e = grind (arith, each_at)
-
-value_of_fits : (R : ℕ) (p : Parts R) (s : SegName) (i : ℕ) (o : Option (SegmentParts R)) → place_fits R (has p) (place.Val s i) (part_of_parts o (place.Val s i)) ≡ true
-value_of_fits R p s i o = grind arith
 
 index_fits : (R : ℕ) (there : Presence) (s : SegName) (i : ℕ) (cells : List Cell) (o : Option Cell) → list_all (λ c. nat_le c.idx (index_end R)) cells ≡ true
     → slice_get cells i ≡ o → place_fits R there (place.Idx s i) (option_map (λ c. content.Idx c.safe c.idx) o) ≡ true
 index_fits R there s i cells o h e = grind (arith, all_at, nat_le)
 
-index_of_fits : (R : ℕ) (p : Parts R) (s : SegName) (i : ℕ) (o : Option (SegmentParts R)) → NoFlaw p → by_name p.segments.items s ≡ o
-    → place_fits R (has p) (place.Idx s i) (part_of_parts o (place.Idx s i)) ≡ true
-index_of_fits R p s i None f e = refl
-index_of_fits R p s i (Some x) f e =
-    index_fits R (has p) s i x.cells (slice_get x.cells i) (each_at (indexes_fit (index_end R)) p.segments.items s x f.indexes e) refl
+segment_fits : (R : ℕ) (p : Parts R) (s : SegName) (q : Place) (o : Option (SegmentParts R)) → NoFlaw p → by_name p.segments.items s ≡ o
+    → place_fits R (has p) q (part_of_parts o q) ≡ true
+segment_fits R p s q None f e = refl
+segment_fits R p s (place.Idx t i) (Some x) f e =
+    index_fits R (has p) t i x.cells (slice_get x.cells i) (each_at (indexes_fit (index_end R)) p.segments.items s x f.indexes e) refl
+segment_fits R p s q (Some x) f e = grind (arith, and_parts, nat_le, each_at)
 
 slot_fits : (R : ℕ) (there : Presence) (i : ℕ) (o : Option ArrSlot) → place_fits R there (place.ArrCell i) (option_map content.Slot o) ≡ true
 slot_fits R there i o = grind arith
 
 contents_fit : (R : ℕ) (p : Parts R) → NoFlaw p → (q : Place) → place_fits R (has p) q ((world_of_parts p).at q) ≡ true
-contents_fit R p f q = grind (arith, head_fits, tail_fits, link_fits, value_of_fits, index_of_fits, slot_fits, slice_get)
+contents_fit R p f q = grind (arith, segment_fits, slot_fits, slice_get)
 
 one_fits : (R : ℕ) (p : Parts R) (n : ℕ) (o : Option Actor) → NoFlaw p → slice_get p.actors.items n ≡ o → actor_fits R (has p) o ≡ true
 one_fits R p n None f e = refl

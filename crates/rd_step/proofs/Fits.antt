@@ -1,5 +1,5 @@
 -- Which accesses and answers fit, and that an actor whose record fits asks for an access that fits.
-use Rattle.rd_step.proofs.Prelude.{nat_lt, ◌≡◌, ℕ, Bool, true, not, ◌&&◌, nat_le, arith, Option, Some, IfOk, and_parts, SLOTS, COUNTER_END, SegName, Place, Access, NoPlace, At, Make, Answer, Operation, Add, AddArray, CasName, CasNext, CasTail, Cas2, is_array, Act, Actor, Pc, need, need_at, need_call, need_choice, words_fit, Presence, names_fit, numbers_within, record_fits, actor_fits, index_end}
+use Rattle.rd_step.proofs.Prelude.{nat_lt, ◌≡◌, ℕ, Bool, true, not, ◌&&◌, nat_le, arith, Option, Some, IfOk, and_parts, SLOTS, COUNTER_END, SegName, Place, Access, NoPlace, At, Make, Answer, Operation, Add, AddArray, CasName, CasNext, CasTail, Cas2, is_array, Act, Actor, Pc, need, need_at, words_fit, Presence, names_fit, numbers_within, record_fits, actor_fits, index_end}
 use Rattle.rd_cell.specs.declared.contents.Content.TheVariants as content
 use Rattle.rd_cell.specs.declared.operations.Answer.TheVariants as answer
 
@@ -80,13 +80,7 @@ need_at_fits : (R : ℕ) (there : Presence) (pc : Pc) (a : Actor) → PartsFit R
     → IfOk (need_at R pc a) (λ x. access_fits R there x ≡ true)
 need_at_fits R there pc a f = grind arith
 
-need_call_fits : (R : ℕ) (there : Presence) (pc : Pc) → IfOk (need_call pc) (λ x. access_fits R there x ≡ true)
-need_call_fits R there pc = grind arith
-
-need_choice_fits : (R : ℕ) (there : Presence) (pc : Pc) → IfOk (need_choice pc) (λ x. access_fits R there x ≡ true)
-need_choice_fits R there pc = grind arith
-
 -- an actor whose record fits asks for an access that fits
 pub need_fits : (R : ℕ) (there : Presence) (a : Actor) (act : Act) → record_fits R there a ≡ true
     → IfOk (need R a act) (λ x. access_fits R there x ≡ true)
-need_fits R there a act h = grind (arith, need_call_fits, need_at_fits, parts_of, need_choice_fits)
+need_fits R there a act h = grind (arith, need_at_fits, parts_of)

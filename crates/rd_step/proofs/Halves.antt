@@ -1,5 +1,5 @@
 -- A cell, as the name of its two halves, in a well-formed world.
-use Rattle.rd_step.proofs.Prelude.{◌≡◌, ℕ, true, false, ◌&&◌, nat_lt, Bool, ◌∙◌, ap₂, Option, Some, None, is_some, IfSome, arith, Cell, SegName, Place, Content, covers, share, operand, Contents, is_there, is_cell_at, World, Presence, belongs, content_fits, place_fits, IsWellFormed, cell_of_halves}
+use Rattle.rd_step.proofs.Prelude.{◌≡◌, ℕ, true, false, ◌&&◌, nat_lt, Bool, ◌∙◌, ap₂, Option, Some, None, is_some, IfSome, arith, SegName, Place, Content, covers, share, operand, Contents, is_there, is_cell_at, World, Presence, belongs, content_fits, place_fits, IsWellFormed, cell_of_halves}
 use Rattle.rd_cell.specs.declared.places.Place.TheVariants as place
 use Rattle.rd_cell.specs.declared.contents.Content.TheVariants as content
 
@@ -71,13 +71,4 @@ has_operand w (place.Cell s i) formed h =
     operand_of w (place.Cell s i) formed
     (cell_there w.ring (is_there w.at) w.at s i formed.contents (formed.places (place.Val s i) ∙ h) (formed.places (place.Idx s i) ∙ h))
 has_operand w (place.Whole s) formed h = cc
-has_operand w place.QHead formed h = operand_of w place.QHead formed (some_there (w.at place.QHead) (formed.places place.QHead ∙ h))
-has_operand w place.QTail formed h = operand_of w place.QTail formed (some_there (w.at place.QTail) (formed.places place.QTail ∙ h))
-has_operand w (place.Head s) formed h = operand_of w (place.Head s) formed (some_there (w.at (place.Head s)) (formed.places (place.Head s) ∙ h))
-has_operand w (place.Tail s) formed h = operand_of w (place.Tail s) formed (some_there (w.at (place.Tail s)) (formed.places (place.Tail s) ∙ h))
-has_operand w (place.Next s) formed h = operand_of w (place.Next s) formed (some_there (w.at (place.Next s)) (formed.places (place.Next s) ∙ h))
-has_operand w (place.Val s i) formed h = operand_of w (place.Val s i) formed (some_there (w.at (place.Val s i)) (formed.places (place.Val s i) ∙ h))
-has_operand w (place.Idx s i) formed h = operand_of w (place.Idx s i) formed (some_there (w.at (place.Idx s i)) (formed.places (place.Idx s i) ∙ h))
-has_operand w place.ArrHead formed h = operand_of w place.ArrHead formed (some_there (w.at place.ArrHead) (formed.places place.ArrHead ∙ h))
-has_operand w place.ArrTail formed h = operand_of w place.ArrTail formed (some_there (w.at place.ArrTail) (formed.places place.ArrTail ∙ h))
-has_operand w (place.ArrCell i) formed h = operand_of w (place.ArrCell i) formed (some_there (w.at (place.ArrCell i)) (formed.places (place.ArrCell i) ∙ h))
+has_operand w p formed h = operand_of w p formed (some_there (w.at p) (formed.places p ∙ h))

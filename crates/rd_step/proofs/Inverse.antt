@@ -1,6 +1,6 @@
 -- The words that an entry keeps give the world before its step back, and a step on which no later
 -- one depends may be taken out of a run.
-use Rattle.rd_step.proofs.Prelude.{◌≡◌, ℕ, zero, suc, ◌+◌, ◌<◌, true, false, nat_lt, inl, inr, refl, sym, ◌∙◌, ap, subst, arith, List, ◌∷◌, Option, Some, None, Result, Ok, Err, IfOk, ltb-true, cases_Bool, cond-true, cond-false, cond_both, IfOk-at_ok, fun_ext, MOST_SEGMENTS, SegName, Place, Content, Access, NoPlace, At, Make, Operation, Refusal, is_of, Contents, after_write, operand, restore, is_there, holding, Effect, Performed, contents_after, operate, make, perform, effect_at, number_made_from, result_map, is_cell_at, after_write-outside, Actor, after, World, Event, Stepped, with_actor, step, unstep, Ran, run, Presence, belongs, IsWellFormed, number_made, operand-covered, not_written}
+use Rattle.rd_step.proofs.Prelude.{◌≡◌, ℕ, zero, suc, ◌+◌, ◌<◌, true, false, nat_lt, refl, sym, ◌∙◌, subst, arith, List, ◌∷◌, Option, Some, None, Result, Ok, Err, IfOk, ltb-true, cond-false, cond_both, IfOk-at_ok, fun_ext, MOST_SEGMENTS, SegName, Place, Content, Access, NoPlace, At, Make, Operation, Refusal, is_of, Contents, after_write, operand, restore, is_there, holding, Effect, Performed, contents_after, operate, make, perform, effect_at, number_made_from, result_map, is_cell_at, after_write-outside, Actor, after, World, Event, Stepped, with_actor, step, unstep, Ran, run, Presence, belongs, IsWellFormed, number_made, operand-covered, not_written}
 use Rattle.rd_step.proofs.Halves.{nothing_there, bare_cell}
 use Rattle.rd_step.proofs.Steps.{took}
 use Rattle.rd_cell.specs.declared.places.Place.TheVariants as place
@@ -28,15 +28,7 @@ number_made_from-absent : (more : ℕ) (at : Contents) (m n : ℕ) → number_ma
     → is_there at (record { maker = m; n = number_made_from more at m n }) ≡ false
 unfolding number_made_from
 number_made_from-absent zero at m n h = absurd (omega arith)
-number_made_from-absent (suc more) at m n h =
-    elim (cases_Bool (is_there at (record { maker = m; n = n }))) [
-      | inl e ↦
-          let k : number_made_from (suc more) at m n ≡ number_made_from more at m (n + 1) = cond-true (is_there at (record { maker = m; n = n })) (number_made_from more at m (n + 1)) n e in
-          ap (λ (j : ℕ). is_there at (record { maker = m; n = j })) k ∙ number_made_from-absent more at m (n + 1) (omega arith)
-      | inr e ↦
-          let k : number_made_from (suc more) at m n ≡ n = cond-false (is_there at (record { maker = m; n = n })) (number_made_from more at m (n + 1)) n e in
-          ap (λ (j : ℕ). is_there at (record { maker = m; n = j })) k ∙ e
-    ]
+number_made_from-absent (suc more) at m n h = grind (arith, number_made_from-absent more at m (n + 1))
 
 pub number_made-absent : (at : Contents) (m : ℕ) → number_made at m < MOST_SEGMENTS → is_there at (record { maker = m; n = number_made at m }) ≡ false
 unfolding number_made

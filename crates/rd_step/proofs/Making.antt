@@ -1,6 +1,6 @@
 -- A making keeps a world well-formed: the new segment is its maker's next one, and its places are
 -- just those that belong there.
-use Rattle.rd_step.proofs.Prelude.{◌≡◌, ℕ, zero, suc, ◌+◌, ◌<◌, ◌≤◌, Bool, true, false, not, ◌==◌, nat_lt, inl, inr, sym, ◌∙◌, ap, subst, arith, Some, is_some, eqb-true, cases_eq, cases_Bool, cond-true, cond-false, and_parts, MOST_SEGMENTS, SegName, Place, root, name_eq, Contents, is_there, after_write, holding, number_made_from, name_eq-true, belongs, place_fits, maker_fits, AreMade, number_made}
+use Rattle.rd_step.proofs.Prelude.{◌≡◌, ℕ, zero, suc, ◌+◌, ◌<◌, ◌≤◌, Bool, true, false, not, ◌==◌, nat_lt, inl, inr, sym, ◌∙◌, ap, subst, arith, Some, is_some, eqb-true, cases_Bool, cond-true, cond-false, and_parts, MOST_SEGMENTS, SegName, Place, root, name_eq, Contents, is_there, after_write, holding, number_made_from, name_eq-true, belongs, place_fits, maker_fits, AreMade, number_made}
 use Rattle.rd_step.proofs.Fits.{Grows}
 use Rattle.rd_cell.specs.declared.places.Place.TheVariants as place
 use Rattle.rd_cell.specs.declared.contents.Content.TheVariants as content
@@ -10,19 +10,7 @@ made_from-below : (more : ℕ) (at : Contents) (m n k : ℕ) → n ≤ k → k <
     → is_there at (record { maker = m; n = k }) ≡ true
 unfolding number_made_from
 made_from-below zero at m n k h l = absurd (omega arith)
-made_from-below (suc more) at m n k h l =
-    elim (cases_Bool (is_there at (record { maker = m; n = n }))) [
-      | inl e ↦
-          let same : number_made_from (suc more) at m n ≡ number_made_from more at m (n + 1) = cond-true (is_there at (record { maker = m; n = n })) (number_made_from more at m (n + 1)) n e in
-          elim (cases_eq k n) [
-            | inl f ↦ ap (λ (j : ℕ). is_there at (record { maker = m; n = j })) f ∙ e
-            | inr f ↦ made_from-below more at m (n + 1) k (omega arith) (subst (λ (j : ℕ). k < j) same l)
-          ]
-      | inr e ↦
-          let same : number_made_from (suc more) at m n ≡ n = cond-false (is_there at (record { maker = m; n = n })) (number_made_from more at m (n + 1)) n e in
-          let below : k < n = subst (λ (j : ℕ). k < j) same l in
-          absurd (omega arith)
-    ]
+made_from-below (suc more) at m n k h l = grind (arith, made_from-below more at m (n + 1) k)
 
 pub made-below : (at : Contents) (m k : ℕ) → k < number_made at m → is_there at (record { maker = m; n = k }) ≡ true
 unfolding number_made

@@ -1,6 +1,6 @@
 -- Progress: what an actor of a well-formed world asks for suits what is there, and the answer leads
 -- it to another control point.
-use Rattle.rd_step.proofs.Prelude.{◌≡◌, ◌≢◌, ℕ, ◌≤◌, Bool, true, false, if◌then◌else◌, nat_lt, nat_le, refl, sym, ◌∙◌, ap, subst, arith, Option, Some, None, is_some, is_none, ok_or, Result, Ok, Err, IfOk, holding, common_steps, cond_both, and_parts, IfOk-at_ok, fun_ext, MOST_SEGMENTS, Cell, SegName, Place, Wrote, ArrSlot, Content, Operation, Access, NoPlace, At, Make, Refusal, some_covers, is_nothing, written, Contents, is_there, operand, Effect, effect, Performed, operate, make, perform, swaps, adds, effect_at, result_map, after_write-outside, written-covers, ok_or_ok, Act, Actor, Pc, Idle, E4, E11, Q5, A2, B2, need, need_at, need_call, need_choice, after_take, after_at, after, words_fit_at, World, Event, Stepped, step, Presence, content_fits, record_fits, actor_fits, IsWellFormed, number_made, and_then_err, IsStepRefusal, SuitsContent, MovesOn, ChangesOnly}
+use Rattle.rd_step.proofs.Prelude.{◌≡◌, ◌≢◌, ℕ, ◌≤◌, Bool, true, false, if◌then◌else◌, nat_lt, nat_le, refl, sym, ◌∙◌, ap, subst, arith, Option, Some, is_some, is_none, ok_or, Result, Ok, Err, IfOk, holding, common_steps, cond_both, and_parts, IfOk-at_ok, fun_ext, MOST_SEGMENTS, Cell, SegName, Place, Wrote, ArrSlot, Content, Operation, Access, NoPlace, At, Make, Refusal, some_covers, is_nothing, written, Contents, is_there, operand, Effect, effect, Performed, operate, make, perform, swaps, adds, effect_at, result_map, after_write-outside, written-covers, ok_or_ok, Act, Actor, Pc, Idle, E4, E11, Q5, A2, B2, need, need_at, need_call, need_choice, after_take, after_at, after, words_fit_at, World, Event, Stepped, step, Presence, content_fits, record_fits, actor_fits, IsWellFormed, number_made, and_then_err, IsStepRefusal, SuitsContent, MovesOn, ChangesOnly}
 use Rattle.rd_step.proofs.Halves.{has_place, has_operand}
 use Rattle.rd_step.proofs.Fits.{PartsFit, parts_of, words_of}
 use Rattle.rd_step.proofs.Steps.{took, with_actor-same, with_actor-other}
@@ -12,43 +12,23 @@ use Rattle.rd_actor.specs.declared.actors.Act.TheVariants as act
 
 -- Contents by the kinds of their places
 
-end_kind : (R : ℕ) (there : Presence) (P : Content → Type 0) → ((s : SegName) → P (content.Name s)) → (c : Content) → content_fits R there place.QHead c ≡ true → P c
-end_kind R there P f c h = grind arith
+-- what holds of each content that a place can hold
+abbrev OfKind : Place → (Content → Type 0) → Type 0
+OfKind place.QHead P = (s : SegName) → P (content.Name s)
+OfKind place.QTail P = (s : SegName) → P (content.Name s)
+OfKind (place.Head s) P = (n : ℕ) → P (content.Number n)
+OfKind (place.Tail s) P = (closed : Bool) (n : ℕ) → P (content.Tail closed n)
+OfKind (place.Next s) P = (m : Option SegName) → P (content.Next m)
+OfKind (place.Cell s i) P = (x : Cell) → P (content.Cell x)
+OfKind (place.Val s i) P = (val : Option ℕ) → P (content.Val val)
+OfKind (place.Idx s i) P = (safe : Bool) (idx : ℕ) → P (content.Idx safe idx)
+OfKind place.ArrHead P = (n : ℕ) → P (content.Number n)
+OfKind place.ArrTail P = (n : ℕ) → P (content.Number n)
+OfKind (place.ArrCell i) P = (x : ArrSlot) → P (content.Slot x)
+OfKind (place.Whole s) P = P content.Whole
 
-tail_end_kind : (R : ℕ) (there : Presence) (P : Content → Type 0) → ((s : SegName) → P (content.Name s)) → (c : Content) → content_fits R there place.QTail c ≡ true → P c
-tail_end_kind R there P f c h = grind arith
-
-head_kind : (R : ℕ) (there : Presence) (s : SegName) (P : Content → Type 0) → ((n : ℕ) → P (content.Number n)) → (c : Content) → content_fits R there (place.Head s) c ≡ true → P c
-head_kind R there s P f c h = grind arith
-
-tail_kind : (R : ℕ) (there : Presence) (s : SegName) (P : Content → Type 0) → ((closed : Bool) (n : ℕ) → P (content.Tail closed n)) → (c : Content) → content_fits R there (place.Tail s) c ≡ true → P c
-tail_kind R there s P f c h = grind arith
-
-next_kind : (R : ℕ) (there : Presence) (s : SegName) (P : Content → Type 0) → P (content.Next None) → ((m : SegName) → P (content.Next (Some m))) → (c : Content)
-    → content_fits R there (place.Next s) c ≡ true → P c
-next_kind R there s P none f c h = grind arith
-
-cell_kind : (R : ℕ) (there : Presence) (s : SegName) (i : ℕ) (P : Content → Type 0) → ((x : Cell) → P (content.Cell x)) → (c : Content)
-    → content_fits R there (place.Cell s i) c ≡ true → P c
-cell_kind R there s i P f c h = grind arith
-
-value_kind : (R : ℕ) (there : Presence) (s : SegName) (i : ℕ) (P : Content → Type 0) → ((val : Option ℕ) → P (content.Val val)) → (c : Content)
-    → content_fits R there (place.Val s i) c ≡ true → P c
-value_kind R there s i P f c h = grind arith
-
-index_kind : (R : ℕ) (there : Presence) (s : SegName) (i : ℕ) (P : Content → Type 0) → ((safe : Bool) (idx : ℕ) → P (content.Idx safe idx)) → (c : Content)
-    → content_fits R there (place.Idx s i) c ≡ true → P c
-index_kind R there s i P f c h = grind arith
-
-array_head_kind : (R : ℕ) (there : Presence) (P : Content → Type 0) → ((n : ℕ) → P (content.Number n)) → (c : Content) → content_fits R there place.ArrHead c ≡ true → P c
-array_head_kind R there P f c h = grind arith
-
-array_tail_kind : (R : ℕ) (there : Presence) (P : Content → Type 0) → ((n : ℕ) → P (content.Number n)) → (c : Content) → content_fits R there place.ArrTail c ≡ true → P c
-array_tail_kind R there P f c h = grind arith
-
-slot_kind : (R : ℕ) (there : Presence) (i : ℕ) (P : Content → Type 0) → ((x : ArrSlot) → P (content.Slot x)) → (c : Content)
-    → content_fits R there (place.ArrCell i) c ≡ true → P c
-slot_kind R there i P f c h = grind arith
+at_kind : (R : ℕ) (there : Presence) (p : Place) (P : Content → Type 0) → OfKind p P → (c : Content) → content_fits R there p c ≡ true → P c
+at_kind R there p P f c h = grind arith
 
 -- The rows
 
@@ -62,7 +42,7 @@ Goes R pc a (Err _) = ⊥
 -- what the access of a row does leads on
 abbrev Leads : ℕ → Presence → Pc → Actor → Access → Type 0
 Leads R there pc a NoPlace = ⊥
-Leads R there pc a (At p op) = (c : Content) → content_fits R there p c ≡ true → Goes R pc a (effect op c)
+Leads R there pc a (At p op) = OfKind p (λ c. Goes R pc a (effect op c))
 Leads R there pc a (Make x) = (s : SegName) → (after_at R pc a (answer.Made s)).0.pc ≢ pc
 
 -- of two control points that are others than this one, each is
@@ -73,13 +53,9 @@ swaps_lead : (R : ℕ) (pc : Pc) (a : Actor) (b : Bool) (c : Content) → (after
     → Goes R pc a (swaps b c)
 swaps_lead R pc a b c won lost = grind arith
 
-adds_lead : (R : ℕ) (pc : Pc) (a : Actor) (limit n : ℕ) (old new : Content) → (after_at R pc a (answer.Found old)).0.pc ≢ pc
-    → Goes R pc a (adds limit n refusal.CounterEnd old new)
-adds_lead R pc a limit n old new h = cond_both (nat_lt n limit) _ _ (λ (r : Result Effect Refusal). Goes R pc a r) (λ e. h) (λ e. tt)
-
-array_adds_lead : (R : ℕ) (pc : Pc) (a : Actor) (limit n : ℕ) (old new : Content) → (after_at R pc a (answer.Found old)).0.pc ≢ pc
-    → Goes R pc a (adds limit n refusal.ArrayEnd old new)
-array_adds_lead R pc a limit n old new h = cond_both (nat_lt n limit) _ _ (λ (r : Result Effect Refusal). Goes R pc a r) (λ e. h) (λ e. tt)
+adds_lead : (R : ℕ) (pc : Pc) (a : Actor) (limit n : ℕ) (end : Refusal) (old new : Content) → Goes R pc a (Err end)
+    → (after_at R pc a (answer.Found old)).0.pc ≢ pc → Goes R pc a (adds limit n end old new)
+adds_lead R pc a limit n end old new may h = cond_both (nat_lt n limit) _ _ (λ (r : Result Effect Refusal). Goes R pc a r) (λ e. h) (λ e. may)
 
 take_leads : (a : Actor) (v : Option ℕ) → is_some v ≡ true → (after_take v a).0.pc ≢ Q5
 take_leads a v h = grind arith
@@ -92,7 +68,7 @@ swap_out_leads R a slot = grind arith
 
 -- each row leads on, if the actor's words fit it
 row_leads : (R : ℕ) (there : Presence) (pc : Pc) (a : Actor) → words_fit_at pc a ≡ true → IfOk (need_at R pc a) (Leads R there pc a)
-row_leads R there pc a w = grind (arith, common_steps, tail_end_kind, next_kind, swaps_lead, tail_kind, adds_lead, other, value_kind, index_kind, is_none, nat_le, head_kind, cell_kind, end_kind, nat_lt, is_some, take_leads, and_parts, array_tail_kind, array_adds_lead, slot_kind, swap_in_leads, array_head_kind, swap_out_leads)
+row_leads R there pc a w = grind (arith, common_steps, swaps_lead, adds_lead, other, is_none, nat_le, nat_lt, is_some, take_leads, and_parts, swap_in_leads, swap_out_leads)
 
 -- The places that are asked for are there
 
@@ -120,7 +96,7 @@ works_on w pc a p op some formed parts words needs =
     let place : IsAtPlace w.ring there (At p op) = IfOk-at_ok (IsAtPlace w.ring there) needs (row_place w.ring there pc a some parts words) in
     let leads : Leads w.ring there pc a (At p op) = IfOk-at_ok (Leads w.ring there pc a) needs (row_leads w.ring there pc a words) in
     let on = has_operand w p formed place in
-    record { content = on.content; found = on.found; goes = leads on.content on.fits }
+    record { content = on.content; found = on.found; goes = at_kind w.ring there p (λ c. Goes w.ring pc a (effect op c)) leads on.content on.fits }
 
 -- what an access of an actor leads to: another control point, or a refusal of a step
 abbrev Ends : ℕ → Actor → Act → Result Performed Refusal → Type 0
@@ -206,15 +182,12 @@ suits_content w n a x p op some formed has needs = by_act x needs
     no_choice pc h = grind arith
 
     by_act : (x : Act) → need w.ring a x ≡ Ok (At p op) → SuitsContent w.at p op
-    by_act (act.Enq v) h = no_call a.pc h
-    by_act act.Deq h = no_call a.pc h
-    by_act (act.AEnq v) h = no_call a.pc h
-    by_act act.ADeq h = no_call a.pc h
     by_act (act.Starve b) h = no_choice a.pc h
     by_act act.Go h =
         let fits = fits_here w n a formed has in
         let on = works_on w a.pc a p op some formed (parts_of w.ring (is_there w.at) a fits) (words_of w.ring (is_there w.at) a fits) h in
         record { content = on.content; found = on.found; suits = λ k. suit (effect op on.content) on.goes k }
+    by_act x h = no_call a.pc h
 
 -- a step leaves its actor at another control point
 pub moves_on : (w : World) (e : Event) (s : Stepped) → 1 ≤ w.ring → IsWellFormed w → step w e ≡ Ok s → MovesOn e w s.world

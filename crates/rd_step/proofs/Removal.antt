@@ -1,5 +1,5 @@
 -- A step on which no later one depends may be taken out of a run, and go last.
-use Rattle.rd_step.proofs.Prelude.{◌≡◌, ℕ, true, ◌==◌, sym, ◌∙◌, ap, subst, List, [], ◌∷◌, is_some, Ok, arith, or_parts, Place, is_there, interfere, World, Event, Entry, Stepped, step, unstep, CanPutBack, Ran, run, IsFree, CommutingSquare, place_fits, IsWellFormed, IsRemovable, WasStepped, IsTakenOut}
+use Rattle.rd_step.proofs.Prelude.{◌≡◌, ℕ, true, ◌==◌, refl, sym, ◌∙◌, ap, subst, List, [], ◌∷◌, is_some, Ok, arith, or_parts, Place, is_there, interfere, World, Event, Entry, Stepped, step, unstep, CanPutBack, Ran, run, IsFree, CommutingSquare, place_fits, IsWellFormed, IsRemovable, WasStepped, IsTakenOut}
 use Rattle.rd_step.proofs.Steps.{took, with_actor-same}
 use Rattle.rd_step.proofs.Commute.{commutes}
 use Rattle.rd_step.proofs.Keeps.{keeps}
@@ -36,45 +36,37 @@ removes w e s (f ∷ fs) r formed h k free =
 
 -- Runs keep the size of the rings, that a world is well-formed, and what is there
 
+-- what each step keeps, a run keeps
+run_invariant : (P : World → Type 0) → ((v : World) (e : Event) (s : Stepped) → P v → step v e ≡ Ok s → P s.world) → (w : World) (es : List Event) (r : Ran)
+    → P w → run w es ≡ Ok r → P r.world
+run_invariant P stays w [] r p h = let same : w ≡ r.world = cc in subst P same p
+run_invariant P stays w (e ∷ es) r p h =
+    let ran = ran_on w e es r h in
+    let same : ran.rest.world ≡ r.world = ap (λ (x : Ran). x.world) ran.joins in
+    subst P same (run_invariant P stays ran.one.world es ran.rest (stays w e ran.one p ran.goes) ran.goes_on)
+
 step_ring : (w : World) (e : Event) (s : Stepped) → step w e ≡ Ok s → s.world.ring ≡ w.ring
 step_ring w e s h = ap (λ (x : Stepped). x.world.ring) (sym (took w e s h).ends)
 
 pub run_ring : (w : World) (es : List Event) (r : Ran) → run w es ≡ Ok r → r.world.ring ≡ w.ring
-run_ring w [] r h = let p : w ≡ r.world = cc in ap (λ (v : World). v.ring) (sym p)
-run_ring w (e ∷ es) r h =
-    let ran = ran_on w e es r h in
-    ap (λ (x : Ran). x.world.ring) (sym ran.joins) ∙ run_ring ran.one.world es ran.rest ran.goes_on ∙ step_ring w e ran.one ran.goes
+run_ring w es r h = run_invariant (λ v. v.ring ≡ w.ring) (λ v e s same goes. step_ring v e s goes ∙ same) w es r refl h
 
 pub run_keeps : (w : World) (es : List Event) (r : Ran) → IsWellFormed w → run w es ≡ Ok r → IsWellFormed r.world
-run_keeps w [] r formed h = let p : w ≡ r.world = cc in subst (λ (v : World). IsWellFormed v) p formed
-run_keeps w (e ∷ es) r formed h =
-    let ran = ran_on w e es r h in
-    let p : ran.rest.world ≡ r.world = ap (λ (x : Ran). x.world) ran.joins in
-    subst (λ (v : World). IsWellFormed v) p (run_keeps ran.one.world es ran.rest (keeps w e ran.one formed ran.goes) ran.goes_on)
+run_keeps w es r formed h = run_invariant IsWellFormed keeps w es r formed h
 
--- a step takes no actor away
+-- neither a step nor a run takes an actor or a place away
 stays_actor : (w : World) (e : Event) (s : Stepped) (n : ℕ) → step w e ≡ Ok s → is_some (w.actor n) ≡ true
     → is_some (s.world.actor n) ≡ true
 stays_actor w e s n h there = grind arith
 
-run_stays_at : (w : World) (es : List Event) (r : Ran) (q : Place) → IsWellFormed w → run w es ≡ Ok r → is_some (w.at q) ≡ true
-    → is_some (r.world.at q) ≡ true
-run_stays_at w [] r q formed h there = let p : w ≡ r.world = cc in subst (λ (v : World). is_some (v.at q) ≡ true) p there
-run_stays_at w (e ∷ es) r q formed h there =
-    let ran = ran_on w e es r h in
-    let p : ran.rest.world ≡ r.world = ap (λ (x : Ran). x.world) ran.joins in
-    subst (λ (v : World). is_some (v.at q) ≡ true) p
-    (run_stays_at ran.one.world es ran.rest q (keeps w e ran.one formed ran.goes) ran.goes_on (stays_at w e ran.one q formed ran.goes there))
-
--- nor does a run
 pub run_stays_actor : (w : World) (es : List Event) (r : Ran) (n : ℕ) → run w es ≡ Ok r → is_some (w.actor n) ≡ true
     → is_some (r.world.actor n) ≡ true
-run_stays_actor w [] r n h there = let p : w ≡ r.world = cc in subst (λ (v : World). is_some (v.actor n) ≡ true) p there
-run_stays_actor w (e ∷ es) r n h there =
-    let ran = ran_on w e es r h in
-    let p : ran.rest.world ≡ r.world = ap (λ (x : Ran). x.world) ran.joins in
-    subst (λ (v : World). is_some (v.actor n) ≡ true) p
-    (run_stays_actor ran.one.world es ran.rest n ran.goes_on (stays_actor w e ran.one n ran.goes there))
+run_stays_actor w es r n h there = run_invariant (λ v. is_some (v.actor n) ≡ true) (λ v e s some goes. stays_actor v e s n goes some) w es r there h
+
+run_stays_at : (w : World) (es : List Event) (r : Ran) (q : Place) → IsWellFormed w → run w es ≡ Ok r → is_some (w.at q) ≡ true
+    → is_some (r.world.at q) ≡ true
+run_stays_at w es r q formed h there =
+    (run_invariant (λ v. IsWellFormed v × (is_some (v.at q) ≡ true)) (λ v e s p goes. (keeps v e s p.0 goes, stays_at v e s q p.0 goes p.1)) w es r (formed, there) h).1
 
 -- steps that do not depend on x keep which segments of its actor are there
 run_others : (w : World) (es : List Event) (r : Ran) (x : Entry) (k : ℕ) → run w es ≡ Ok r → IsFree x r.entries

@@ -1,6 +1,6 @@
 -- An actor whose record fits goes on, with an answer that fits, to a record that fits: one clause a
 -- row of the table.
-use Rattle.rd_step.proofs.Prelude.{◌≡◌, ℕ, Bool, true, nat_lt, refl, arith, Option, Some, None, Ok, le-leb, SLOTS, ArrSlot, Access, Answer, root, Act, Actor, Pc, E1, E2, E3, E4, E5, E6, E7, E8, E9, E11, E12, E13, E14, Q1, Q2, Q3, Q4, Q5, Q6, Q7, Q8, Q9, Q10, Q11, Q12, Q13, Q14, A1, A2, B1, B2, B3, idle, need, need_at, after_take, after_at, after, words_fit_at, Presence, record_fits, index_end, calling, Op}
+use Rattle.rd_step.proofs.Prelude.{◌≡◌, ℕ, Bool, true, nat_lt, refl, arith, Option, None, Ok, le-leb, SLOTS, ArrSlot, Access, Answer, root, Act, Actor, Pc, E1, E2, E3, E4, E8, E11, E12, E13, E14, Q1, Q4, Q5, Q11, Q13, A1, B1, B2, B3, idle, need, need_at, after_take, after_at, after, words_fit_at, Presence, record_fits, index_end, calling, Op}
 use Rattle.rd_actor.specs.declared.actors.Op.TheVariants as op
 use Rattle.rd_step.proofs.Fits.{PartsFit, parts_of, words_of, together, answer_fits, drew_slot}
 use Rattle.rd_cell.specs.declared.contents.Content.TheVariants as content
@@ -12,7 +12,7 @@ use Rattle.rd_actor.specs.declared.actors.Act.TheVariants as act
 idle_fits : (R : ℕ) (there : Presence) → there root ≡ true → PartsFit R there idle
 idle_fits R there h = record { crq = h; new = h; next = h; t = refl; h = refl; idx = le-leb 0 (index_end R) (omega arith) }
 
-idle_record : (R : ℕ) (there : Presence) → there root ≡ true → record_fits R there idle ≡ true
+pub idle_record : (R : ℕ) (there : Presence) → there root ≡ true → record_fits R there idle ≡ true
 idle_record R there h = together R there idle (idle_fits R there h) refl
 
 -- a record that begins a call names what the idle one names
@@ -46,47 +46,21 @@ drew_row R a pc x answer n d = grind arith
 after_at_fits : (R : ℕ) (there : Presence) (a : Actor) (pc : Pc) (answer : Answer) → there root ≡ true
     → answer_fits R there answer ≡ true → record_fits R there a ≡ true → PartsFit R there a → words_fit_at pc a ≡ true
     → drew_at pc answer ≡ true → record_fits R there (after_at R pc a answer).0 ≡ true
-after_at_fits R there a E1 (answer.Found (content.Name s)) r h whole f w d = grind arith
-after_at_fits R there a E2 (answer.Found (content.Next (Some m))) r h whole f w d = grind arith
 after_at_fits R there a E2 (answer.Found (content.Next None)) r h whole f w d = moved R there a E4 f w
 after_at_fits R there a E3 answer r h whole f w d = moved R there a E1 f w
-after_at_fits R there a E4 (answer.Found (content.Tail closed count)) r h whole f w d = grind arith
-after_at_fits R there a E5 (answer.Value v) r h whole f w d = grind arith
-after_at_fits R there a E6 (answer.SafeAndIndex safe idx) r h whole f w d = grind arith
-after_at_fits R there a E7 (answer.Found (content.Number g)) r h whole f w d = grind arith
 after_at_fits R there a E8 answer.Won r h whole f w d = idle_record R there r
-after_at_fits R there a E8 answer.Lost r h whole f w d = grind arith
-after_at_fits R there a E9 (answer.Found (content.Number g)) r h whole f w d = grind arith
 after_at_fits R there a E11 answer r h whole f w d = moved R there a E12 f w
-after_at_fits R there a E12 (answer.Made s) r h whole f w d = grind arith
 after_at_fits R there a E13 answer.Won r h whole f w d = moved R there a E14 f w
 after_at_fits R there a E13 answer.Lost r h whole f w d = moved R there a E1 f w
 after_at_fits R there a E14 answer r h whole f w d = idle_record R there r
-after_at_fits R there a Q1 (answer.Found (content.Name s)) r h whole f w d = grind arith
-after_at_fits R there a Q2 (answer.Found (content.Number g)) r h whole f w d = grind arith
-after_at_fits R there a Q3 (answer.Value v) r h whole f w d = grind arith
 after_at_fits R there a Q4 (answer.SafeAndIndex safe idx) r h whole f w d = grind arith
 after_at_fits R there a Q5 answer.Won r h whole f w d = taken_fits R there a a.val r whole
-after_at_fits R there a Q5 answer.Lost r h whole f w d = grind arith
-after_at_fits R there a Q6 answer.Won r h whole f w d = grind arith
-after_at_fits R there a Q6 answer.Lost r h whole f w d = grind arith
-after_at_fits R there a Q7 answer.Won r h whole f w d = grind arith
-after_at_fits R there a Q7 answer.Lost r h whole f w d = grind arith
-after_at_fits R there a Q8 (answer.Found (content.Tail closed count)) r h whole f w d = grind arith
-after_at_fits R there a Q9 (answer.Found (content.Tail closed count)) r h whole f w d = grind arith
-after_at_fits R there a Q10 (answer.Found (content.Number g)) r h whole f w d = grind arith
 after_at_fits R there a Q11 (answer.Found (content.Tail closed count)) r h whole f w d = grind arith
-after_at_fits R there a Q12 answer.Won r h whole f w d = grind arith
-after_at_fits R there a Q12 answer.Lost r h whole f w d = grind arith
 after_at_fits R there a Q13 (answer.Found (content.Next None)) r h whole f w d = idle_record R there r
-after_at_fits R there a Q13 (answer.Found (content.Next (Some m))) r h whole f w d = grind arith
-after_at_fits R there a Q14 answer r h whole f w d = grind arith
 after_at_fits R there a A1 (answer.Found (content.Number u)) r h whole f w d = grind arith
-after_at_fits R there a A2 (answer.Found (content.Slot slot)) r h whole f w d = grind arith
 after_at_fits R there a B1 (answer.Found (content.Number g)) r h whole f w d = grind arith
 after_at_fits R there a B2 (answer.Found (content.Slot slot)) r h whole f w d = swapped_out_fits R there a slot r f w
-after_at_fits R there a B3 (answer.Found (content.Number u)) r h whole f w d = grind arith
-after_at_fits R there a _ _ r h whole f w d = whole
+after_at_fits R there a pc answer r h whole f w d = grind arith
 
 -- an actor whose record fits, and that was not refused, goes on to a record that fits
 pub after_fits : (R : ℕ) (there : Presence) (a : Actor) (act : Act) (x : Access) (answer : Answer) → there root ≡ true

@@ -1,5 +1,6 @@
 -- The worlds that a session may begin with are well-formed.
 use Rattle.rd_step.proofs.Prelude.{◌≡◌, ◌↔◌, ℕ, suc, ◌<◌, ◌≤◌, Bool, true, false, if◌then◌else◌, nat_lt, inl, inr, refl, sym, ◌∙◌, ap, arith, List, length, get_or, slice_get, All, IsSome, Option, Some, None, is_some, le-leb, lt-ltb, le-ltb, common_steps, cases_lt, cond-true, cond-false, and_from, both_ways, slice_get_past, MOST_ACTORS, Place, is_there, Space, contents, Actor, idle, poised, World, world_of_fields, numbered, Presence, belongs, place_fits, record_fits, actor_fits, is_actor, IsNumbered, AreMade, IsWellFormed, index_end, slice_get-get_or, fresh_space, actors_by, fresh_world, poised_world}
+use Rattle.rd_step.proofs.Rows.{idle_record}
 
 -- a list of this many actors, each with the record that its number gives
 pub list_actors : (xs : List Actor) (each : ℕ → Actor) (count : ℕ) → length xs ≡ count
@@ -32,14 +33,11 @@ starts_well : (R : ℕ) (each : ℕ → Actor) (count : ℕ) → 1 ≤ count →
     → IsWellFormed (record { ring = R; at = fresh_space R; actor = actors_by each count })
 starts_well R each count some few fits = grind (arith, common_steps, numbered_by, made_first, places_first, contents_first, fits_by)
 
-idle_fits : (R : ℕ) → record_fits R (there_first R) idle ≡ true
-idle_fits R = and_from _ _ (and_from _ _ refl (and_from _ _ refl (le-leb 0 (index_end R) (omega arith)))) refl
-
 poised_fits : (R n : ℕ) → record_fits R (there_first R) (poised n) ≡ true
 poised_fits R n = and_from _ _ (and_from _ _ refl (and_from _ _ refl (le-leb 0 (index_end R) (omega arith)))) refl
 
 pub fresh_formed : (R count : ℕ) → 1 ≤ count → count ≤ MOST_ACTORS → IsWellFormed (fresh_world R count)
-fresh_formed R count some few = starts_well R (λ n. idle) count some few (λ n. idle_fits R)
+fresh_formed R count some few = starts_well R (λ n. idle) count some few (λ n. idle_record R (there_first R) refl)
 
 pub poised_formed : (R count : ℕ) → 1 ≤ count → count ≤ MOST_ACTORS → IsWellFormed (poised_world R count)
 poised_formed R count some few = starts_well R poised count some few (λ n. poised_fits R n)

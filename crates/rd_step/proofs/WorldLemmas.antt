@@ -1,5 +1,5 @@
 -- The code's world, as the model's.
-use Rattle.rd_step.proofs.Prelude.{◌≡◌, ℕ, zero, suc, ◌-◌, ◌<◌, ◌≤◌, true, false, nat_lt, inl, inr, refl, sym, ◌∙◌, ap, subst, arith, List, [], ◌∷◌, length, set, slice_get, Option, Some, None, is_some, IsSome, is_ok, IsOk, IfOk, OnErr, Result, Ok, Err, lt-ltb, le-ltb, leb-true, holding, cases_lt, cond-true, cond-false, COUNTER_END, MOST_SEGMENTS, MOST_CELLS, MOST_ACTORS, SegName, Place, Access, Make, Done, Refusal, Contents, is_there, perform, restore, everywhere, HasEffect, Space, contents, room, lists, Actor, OpReply, need, after, World, Event, Entry, with_actor, step, world_of_fields, numbered, makes, makes_segment, IsRefused, Presence, actor_fits, record_fits, maker_fits, is_actor, IsWellFormed, IfOk-at_ok, number_made, Makes, RefusesMaking, making_count, counts, there_below, absent_from, IsRepresentable, IsLast, access_suits, made_at}
+use Rattle.rd_step.proofs.Prelude.{◌≡◌, ℕ, zero, suc, ◌-◌, ◌<◌, ◌≤◌, true, false, nat_lt, inl, inr, sym, ◌∙◌, ap, subst, arith, List, length, set, slice_get, Option, Some, None, is_some, IsSome, IsTrue, is_ok, IsOk, IfOk, OnErr, Result, Ok, Err, lt-ltb, le-ltb, leb-true, holding, cases_lt, cond-true, cond-false, COUNTER_END, MOST_SEGMENTS, MOST_CELLS, MOST_ACTORS, SegName, Place, Access, Make, Done, Refusal, Contents, is_there, perform, restore, everywhere, HasEffect, Space, contents, room, lists, Actor, OpReply, need, after, World, Event, Entry, with_actor, step, world_of_fields, numbered, makes, makes_segment, IsRefused, Presence, actor_fits, record_fits, maker_fits, is_actor, IsWellFormed, IfOk-at_ok, number_made, Makes, RefusesMaking, making_count, counts, there_below, absent_from, in_list, IsRepresentable, IsLast, access_suits, made_at}
 use Rattle.rd_actor.proofs.Representable.{representable}
 use Rattle.rd_step.specs.declared.worlds.World.{World as CodeWorld}
 use Rattle.rd_step.proofs.Actors.{numbered-set, numbered-within}
@@ -63,19 +63,14 @@ set_record xs (suc n) m a e h =
     let p : m - 1 ≡ n = omega arith in
     ap (λ (k : ℕ). numbered (set xs k a)) p ∙ numbered-set xs n a (let l : suc n - 1 < length xs = numbered-within xs (suc n) h in omega arith)
 
-some_at : (xs : List Actor) (n : ℕ) → n < length xs → IsSome (slice_get xs n)
-some_at [] n h = absurd (omega arith)
-some_at (x ∷ xs) zero h = refl
-some_at (x ∷ xs) (suc n) h = some_at xs n (omega arith)
-
 pub actor_within : (xs : List Actor) (len : ℕ) → len ≡ length xs → (n : ℕ) → (IsSome (slice_get xs n) → n < len) × (n < len → IsSome (slice_get xs n))
 actor_within xs len e n = (
   (λ h. let l : suc n - 1 < length xs = numbered-within xs (suc n) h in omega arith),
-  (λ h. let l : n < length xs = omega arith in some_at xs n l),
+  (λ h. let l : n < length xs = omega arith in in_list xs n l),
 )
 
 too_many : (xs : List Actor) → ((n : ℕ) → is_some (numbered xs n) ≡ true → n ≤ MOST_ACTORS) → MOST_ACTORS < length xs → ⊥
-too_many xs most many = let bad : suc MOST_ACTORS ≤ MOST_ACTORS = most (suc MOST_ACTORS) (some_at xs MOST_ACTORS many) in absurd (omega arith)
+too_many xs most many = let bad : suc MOST_ACTORS ≤ MOST_ACTORS = most (suc MOST_ACTORS) (in_list xs MOST_ACTORS many) in absurd (omega arith)
 
 pub few_actors : (R : ℕ) (space : Space R) (xs : List Actor) → IsWellFormed (world_of_fields space xs) → length xs ≤ MOST_ACTORS
 few_actors R space xs formed = grind (arith, too_many)
@@ -83,18 +78,13 @@ few_actors R space xs formed = grind (arith, too_many)
 -- The step
 
 -- an actor that is there has a list of segments, of 65,535 at most
-pub actor_maker : {R : ℕ} (space : Space R) (xs : List Actor) (n : ℕ) (a : Actor) → lists space ≡ suc (length xs) → numbered xs n ≡ Some a → n < lists space
-actor_maker space xs zero a lists_are has = omega arith
-actor_maker space xs (suc n) a lists_are has =
-    let k : suc n - 1 < length xs = numbered-within xs (suc n) (ap is_some has) in omega arith
-
 pub some_maker : {R : ℕ} (space : Space R) (xs : List Actor) (n : ℕ) → lists space ≡ suc (length xs) → IsSome (numbered xs n) → n < lists space
 some_maker space xs n lists_are h = grind (arith, numbered-within)
 
 no_such : {R : ℕ} (space : Space R) (xs : List Actor) (n : ℕ) → maker_fits (is_actor (numbered xs)) n MOST_SEGMENTS ≡ true → ⊥
 no_such space xs n h = grind arith
 
-pub few_made : {R : ℕ} (space : Space R) (xs : List Actor) (n : ℕ) → IsWellFormed (world_of_fields space xs) → making_count space n ≤ MOST_SEGMENTS
+few_made : {R : ℕ} (space : Space R) (xs : List Actor) (n : ℕ) → IsWellFormed (world_of_fields space xs) → making_count space n ≤ MOST_SEGMENTS
 few_made space xs n formed =
     elim (cases_lt MOST_SEGMENTS (making_count space n)) [
       | inl many ↦
@@ -106,7 +96,7 @@ access_suited : (R : ℕ) (there : Presence) (x : Access) → access_fits R ther
 access_suited R there x h = grind arith
 
 -- what the need of an actor that is there says of its access
-pub need_suits : (R : ℕ) (space : Space R) (xs : List Actor) (e : Event) (a : Actor) (x : Access) → IsWellFormed (world_of_fields space xs)
+need_suits : (R : ℕ) (space : Space R) (xs : List Actor) (e : Event) (a : Actor) (x : Access) → IsWellFormed (world_of_fields space xs)
     → numbered xs e.actor ≡ Some a → need R a e.act ≡ Ok x → access_suits x ≡ true
 need_suits R space xs e a x formed has needs =
     let there = is_there (contents space) in
@@ -127,6 +117,17 @@ representable_here R space xs e a formed small has =
 pub needs_by : {R : ℕ} (self : CodeWorld R) (e : Event) (a : Actor) (r : Result Access Refusal) → numbered self.actors.items e.actor ≡ Some a
     → (IsRepresentable R a e.act → r ≡ need R a e.act) → need R a e.act ≡ r
 needs_by {R} self e a r has by = sym (by (representable_here R self.space self.actors.items e a self.well_formed self.small has))
+
+-- an actor's access may be performed
+pub may_perform : {R : ℕ} (self : CodeWorld R) (e : Event) (a : Actor) (x : Access) → numbered self.actors.items e.actor ≡ Some a → need R a e.act ≡ Ok x
+    → (R ≤ MOST_CELLS) × ((e.actor < lists self.space) × ((making_count self.space e.actor ≤ MOST_SEGMENTS) × IsTrue (access_suits x)))
+may_perform {R} self e a x has needs = (
+  self.small,
+  (
+    some_maker self.space self.actors.items e.actor self.makers (ap is_some has),
+    (few_made self.space self.actors.items e.actor self.well_formed, need_suits R self.space self.actors.items e a x self.well_formed has needs),
+  ),
+)
 
 -- whether an actor's event makes a segment, by its access
 pub makes_by : (w : World) (e : Event) (a : Actor) (x : Access) → w.actor e.actor ≡ Some a → need w.ring a e.act ≡ Ok x

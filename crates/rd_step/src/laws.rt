@@ -20,12 +20,14 @@ ghost use Rattle.rd_step.specs.Laws.{CommutingSquare, IsRemovable, IsStepRefusal
 /// A step that does not depend on the one before it may go first, with the same entries and the
 /// same world after both. It rests on the shape of the step alone (one actor, one place), and on no
 /// row of the table.
+#[tactic(auto, using(crate::proofs::Commute::commutes))]
 pub fn independent_steps_commute()
     ensures { (w : Model) (e f : Event) (v u : Stepped) → step w e ≡ Ok v → step v.world f ≡ Ok u
         → depends v.entry u.entry ≡ false → CommutingSquare w e f v u }
 {}
 
 /// The words that a step's entry keeps give back the whole world from before the step.
+#[tactic(auto, using(crate::proofs::Inverse::undoes))]
 pub fn entries_undo_their_steps()
     ensures { (w : Model) (e : Event) (s : Stepped) → IsWellFormed w → step w e ≡ Ok s
         → unstep s.world s.entry ≡ w }
@@ -50,12 +52,14 @@ pub fn equivalent_schedules_reach_one_world()
 {}
 
 /// A list of events that runs is causally equivalent to itself.
+#[tactic(auto, using(crate::proofs::Equivalence::reflexive))]
 pub fn equivalence_is_reflexive()
     ensures { (w : Model) (es : List Event) (r : Ran) → run w es ≡ Ok r → IsEquivalent w es es }
 {}
 
 /// Two neighbours that do not depend on each other may change places, wherever they are in a list:
 /// the lists are causally equivalent.
+#[tactic(auto, using(crate::proofs::Equivalence::swapped_within))]
 pub fn independent_neighbours_swapped_are_equivalent()
     ensures { (w : Model) (before : List Event) (e f : Event) (later : List Event) (b : Ran) (v u : Stepped) (r : Ran)
         → run w before ≡ Ok b → step b.world e ≡ Ok v → step v.world f ≡ Ok u → depends v.entry u.entry ≡ false
@@ -69,6 +73,7 @@ pub fn steps_keep_worlds_well_formed()
 {}
 
 /// A run keeps the size of the rings.
+#[tactic(auto, using(crate::proofs::Removal::run_ring))]
 pub fn runs_keep_the_ring()
     ensures { (w : Model) (es : List Event) (r : Ran) → run w es ≡ Ok r → r.world.ring ≡ w.ring }
 {}
@@ -76,11 +81,13 @@ pub fn runs_keep_the_ring()
 /// A step in a well-formed world is refused only because there is no such actor, because the
 /// actor's control point does not take the act, or at the end of a counter, of the array or of a
 /// maker's segments. It is never refused because a place is not there.
+#[tactic(auto, using(crate::proofs::Progress::refused_in_cases))]
 pub fn steps_are_refused_in_their_cases_alone()
     ensures { (w : Model) (e : Event) (refusal : Refusal) → 1 ≤ w.ring → IsWellFormed w → step w e ≡ Err refusal → IsStepRefusal refusal }
 {}
 
 /// Each operation that an actor of a well-formed world asks for suits the content of its place.
+#[tactic(auto, using(crate::proofs::Progress::suits_content))]
 pub fn operations_suit_their_contents()
     ensures { (w : Model) (n : ℕ) (a : Actor) (act : Act) (p : Place) (op : Operation) → 1 ≤ w.ring → IsWellFormed w
         → w.actor n ≡ Some a → need w.ring a act ≡ Ok (At p op) → SuitsContent w.at p op }
@@ -101,6 +108,7 @@ pub fn steps_change_one_place_and_one_actor()
 /// Parts have no flaw exactly if there is a list of segments for each maker from 0 to the number of
 /// actors, and their world is well-formed. So `World::assemble` finds a flaw in no well-formed
 /// world, and accepts no other.
+#[tactic(auto, using(crate::proofs::Accepted::exactly))]
 pub fn parts_have_no_flaw_exactly_where_their_world_is_well_formed()
     ensures { (R : ℕ) (p : Parts R) → (first_flaw p ≡ None)
         ↔ ((length p.segments.items ≡ suc (length p.actors.items)) × IsWellFormed (world_of_parts p)) }

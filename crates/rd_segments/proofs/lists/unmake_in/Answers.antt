@@ -1,10 +1,6 @@
-use Rattle.std.proofs.Common.{arith}
-use Rattle.rd_segments.proofs.ListsLemmas.{given_returns, count_within, count_read}
+use Rattle.rd_segments.proofs.ListsLemmas.{given_returns, count_within}
 use Rattle.rd_segments.proofs.SegmentsLemmas.{unmakes_in}
 use Rattle.rd_segments.proofs.lists.unmake_in.Goals as goal
-
-pub take_last-requires : goal.take_last-requires
-take_last-requires g c = grind (arith, count_within, count_read)
 
 pub returns-clause-gone : goal.returns-clause-gone
 returns-clause-gone g c =

@@ -1,9 +1,6 @@
-use Rattle.rd_segments.proofs.Prelude.{◌≡◌, List, ◌++◌, ◌∷◌, [], ◌∙◌, ap, arith, Segment, ListOf, by_name}
-use Rattle.rd_segments.proofs.ListsLemmas.{first_list, empty_pushed}
+use Rattle.rd_segments.proofs.Prelude.{◌≡◌, List, ◌++◌, ◌∷◌, [], ◌∙◌, ap, Segment, ListOf, by_name}
+use Rattle.rd_segments.proofs.ListsLemmas.{first_list}
 use Rattle.rd_segments.proofs.makers.first_lists.Goals as goal
-
-pub loop-preserved : goal.loop-preserved
-loop-preserved g c = grind (arith, empty_pushed)
 
 pub returns-clause-ok : goal.returns-clause-ok
 returns-clause-ok g c =

@@ -1,10 +1,5 @@
-use Rattle.rd_segments.proofs.SpaceLemmas.{space_makes, unchanged_fields}
+use Rattle.rd_segments.proofs.SpaceLemmas.{unchanged_fields}
 use Rattle.rd_segments.proofs.space.Space.make.Goals as goal
-
-pub returns-clause-ok : goal.returns-clause-ok
-returns-clause-ok g c =
-    space_makes c.args.self.now.makers.items c.make_in.new.makers.items c.args.self.now.qhead c.args.self.now.qtail c.args.self.now.array
-    c.args.value c.make_in.result c.make_in.ensures.ok
 
 pub returns-clause-unchanged : goal.returns-clause-unchanged
 returns-clause-unchanged g c =

@@ -1,4 +1,4 @@
-use Rattle.std.proofs.Common.{sym, arith}
+use Rattle.std.proofs.Common.{sym}
 use Rattle.rd_segments.proofs.SpaceLemmas.{space_operates, unchanged_fields, head_operates, tail_operates, array_operates, array_unchanged}
 use Rattle.rd_segments.proofs.space.Space.operate.Goals as goal
 
@@ -27,13 +27,7 @@ returns-in-None-clause-unchanged g c =
     array_unchanged c.args.self.now.makers.items c.args.self.now.qhead c.args.self.now.qtail c.args.self.now.array c.operate.new.self
     c.operate.result c.operate.ensures.unchanged
 
-pub returns-in-Some-clause-err : goal.returns-in-Some-clause-err
-returns-in-Some-clause-err g c = grind arith
-
 pub returns-in-Some-clause-unchanged : goal.returns-in-Some-clause-unchanged
 returns-in-Some-clause-unchanged g c =
     unchanged_fields c.args.self.now.makers.items c.operate_in.new.makers.items c.args.self.now.qhead c.args.self.now.qtail c.args.self.now.array
     c.operate_in.result c.operate_in.ensures.unchanged
-
-pub returns-in-None-clause-err : goal.returns-in-None-clause-err
-returns-in-None-clause-err g c = grind arith

@@ -1,7 +1,7 @@
 use Rattle.rd_step.proofs.Prelude.{suc, ◌∙◌, refl, sym, ap, inl, arith, Ok, Err, makes, model, world_of_fields, uses_passed_up, uses_too}
 use Rattle.rd_step.proofs.PassedUp.{error_passed_up, fact_passed_up}
 use Rattle.rd_step.proofs.Steps.{step_not_needed}
-use Rattle.rd_step.proofs.WorldLemmas.{needs_by, actor_maker, few_made, need_suits, step_refuses, step_goes, makes_by, still_well_formed, same_world}
+use Rattle.rd_step.proofs.WorldLemmas.{needs_by, may_perform, step_refuses, step_goes, makes_by, still_well_formed, same_world}
 use Rattle.rd_step.proofs.worlds.World.step.Goals as goal
 
 pub returns-in_err-access-clause-err : goal.returns-in_err-access-clause-err
@@ -15,20 +15,8 @@ returns-in_err-access-clause-err g c =
 pub perform-requires : goal.perform-requires
 perform-requires g c =
     let self = c.args.self.now in
-    let needs = needs_by self c.args.event c.in-Some.actor _ (sym c.in-Some.ensures) c.in_ok-access.ensures in (
-      omega arith,
-      (
-        self.small,
-        (
-          actor_maker self.space self.actors.items c.args.event.actor c.in-Some.actor self.makers (sym c.in-Some.ensures),
-          (
-            few_made self.space self.actors.items c.args.event.actor self.well_formed,
-            need_suits _ self.space self.actors.items c.args.event c.in-Some.actor c.in_ok-access.access self.well_formed
-                (sym c.in-Some.ensures) needs,
-          ),
-        ),
-      ),
-    )
+    let has = sym c.in-Some.ensures in
+    (omega arith, may_perform self c.args.event c.in-Some.actor c.in_ok-access.access has (needs_by self c.args.event c.in-Some.actor _ has c.in_ok-access.ensures))
 
 pub invariant_of-self : goal.invariant_of-self
 invariant_of-self g c =

@@ -1,6 +1,6 @@
 use Rattle.rd_step.proofs.Prelude.{suc, ◌∙◌, sym, ap, arith, makes, model, uses_too}
 use Rattle.rd_step.proofs.MadeAgain.{leaves, not_refused, read_again, access_again}
-use Rattle.rd_step.proofs.WorldLemmas.{needs_by, actor_maker, few_made, need_suits, makes_by}
+use Rattle.rd_step.proofs.WorldLemmas.{needs_by, may_perform, makes_by}
 use Rattle.rd_step.proofs.worlds.World.step_again.Goals as goal
 
 pub unreachable-requires : goal.unreachable-requires
@@ -15,20 +15,8 @@ pub perform-requires : goal.perform-requires
 perform-requires g c =
     let self = c.args.self.now in
     let x = c.args.entry.now in
-    let l = leaves (model self) c.requires.goes.0 x c.requires.goes.1 in
-    let needs = needs_by self x.event x.old_actor _ l.has c.in-Ok.ensures in (
-      omega arith,
-      (
-        self.small,
-        (
-          actor_maker self.space self.actors.items x.event.actor x.old_actor self.makers l.has,
-          (
-            few_made self.space self.actors.items x.event.actor self.well_formed,
-            need_suits _ self.space self.actors.items x.event x.old_actor c.in-Ok.access self.well_formed l.has needs,
-          ),
-        ),
-      ),
-    )
+    let has = (leaves (model self) c.requires.goes.0 x c.requires.goes.1).has in
+    (omega arith, may_perform self x.event x.old_actor c.in-Ok.access has (needs_by self x.event x.old_actor _ has c.in-Ok.ensures))
 
 pub invariant_of-self : goal.invariant_of-self
 invariant_of-self g c =
