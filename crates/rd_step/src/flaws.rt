@@ -117,15 +117,8 @@ fn lists_fit<const R: usize>(makers: &[Vec<SegmentParts<R>>]) -> bool
     makers.iter().all(
         |list| -> bool
             ensures { result ≡ nat_le (length list.now.items) MOST_SEGMENTS }
-        { few_segments(list) },
+        { list.len() <= MOST_SEGMENTS },
     )
-}
-
-/// Whether a list has at most as many segments as a maker may make.
-fn few_segments<const R: usize>(list: &Vec<SegmentParts<R>>) -> bool
-    ensures { result ≡ nat_le (length list.now.items) MOST_SEGMENTS }
-{
-    list.len() <= MOST_SEGMENTS
 }
 
 /// Whether the queue's ends and each next that is set name a segment that is there.
@@ -144,18 +137,18 @@ fn all_nexts_fit<const R: usize>(parts: &Parts<R>) -> bool
     parts.segments.iter().all(
         |list| -> bool
             ensures { result ≡ list_all (λ s. next_fits (has parts.entry.now) s.next) list.now.items }
-        { nexts_fit(parts, list) },
-    )
-}
-
-/// Whether, of the segments in one list, each next that is set names a segment that is there.
-fn nexts_fit<const R: usize>(parts: &Parts<R>, list: &[SegmentParts<R>]) -> bool
-    ensures { result ≡ list_all (λ s. next_fits (has parts.now) s.next) list.now }
-{
-    list.iter().all(
-        |segment| -> bool
-            ensures { result ≡ next_fits (has parts.entry.now) segment.now.next }
-        { next_fits(parts, segment.next) },
+        {
+            list.iter().all(
+                |segment| -> bool
+                    ensures { result ≡ next_fits (has parts.entry.now) segment.now.next }
+                {
+                    match segment.next {
+                        None => true,
+                        Some(name) => has(parts, name),
+                    }
+                },
+            )
+        },
     )
 }
 
@@ -169,16 +162,6 @@ fn has<const R: usize>(parts: &Parts<R>, name: SegName) -> bool
     }
 }
 
-/// Whether the segment that a next names is there, if it names one.
-fn next_fits<const R: usize>(parts: &Parts<R>, next: Option<SegName>) -> bool
-    ensures { result ≡ next_fits (has parts.now) next }
-{
-    match next {
-        None => true,
-        Some(name) => has(parts, name),
-    }
-}
-
 /// Whether the segments that the actors' words name are there.
 fn actor_names_fit<const R: usize>(parts: &Parts<R>) -> bool
     requires { R ≤ MOST_CELLS }
@@ -187,15 +170,8 @@ fn actor_names_fit<const R: usize>(parts: &Parts<R>) -> bool
     parts.actors.iter().all(
         |actor| -> bool
             ensures { result ≡ names_fit (has parts.entry.now) actor.now }
-        { names_fit(parts, actor) },
+        { has(parts, actor.crq) && has(parts, actor.new) && has(parts, actor.next) },
     )
-}
-
-/// Whether the segments that an actor's words name are there.
-fn names_fit<const R: usize>(parts: &Parts<R>, actor: &Actor) -> bool
-    ensures { result ≡ names_fit (has parts.now) actor.now }
-{
-    has(parts, actor.crq) && has(parts, actor.new) && has(parts, actor.next)
 }
 
 /// Whether each segment's counters are at most 2^62.
@@ -206,26 +182,14 @@ fn all_counters_fit<const R: usize>(parts: &Parts<R>) -> bool
     parts.segments.iter().all(
         |list| -> bool
             ensures { result ≡ list_all counters_fit list.now.items }
-        { list_counters_fit(list) },
+        {
+            list.iter().all(
+                |segment| -> bool
+                    ensures { result ≡ counters_fit segment.now }
+                { segment.head <= COUNTER_END && segment.tail <= COUNTER_END },
+            )
+        },
     )
-}
-
-/// Whether the counters of each segment of a list are at most 2^62.
-fn list_counters_fit<const R: usize>(list: &[SegmentParts<R>]) -> bool
-    ensures { result ≡ list_all counters_fit list.now }
-{
-    list.iter().all(
-        |segment| -> bool
-            ensures { result ≡ counters_fit segment.now }
-        { segment_counters_fit(segment) },
-    )
-}
-
-/// Whether a segment's counters are at most 2^62.
-fn segment_counters_fit<const R: usize>(segment: &SegmentParts<R>) -> bool
-    ensures { result ≡ counters_fit segment.now }
-{
-    segment.head <= COUNTER_END && segment.tail <= COUNTER_END
 }
 
 /// Whether each cell's index is at most `end`.
@@ -236,26 +200,14 @@ fn all_indexes_fit<const R: usize>(parts: &Parts<R>, end: u64) -> bool
     parts.segments.iter().all(
         |list| -> bool
             ensures { result ≡ list_all (indexes_fit end) list.now.items }
-        { list_indexes_fit(list, end) },
+        {
+            list.iter().all(
+                |segment| -> bool
+                    ensures { result ≡ indexes_fit end segment.now }
+                { segment.cells[..].iter().all(|cell| cell.idx <= end) },
+            )
+        },
     )
-}
-
-/// Whether the index of each cell of each segment of a list is at most `end`.
-fn list_indexes_fit<const R: usize>(list: &[SegmentParts<R>], end: u64) -> bool
-    ensures { result ≡ list_all (indexes_fit end) list.now }
-{
-    list.iter().all(
-        |segment| -> bool
-            ensures { result ≡ indexes_fit end segment.now }
-        { indexes_fit(segment, end) },
-    )
-}
-
-/// Whether the index of each cell of a segment is at most `end`.
-fn indexes_fit<const R: usize>(segment: &SegmentParts<R>, end: u64) -> bool
-    ensures { result ≡ indexes_fit end segment.now }
-{
-    segment.cells[..].iter().all(|cell| cell.idx <= end)
 }
 
 /// Whether the array's counters are at most 64.
@@ -269,14 +221,11 @@ fn array_fits(array: &ArrayParts) -> bool
 fn actor_numbers_fit(actors: &[Actor], end: u64) -> bool
     ensures { result ≡ list_all (numbers_within end) actors.now }
 {
-    actors.iter().all(|actor| numbers_within(actor, end))
-}
-
-/// Whether an actor's t and h are at most 2^62, and its idx at most `end`.
-fn numbers_within(actor: &Actor, end: u64) -> bool
-    ensures { result ≡ numbers_within end actor.now }
-{
-    actor.t <= COUNTER_END && actor.h <= COUNTER_END && actor.idx <= end
+    actors.iter().all(
+        |actor| -> bool
+            ensures { result ≡ numbers_within end actor.now }
+        { actor.t <= COUNTER_END && actor.h <= COUNTER_END && actor.idx <= end },
+    )
 }
 
 /// Whether each actor's words fit its control point.
