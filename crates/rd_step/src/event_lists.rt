@@ -45,8 +45,9 @@ impl EventList for &[Entry] {
     }
 }
 
-/// How many events two lists have in common at their beginning, up to the first that differs or to
-/// the end of the shorter list. It takes no memory, and time that grows with the answer.
+/// Returns how many events two lists have in common at their beginning, up to the first that
+/// differs or to the end of the shorter list. It takes no memory, and time that grows with the
+/// answer.
 #[tactic(auto, using(std::proofs::lemmas::Option::slice_get_cases, std::proofs::lemmas::Grind::common_steps))]
 pub fn common_beginning<A: EventList, B: EventList>(a: &A, b: &B) -> usize
     ensures in_first { result ≤ length (A.listed a.now) }
