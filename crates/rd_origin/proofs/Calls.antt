@@ -1,6 +1,7 @@
 -- Along a run an actor that makes no other call is in its call or idle, and a cell into which
 -- nothing is put has its value or none.
-use Rattle.rd_origin.proofs.Prelude.{◌≡◌, ℕ, Bool, true, false, ◌==◌, ◌&&◌, inl, inr, sym, ◌∙◌, ap, subst, eqb-true, List, [], ◌∷◌, Option, Some, None, Ok, arith, cond_both, and_parts, cond-true, Place, World, Stepped, step, run, Op, Event, Entry, took, events, is_call, puts_into, calls_by, Actor, after, beginning}
+use Rattle.rd_origin.proofs.Prelude.{◌≡◌, ℕ, Bool, true, false, ◌==◌, ◌&&◌, inl, inr, sym, ◌∙◌, ap, subst, eqb-true, List, [], ◌∷◌, Option, Some, None, Ok, cond_both, and_parts, cond-true, Place, World, Stepped, step, Ran, run, Op, Event, Entry, took, events, is_call, puts_into, calls_by, Actor, after, beginning}
+use Rattle.rd_step.proofs.Equivalence.{as_ran-same}
 use Rattle.rd_origin.proofs.Split.{NonePasses}
 use Rattle.rd_origin.proofs.Rows.{IsStill}
 use Rattle.rd_origin.proofs.Ops.{called, after_still, after_call}
@@ -42,19 +43,22 @@ call_stays w e s n o goes h was =
     still-trans o t.a.op next.op (subst (IsIn o) its was) (after_still w.ring t.a e.act t.did.answer no_call))
     (λ other. was)) h
 
--- the same along a run
+-- what each step keeps that fails a test, a run of such steps keeps
+pub stays_along : (P : World → Type 0) (test : Entry → Bool)
+    → ((w : World) (e : Event) (s : Stepped) → step w e ≡ Ok s → test s.entry ≡ false → P w → P s.world) → (w v : World) (xs : List Entry)
+    → run w (events xs) ≡ Ok (record { world = v; entries = xs }) → NonePasses test xs → P w → P v
+stays_along P test stays w v [] h none was =
+    subst P (ap (λ (y : Ran). y.world) (as_ran-same (record { world = w; entries = [] }) (record { world = v; entries = [] }) h)) was
+stays_along P test stays w v (x ∷ xs) h none was =
+    let first = beginning w x xs v h in
+    stays_along P test stays first.after v xs first.rest none.1 (stays w x.event (record { world = first.after; entry = x }) first.goes none.0 was)
+
+-- an actor that makes no other call stays in its call
 pub call_stays_along : (n : ℕ) (o : Option Op) (w v : World) (xs : List Entry) → run w (events xs) ≡ Ok (record { world = v; entries = xs })
     → NonePasses (calls_by n) xs → IsIn o (w.actor n) → IsIn o (v.actor n)
-call_stays_along n o w v [] h none was = grind arith
-call_stays_along n o w v (x ∷ xs) h none was =
-    let first = beginning w x xs v h in
-    call_stays_along n o first.after v xs first.rest none.1
-    (call_stays w x.event (record { world = first.after; entry = x }) n o first.goes none.0 was)
+call_stays_along n o = stays_along (λ u. IsIn o (u.actor n)) (calls_by n) (λ w e s goes h was. call_stays w e s n o goes h was)
 
+-- and a cell into which nothing is put keeps its value
 pub value_stays_along : (q : Place) (u : ℕ) (w v : World) (xs : List Entry) → run w (events xs) ≡ Ok (record { world = v; entries = xs })
     → NonePasses (puts_into q) xs → HoldsOnly u w.at q → HoldsOnly u v.at q
-value_stays_along q u w v [] h none was = grind arith
-value_stays_along q u w v (x ∷ xs) h none was =
-    let first = beginning w x xs v h in
-    value_stays_along q u first.after v xs first.rest none.1
-    (value_stays w x.event (record { world = first.after; entry = x }) q u first.goes none.0 was)
+value_stays_along q u = stays_along (λ v. HoldsOnly u v.at q) (puts_into q) (λ w e s goes h was. value_stays w e s q u goes h was)

@@ -57,12 +57,9 @@ pub choice_at_none : (R n : ℕ) (at : Contents) (P : Performed → Type 0) → 
 choice_at_none R n at P h pc = grind arith
 
 act_leaves : (v R n : ℕ) (at : Contents) (q : Place) (a : Actor) (act : Act) → HoldsOnly v at q → AtNone R n at (LeavesUnless v at a.pc q) (need R a act)
-act_leaves v R n at q a (act.Enq x) h = call_at_none R n at (LeavesUnless v at a.pc q) (λ e. h) a.pc
-act_leaves v R n at q a act.Deq h = call_at_none R n at (LeavesUnless v at a.pc q) (λ e. h) a.pc
-act_leaves v R n at q a (act.AEnq x) h = call_at_none R n at (LeavesUnless v at a.pc q) (λ e. h) a.pc
-act_leaves v R n at q a act.ADeq h = call_at_none R n at (LeavesUnless v at a.pc q) (λ e. h) a.pc
 act_leaves v R n at q a act.Go h = row_leaves v R n at q a a.pc h
 act_leaves v R n at q a (act.Starve b) h = choice_at_none R n at (LeavesUnless v at a.pc q) (λ e. h) a.pc
+act_leaves v R n at q a x h = call_at_none R n at (LeavesUnless v at a.pc q) (λ e. h) a.pc
 
 -- a step that puts nothing into the cell leaves the value there, or none
 pub value_stays : (w : World) (e : Event) (s : Stepped) (q : Place) (v : ℕ) → step w e ≡ Ok s → puts_into q s.entry ≡ false

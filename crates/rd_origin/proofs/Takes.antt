@@ -36,10 +36,6 @@ taken_held w e s cell u goes replies place =
 
     by_act : (R n : ℕ) (at : Contents) (a : Actor) (act : Act) (cell : Place) (u : ℕ) (x : Access) (did : Performed) → need R a act ≡ Ok x
         → perform R n at x ≡ Ok did → (after R a act did.answer).1 ≡ Some (op_reply.Value u) → did.place ≡ Some cell → held_at at cell ≡ Some u
-    by_act R n at a (act.Enq v) cell u x did needs does reply place = let wrong : None ≡ Some u = ap value_in reply in cc
-    by_act R n at a act.Deq cell u x did needs does reply place = let wrong : None ≡ Some u = ap value_in reply in cc
-    by_act R n at a (act.AEnq v) cell u x did needs does reply place = let wrong : None ≡ Some u = ap value_in reply in cc
-    by_act R n at a act.ADeq cell u x did needs does reply place = let wrong : None ≡ Some u = ap value_in reply in cc
     by_act R n at a act.Go cell u x did needs does reply place =
         by_row R n at a a.pc cell u x did needs does reply place (row_goes R a.pc a did.answer).1
-    by_act R n at a (act.Starve b) cell u x did needs does reply place = let wrong : None ≡ Some u = ap value_in reply in cc
+    by_act R n at a act cell u x did needs does reply place = let wrong : None ≡ Some u = ap value_in reply in cc

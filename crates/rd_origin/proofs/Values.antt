@@ -89,10 +89,7 @@ kept_effect v p c at r (Ok f) w h = after_effect v p c at r f w h
 -- what is not covered has what it had
 outside_effect : (v : ℕ) (p : Place) (c : Content) (at : Contents) (r : Place) (x : Result Effect Refusal) → covers p r ≡ false → HasOnly v (at r)
     → IfOk (result_map (effect_at p c) x) (λ did. HasOnly v (contents_after did at r))
-outside_effect v p c at r (Err refusal) e h = tt
-outside_effect v p c at r (Ok f) e h =
-    subst (HasOnly v)
-    (sym (after_write-outside (written (Some p) (wrote_by c f.writes)) (share p f.writes) at r (not_written (Some p) (wrote_by c f.writes) r e))) h
+outside_effect v p c at r x e h = grind (arith, after_write-outside, not_written)
 
 kept_there : (v : ℕ) (p : Place) (op : Operation) (o : Option Content) (at : Contents) (r : Place) → operand at p ≡ o → is_value_place r ≡ true → KeepsValue op
     → HasOnly v (at r) → IfOk (operate p op o) (λ did. HasOnly v (contents_after did at r))
