@@ -1,5 +1,5 @@
 -- No command moves the start, and a refused one changes nothing.
-use Rattle.rd_marks.proofs.Prelude.{◌≡◌, ℕ, sym, subst, List, [], ◌∷◌, ◌++◌, length, Some, None, Result, Ok, Err, OnErr, IfErr, ◌∙◌, arith, same_Some, MayRefuse, Refusal, Event, Session, State, apply, reply_to, undo_at, roll, back, forward, Command, BookState, MarkName, with_session, goto_mark, Answered, answer_with, Happened, IsAsDefined, NeedsNoMemory, IsObeyed, AreObeyed, Reply, Applied, MayRefuseAsGoing, step_counts, Book, as_event}
+use Rattle.rd_marks.proofs.Prelude.{◌≡◌, ℕ, sym, subst, List, [], ◌∷◌, ◌++◌, length, Some, None, Result, Ok, Err, OnErr, IfErr, ◌∙◌, arith, same_Some, MayRefuse, Refusal, Event, Session, State, apply, reply_to, undo_at, roll, back, forward, Command, BookState, MarkName, with_session, goto_mark, Answered, answer_with, Happened, IsAsDefined, IsObeyed, AreObeyed, Reply, Applied, step_counts, as_event}
 use Rattle.rd_marks.specs.declared.commands.Command.TheVariants as command
 use Rattle.rd_actor.specs.declared.actors.Act.TheVariants as act
 use Rattle.rd_marks.proofs.Starts.{apply_start, undo_at_start, roll_start, back_start, forward_start}
@@ -66,10 +66,6 @@ one_more_obeyed b m t [] (y ∷ ys) c answer h k = absurd h
 one_more_obeyed b m t (x ∷ xs) [] c answer h k = absurd h
 one_more_obeyed b m t (x ∷ xs) (y ∷ ys) c answer h k = (h.0, h.1, one_more_obeyed h.0 m t xs ys c answer h.2 k)
 
--- an event sets no mark
-pub event_needs : (b : BookState) (room : ℕ) (c : Command) (e : Event) → as_event c ≡ Some e → NeedsNoMemory b room c → ⊥
-event_needs b room c e is needs = grind arith
-
 -- Memory refused to a command that is an event, and to no other
 
 pub refused_event : {R : ℕ} {X : Type 0} (r : Result X Refusal) (s : Session R) (c : Command) (e : Event) → as_event c ≡ Some e → IfErr r (MayRefuse s e)
@@ -81,7 +77,3 @@ pub no_event_refused : {R : ℕ} {X : Type 0} (r : Result X Refusal) (s : Sessio
     → IfErr r (λ refusal. (f : Event) → as_event c ≡ Some f → MayRefuse s f refusal)
 no_event_refused (Ok x) s c none = tt
 no_event_refused (Err refusal) s c none = λ f its. absurd (cc)
-
--- an event goes to no mark
-pub event_goes_nowhere : {R : ℕ} (b : Book R) (c : Command) (e : Event) (refusal : Refusal) → as_event c ≡ Some e → MayRefuseAsGoing b c refusal
-event_goes_nowhere b c e refusal is = grind arith

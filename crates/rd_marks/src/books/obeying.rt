@@ -9,6 +9,7 @@ use super::super::commands::Command;
 use super::super::laws::a_book_is_the_run_of_its_live_events;
 use super::super::replies::{EventReply, Reply};
 use super::Book;
+use rd_actor::Act;
 use rd_cell::Refusal;
 use rd_origin::{last_writer, origin};
 use rd_step::Event;
@@ -26,7 +27,7 @@ impl<const R: usize> Book<R> {
     ///
     /// The refusal of the call of a book or of its session that the command is. Nothing has changed
     /// then.
-    #[tactic(auto, using(crate::proofs::ObeyLemmas::obeyed_leaves, crate::proofs::ObeyLemmas::event_needs, crate::proofs::ObeyLemmas::no_event_refused, crate::proofs::ObeyLemmas::event_goes_nowhere))]
+    #[tactic(auto, using(crate::proofs::ObeyLemmas::no_event_refused))]
     pub fn obey(&mut self, command: Command) -> Result<Reply, Refusal>
         ensures answer { IsObeyed (book_state self.old) command (record { answer = result; state = book_state self.new }) }
         ensures succeeds { NeedsNoMemory (book_state self.old) (name_room self.old) command → IsOk result }
@@ -35,9 +36,40 @@ impl<const R: usize> Book<R> {
         ensures start { (book_state self.new).session.start ≡ (book_state self.old).session.start }
         ensures unchanged { OnErr result (book_state self.new ≡ book_state self.old) }
     {
-        match command.as_event() {
-            Some(event) => self.answer_event(event),
-            None => self.answer_to(command),
+        match command {
+            Command::Enq(actor, value) => self.answer_event(actor, Act::Enq(value)),
+            Command::Deq(actor) => self.answer_event(actor, Act::Deq),
+            Command::ArrayEnq(actor, value) => self.answer_event(actor, Act::AEnq(value)),
+            Command::ArrayDeq(actor) => self.answer_event(actor, Act::ADeq),
+            Command::Go(actor) => self.answer_event(actor, Act::Go),
+            Command::Starve(actor, choice) => self.answer_event(actor, Act::Starve(choice)),
+            Command::Undo => self.answer_back(1),
+            Command::UndoAt(k) => self.answer_undo_at(k),
+            Command::Roll(k) => self.answer_roll(k),
+            Command::Back(n) => self.answer_back(n),
+            Command::Redo => self.answer_forward(1),
+            Command::Forward(n) => self.answer_forward(n),
+            Command::Mark(name) => self.answer_mark(name),
+            Command::DropMark(name) => self.answer_drop_mark(name),
+            Command::GotoMark(name) => self.answer_goto_mark(name),
+            Command::Marks => Ok(Reply::Marks(self.marks())),
+            Command::MarkAt(i) => self.mark_at(i).map(|(name, len)| Reply::Mark { name, len }),
+            Command::Same(one, other) => self.same(one, other).map(Reply::Same),
+            Command::Origin(k) => origin(&self.session, k).map(Reply::Origin),
+            Command::Writer(place) => last_writer(&self.session, place).map(Reply::Writer),
+            Command::Show(place) => match self.session.world().content(place) {
+                None => Err(Refusal::NoSuchPlace),
+                Some(content) => Ok(Reply::Content(content)),
+            },
+            Command::Actor(actor) => match self.session.world().actor(actor) {
+                None => Err(Refusal::NoActor),
+                Some(words) => Ok(Reply::Actor(words)),
+            },
+            Command::Step(number) => self
+                .session
+                .entry(number)
+                .map(|entry| Reply::Step { number, entry }),
+            Command::Len => Ok(self.step_counts()),
         }
     }
 
@@ -70,52 +102,15 @@ impl<const R: usize> Book<R> {
         Ok(answers)
     }
 
-    /// Makes an event happen, and returns the reply to its command.
-    #[tactic(auto, using(rd_step::proofs::PassedUp::error_passed_up, crate::proofs::AnswerLemmas::event_passed_up))]
-    fn answer_event(&mut self, event: Event) -> Result<Reply, Refusal>
-        ensures happens { Happened (book_state self.old) event (record { answer = result; state = book_state self.new }) }
-        ensures memory { IfErr result (MayRefuse (session_of self.old) event) }
+    /// Makes an event of this actor happen, and returns the reply to its command.
+    #[tactic(auto, using(rd_step::proofs::PassedUp::error_passed_up, rd_step::proofs::PassedUp::fact_passed_up, crate::proofs::AnswerLemmas::event_passed_up))]
+    fn answer_event(&mut self, actor: u8, act: Act) -> Result<Reply, Refusal>
+        ensures happens { Happened (book_state self.old) (record { actor = actor; act = act }) (record { answer = result; state = book_state self.new }) }
+        ensures memory { IfErr result (MayRefuse (session_of self.old) (record { actor = actor; act = act })) }
+        ensures start { (book_state self.new).session.start ≡ (book_state self.old).session.start }
+        ensures unchanged { OnErr result (book_state self.new ≡ book_state self.old) }
     {
-        let EventReply { step, reply } = self.apply(event)?;
+        let EventReply { step, reply } = self.apply(Event { actor, act })?;
         Ok(Reply::Applied { step, reply })
-    }
-
-    /// Obeys a command that is no event, and returns the answer.
-    fn answer_to(&mut self, command: Command) -> Result<Reply, Refusal>
-        requires no_event { as_event command ≡ None }
-        ensures answer { IsObeyed (book_state self.old) command (record { answer = result; state = book_state self.new }) }
-        ensures succeeds { NeedsNoMemory (book_state self.old) (name_room self.old) command → IsOk result }
-        ensures room { ForErr result (MayRefuseAsGoing self.old command) }
-    {
-        match command {
-            Command::Undo => self.answer_back(1),
-            Command::UndoAt(k) => self.answer_undo_at(k),
-            Command::Roll(k) => self.answer_roll(k),
-            Command::Back(n) => self.answer_back(n),
-            Command::Redo => self.answer_forward(1),
-            Command::Forward(n) => self.answer_forward(n),
-            Command::Mark(name) => self.answer_mark(name),
-            Command::DropMark(name) => self.answer_drop_mark(name),
-            Command::GotoMark(name) => self.answer_goto_mark(name),
-            Command::Marks => Ok(Reply::Marks(self.marks())),
-            Command::MarkAt(i) => self.mark_at(i).map(|(name, len)| Reply::Mark { name, len }),
-            Command::Same(one, other) => self.same(one, other).map(Reply::Same),
-            Command::Origin(k) => origin(&self.session, k).map(Reply::Origin),
-            Command::Writer(place) => last_writer(&self.session, place).map(Reply::Writer),
-            Command::Show(place) => match self.session.world().content(place) {
-                None => Err(Refusal::NoSuchPlace),
-                Some(content) => Ok(Reply::Content(content)),
-            },
-            Command::Actor(actor) => match self.session.world().actor(actor) {
-                None => Err(Refusal::NoActor),
-                Some(words) => Ok(Reply::Actor(words)),
-            },
-            Command::Step(number) => self
-                .session
-                .entry(number)
-                .map(|entry| Reply::Step { number, entry }),
-            Command::Len => Ok(self.step_counts()),
-            _ => unreachable!(),
-        }
     }
 }
