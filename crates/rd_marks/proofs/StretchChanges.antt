@@ -1,6 +1,6 @@
 -- The rule of the stretches is kept, and each node keeps its entries, where a stretch comes, goes
 -- or changes.
-use Rattle.rd_marks.proofs.Prelude.{◌≡◌, ◌⊎◌, ℕ, zero, suc, ◌+◌, ◌-◌, ◌<◌, ◌≤◌, inl, inr, refl, sym, ap, ◌∙◌, subst, List, [], ◌∷◌, ◌++◌, map, length, take, length-take, arith, cases_lt, cases_eq, cases_order, nat_tests, length-map, take-append-le, take-take, take-map, MOST_STEPS, Event, Entry, Stretch, Node, stretch_list, list_before, shared_at, entries_at, IsWithin, AreNested, AreFresh, greatest_in, needed_at, AreNeeded, AreNeededFrom, IsAlong, IsDeepest, raised, lowered, events}
+use Rattle.rd_marks.proofs.Prelude.{◌≡◌, ◌⊎◌, ℕ, zero, suc, ◌+◌, ◌-◌, ◌<◌, ◌≤◌, inl, inr, refl, sym, ap, ◌∙◌, subst, List, [], ◌∷◌, ◌++◌, map, length, take, length-take, arith, cases_lt, cases_eq, cases_order, nat_tests, length-map, take-append-le, take-take, take-map, MOST_STEPS, Event, Entry, Stretch, Node, stretch_list, list_before, shared_at, entries_at, IsWithin, AreNested, AreFresh, greatest_in, needed_at, AreNeeded, AreNeededFrom, IsAlong, IsDeepest, after_insertion, after_removal, events}
 use Rattle.rd_marks.proofs.StretchLists.{shared_within, goes_back, IsChanged, IsInserted, IsReplaced}
 use Rattle.rd_marks.proofs.Fresh.{along_taken, along_itself, along_both, later_apart}
 
@@ -18,14 +18,14 @@ greatest_last : (i n : ℕ) (ps : List Node) → n ≤ greatest_in i (with_node 
 greatest_last i n [] = grind (arith, nat_tests)
 greatest_last i n (p ∷ ps) = omega (arith, greatest_last i n ps)
 
-greatest_raised : (i j : ℕ) (ps qs : List Node)
-    → (i < j → greatest_in i ps ≤ greatest_in i (map (raised j) ps ++ qs)) × (j ≤ i → greatest_in i ps ≤ greatest_in (suc i) (map (raised j) ps ++ qs))
-greatest_raised i j [] qs = (λ h. omega arith, λ h. omega arith)
-greatest_raised i j (p ∷ ps) qs = let rest = greatest_raised i j ps qs in (λ h. grind (arith, nat_tests, rest.0 h), λ h. grind (arith, nat_tests, rest.1 h))
+greatest_after_insertion : (i j : ℕ) (ps qs : List Node)
+    → (i < j → greatest_in i ps ≤ greatest_in i (map (after_insertion j) ps ++ qs)) × (j ≤ i → greatest_in i ps ≤ greatest_in (suc i) (map (after_insertion j) ps ++ qs))
+greatest_after_insertion i j [] qs = (λ h. omega arith, λ h. omega arith)
+greatest_after_insertion i j (p ∷ ps) qs = let rest = greatest_after_insertion i j ps qs in (λ h. grind (arith, nat_tests, rest.0 h), λ h. grind (arith, nat_tests, rest.1 h))
 
-greatest_lowered : (i j : ℕ) (ps : List Node) → j ≤ i → greatest_in (suc i) ps ≤ greatest_in i (map (lowered j) ps)
-greatest_lowered i j [] h = omega arith
-greatest_lowered i j (p ∷ ps) h = grind (arith, nat_tests, greatest_lowered i j ps h)
+greatest_after_removal : (i j : ℕ) (ps : List Node) → j ≤ i → greatest_in (suc i) ps ≤ greatest_in i (map (after_removal j) ps)
+greatest_after_removal i j [] h = omega arith
+greatest_after_removal i j (p ∷ ps) h = grind (arith, nat_tests, greatest_after_removal i j ps h)
 
 -- What a change leaves
 
@@ -94,11 +94,11 @@ module _ (old new : List Stretch) (j : ℕ) (s : Stretch) (change : IsInserted o
       (λ k high there a. later_apart old rule fresh es at s.shared k (omega (arith, low (omega (arith, there)), high)) there along deepest (rw its at a))
 
   -- the end of the new one is needed by a node there
-  pub needed_inserted : (ps : List Node) (n : ℕ) → length (stretch_list new j) ≤ n → AreNeeded old ps → AreNeeded new (with_node (map (raised j) ps) j n)
+  pub needed_inserted : (ps : List Node) (n : ℕ) → length (stretch_list new j) ≤ n → AreNeeded old ps → AreNeeded new (with_node (map (after_insertion j) ps) j n)
   needed_inserted ps n all needed i h =
-      needed_changed old new j 1 change.changed ps (with_node (map (raised j) ps) j n) i h (λ k m. needed k m.inside)
-      (omega (arith, greatest_last j n (map (raised j) ps), all))
-      (λ k m. grind (arith, m.node, greatest_raised k j ps (record { stretch = j; number = n } ∷ [])))
+      needed_changed old new j 1 change.changed ps (with_node (map (after_insertion j) ps) j n) i h (λ k m. needed k m.inside)
+      (omega (arith, greatest_last j n (map (after_insertion j) ps), all))
+      (λ k m. grind (arith, m.node, greatest_after_insertion k j ps (record { stretch = j; number = n } ∷ [])))
 
   -- the other way round
   up : (k : ℕ) → k < length old
@@ -123,17 +123,17 @@ module _ (old new : List Stretch) (j : ℕ) (s : Stretch) (change : IsInserted o
   pub fresh_removed : AreFresh new → AreFresh old
   fresh_removed fresh i m h l a = grind (arith, a, h, along_taken, up i l, up m, fresh)
 
-  pub needed_removed : (ps : List Node) → AreNeededFrom (suc j) new ps → AreNeededFrom j old (map (lowered j) ps)
+  pub needed_removed : (ps : List Node) → AreNeededFrom (suc j) new ps → AreNeededFrom j old (map (after_removal j) ps)
   needed_removed ps needed k high h =
       let above = λ (i : ℕ). change.changed.above (suc i) i (omega arith) in
-      grind (arith, needed (suc k), change.changed.count, above k, above (suc k), greatest_lowered k j ps high)
+      grind (arith, needed (suc k), change.changed.count, above k, above (suc k), greatest_after_removal k j ps high)
 
   -- each node has its entries
-  pub entries_raised : (p : Node) → entries_at new (raised j p) ≡ entries_at old p
-  entries_raised p = grind (arith, nat_tests, change.changed.below p.stretch, change.changed.above (suc p.stretch) p.stretch (omega arith))
+  pub entries_after_insertion : (p : Node) → entries_at new (after_insertion j p) ≡ entries_at old p
+  entries_after_insertion p = grind (arith, nat_tests, change.changed.below p.stretch, change.changed.above (suc p.stretch) p.stretch (omega arith))
 
-  pub entries_lowered : (p : Node) → (p.stretch ≡ j → p.number ≤ s.shared) → entries_at old (lowered j p) ≡ entries_at new p
-  entries_lowered p own =
+  pub entries_after_removal : (p : Node) → (p.stretch ≡ j → p.number ≤ s.shared) → entries_at old (after_removal j p) ≡ entries_at new p
+  entries_after_removal p own =
       grind (arith, nat_tests, change.changed.below p.stretch, λ (high : j ≤ p.stretch). above p.stretch p.number high own)
     where
       above : (q n : ℕ) → j ≤ q → (q ≡ j → n ≤ s.shared) → take n (stretch_list new q) ≡ take n (stretch_list old (q - 1))

@@ -3,7 +3,7 @@ use Rattle.rd_marks.proofs.Prelude.{◌≡◌, ℕ, zero, suc, ◌-◌, ◌<◌,
 use Rattle.rd_marks.specs.declared.stretches.changes.Shift.TheVariants.{Same, Up, Down}
 use Rattle.rd_marks.proofs.StretchLists.{own_at, shared_within, inserted_at, removed_at, appended_at, cut_at}
 use Rattle.rd_marks.proofs.Fresh.{along_taken}
-use Rattle.rd_marks.proofs.StretchChanges.{greatest_left, within_at, nested_inserted, nested_removed, fresh_inserted, fresh_removed, needed_inserted, needed_removed, entries_raised, entries_lowered, nested_replaced, fresh_appended, fresh_cut, needed_appended, needed_cut, entries_appended, entries_cut}
+use Rattle.rd_marks.proofs.StretchChanges.{greatest_left, within_at, nested_inserted, nested_removed, fresh_inserted, fresh_removed, needed_inserted, needed_removed, entries_after_insertion, entries_after_removal, nested_replaced, fresh_appended, fresh_cut, needed_appended, needed_cut, entries_appended, entries_cut}
 use Rattle.rd_marks.proofs.Starting.{stretch_within}
 
 -- a node in few stretches has a next number
@@ -91,7 +91,7 @@ module _ (ss : List Stretch) (few : length ss < 2 ^ 64) (rule : AreNested ss) (f
           within = omega (arith, long);
           put = take_all (length live) (stretch_list new j) (omega (arith, long)) ∙ list;
           low = is_low ss few;
-          stays = grind (arith, nat_tests, entries_raised ss new j s change, within_at);
+          stays = grind (arith, nat_tests, entries_after_insertion ss new j s change, within_at);
           needed = λ nodes needed. needed_inserted ss new j s change nodes (length live) (omega (arith, long)) needed;
         };
       }
@@ -122,7 +122,7 @@ module _ (ss : List Stretch) (few : length ss < 2 ^ 64) (rule : AreNested ss) (f
         shrunk = record {
           below = omega (arith, found.2.changed.count, inside);
           low = is_low ss few;
-          stays = grind (arith, found, entries_lowered, within_at, nat_tests);
+          stays = grind (arith, found, entries_after_removal, within_at, nat_tests);
           needed = λ nodes needed its. needed_removed (remove ss j) ss j found.0 found.2 nodes needed;
         };
       }

@@ -6,13 +6,13 @@ use Rattle.rd_marks.specs.declared.stretches.Stretch.{Stretch}
 use Rattle.rd_marks.specs.declared.stretches.changes.Grown.{Grown}
 use Rattle.rd_marks.specs.declared.stretches.changes.Shift.{Shift}
 use Rattle.rd_marks.specs.declared.stretches.changes.Shift.TheVariants.{Same, Up, Down}
-use Rattle.rd_marks.specs.Stretches.{entries_at, needed_at, IsWithin, AreNeeded, AreNeededFrom, raised, lowered}
+use Rattle.rd_marks.specs.Stretches.{entries_at, needed_at, IsWithin, AreNeeded, AreNeededFrom, after_insertion, after_removal}
 
 -- the node of the same entries after the stretches got other numbers
 abbrev pub shifted : Shift → Node → Node
 shifted Same p = p
-shifted (Up i) p = raised i p
-shifted (Down i) p = lowered i p
+shifted (Up i) p = after_insertion i p
+shifted (Down i) p = after_removal i p
 
 -- the number of a node's stretch, if the node has entries, has a successor below 2^64
 abbrev pub IsLow : Node → Type 0

@@ -96,13 +96,13 @@ abbrev pub IsDeepest : List Stretch → ℕ → List Event → Type 0
 IsDeepest ss n es = (i : ℕ) → i < length ss → IsAlong ss i (suc n) es → ⊥
 
 -- the node of the same entries after a stretch was put before that of this number
-abbrev pub raised : ℕ → Node → Node
-raised j p = if p.number == 0 then p else if nat_le j p.stretch then record { stretch = suc p.stretch; number = p.number } else p
+abbrev pub after_insertion : ℕ → Node → Node
+after_insertion j p = if p.number == 0 then p else if nat_le j p.stretch then record { stretch = suc p.stretch; number = p.number } else p
 
 -- the node of the same entries after the stretch of this number was taken away, none of whose own
 -- entries it had
-abbrev pub lowered : ℕ → Node → Node
-lowered j p = if nat_le j p.stretch then record { stretch = p.stretch - 1; number = p.number } else p
+abbrev pub after_removal : ℕ → Node → Node
+after_removal j p = if nat_le j p.stretch then record { stretch = p.stretch - 1; number = p.number } else p
 
 -- how many entries the stretches have in all
 abbrev pub count_of : List Stretch → ℕ

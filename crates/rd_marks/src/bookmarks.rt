@@ -56,7 +56,7 @@ impl Bookmarks {
         }
     }
 
-    /// How many bookmarks there are.
+    /// Returns how many bookmarks there are.
     #[tactic(auto, using(crate::proofs::Putting::names_same))]
     pub(crate) fn len(&self) -> usize
         ensures count { result ≡ length (lists_in self.now) }
@@ -99,7 +99,7 @@ impl Bookmarks {
         }
     }
 
-    /// The event of this number, from 1, of the entries of a node, if there is one.
+    /// Returns the event of this number, from 1, of the entries of a node, if there is one.
     pub(crate) fn event_at(&self, of: Node, n: u64) -> Option<Event>
         requires { IsNodeIn self.now of }
         ensures { result ≡ numbered (events (entries_in self.now of)) n }
@@ -107,7 +107,7 @@ impl Bookmarks {
         self.stretches.event_at(of, n)
     }
 
-    /// The events of the entries of a node.
+    /// Returns the events of the entries of a node.
     ///
     /// # Errors
     ///
@@ -170,8 +170,8 @@ impl Bookmarks {
         }
     }
 
-    /// Whether the entries of two nodes are of equivalent events. What they have in common is not
-    /// looked at.
+    /// Returns whether the entries of two nodes are of equivalent events. What they have in common
+    /// is not looked at.
     ///
     /// # Errors
     ///

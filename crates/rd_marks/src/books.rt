@@ -169,8 +169,9 @@ impl<const R: usize> Book<R> {
         self.bookmarks.go_to(self.alloc, &mut self.session, node)
     }
 
-    /// Whether the steps of two bookmarks are causally equivalent: one list is the other up to the
-    /// order of steps that do not depend on each other. Equivalent lists lead to the same world.
+    /// Returns whether the steps of two bookmarks are causally equivalent: one list is the other up
+    /// to the order of steps that do not depend on each other. Equivalent lists lead to the same
+    /// world.
     ///
     /// # Errors
     ///
@@ -193,8 +194,8 @@ impl<const R: usize> Book<R> {
         }
     }
 
-    /// How many bookmarks there are: at most `MOST_MARKS`, with different names, each at events
-    /// that can run from the session's start.
+    /// Returns how many bookmarks there are: at most `MOST_MARKS`, with different names, each at
+    /// events that can run from the session's start.
     pub fn marks(&self) -> u64
         ensures count { result ≡ length (book_state self.now).marks }
         ensures rules { KeepsRules (book_state self.now) }
@@ -211,8 +212,8 @@ impl<const R: usize> Book<R> {
         self.bookmarks.nodes() as u64
     }
 
-    /// The name of the bookmark of this number, from 1, and how many steps were live when it was
-    /// set.
+    /// Returns the name of the bookmark of this number, from 1, and how many steps were live when
+    /// it was set.
     ///
     /// # Errors
     ///

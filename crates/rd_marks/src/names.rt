@@ -53,21 +53,21 @@ impl MarkName {
     }
 }
 
-/// Whether these bytes are 1 to 16 of a-z, 0-9 and `-`.
+/// Returns whether these bytes are 1 to 16 of a-z, 0-9 and `-`.
 fn is_mark_name(text: &[u8]) -> bool
     ensures { result ≡ is_mark_name text.now }
 {
     !text.is_empty() && text.len() <= MOST_NAME_BYTES && are_name_bytes(text)
 }
 
-/// Whether each of these bytes may be in a name.
+/// Returns whether each of these bytes may be in a name.
 fn are_name_bytes(text: &[u8]) -> bool
     ensures { result ≡ list_all is_name_byte text.now }
 {
     text.iter().all(|b| is_name_byte(*b))
 }
 
-/// Whether this byte may be in a name.
+/// Returns whether this byte may be in a name.
 fn is_name_byte(byte: u8) -> bool
     ensures { result ≡ is_name_byte byte }
 {

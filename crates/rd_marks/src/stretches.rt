@@ -78,7 +78,7 @@ impl Stretches {
         }
     }
 
-    /// How many stretches there are.
+    /// Returns how many stretches there are.
     pub(crate) fn len(&self) -> usize
         ensures { result ≡ length self.now.list.items }
     {
@@ -126,7 +126,7 @@ impl Stretches {
         at
     }
 
-    /// How many entries two nodes have in common from the start.
+    /// Returns how many entries two nodes have in common from the start.
     pub(crate) fn common(&self, one: Node, other: Node) -> usize
         requires one { IsWithin self.now.list.items one }
         requires other { IsWithin self.now.list.items other }
@@ -143,8 +143,8 @@ impl Stretches {
         }
     }
 
-    /// How many entries two nodes have in common from the start, where the second is in the first
-    /// one's stretch or a later one.
+    /// Returns how many entries two nodes have in common from the start, where the second is in the
+    /// first one's stretch or a later one.
     fn common_up(&self, one: Node, other: Node) -> usize
         requires one { IsWithin self.now.list.items one }
         requires other { IsWithin self.now.list.items other }

@@ -48,7 +48,7 @@ impl<const R: usize> Book<R> {
         self.counts_after(done)
     }
 
-    /// How many steps are live and how many are undone.
+    /// Returns how many steps are live and how many are undone.
     pub(super) fn step_counts(&self) -> Reply
         ensures { result ≡ step_counts (book_state self.now).session }
     {

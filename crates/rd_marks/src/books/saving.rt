@@ -12,9 +12,9 @@ impl<const R: usize> Book<R> {
     ghost use Rattle.rd_marks.specs.Book.{book_state};
     ghost use Rattle.rd_marks.specs.BookState.{mark_events, mark_event, at_events, to_start, AnswersEvents};
 
-    /// The event of this number, from 1, of the bookmark of this number, from 1, if there is one.
-    /// It takes no memory, and looks at each stretch once at most; `mark_events` gives all of them
-    /// at once.
+    /// Returns the event of this number, from 1, of the bookmark of this number, from 1, if there
+    /// is one. It takes no memory, and looks at each stretch once at most; `mark_events` gives all
+    /// of them at once.
     pub fn mark_event(&self, i: u64, n: u64) -> Option<Event>
         ensures { result ≡ mark_event (book_state self.now) i n }
     {
@@ -27,8 +27,8 @@ impl<const R: usize> Book<R> {
         }
     }
 
-    /// The events of the bookmark of this number, from 1: those that were live when it was set. It
-    /// takes time that grows with their number.
+    /// Returns the events of the bookmark of this number, from 1: those that were live when it was
+    /// set. It takes time that grows with their number.
     ///
     /// # Errors
     ///

@@ -2,7 +2,7 @@
 
 ghost use Rattle.std.specs.Prelude.{◌≡◌, ◌↔◌, ◌<◌, ◌≤◌, ◌+◌, ◌++◌, suc, take, length, vec_capacity, IsTrue, OnOk, OnErr, IfOk, IsOk};
 ghost use Rattle.rd_marks.specs.Changes.{IsLow};
-ghost use Rattle.rd_marks.specs.Stretches.{raised, lowered};
+ghost use Rattle.rd_marks.specs.Stretches.{after_insertion, after_removal};
 ghost use Rattle.rd_step.specs.Prelude.{MOST_STEPS};
 ghost use Rattle.rd_step.specs.Run.{events};
 
@@ -32,16 +32,16 @@ impl Shift {
     {
         match self {
             Shift::Same => node,
-            Shift::Up(i) => raised(i, node),
-            Shift::Down(i) => lowered(i, node),
+            Shift::Up(i) => after_insertion(i, node),
+            Shift::Down(i) => after_removal(i, node),
         }
     }
 }
 
-/// The node of the same entries after a stretch was put before that of this number.
-fn raised(i: usize, node: Node) -> Node
+/// Returns the node that has the same entries after a stretch was inserted at this number.
+fn after_insertion(i: usize, node: Node) -> Node
     requires { IsLow node }
-    ensures { result ≡ raised i node }
+    ensures { result ≡ after_insertion i node }
 {
     if node.number == 0 || node.stretch < i {
         return node;
@@ -52,10 +52,10 @@ fn raised(i: usize, node: Node) -> Node
     }
 }
 
-/// Returns the node of the same entries after the stretch of this number was taken away, none of
+/// Returns the node that has the same entries after the stretch of this number was removed, none of
 /// whose own entries it had.
-fn lowered(i: usize, node: Node) -> Node
-    ensures { result ≡ lowered i node }
+fn after_removal(i: usize, node: Node) -> Node
+    ensures { result ≡ after_removal i node }
 {
     if node.stretch < i {
         return node;
@@ -112,7 +112,7 @@ impl Stretches {
         }
     }
 
-    /// Whether a node is the end of the list of its stretch.
+    /// Returns whether a node is the end of the list of its stretch.
     #[tactic(auto, using(crate::proofs::Reading::stretch_at, crate::proofs::StretchLists::total))]
     fn is_end(&self, at: Node) -> bool
         ensures { IsTrue result ↔ IsEnd self.now.list.items at }

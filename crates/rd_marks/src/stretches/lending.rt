@@ -13,7 +13,7 @@ use std::borrow::CowSlice;
 impl Stretches {
     ghost use Rattle.rd_marks.specs.Stretches.{entries_at, shared_at, IsWithin, IsOwn, AreInPieces};
 
-    /// The event of this number, from 1, of the entries of a node, if there is one.
+    /// Returns the event of this number, from 1, of the entries of a node, if there is one.
     pub(crate) fn event_at(&self, of: Node, n: u64) -> Option<Event>
         requires { IsWithin self.now.list.items of }
         ensures { result ≡ numbered (events (entries_at self.now.list.items of)) n }
@@ -78,7 +78,7 @@ impl Stretches {
         Some(&stretch.entries[n - stretch.shared..of.number - stretch.shared])
     }
 
-    /// A copy of the entries of a node after the first `n`.
+    /// Returns a copy of the entries of a node after the first `n`.
     ///
     /// # Errors
     ///
