@@ -1,5 +1,6 @@
 -- What loading a text gives.
-use Rattle.rd_trace.proofs.Prelude.{◌≡◌, ◌≤◌, ◌<◌, ◌+◌, inl, inr, ℕ, List, [], ◌∷◌, length, codes, Option, Some, None, option_map, Result, Err, refl, sym, subst, arith, option_or, IsDistinct, Data, World, Refusal, Mark, book_state, loaded_state, first_refused, first_refused_mark, Replays, MOST_MARKS, HaveDifferentNames, LoadTraceFault, BadTrace, Flawed, TraceMark, TraceStep, Start, number_at, IsStart, HasActorCount, Trace, IsEitherVersion, HasValue, IsTraceText, IsTraceRing, LoadsValue, LoadsTrace, read, Book, NoMemory}
+use Rattle.rd_trace.proofs.Prelude.{◌≡◌, ◌≤◌, ◌<◌, ◌+◌, inl, inr, ℕ, List, [], ◌∷◌, length, codes, Option, Some, None, option_map, Result, Ok, Err, refl, sym, ap, ◌∙◌, subst, arith, option_or, IsDistinct, Data, World, Refusal, Mark, book_state, loaded_state, first_refused, first_refused_mark, Replays, MOST_MARKS, HaveDifferentNames, LoadTraceFault, BadTrace, Flawed, TraceMark, TraceStep, Start, number_at, IsStart, HasActorCount, Trace, IsEitherVersion, HasValue, Reads, view, AnyBook, any_state, IsTraceText, IsTraceRing, LoadsValue, LoadsTrace, read, Book, NoMemory}
+use Rattle.std.specs.Prelude.{IsOkAnd, MatchResult}
 use Rattle.serde_json.proofs.OnLiterals.{serde_json_on_literals}
 
 -- What a session that is spelled keeps
@@ -24,7 +25,7 @@ few_marks d t h = grind arith
 pub ring_of : {R : ℕ} (d : Data) (t : Trace R) → IsEitherVersion d t → number_at (codes "ring") d ≡ Some R
 ring_of d t h = grind arith
 
-value_eq : {R : ℕ} (text : List ℕ) (d : Data) (t : Trace R) → HasValue text d → IsTraceText text t → IsEitherVersion d t
+pub value_eq : {R : ℕ} (text : List ℕ) (d : Data) (t : Trace R) → HasValue text d → IsTraceText text t → IsEitherVersion d t
 value_eq text d t value is = grind arith
 
 -- the empty text has no value
@@ -53,6 +54,19 @@ module _ (text : List ℕ) (d : Data) (value : HasValue text d) (Q : ℕ) (ring 
   loads_none (Flawed flaw) h = (Q, h.0, is_text h.0 h.1, h.2)
   loads_none (TraceMark m n cause) h = (Q, h.0, is_text h.0 h.1, h.2)
   loads_none (TraceStep n cause) h = (Q, h.0, is_text h.0 h.1, h.2)
+
+  -- the result over this ring, with its book as one of any ring
+  pub loads_any : (wrap : Book Q → AnyBook) → ((book : Book Q) → any_state (wrap book) ≡ book_state book) → (r : Result (Book Q) LoadTraceFault) (s : Result AnyBook LoadTraceFault)
+      → LoadsValue {R = Q} d r → MatchResult r (λ book. IsOkAnd s (λ any. any ≡ wrap book)) (λ e. s ≡ Err e) → LoadsTrace text s
+  loads_any wrap same (Ok book) (Ok any) h is = (Q, h.0, is_text h.0 h.1, (h.2.0, ap any_state is ∙ same book ∙ h.2.1))
+  loads_any wrap same (Ok book) (Err e) h is = absurd is
+  loads_any wrap same (Err fault) s h is = subst (λ (x : Result AnyBook LoadTraceFault). LoadsTrace text x) (sym is) (loads_none fault h)
+
+-- a text whose value was not read
+pub not_read : (text : List ℕ) (fault : LoadTraceFault) → Reads view (HasValue text) (Err fault) → (fault ≡ NoMemory → 0 < length text) → LoadsTrace text (Err fault)
+not_read text NoMemory h memory = memory refl
+not_read text BadTrace h memory = λ R t is. h is.1 (is.0, is.2)
+not_read text _ h memory = absurd h
 
 -- What loading a value gives
 

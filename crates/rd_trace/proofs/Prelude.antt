@@ -38,13 +38,12 @@ pub use Rattle.rd_trace.specs.Saved.{HasValue, IsEitherVersion, IsSameBook, IsTr
 pub use Rattle.rd_trace.specs.Segments.{IsSegment, IsSegmentList, cell_data, cell_of, cell_of_items, list_data, segment_data}
 pub use Rattle.rd_trace.specs.Spelled.{AreSpelled, Gives, Reads, SpellEach, SpellEachAt, elements, items_by, itself}
 pub use Rattle.rd_trace.specs.Starts.{HasActorCount, IsFreshStart, IsParts, IsStart, IsStartData, IsStartValue, SpellsWorld, fresh_data, parts_data, start_flaw, start_world}
-pub use Rattle.rd_trace.specs.Steps.{GoesTo, LoadsValue, MakesLive, RefusesOne, SetsMarks, unless_memory}
+pub use Rattle.rd_trace.specs.Steps.{GoesTo, LoadsValue, MakesLive, RefusesOne, SetsMarks, mark_fault, step_fault}
 pub use Rattle.rd_trace.specs.Texts.{AreAppended, IsMarkAppended, IsReadBack, IsSpelledBack, IsStartAppended, joined_text}
 pub use Rattle.rd_trace.specs.Traces.{IsTraceRing, first_refused, session_at}
 pub use Rattle.rd_trace.specs.Writing.{IsTextOf}
 pub use Rattle.rd_trace.specs.declared.any_book.AnyBook.{AnyBook}
 pub use Rattle.rd_trace.specs.declared.bookmarks.SavedMark.{SavedMark}
-pub use Rattle.rd_trace.specs.declared.faults.FormFault.{FormFault}
 pub use Rattle.rd_trace.specs.declared.faults.LoadTraceFault.{LoadTraceFault}
 pub use Rattle.rd_trace.specs.declared.faults.LoadTraceFault.TheVariants.{BadTrace, Flawed, NoMemory, TraceMark, TraceStep}
 pub use Rattle.rd_trace.specs.declared.starts.Start.{Start}

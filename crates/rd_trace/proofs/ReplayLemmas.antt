@@ -1,8 +1,7 @@
 -- Steps that are made again: what goes through, and what is refused.
-use Rattle.rd_trace.proofs.Prelude.{common_steps, AllByRecursion, cond-false, IsDistinct-head, IsDistinct-tail, take-append_seam, drop-append_seam, append-nil, length-map, map-append, map_more, take_all, take-append-drop, length-take-le, length-drop, World, Refusal, Stepped, step, Ran, run, MOST_STEPS, result_map, Event, State, step_after, with_event, apply, back, MarkName, MOST_MARKS, bytes_of, mark_name_eq, Mark, BookState, with_session, marked_events, mark, GoThrough, MarksGoThrough, HaveDifferentNames, SavedMark, LoadTraceFault, Flawed, TraceMark, TraceStep, saved_mark, start_world, start_flaw, Trace, loaded_state, session_at, first_refused, first_refused_mark, trace_fault, Replays, RefusesOne, GoesTo, MakesLive, SetsMarks, unless_memory, le-ltb, ◌≡◌, ◌⊎◌, inl, inr, ℕ, suc, ◌+◌, ◌-◌, ◌<◌, ◌≤◌, if◌then◌else◌, Bool, false, List, [], ◌∷◌, ◌++◌, length, take, drop, get_or, map, Some, None, is_some, Option, option_map, Result, Ok, Err, IsOk, refl, sym, ap, ap₂, ◌∙◌, subst, arith, append_assoc, length-append, ne_eqb, option_or, result_err, at_events, with_marks, NoMemory, Reply, Answered, answer_with, Happened}
+use Rattle.rd_trace.proofs.Prelude.{common_steps, AllByRecursion, cond-false, IsDistinct-head, IsDistinct-tail, take-append_seam, drop-append_seam, append-nil, length-map, map-append, map_more, take_all, take-append-drop, length-take-le, length-drop, World, Refusal, Stepped, step, Ran, run, MOST_STEPS, result_map, Event, State, step_after, with_event, apply, back, MarkName, MOST_MARKS, bytes_of, mark_name_eq, Mark, BookState, with_session, marked_events, mark, GoThrough, MarksGoThrough, HaveDifferentNames, SavedMark, LoadTraceFault, Flawed, TraceMark, TraceStep, saved_mark, start_world, start_flaw, Trace, loaded_state, session_at, first_refused, first_refused_mark, trace_fault, Replays, RefusesOne, GoesTo, MakesLive, SetsMarks, mark_fault, step_fault, le-ltb, ◌≡◌, ◌⊎◌, inl, inr, ℕ, suc, ◌+◌, ◌-◌, ◌<◌, ◌≤◌, if◌then◌else◌, Bool, false, List, [], ◌∷◌, ◌++◌, length, take, drop, get_or, map, Some, None, is_some, Option, option_map, Result, Ok, Err, IsOk, refl, sym, ap, ap₂, ◌∙◌, subst, arith, append_assoc, length-append, ne_eqb, option_or, result_err, at_events, with_marks, NoMemory, Reply, Answered, answer_with, Happened}
 use Rattle.std.proofs.lemmas.Cmp.{nat_list_eq_equiv}
 use Rattle.rd_step.proofs.Equivalence.{ran_through}
-use Rattle.rd_trace.specs.declared.replay.RefusedEvent.{RefusedEvent}
 use Rattle.rd_trace.proofs.SpellLemmas.{split_at, take_item}
 use Rattle.rd_cell.specs.declared.refusal.Refusal.TheVariants as refusal
 
@@ -70,6 +69,11 @@ module _ (w : World) where
 
 -- One event
 
+-- the fault of a refused event: of memory, or by what else refused it
+fault_told : (n : ℕ) (cause : Refusal) (fault : LoadTraceFault) (P Q : Type 0) → (cause ≡ refusal.NoMemory) ⊎ P → fault ≡ step_fault n cause → (P → fault ≡ TraceStep n cause → Q)
+    → (fault ≡ NoMemory) ⊎ Q
+fault_told n cause fault P Q why is follows = grind arith
+
 -- what an event that happened leaves
 applied : (s after : State) (e : Event) (full : Bool) (o : Result Stepped Refusal) → (if full then Err refusal.TooLong else result_map (λ stepped. with_event s e) o) ≡ Ok after → after ≡ with_event s e
 applied s after e full o h = grind arith
@@ -105,15 +109,15 @@ module _ (old now : BookState) (es : List Event) (i : ℕ) (e : Event) (within :
       subst (λ (done : List Event). GoesTo old done after (Ok tt)) all
       ((λ j. record { session = left j; marks = (marks ∙ ap (λ (b : BookState). b.marks) so_far.0) j }), from_here [] (Ok after.session) h)
 
-  pub one_refused : (n : ℕ) (cause : Refusal) → n ≡ length now.session.live + 1 → (apply now.session e ≡ Err cause) ⊎ (cause ≡ refusal.NoMemory)
-      → RefusesOne old.session.start (old.session.live ++ es) (record { step = n; cause = cause })
-  one_refused n cause number (inr memory) = inl memory
-  one_refused n cause number (inl h) =
+  pub one_refused : (n : ℕ) (cause : Refusal) (fault : LoadTraceFault) → n ≡ length now.session.live + 1 → (cause ≡ refusal.NoMemory) ⊎ (apply now.session e ≡ Err cause)
+      → fault ≡ step_fault n cause → RefusesOne old.session.start (old.session.live ++ es) fault
+  one_refused n cause fault number why its =
       let live = old.session.live ++ take i es in
       let all : old.session.live ++ es ≡ live ++ e ∷ drop (i + 1) es =
       ap (λ (fs : List Event). old.session.live ++ fs) (split_at es i e within is) ∙ sym (append_assoc old.session.live (take i es) (e ∷ drop (i + 1) es)) in
       let here : length live + 1 ≡ n = sym (number ∙ ap (λ (b : BookState). length b.session.live + 1) so_far.0) in
-      inr (ap (first_refused old.session.start []) all ∙ from_here (drop (i + 1) es) (Err cause) h ∙ ap (λ (m : ℕ). Some (m, cause)) here)
+      fault_told n cause fault _ _ why its
+      (λ h told. (n, cause, ap (first_refused old.session.start []) all ∙ from_here (drop (i + 1) es) (Err cause) h ∙ ap (λ (m : ℕ). Some (m, cause)) here, told))
 
 pub all_of : (old new : BookState) (es : List Event) (i : ℕ) → length es ≤ i → GoesTo old (old.session.live ++ take i es) new (Ok tt) → GoesTo old (old.session.live ++ es) new (Ok tt)
 all_of old new es i all h = subst (λ (done : List Event). GoesTo old (old.session.live ++ done) new (Ok tt)) (take_all i es all) h
@@ -130,9 +134,9 @@ pub happened : (b after : BookState) (e : Event) (reply : Reply) → Happened b 
 happened b after e reply k = grind (arith, common_steps)
 
 pub not_happened : (b after : BookState) (e : Event) (cause : Refusal) → Happened b e (record { answer = Err cause; state = after })
-    → (apply b.session e ≡ Err cause) ⊎ (cause ≡ refusal.NoMemory)
-not_happened b after e cause (inl h) = inl (event_not_made b after cause _ (apply b.session e) h)
-not_happened b after e cause (inr h) = inr (cc (ap (λ (a : Answered). a.answer) h.1))
+    → (cause ≡ refusal.NoMemory) ⊎ (apply b.session e ≡ Err cause)
+not_happened b after e cause (inl h) = inr (event_not_made b after cause _ (apply b.session e) h)
+not_happened b after e cause (inr h) = inl (cc (ap (λ (a : Answered). a.answer) h.1))
 
 -- Going back
 
@@ -142,12 +146,12 @@ back_left n k s t h goes = grind (arith, le-ltb, cond-false)
 -- Making just these events live
 
 -- it matters nothing which ones were live
-goes_from : (old new : BookState) (es fs : List Event) (r : Result (Unit {0}) RefusedEvent) → GoesTo (at_events old fs) es new r → GoesTo old es new r
+goes_from : (old new : BookState) (es fs : List Event) (r : Result (Unit {0}) LoadTraceFault) → GoesTo (at_events old fs) es new r → GoesTo old es new r
 goes_from old new es fs (Ok done) h = h
-goes_from old new es fs (Err refused) h = h
+goes_from old new es fs (Err fault) h = h
 
 -- after some live events all others of a list are made
-pub goes_to : (old mid new : BookState) (es rest : List Event) (k : ℕ) (r : Result (Unit {0}) RefusedEvent) → mid ≡ at_events old (take k old.session.live)
+pub goes_to : (old mid new : BookState) (es rest : List Event) (k : ℕ) (r : Result (Unit {0}) LoadTraceFault) → mid ≡ at_events old (take k old.session.live)
     → take k old.session.live ≡ take k es → rest ≡ drop k es → GoesTo mid (mid.session.live ++ rest) new r → GoesTo old es new r
 goes_to old mid new es rest k r at shared behind h =
     let all : mid.session.live ++ rest ≡ es =
@@ -160,13 +164,13 @@ rest_of k es = take_all (length es - k) (drop k es) (omega (arith, length-drop k
 
 -- And undone ones after them
 
-pub live_refused : (w : World) (es fs : List Event) (refused : RefusedEvent) → RefusesOne w es refused → RefusesOne w (es ++ fs) refused
-live_refused w es fs refused (inl memory) = inl memory
-live_refused w es fs refused (inr h) = inr (first_refused-append w [] es fs ∙ ap (λ (o : Option (ℕ × Refusal)). option_or o (first_refused w es fs)) h)
+pub live_refused : (w : World) (es fs : List Event) (fault : LoadTraceFault) → RefusesOne w es fault → RefusesOne w (es ++ fs) fault
+live_refused w es fs fault (inl memory) = inl memory
+live_refused w es fs fault (inr h) = inr (h.0, h.1, first_refused-append w [] es fs ∙ ap (λ (o : Option (ℕ × Refusal)). option_or o (first_refused w es fs)) h.2, h.3)
 
-pub undone_refused : (old mid new : BookState) (es fs : List Event) (refused : RefusedEvent) → mid ≡ at_events old es → GoesTo mid (mid.session.live ++ fs) new (Err refused)
-    → RefusesOne old.session.start (es ++ fs) refused
-undone_refused old mid new es fs refused at h = subst (λ (b : BookState). RefusesOne b.session.start (b.session.live ++ fs) refused) at h
+pub undone_refused : (old mid new : BookState) (es fs : List Event) (fault : LoadTraceFault) → mid ≡ at_events old es → GoesTo mid (mid.session.live ++ fs) new (Err fault)
+    → RefusesOne old.session.start (es ++ fs) fault
+undone_refused old mid new es fs fault at h = subst (λ (b : BookState). RefusesOne b.session.start (b.session.live ++ fs) fault) at h
 
 all_behind : (old mid now : BookState) (es fs : List Event) → mid ≡ at_events old es → GoesTo mid (mid.session.live ++ fs) now (Ok tt) → GoesTo old (es ++ fs) now (Ok tt)
 all_behind old mid now es fs at h = subst (λ (b : BookState). GoesTo b (b.session.live ++ fs) now (Ok tt)) at h
@@ -190,11 +194,6 @@ made_live old mid now new es fs at h goes marks =
     let there = all_behind old mid now es fs at h in
     let its = back_to old.session.start es fs new.session (ap (λ (b : BookState). back b.session (length fs)) (sym there.0) ∙ goes) in
     ((λ i. record { session = its i; marks = (marks ∙ ap (λ (b : BookState). b.marks) there.0) i }), there.1)
-
--- the fault of a refused event: of memory, or by what else refused it
-fault_told : (cause : Refusal) (told fault : LoadTraceFault) (P Q : Type 0) → (cause ≡ refusal.NoMemory) ⊎ P → fault ≡ unless_memory cause told → (P → fault ≡ told → Q)
-    → (fault ≡ NoMemory) ⊎ Q
-fault_told cause told fault P Q why is follows = grind arith
 
 -- Bookmarks
 
@@ -271,14 +270,14 @@ module _ (old now : BookState) (ms : List SavedMark) (i : ℕ) (m : SavedMark) (
   can_mark mid cause goes names few other (inr h) = other h.0
 
   -- an event of this one was refused
-  pub mark_refused : (new : BookState) (refused : RefusedEvent) (fault : LoadTraceFault) → RefusesOne now.session.start m.events.items refused
-      → fault ≡ unless_memory refused.cause (TraceMark (i + 1) refused.step refused.cause) → SetsMarks old (map saved_mark ms) new (Err fault)
-  mark_refused new refused fault why is =
-      fault_told refused.cause (TraceMark (i + 1) refused.step refused.cause) fault _ _ why is
-      (λ first same.
-      ap (first_refused_mark old.session.start 0) placed
-      ∙ from_mark (map saved_mark (drop (i + 1) ms)) (Some (refused.step, refused.cause)) (subst (λ (w : World). first_refused w [] m.events.items ≡ Some (refused.step, refused.cause)) so_far.start first)
-      ∙ ap Some (sym same))
+  pub mark_refused : (new : BookState) (its fault : LoadTraceFault) → RefusesOne now.session.start m.events.items its → fault ≡ mark_fault (i + 1) its
+      → SetsMarks old (map saved_mark ms) new (Err fault)
+  mark_refused new its fault (inl memory) is = inl (is ∙ ap (mark_fault (i + 1)) memory)
+  mark_refused new its fault (inr h) is =
+      inr
+      (ap (first_refused_mark old.session.start 0) placed
+      ∙ from_mark (map saved_mark (drop (i + 1) ms)) (Some (h.0, h.1)) (subst (λ (w : World). first_refused w [] m.events.items ≡ Some (h.0, h.1)) so_far.start h.2)
+      ∙ ap Some (sym (is ∙ ap (mark_fault (i + 1)) h.3)))
 
 pub all_set : (old new : BookState) (ms : List SavedMark) (i : ℕ) → length ms ≤ i → HasSet old new (map saved_mark (take i ms)) → SetsMarks old (map saved_mark ms) new (Ok tt)
 all_set old new ms i all k = grind (arith, take_all)
@@ -313,11 +312,9 @@ module _ {R : ℕ} (t : Trace R) (flawless : start_flaw t.start ≡ None) where
           fault_of None p (subst (λ (w : World). first_refused_mark w 0 t.marks ≡ None) start set.2) (subst (λ (w : World). first_refused w [] (t.live ++ t.undone) ≡ p) (set.1 ∙ start) h)
 
       -- a live or an undone event is refused
-      pub no_steps : {B : Type 0} (IsBook : B → Type 0) (refused : RefusedEvent) (fault : LoadTraceFault) → RefusesOne now.session.start (t.live ++ t.undone) refused
-          → fault ≡ unless_memory refused.cause (TraceStep refused.step refused.cause) → Replays IsBook t (Err fault)
-      no_steps IsBook refused fault why is =
-          not_replayed IsBook fault
-          (fault_told refused.cause (TraceStep refused.step refused.cause) fault _ _ why is (λ first same. by_steps (Some (refused.step, refused.cause)) first ∙ ap Some (sym same)))
+      pub no_steps : {B : Type 0} (IsBook : B → Type 0) (fault : LoadTraceFault) → RefusesOne now.session.start (t.live ++ t.undone) fault → Replays IsBook t (Err fault)
+      no_steps IsBook fault (inl memory) = not_replayed IsBook fault (inl memory)
+      no_steps IsBook fault (inr h) = not_replayed IsBook fault (inr (by_steps (Some (h.0, h.1)) h.2 ∙ ap Some (sym h.3)))
 
       -- all went through
       pub plays : (new : BookState) → MakesLive now t.live t.undone new (Ok tt) → (trace_fault t ≡ None) × (new ≡ loaded_state t)

@@ -1,9 +1,8 @@
 -- Whole sessions as values.
-use Rattle.rd_trace.proofs.Prelude.{◌≡◌, ℕ, suc, ◌+◌, ◌<◌, ◌≤◌, List, [], ◌∷◌, ◌++◌, length, take, get_or, Some, None, Result, Ok, Err, IsOk, inl, inr, refl, sym, ap, ◌∙◌, subst, arith, length-append, length-map, map-append, take_more, get_or-map, same_Some, Data, Refusal, run, MOST_STEPS, Ran, run_entries, Entry, Event, state_of, numbered, BookState, GoThrough, Reads, Gives, SpellEach, items_by, event_of, event_data, SpellsWorld, AreMarks, mark_data, member_count, Trace, IsVersion1, IsVersion2, IsEitherVersion, loaded_state, saved_trace, book_data, FormFault, start_flaw, Journal, IsRun, events}
+use Rattle.rd_trace.proofs.Prelude.{◌≡◌, ℕ, suc, ◌+◌, ◌<◌, ◌≤◌, List, [], ◌∷◌, ◌++◌, length, take, get_or, Some, None, Result, Ok, Err, IsOk, inl, inr, refl, sym, ap, ◌∙◌, subst, arith, length-append, length-map, map-append, take_more, get_or-map, same_Some, Data, Refusal, run, MOST_STEPS, Ran, run_entries, Entry, Event, state_of, numbered, BookState, GoThrough, Reads, Gives, SpellEach, items_by, event_of, event_data, SpellsWorld, AreMarks, mark_data, member_count, Trace, IsVersion1, IsVersion2, IsEitherVersion, loaded_state, saved_trace, book_data, LoadTraceFault, NoMemory, BadTrace, start_flaw, Journal, IsRun, events}
 use Rattle.rd_journal.proofs.Walks.{whole_run}
 use Rattle.rd_trace.proofs.SpellLemmas.{take_got, some_got}
 use Rattle.rd_trace.specs.declared.saved.SavedSession.{SavedSession}
-use Rattle.rd_trace.specs.declared.faults.FormFault.TheVariants as form
 
 -- ---- what is read
 
@@ -16,15 +15,17 @@ no_second d six none t (inl k) = let e : 4 ≡ 6 = same_Some 4 6 (sym k.members 
 no_second d six none t (inr k) = none t k
 
 -- a value of this many members is a trace of one version at most
-pub first_read : {R : ℕ} (d : Data) → member_count d ≡ Some 4 → (r : Result (SavedSession R) FormFault) → Reads saved_trace (IsVersion1 d) r → Reads saved_trace (IsEitherVersion d) r
+pub first_read : {R : ℕ} (d : Data) → member_count d ≡ Some 4 → (r : Result (SavedSession R) LoadTraceFault) → Reads saved_trace (IsVersion1 d) r → Reads saved_trace (IsEitherVersion d) r
 first_read d four (Ok s) h = inl h
-first_read d four (Err form.NoMemory) h = tt
-first_read d four (Err form.BadForm) h = no_first d four h
+first_read d four (Err NoMemory) h = tt
+first_read d four (Err BadTrace) h = no_first d four h
+first_read d four (Err _) h = absurd h
 
-pub second_read : {R : ℕ} (d : Data) → member_count d ≡ Some 6 → (r : Result (SavedSession R) FormFault) → Reads saved_trace (IsVersion2 d) r → Reads saved_trace (IsEitherVersion d) r
+pub second_read : {R : ℕ} (d : Data) → member_count d ≡ Some 6 → (r : Result (SavedSession R) LoadTraceFault) → Reads saved_trace (IsVersion2 d) r → Reads saved_trace (IsEitherVersion d) r
 second_read d six (Ok s) h = inr h
-second_read d six (Err form.NoMemory) h = tt
-second_read d six (Err form.BadForm) h = no_second d six h
+second_read d six (Err NoMemory) h = tt
+second_read d six (Err BadTrace) h = no_second d six h
+second_read d six (Err _) h = absurd h
 
 -- ---- what is written
 

@@ -1,7 +1,6 @@
 -- What is read of a value by what is read of a part of it; and lists of values: what they spell,
 -- and how many they are.
-use Rattle.rd_trace.proofs.Prelude.{◌≡◌, ℕ, suc, ◌+◌, ◌<◌, List, [], ◌∷◌, ◌++◌, length, take, drop, get_or, slice_get, Option, Some, IfSome, IfNone, ok_or, Result, Err, Vec, Global, refl, sym, ap, ap₂, ◌∙◌, subst, map, map-id, arith, IsErrAnd, same_Some, take_more, drop_more, take-append-drop, Data, Items, no_items, item, view, items_view, items_at, Reads, itself, elements, Gives, SpellEach, SpellEachAt, items_by, AreSpelled, FormFault, get_or_from_slice_get, slice_get-get_or, slice_get_within, Value}
-use Rattle.rd_trace.specs.declared.faults.FormFault.TheVariants as form
+use Rattle.rd_trace.proofs.Prelude.{◌≡◌, ℕ, suc, ◌+◌, ◌<◌, List, [], ◌∷◌, ◌++◌, length, take, drop, get_or, slice_get, Option, Some, IfSome, IfNone, ok_or, Result, Err, Vec, Global, refl, sym, ap, ap₂, ◌∙◌, subst, map, map-id, arith, IsErrAnd, same_Some, take_more, drop_more, take-append-drop, Data, Items, no_items, item, view, items_view, items_at, Reads, itself, elements, Gives, SpellEach, SpellEachAt, items_by, AreSpelled, LoadTraceFault, BadTrace, get_or_from_slice_get, slice_get-get_or, slice_get_within, Value}
 
 -- ---- faults
 
@@ -11,15 +10,15 @@ passed_up P r x is k = grind arith
 
 -- a part that isn't read
 module _ {V W X Y : Type 0} (part : V → X) (whole : W → Y) (IsPart : X → Type 0) (IsWhole : Y → Type 0) (has : (y : Y) → IsWhole y → (x : X) × IsPart x) where
-  pub no_part : (fault : FormFault) → Reads part IsPart (Err fault) → Reads whole IsWhole (Err fault)
+  pub no_part : (fault : LoadTraceFault) → Reads part IsPart (Err fault) → Reads whole IsWhole (Err fault)
   no_part fault h = grind arith
 
   -- and whose fault is passed up
-  pub part_passed_up : (fault : FormFault) (r : Result W FormFault) → IsErrAnd r (λ e. e ≡ fault) → Reads part IsPart (Err fault) → Reads whole IsWhole r
+  pub part_passed_up : (fault : LoadTraceFault) (r : Result W LoadTraceFault) → IsErrAnd r (λ e. e ≡ fault) → Reads part IsPart (Err fault) → Reads whole IsWhole r
   part_passed_up fault r is h = passed_up (Reads whole IsWhole) r fault is (no_part fault h)
 
 -- an option that is read
-module _ {X : Type 0} (o : Option X) (r : Result X FormFault) (is : r ≡ ok_or o form.BadForm) where
+module _ {X : Type 0} (o : Option X) (r : Result X LoadTraceFault) (is : r ≡ ok_or o BadTrace) where
   pub read_or_bad : (P : X → Type 0) → IfSome o P → IfNone o ((x : X) → P x → ⊥) → Reads itself P r
   read_or_bad P some none = grind arith
 
@@ -135,7 +134,7 @@ module _ {X : Type 0} (Spells : Data → X → Type 0) (one : (d : Data) (x y : 
   same_each_at o xs ys h k = sym (map-id xs) ∙ same_seen_at Spells itself one o xs ys h k ∙ map-id ys
 
 -- what is read of the list at a key
-pub list_read : {X : Type 0} (Spells : Data → X → Type 0) (key : List ℕ) (d : Data) (ds : Items) → items_at key d ≡ Some ds → (r : Result (Vec X Global) FormFault)
+pub list_read : {X : Type 0} (Spells : Data → X → Type 0) (key : List ℕ) (d : Data) (ds : Items) → items_at key d ≡ Some ds → (r : Result (Vec X Global) LoadTraceFault)
     → Reads elements (SpellEach Spells ds) r → Reads elements (SpellEachAt Spells key d) r
 list_read Spells key d ds there r k = grind arith
 

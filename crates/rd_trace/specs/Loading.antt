@@ -10,8 +10,6 @@ use Rattle.rd_trace.specs.declared.any_book.AnyBook.{AnyBook}
 use Rattle.rd_trace.specs.declared.any_book.AnyBook.TheVariants.{Two, Four, Eight}
 use Rattle.rd_trace.specs.declared.faults.LoadTraceFault.{LoadTraceFault}
 use Rattle.rd_trace.specs.declared.faults.LoadTraceFault.TheVariants.{NoMemory, BadTrace, Flawed, TraceMark, TraceStep}
-use Rattle.rd_trace.specs.declared.faults.FormFault.{FormFault}
-use Rattle.rd_trace.specs.declared.faults.FormFault.TheVariants as form
 use Rattle.rd_step.specs.Starts.{fresh_world}
 use Rattle.rd_trace.specs.Starts.{start_world, start_flaw}
 use Rattle.rd_trace.specs.Saved.{Trace, IsTraceText, loaded_state, IsSameBook}
@@ -28,11 +26,6 @@ abbrev pub any_journal : AnyBook → Journal
 any_journal (Two book) = journal (session_of book)
 any_journal (Four book) = journal (session_of book)
 any_journal (Eight book) = journal (session_of book)
-
--- the fault of loading where a value is not read
-abbrev pub form_fault : FormFault → LoadTraceFault
-form_fault form.NoMemory = NoMemory
-form_fault form.BadForm = BadTrace
 
 -- the state of a book in which nothing was done yet, over the fresh world
 abbrev pub fresh_state : ℕ → ℕ → BookState

@@ -6,15 +6,16 @@ use Rattle.serde_json.specs.Data.{Data, Items, no_items, item}
 use Rattle.serde_json.specs.View.{items_view}
 use Rattle.serde_json.specs.declared.value.Value.{Value}
 use Rattle.rd_trace.specs.Numbers.{items_at}
-use Rattle.rd_trace.specs.declared.faults.FormFault.{FormFault}
-use Rattle.rd_trace.specs.declared.faults.FormFault.TheVariants as form
+use Rattle.rd_trace.specs.declared.faults.LoadTraceFault.{LoadTraceFault}
+use Rattle.rd_trace.specs.declared.faults.LoadTraceFault.TheVariants.{NoMemory, BadTrace}
 
--- the result of reading a value: what it spells; or `NoMemory`; or `BadForm`, if it spells nothing
+-- the result of reading a value: what it spells; or `NoMemory`; or `BadTrace`, if it spells nothing
 -- of the kind
-abbrev pub Reads : {V X : Type 0} → (V → X) → (X → Type 0) → Result V FormFault → Type 0
+abbrev pub Reads : {V X : Type 0} → (V → X) → (X → Type 0) → Result V LoadTraceFault → Type 0
 Reads seen IsSpelled (Ok v) = IsSpelled (seen v)
-Reads seen IsSpelled (Err form.NoMemory) = Unit {0}
-Reads {V} {X} seen IsSpelled (Err form.BadForm) = (x : X) → IsSpelled x → ⊥
+Reads seen IsSpelled (Err NoMemory) = Unit {0}
+Reads {V} {X} seen IsSpelled (Err BadTrace) = (x : X) → IsSpelled x → ⊥
+Reads seen IsSpelled (Err _) = ⊥
 
 -- what is seen of a thing: the thing itself
 abbrev pub itself : {X : Type 0} → X → X

@@ -11,7 +11,6 @@ use Rattle.rd_marks.specs.Book.{book_state}
 use Rattle.rd_marks.specs.declared.books.Book.{Book}
 use Rattle.rd_trace.specs.declared.faults.LoadTraceFault.{LoadTraceFault}
 use Rattle.rd_trace.specs.declared.faults.LoadTraceFault.TheVariants.{NoMemory, BadTrace, Flawed, TraceMark, TraceStep}
-use Rattle.rd_trace.specs.declared.replay.RefusedEvent.{RefusedEvent}
 use Rattle.rd_trace.specs.declared.starts.Start.{Start}
 use Rattle.rd_trace.specs.Starts.{start_world, start_flaw}
 use Rattle.rd_trace.specs.Saved.{Trace, IsEitherVersion, loaded_state}
@@ -27,22 +26,34 @@ MakesWorld start (Err BadTrace) = ⊥
 MakesWorld start (Err (TraceMark m n cause)) = ⊥
 MakesWorld start (Err (TraceStep n cause)) = ⊥
 
--- an event was refused: for memory, or it is the first of these that is refused from the start
-abbrev pub RefusesOne : World → List Event → RefusedEvent → Type 0
-RefusesOne start events refused = (refused.cause ≡ refusal.NoMemory) ⊎ (first_refused start [] events ≡ Some (refused.step, refused.cause))
+-- the fault of an event of this number and this cause
+abbrev pub step_fault : ℕ → Refusal → LoadTraceFault
+step_fault step refusal.NoMemory = NoMemory
+step_fault step cause = TraceStep step cause
+
+-- the fault of an event of the bookmark of this number, from the event's own fault
+abbrev pub mark_fault : ℕ → LoadTraceFault → LoadTraceFault
+mark_fault mark (TraceStep step cause) = TraceMark mark step cause
+mark_fault mark fault = fault
+
+-- the fault of making these events happen: `NoMemory`, or that of the first of them that is refused
+-- from the start
+abbrev pub RefusesOne : World → List Event → LoadTraceFault → Type 0
+RefusesOne start events fault =
+    (fault ≡ NoMemory) ⊎ ((step : ℕ) × (cause : Refusal) × (first_refused start [] events ≡ Some (step, cause)) × (fault ≡ TraceStep step cause))
 
 -- just these events were made live, none of which is refused, or one was refused
-abbrev pub GoesTo : BookState → List Event → BookState → Result (Unit {0}) RefusedEvent → Type 0
+abbrev pub GoesTo : BookState → List Event → BookState → Result (Unit {0}) LoadTraceFault → Type 0
 GoesTo old events new (Ok _) = (new ≡ at_events old events) × (first_refused old.session.start [] events ≡ None)
-GoesTo old events new (Err refused) = RefusesOne old.session.start events refused
+GoesTo old events new (Err fault) = RefusesOne old.session.start events fault
 
 -- just these events were made live, and just those undone, none of which is refused, or one was
 -- refused
-abbrev pub MakesLive : BookState → List Event → List Event → BookState → Result (Unit {0}) RefusedEvent → Type 0
+abbrev pub MakesLive : BookState → List Event → List Event → BookState → Result (Unit {0}) LoadTraceFault → Type 0
 MakesLive old live undone new (Ok _) =
     (new ≡ with_session old (record { start = old.session.start; live = live; undone = undone }))
     × (first_refused old.session.start [] (live ++ undone) ≡ None)
-MakesLive old live undone new (Err refused) = RefusesOne old.session.start (live ++ undone) refused
+MakesLive old live undone new (Err fault) = RefusesOne old.session.start (live ++ undone) fault
 
 -- the result of loading a value: that of replaying the trace that it spells, or BadTrace if it
 -- spells none
@@ -57,8 +68,3 @@ abbrev pub SetsMarks : BookState → List Mark → BookState → Result (Unit {0
 SetsMarks old marks new (Ok _) =
     (new.marks ≡ marks) × (new.session.start ≡ old.session.start) × (first_refused_mark old.session.start 0 marks ≡ None)
 SetsMarks old marks new (Err fault) = (fault ≡ NoMemory) ⊎ (first_refused_mark old.session.start 0 marks ≡ Some fault)
-
--- the fault to which a refused event leads: `NoMemory` if memory was refused, and else this one
-abbrev pub unless_memory : Refusal → LoadTraceFault → LoadTraceFault
-unless_memory refusal.NoMemory fault = NoMemory
-unless_memory cause fault = fault

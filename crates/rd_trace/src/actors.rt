@@ -8,10 +8,10 @@ ghost use Rattle.rd_actor.specs.declared.actors.Actor.{Actor};
 ghost use Rattle.rd_actor.specs.declared.actors.Pc.{Pc};
 ghost use Rattle.rd_actor.specs.Labels.{label};
 ghost use Rattle.rd_trace.specs.Numbers.{byte_number};
-ghost use Rattle.rd_trace.specs.Actors.{op_of, short_op, long_op, op_data, value_of, IsActor, actor_data};
+ghost use Rattle.rd_trace.specs.Actors.{op_of, op_data, value_of, IsActor, actor_data};
 
-use super::faults::FormFault;
-use super::members::{bit_at, member_count, number_at};
+use super::faults::LoadTraceFault;
+use super::members::{member_count, number_at};
 use super::names::{name_in, name_value};
 use super::numbers::byte_in;
 use super::spelled::{Spelled, Written};
@@ -51,8 +51,8 @@ impl Spelled for Actor {
 
     /// Returns the actor that a JSON value spells.
     #[tactic(auto, using(crate::proofs::SpellLemmas::read_or_bad))]
-    fn read(_alloc: Global, value: &Value) -> Result<Actor, FormFault> {
-        actor_in(value).ok_or(FormFault::BadForm)
+    fn read(_alloc: Global, value: &Value) -> Result<Actor, LoadTraceFault> {
+        actor_in(value).ok_or(LoadTraceFault::BadTrace)
     }
 }
 
@@ -76,8 +76,8 @@ fn actor_in(value: &Value) -> Option<Actor>
     Some(Actor {
         pc: pc_in(value.get(PC)?)?,
         pass: byte_in(value.get(PASS)?)?,
-        closed: bit_at(value, CLOSED)?,
-        safe: bit_at(value, SAFE)?,
+        closed: value.get(CLOSED)?.as_bool()?,
+        safe: value.get(SAFE)?.as_bool()?,
         crq: name_in(value.get(CRQ)?)?,
         new: name_in(value.get(NEW)?)?,
         next: name_in(value.get(NEXT)?)?,
@@ -140,30 +140,16 @@ fn op_in(value: &Value) -> Option<Option<Op>>
     }
     let items = value.as_array()?;
     match items.as_slice() {
-        [word] => short_op(word.as_str()?),
-        [word, value] => long_op(word.as_str()?, value.as_u64()?),
-        _ => None,
-    }
-}
-
-/// Returns the call that a word spells without a number, or none.
-fn short_op(word: &str) -> Option<Option<Op>>
-    ensures { result ≡ short_op word.now }
-{
-    match word {
-        "deq" => Some(Some(Op::Deq)),
-        "adeq" => Some(Some(Op::ADeq)),
-        _ => None,
-    }
-}
-
-/// Returns the call that a word and a number spell, or none.
-fn long_op(word: &str, value: u64) -> Option<Option<Op>>
-    ensures { result ≡ long_op word.now value }
-{
-    match word {
-        "enq" => Some(Some(Op::Enq(value))),
-        "aenq" => Some(Some(Op::AEnq(value))),
+        [word] => match word.as_str()? {
+            "deq" => Some(Some(Op::Deq)),
+            "adeq" => Some(Some(Op::ADeq)),
+            _ => None,
+        },
+        [word, value] => match word.as_str()? {
+            "enq" => Some(Some(Op::Enq(value.as_u64()?))),
+            "aenq" => Some(Some(Op::AEnq(value.as_u64()?))),
+            _ => None,
+        },
         _ => None,
     }
 }

@@ -13,8 +13,8 @@ ghost use Rattle.rd_trace.specs.Bookmarks.{AreMarks, IsMark, HasMarkName, saved_
 ghost use Rattle.rd_trace.specs.Texts.{AreAppended, IsMarkAppended};
 
 use super::events::put_events;
-use super::faults::FormFault;
-use super::members::{member_count, text_at};
+use super::faults::LoadTraceFault;
+use super::members::member_count;
 use super::spelled::list_at;
 use super::texts::comma_after;
 use rd_cell::limits::MOST_MARKS;
@@ -39,26 +39,27 @@ pub struct SavedMark {
     pub events: Vec<Event>,
 }
 
-/// The bookmarks that the values of a list spell, in their order: at most 64, with different names.
-pub fn marks_in(alloc: Global, list: &Vec<Value>) -> Result<Vec<SavedMark>, FormFault>
+/// Returns the bookmarks that the values of a list spell, in their order: at most 64, with
+/// different names.
+pub fn marks_in(alloc: Global, list: &Vec<Value>) -> Result<Vec<SavedMark>, LoadTraceFault>
     ensures { Reads saved_marks (AreMarks (items_view list.now.items)) result }
 {
     let count = list.len();
     if count > MOST_MARKS {
-        return Err(FormFault::BadForm);
+        return Err(LoadTraceFault::BadTrace);
     }
     let mut marks = Vec::with_capacity(alloc, count)?;
     for value in list {
         let mark = mark_in(alloc, value)?;
         if is_taken(&marks, mark.name) {
-            return Err(FormFault::BadForm);
+            return Err(LoadTraceFault::BadTrace);
         }
         marks.push_reserved(mark);
     }
     Ok(marks)
 }
 
-/// Whether one of these bookmarks has this name.
+/// Returns whether one of these bookmarks has this name.
 fn is_taken(marks: &[SavedMark], name: MarkName) -> bool
     ensures { result ≡ list_any (λ mark. mark_name_eq name mark.name) marks.now }
 {
@@ -66,11 +67,11 @@ fn is_taken(marks: &[SavedMark], name: MarkName) -> bool
 }
 
 /// Returns the bookmark that a JSON value spells.
-fn mark_in(alloc: Global, value: &Value) -> Result<SavedMark, FormFault>
+fn mark_in(alloc: Global, value: &Value) -> Result<SavedMark, LoadTraceFault>
     ensures { Reads saved_mark (IsMark (view value.now)) result }
 {
     let Some(name) = name_in(value) else {
-        return Err(FormFault::BadForm);
+        return Err(LoadTraceFault::BadTrace);
     };
     Ok(SavedMark {
         name,
@@ -78,7 +79,7 @@ fn mark_in(alloc: Global, value: &Value) -> Result<SavedMark, FormFault>
     })
 }
 
-/// The name of the bookmark that a value spells, if it has the members of one.
+/// Returns the name of the bookmark that a value spells, if it has the members of one.
 #[tactic(auto, using(crate::proofs::SpellLemmas::passed_up))]
 fn name_in(value: &Value) -> Option<MarkName>
     ensures some { IfSome result (HasMarkName (view value.now)) }
@@ -87,7 +88,7 @@ fn name_in(value: &Value) -> Option<MarkName>
     if member_count(value)? != MEMBERS {
         return None;
     }
-    let text = text_at(value, NAME)?;
+    let text = value.get(NAME)?.as_str()?;
     match MarkName::new(text.as_bytes()) {
         Err(_) => None,
         Ok(name) => Some(name),

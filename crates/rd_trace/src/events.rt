@@ -1,18 +1,16 @@
 //! Events: an array of a word and an actor, and of a number or a choice if the word takes one.
 
-ghost use Rattle.std.specs.Prelude.{◌≡◌, ◌++◌, ◌∷◌, [], nat_lt, Some, OnOk, option_and_then, string_bytes, decimal};
+ghost use Rattle.std.specs.Prelude.{◌≡◌, ◌++◌, ◌∷◌, [], nat_lt, Some, OnOk, string_bytes, decimal};
 ghost use Rattle.json.specs.Token.{boolean};
 ghost use Rattle.json.specs.Print.{token_text};
 ghost use Rattle.serde_json.specs.Data.{number, unsigned};
-ghost use Rattle.serde_json.specs.Find.{as_str};
 ghost use Rattle.serde_json.specs.View.{view};
 ghost use Rattle.serde_json.specs.Written.{compact_text, comma_if};
-ghost use Rattle.rd_trace.specs.Numbers.{byte_number};
 ghost use Rattle.rd_trace.specs.Spelled.{Gives};
-ghost use Rattle.rd_trace.specs.Events.{act_of_word, act_with, event_by, event_of, event_data};
+ghost use Rattle.rd_trace.specs.Events.{act_of_word, act_with, event_of, event_data};
 ghost use Rattle.rd_trace.specs.Texts.{IsReadBack, IsSpelledBack, AreAppended};
 
-use super::faults::FormFault;
+use super::faults::LoadTraceFault;
 use super::numbers::byte_in;
 use super::spelled::Spelled;
 use super::texts::{comma_after, put_number};
@@ -26,8 +24,8 @@ impl Spelled for Event {
 
     /// Returns the event that a JSON value spells.
     #[tactic(auto, using(crate::proofs::SpellLemmas::given_or_bad))]
-    fn read(_alloc: Global, value: &Value) -> Result<Event, FormFault> {
-        event_in(value).ok_or(FormFault::BadForm)
+    fn read(_alloc: Global, value: &Value) -> Result<Event, LoadTraceFault> {
+        event_in(value).ok_or(LoadTraceFault::BadTrace)
     }
 }
 
@@ -38,32 +36,16 @@ fn event_in(value: &Value) -> Option<Event>
 {
     let items = value.as_array()?;
     match items.as_slice() {
-        [word, actor] => short_event(word, actor),
-        [word, actor, value] => long_event(word, actor, value),
+        [word, actor] => Some(Event {
+            act: act_of_word(word.as_str()?)?,
+            actor: byte_in(actor)?,
+        }),
+        [word, actor, value] => Some(Event {
+            act: act_with(word.as_str()?, value)?,
+            actor: byte_in(actor)?,
+        }),
         _ => None,
     }
-}
-
-/// Returns the event of a word that takes no value, or none.
-fn short_event(word: &Value, actor: &Value) -> Option<Event>
-    ensures { result ≡ event_by (option_and_then act_of_word (as_str (view word.now))) (byte_number (view actor.now)) }
-{
-    let act = act_of_word(word.as_str()?)?;
-    Some(Event {
-        actor: byte_in(actor)?,
-        act,
-    })
-}
-
-/// Returns the event of a word that takes a value, or none.
-fn long_event(word: &Value, actor: &Value, value: &Value) -> Option<Event>
-    ensures { result ≡ event_by (option_and_then (λ w. act_with w (view value.now)) (as_str (view word.now))) (byte_number (view actor.now)) }
-{
-    let act = act_with(word.as_str()?, value)?;
-    Some(Event {
-        actor: byte_in(actor)?,
-        act,
-    })
 }
 
 /// Returns the act that a word spells without a value after it, or none.

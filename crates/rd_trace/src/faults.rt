@@ -44,36 +44,13 @@ pub enum WriteTraceFault {
     Write,
 }
 
-/// Why a value isn't read as a part of a trace.
-#[derive(Clone, Copy, Debug, PartialEq, Eq)]
-pub(crate) enum FormFault {
-    /// Memory was refused.
-    NoMemory,
-    /// The value spells no such part.
-    BadForm,
-}
-
-impl From<AllocError> for FormFault {
-    ghost use Rattle.rd_trace.specs.declared.faults.FormFault.TheVariants.{NoMemory};
+impl From<AllocError> for LoadTraceFault {
+    ghost use Rattle.rd_trace.specs.declared.faults.LoadTraceFault.TheVariants.{NoMemory};
 
     ghost from_gives = { λ _ fault. fault ≡ NoMemory };
 
     /// Memory that was refused is the fault `NoMemory`.
-    fn from(_error: AllocError) -> FormFault {
-        FormFault::NoMemory
-    }
-}
-
-impl From<FormFault> for LoadTraceFault {
-    ghost use Rattle.rd_trace.specs.Loading.{form_fault};
-
-    ghost from_gives = { λ fault e. e ≡ form_fault fault };
-
-    /// A value that is no part of a trace makes the text no trace.
-    fn from(fault: FormFault) -> LoadTraceFault {
-        match fault {
-            FormFault::NoMemory => LoadTraceFault::NoMemory,
-            FormFault::BadForm => LoadTraceFault::BadTrace,
-        }
+    fn from(_error: AllocError) -> LoadTraceFault {
+        LoadTraceFault::NoMemory
     }
 }

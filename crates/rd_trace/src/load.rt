@@ -2,7 +2,7 @@
 //! is made to happen.
 
 ghost use Rattle.std.specs.Prelude.{◌≡◌, ◌≤◌, ◌<◌, Some, IfErr, codes, length};
-ghost use Rattle.rd_trace.specs.declared.faults.FormFault.TheVariants.{NoMemory};
+ghost use Rattle.rd_trace.specs.declared.faults.LoadTraceFault.TheVariants.{NoMemory};
 ghost use Rattle.serde_json.specs.View.{view};
 ghost use Rattle.rd_step.specs.Prelude.{MOST_CELLS};
 ghost use Rattle.rd_marks.specs.BookState.{BookState};
@@ -15,7 +15,7 @@ ghost use Rattle.rd_trace.specs.Steps.{LoadsValue};
 ghost use Rattle.rd_trace.specs.Writing.{IsTextOf};
 
 use super::any_book::AnyBook;
-use super::faults::{FormFault, LoadTraceFault};
+use super::faults::LoadTraceFault;
 use super::replay::replay;
 use super::rings::Ring;
 use super::saved::{SavedSession, ring_in, session_in};
@@ -39,23 +39,12 @@ pub fn load_trace(alloc: Global, text: &[u8]) -> Result<AnyBook, LoadTraceFault>
     ensures loads { LoadsTrace text.now result }
     ensures again { (b : BookState) → IsTraceRing b.session.start.ring → IsTextOf b text.now → LoadsAgain b result }
 {
-    loaded(alloc, text)
-}
-
-/// Returns the book of the trace that a text is, over the ring that it names.
-///
-/// # Errors
-///
-/// As `load_trace`.
-fn loaded(alloc: Global, text: &[u8]) -> Result<AnyBook, LoadTraceFault>
-    ensures { LoadsTrace text.now result }
-{
     let value = parse_value(alloc, text)?;
     match ring_in(&value) {
         None => Err(LoadTraceFault::BadTrace),
-        Some(Ring::Two) => Ok(AnyBook::Two(book_of(alloc, value)?)),
-        Some(Ring::Four) => Ok(AnyBook::Four(book_of(alloc, value)?)),
-        Some(Ring::Eight) => Ok(AnyBook::Eight(book_of(alloc, value)?)),
+        Some(Ring::Two) => book_of(alloc, value).map(AnyBook::Two),
+        Some(Ring::Four) => book_of(alloc, value).map(AnyBook::Four),
+        Some(Ring::Eight) => book_of(alloc, value).map(AnyBook::Eight),
     }
 }
 
@@ -63,18 +52,18 @@ fn loaded(alloc: Global, text: &[u8]) -> Result<AnyBook, LoadTraceFault>
 ///
 /// # Errors
 ///
-/// `BadForm` if the text is no JSON; `NoMemory` if memory was refused, which an empty text does not
+/// `BadTrace` if the text is no JSON; `NoMemory` if memory was refused, which an empty text does not
 /// ask for.
-fn parse_value(alloc: Global, text: &[u8]) -> Result<Value, FormFault>
+fn parse_value(alloc: Global, text: &[u8]) -> Result<Value, LoadTraceFault>
     ensures reads { Reads view (HasValue text.now) result }
     ensures memory { IfErr result (λ fault. fault ≡ NoMemory → 0 < length text.now) }
 {
     match Value::from_slice(alloc, text) {
         Ok(value) => Ok(value),
         Err(error) => Err(if error.is_memory() {
-            FormFault::NoMemory
+            LoadTraceFault::NoMemory
         } else {
-            FormFault::BadForm
+            LoadTraceFault::BadTrace
         }),
     }
 }

@@ -2,7 +2,7 @@
 
 ghost use Rattle.std.specs.Prelude.{◌≡◌, option_map};
 ghost use Rattle.serde_json.specs.View.{view, items_view};
-ghost use Rattle.rd_trace.specs.Numbers.{member_count, number_at, bit_at, text_at, items_at};
+ghost use Rattle.rd_trace.specs.Numbers.{member_count, number_at, items_at};
 
 use serde_json::Value;
 
@@ -14,25 +14,11 @@ pub fn member_count(value: &Value) -> Option<usize>
     Some(value.as_object()?.len())
 }
 
-/// The whole number at a key of an object.
+/// Returns the whole number at a key of an object.
 pub fn number_at(value: &Value, key: &str) -> Option<u64>
     ensures { result ≡ number_at key.now (view value.now) }
 {
     value.get(key).and_then(Value::as_u64)
-}
-
-/// The bit at a key of an object.
-pub fn bit_at(value: &Value, key: &str) -> Option<bool>
-    ensures { result ≡ bit_at key.now (view value.now) }
-{
-    value.get(key).and_then(Value::as_bool)
-}
-
-/// The text at a key of an object.
-pub fn text_at<'a>(value: &'a Value, key: &str) -> Option<&'a str>
-    ensures { option_map (λ text. text.now) result ≡ text_at key.now (view value.now) }
-{
-    value.get(key).and_then(Value::as_str)
 }
 
 /// Returns the JSON values of the list at a key of an object.

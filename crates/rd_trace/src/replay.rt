@@ -10,8 +10,7 @@ ghost use Rattle.rd_marks.specs.Rules.{GoThrough, HaveDifferentNames};
 ghost use Rattle.rd_trace.specs.Bookmarks.{saved_mark};
 ghost use Rattle.rd_trace.specs.Saved.{saved_trace, loaded_state};
 ghost use Rattle.rd_trace.specs.Loading.{Replays};
-ghost use Rattle.rd_trace.specs.Steps.{MakesWorld, GoesTo, MakesLive, SetsMarks, unless_memory};
-ghost use Rattle.rd_trace.specs.declared.faults.LoadTraceFault.TheVariants.{TraceMark, TraceStep};
+ghost use Rattle.rd_trace.specs.Steps.{MakesWorld, GoesTo, MakesLive, SetsMarks, step_fault, mark_fault};
 
 use super::bookmarks::SavedMark;
 use super::faults::LoadTraceFault;
@@ -22,15 +21,6 @@ use rd_journal::Session;
 use rd_marks::Book;
 use rd_step::{Event, Unassembled, World, common_beginning};
 use std::alloc::Global;
-
-/// An event that was refused.
-#[derive(Clone, Copy)]
-struct RefusedEvent {
-    /// Its number in its list, from 1; that of an undone event is counted on after the live ones.
-    step: u64,
-    /// Why it was refused.
-    cause: Refusal,
-}
 
 /// Returns the book of a session that was read, by making its events happen.
 ///
@@ -53,9 +43,7 @@ pub fn replay<const R: usize>(
     let world = world_of(alloc, session.start)?;
     let mut book = Book::open(alloc, Session::open(alloc, world));
     set_marks(&mut book, &session.marks)?;
-    if let Err(refused) = make_live(&mut book, &session.events, &session.undone) {
-        return Err(refused.of_step());
-    }
+    make_live(&mut book, &session.events, &session.undone)?;
     Ok(book)
 }
 
@@ -87,8 +75,8 @@ fn set_marks<const R: usize>(book: &mut Book<R>, marks: &[SavedMark]) -> Result<
     ensures { SetsMarks (book_state book.old) (map saved_mark marks.now) (book_state book.new) result }
 {
     for i in 0..marks.len() {
-        if let Err(refused) = go_to(book, &marks[i].events) {
-            return Err(refused.of_mark(i as u64 + 1));
+        if let Err(fault) = go_to(book, &marks[i].events) {
+            return Err(mark_fault(i as u64 + 1, fault));
         }
         if let Err(refusal) = book.mark(marks[i].name) {
             match refusal {
@@ -100,13 +88,13 @@ fn set_marks<const R: usize>(book: &mut Book<R>, marks: &[SavedMark]) -> Result<
     Ok(())
 }
 
-/// Makes just these events live and just those after them undone, or returns the first event that
-/// was refused.
+/// Makes just these events live and just those after them undone. Fails at the first event that is
+/// refused; an undone one is counted on after the live ones.
 fn make_live<const R: usize>(
     book: &mut Book<R>,
     events: &[Event],
     undone: &[Event],
-) -> Result<(), RefusedEvent>
+) -> Result<(), LoadTraceFault>
     ensures { MakesLive (book_state book.old) events.now undone.now (book_state book.new) result }
 {
     go_to(book, events)?;
@@ -115,9 +103,9 @@ fn make_live<const R: usize>(
     Ok(())
 }
 
-/// Makes just these events live, with nothing undone, or returns the first event that was refused.
-/// The live events are undone only as far as the two lists differ.
-fn go_to<const R: usize>(book: &mut Book<R>, events: &[Event]) -> Result<(), RefusedEvent>
+/// Makes just these events live, with nothing undone. Fails at the first event that is refused. The
+/// live events are undone only as far as the two lists differ.
+fn go_to<const R: usize>(book: &mut Book<R>, events: &[Event]) -> Result<(), LoadTraceFault>
     ensures { GoesTo (book_state book.old) events.now (book_state book.new) result }
 {
     let kept = common_beginning(&book.session().live(), &events);
@@ -125,49 +113,41 @@ fn go_to<const R: usize>(book: &mut Book<R>, events: &[Event]) -> Result<(), Ref
     step_all(book, &events[kept..])
 }
 
-/// Makes events happen in order, where none is undone, or returns the first one that was refused.
-fn step_all<const R: usize>(book: &mut Book<R>, events: &[Event]) -> Result<(), RefusedEvent>
+/// Makes events happen in order, where none is undone. Fails at the first one that is refused, which
+/// is counted on after the live events.
+fn step_all<const R: usize>(book: &mut Book<R>, events: &[Event]) -> Result<(), LoadTraceFault>
     requires through { GoThrough (book_state book.old).session.start (book_state book.old).session.live }
     requires none { (book_state book.old).session.undone ≡ [] }
     ensures goes { GoesTo (book_state book.old) ((book_state book.old).session.live ++ events.now) (book_state book.new) result }
-    ensures err { IfErr result (λ refused. 0 < length events.now) }
+    ensures err { IfErr result (λ fault. 0 < length events.now) }
 {
     for event in events {
         if let Err(cause) = book.apply(*event) {
-            return Err(RefusedEvent {
-                step: book.session().len() + 1,
-                cause,
-            });
+            return Err(step_fault(book.session().len() + 1, cause));
         }
     }
     Ok(())
 }
 
-impl RefusedEvent {
-    /// Returns the fault of loading for a live event, or an undone one, that was refused.
-    fn of_step(self) -> LoadTraceFault
-        ensures { result ≡ unless_memory self.cause (TraceStep self.step self.cause) }
-    {
-        match self.cause {
-            Refusal::NoMemory => LoadTraceFault::NoMemory,
-            cause => LoadTraceFault::TraceStep {
-                step: self.step,
-                cause,
-            },
-        }
+/// Returns the fault of loading for an event of this number that was refused.
+fn step_fault(step: u64, cause: Refusal) -> LoadTraceFault
+    ensures { result ≡ step_fault step cause }
+{
+    match cause {
+        Refusal::NoMemory => LoadTraceFault::NoMemory,
+        cause => LoadTraceFault::TraceStep { step, cause },
     }
+}
 
-    /// Returns the fault of loading for an event that was refused of the bookmark of this number.
-    fn of_mark(self, mark: u64) -> LoadTraceFault
-        ensures { result ≡ unless_memory self.cause (TraceMark mark self.step self.cause) }
-    {
-        match self.cause {
-            Refusal::NoMemory => LoadTraceFault::NoMemory,
-            cause => LoadTraceFault::TraceMark {
-                mark,
-                step: self.step,
-                cause,
-            },
+/// Returns the fault of loading for an event of the bookmark of this number, from the event's own
+/// fault.
+fn mark_fault(mark: u64, fault: LoadTraceFault) -> LoadTraceFault
+    ensures { result ≡ mark_fault mark fault }
+{
+    match fault {
+        LoadTraceFault::TraceStep { step, cause } => {
+            LoadTraceFault::TraceMark { mark, step, cause }
         }
+        fault => fault,
     }
 }

@@ -18,7 +18,7 @@ ghost use Rattle.rd_trace.specs.Writing.{IsTextOf};
 
 use super::bookmarks::{SavedMark, marks_in, put_marks};
 use super::events::put_next;
-use super::faults::FormFault;
+use super::faults::LoadTraceFault;
 use super::members::{array_at, member_count, number_at};
 use super::rings::Ring;
 use super::spelled::list_at;
@@ -78,12 +78,12 @@ pub fn ring_in(value: &Value) -> Option<Ring>
 ///
 /// # Errors
 ///
-/// `BadForm` if it spells none; `NoMemory` if memory was refused.
+/// `BadTrace` if it spells none; `NoMemory` if memory was refused.
 #[tactic(auto, using(crate::proofs::SavedLemmas::first_read, crate::proofs::SavedLemmas::second_read))]
 pub fn session_in<const R: usize>(
     alloc: Global,
     value: &Value,
-) -> Result<SavedSession<R>, FormFault>
+) -> Result<SavedSession<R>, LoadTraceFault>
     requires small { R ≤ MOST_CELLS }
     requires ring { number_at (codes "ring") (view value.now) ≡ Some R }
     ensures { Reads saved_trace (IsEitherVersion (view value.now)) result }
@@ -91,16 +91,16 @@ pub fn session_in<const R: usize>(
     match (number_at(value, VERSION), member_count(value)) {
         (Some(1), Some(FIRST_MEMBERS)) => first_session_in(alloc, value),
         (Some(WRITTEN), Some(MEMBERS)) => second_session_in(alloc, value),
-        _ => Err(FormFault::BadForm),
+        _ => Err(LoadTraceFault::BadTrace),
     }
 }
 
-/// The session that the members of a trace of version 1 spell: over a fresh world, with nothing
-/// undone and no bookmark.
+/// Returns the session that the members of a trace of version 1 spell: over a fresh world, with
+/// nothing undone and no bookmark.
 fn first_session_in<const R: usize>(
     alloc: Global,
     value: &Value,
-) -> Result<SavedSession<R>, FormFault>
+) -> Result<SavedSession<R>, LoadTraceFault>
     requires small { R ≤ MOST_CELLS }
     requires members { member_count (view value.now) ≡ Some 4 }
     requires version { number_at (codes "version") (view value.now) ≡ Some 1 }
@@ -108,7 +108,7 @@ fn first_session_in<const R: usize>(
     ensures { Reads saved_trace (IsVersion1 (view value.now)) result }
 {
     let Some(actors) = actors_at(value, ACTORS) else {
-        return Err(FormFault::BadForm);
+        return Err(LoadTraceFault::BadTrace);
     };
     Ok(SavedSession {
         start: Start::Fresh(actors),
@@ -118,11 +118,11 @@ fn first_session_in<const R: usize>(
     })
 }
 
-/// The session that the members of a trace of version 2 spell.
+/// Returns the session that the members of a trace of version 2 spell.
 fn second_session_in<const R: usize>(
     alloc: Global,
     value: &Value,
-) -> Result<SavedSession<R>, FormFault>
+) -> Result<SavedSession<R>, LoadTraceFault>
     requires small { R ≤ MOST_CELLS }
     requires members { member_count (view value.now) ≡ Some 6 }
     requires version { number_at (codes "version") (view value.now) ≡ Some 2 }
@@ -130,10 +130,10 @@ fn second_session_in<const R: usize>(
     ensures { Reads saved_trace (IsVersion2 (view value.now)) result }
 {
     let Some(start) = value.get(START) else {
-        return Err(FormFault::BadForm);
+        return Err(LoadTraceFault::BadTrace);
     };
     let Some(marks) = array_at(value, MARKS) else {
-        return Err(FormFault::BadForm);
+        return Err(LoadTraceFault::BadTrace);
     };
     Ok(SavedSession {
         start: start_in(alloc, start)?,

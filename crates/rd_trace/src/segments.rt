@@ -9,8 +9,8 @@ ghost use Rattle.rd_trace.specs.Spelled.{Gives, SpellEach};
 ghost use Rattle.rd_trace.specs.Segments.{cell_of, cell_data, IsSegment, IsSegmentList, segment_data, list_data};
 
 use super::actors::value_in;
-use super::faults::FormFault;
-use super::members::{array_at, bit_at, member_count, number_at};
+use super::faults::LoadTraceFault;
+use super::members::{array_at, member_count, number_at};
 use super::names::{next_in, next_value};
 use super::spelled::{Spelled, Written, list_in, list_value};
 use rd_cell::Cell;
@@ -37,9 +37,9 @@ impl<const R: usize> Spelled for Vec<SegmentParts<R>> {
     ghost fits = { R ≤ MOST_CELLS };
 
     /// Returns the list of segments that a JSON value spells.
-    fn read(alloc: Global, value: &Value) -> Result<Vec<SegmentParts<R>>, FormFault> {
+    fn read(alloc: Global, value: &Value) -> Result<Vec<SegmentParts<R>>, LoadTraceFault> {
         match value.as_array() {
-            None => Err(FormFault::BadForm),
+            None => Err(LoadTraceFault::BadTrace),
             Some(list) => list_in(alloc, list),
         }
     }
@@ -61,8 +61,8 @@ impl<const R: usize> Spelled for SegmentParts<R> {
 
     /// Returns the segment that a JSON value spells.
     #[tactic(auto, using(crate::proofs::SpellLemmas::read_or_bad))]
-    fn read(_alloc: Global, value: &Value) -> Result<SegmentParts<R>, FormFault> {
-        segment_in(value).ok_or(FormFault::BadForm)
+    fn read(_alloc: Global, value: &Value) -> Result<SegmentParts<R>, LoadTraceFault> {
+        segment_in(value).ok_or(LoadTraceFault::BadTrace)
     }
 }
 
@@ -80,8 +80,8 @@ impl Spelled for Cell {
 
     /// Returns the cell that a JSON value spells.
     #[tactic(auto, using(crate::proofs::SpellLemmas::given_or_bad))]
-    fn read(_alloc: Global, value: &Value) -> Result<Cell, FormFault> {
-        cell_in(value).ok_or(FormFault::BadForm)
+    fn read(_alloc: Global, value: &Value) -> Result<Cell, LoadTraceFault> {
+        cell_in(value).ok_or(LoadTraceFault::BadTrace)
     }
 }
 
@@ -106,7 +106,7 @@ fn segment_in<const R: usize>(value: &Value) -> Option<SegmentParts<R>>
     Some(SegmentParts {
         head: number_at(value, HEAD)?,
         tail: number_at(value, TAIL)?,
-        closed: bit_at(value, CLOSED)?,
+        closed: value.get(CLOSED)?.as_bool()?,
         next: next_in(value.get(NEXT)?)?,
         cells: cells_in(array_at(value, CELLS)?)?,
     })

@@ -6,7 +6,7 @@ ghost use Rattle.serde_json.specs.Data.{Data};
 ghost use Rattle.serde_json.specs.View.{view, items_view};
 ghost use Rattle.rd_trace.specs.Spelled.{Reads, itself, elements, SpellEach, SpellEachAt, AreSpelled};
 
-use super::faults::FormFault;
+use super::faults::LoadTraceFault;
 use super::members::array_at;
 use serde_json::Value;
 use std::alloc::{AllocError, Global};
@@ -23,8 +23,8 @@ pub trait Spelled: Sized + Drop {
     ///
     /// # Errors
     ///
-    /// `BadForm` if it spells none; `NoMemory` if memory was refused.
-    fn read(alloc: Global, value: &Value) -> Result<Self, FormFault>
+    /// `BadTrace` if it spells none; `NoMemory` if memory was refused.
+    fn read(alloc: Global, value: &Value) -> Result<Self, LoadTraceFault>
         requires { fits }
         ensures { Reads itself (spells (view value.now)) result };
 }
@@ -44,8 +44,8 @@ pub trait Written: Spelled {
 ///
 /// # Errors
 ///
-/// `BadForm` if one spells none; `NoMemory` if memory was refused.
-pub fn list_in<T: Spelled>(alloc: Global, list: &Vec<Value>) -> Result<Vec<T>, FormFault>
+/// `BadTrace` if one spells none; `NoMemory` if memory was refused.
+pub fn list_in<T: Spelled>(alloc: Global, list: &Vec<Value>) -> Result<Vec<T>, LoadTraceFault>
     requires { T.fits }
     ensures { Reads elements (SpellEach T.spells (items_view list.now.items)) result }
 {
@@ -60,13 +60,17 @@ pub fn list_in<T: Spelled>(alloc: Global, list: &Vec<Value>) -> Result<Vec<T>, F
 ///
 /// # Errors
 ///
-/// As `list_in`, and `BadForm` if there is no list.
-pub fn list_at<T: Spelled>(alloc: Global, value: &Value, key: &str) -> Result<Vec<T>, FormFault>
+/// As `list_in`, and `BadTrace` if there is no list.
+pub fn list_at<T: Spelled>(
+    alloc: Global,
+    value: &Value,
+    key: &str,
+) -> Result<Vec<T>, LoadTraceFault>
     requires { T.fits }
     ensures { Reads elements (SpellEachAt T.spells key.now (view value.now)) result }
 {
     match array_at(value, key) {
-        None => Err(FormFault::BadForm),
+        None => Err(LoadTraceFault::BadTrace),
         Some(list) => list_in(alloc, list),
     }
 }

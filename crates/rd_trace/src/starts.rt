@@ -10,7 +10,7 @@ ghost use Rattle.rd_trace.specs.Spelled.{Reads, itself};
 ghost use Rattle.rd_trace.specs.Starts.{IsActorCount, IsArrayAt, IsParts, IsStart, IsStartValue, fresh_data, parts_object, parts_data};
 
 use super::arrays::{array_in, array_value};
-use super::faults::FormFault;
+use super::faults::LoadTraceFault;
 use super::members::{member_count, number_at};
 use super::names::{name_in, name_value};
 use super::spelled::{list_at, list_value};
@@ -51,18 +51,18 @@ pub enum Start<const R: usize> {
 ///
 /// # Errors
 ///
-/// `BadForm` if it spells none; `NoMemory` if memory was refused.
-pub fn start_in<const R: usize>(alloc: Global, value: &Value) -> Result<Start<R>, FormFault>
+/// `BadTrace` if it spells none; `NoMemory` if memory was refused.
+pub fn start_in<const R: usize>(alloc: Global, value: &Value) -> Result<Start<R>, LoadTraceFault>
     requires { R ≤ MOST_CELLS }
     ensures { Reads itself (IsStart (view value.now)) result }
 {
     match member_count(value) {
         Some(FRESH_MEMBERS) => match actors_at(value, FRESH) {
-            None => Err(FormFault::BadForm),
+            None => Err(LoadTraceFault::BadTrace),
             Some(actors) => Ok(Start::Fresh(actors)),
         },
         Some(MEMBERS) => Ok(Start::Parts(parts_in(alloc, value)?)),
-        _ => Err(FormFault::BadForm),
+        _ => Err(LoadTraceFault::BadTrace),
     }
 }
 
@@ -79,19 +79,19 @@ pub fn actors_at(value: &Value, key: &str) -> Option<u8>
 }
 
 /// Returns the parts that a JSON value of this many members spells.
-fn parts_in<const R: usize>(alloc: Global, value: &Value) -> Result<Parts<R>, FormFault>
+fn parts_in<const R: usize>(alloc: Global, value: &Value) -> Result<Parts<R>, LoadTraceFault>
     requires small { R ≤ MOST_CELLS }
     requires members { member_count (view value.now) ≡ Some 5 }
     ensures { Reads itself (IsParts (view value.now)) result }
 {
     let Some(qhead) = name_at(value, QHEAD) else {
-        return Err(FormFault::BadForm);
+        return Err(LoadTraceFault::BadTrace);
     };
     let Some(qtail) = name_at(value, QTAIL) else {
-        return Err(FormFault::BadForm);
+        return Err(LoadTraceFault::BadTrace);
     };
     let Some(array) = slots_at(value) else {
-        return Err(FormFault::BadForm);
+        return Err(LoadTraceFault::BadTrace);
     };
     Ok(Parts {
         actors: list_at(alloc, value, ACTORS)?,
@@ -110,7 +110,7 @@ fn slots_at(value: &Value) -> Option<ArrayParts>
     array_in(value.get(ARRAY)?)
 }
 
-/// The name at a key of an object.
+/// Returns the name at a key of an object.
 fn name_at(value: &Value, key: &str) -> Option<SegName>
     ensures { result ≡ name_at key.now (view value.now) }
 {

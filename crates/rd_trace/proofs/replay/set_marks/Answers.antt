@@ -14,8 +14,8 @@ returns-in-Err g c =
     let now = book_state c.loop-i.book in
     let m = c.index-marks-i.result in
     let its = c.deref.ensures.value ∙ ap (λ (x : SavedMark). x.events.items) (sym c.index-marks-i.is) in
-    let why = subst (λ es. RefusesOne now.session.start es c.in-Err.refused) its c.in-Err.ensures in
-    mark_refused (book_state c.args.book.now) now c.args.marks.now c.loop-i.i m (omega arith) c.index-marks-i.is c.loop-i.invariant (book_state c.go_to.new.book) c.in-Err.refused c.of_mark.result why c.of_mark.ensures
+    let why = subst (λ es. RefusesOne now.session.start es c.in-Err.fault) its c.in-Err.ensures in
+    mark_refused (book_state c.args.book.now) now c.args.marks.now c.loop-i.i m (omega arith) c.index-marks-i.is c.loop-i.invariant (book_state c.go_to.new.book) c.in-Err.fault c.mark_fault.result why c.mark_fault.ensures
 
 pub unreachable-requires : goal.unreachable-requires
 unreachable-requires g c =
