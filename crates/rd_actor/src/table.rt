@@ -42,7 +42,8 @@ pub fn need<const R: usize>(actor: &Actor, act: Act) -> Result<Access, Refusal>
 fn need_at<const R: usize>(actor: &Actor) -> Result<Access, Refusal>
     requires positive { 1 ≤ R }
     requires small { R ≤ MOST_CELLS }
-    ensures { IsRepresentableAt R actor.now.pc actor.now → result ≡ need_at R actor.now.pc actor.now }
+    ensures { IsRepresentableAt R actor.now.pc actor.now
+        → result ≡ need_at R actor.now.pc actor.now }
 {
     let crq = actor.crq;
     match actor.pc {
@@ -256,7 +257,10 @@ fn after_unsafe_check(actor: &Actor, head: u64) -> Actor
 /// whether it starves.
 fn after_full_check<const R: usize>(actor: &Actor, head: u64) -> Actor
     requires { R ≤ MOST_CELLS }
-    ensures { result ≡ record actor.now { h = head; pc = if nat_le (head + R) actor.now.t then Pc.E11 else Pc.E10 } }
+    ensures { result ≡ record actor.now {
+      h = head;
+      pc = if nat_le (head + R) actor.now.t then Pc.E11 else Pc.E10;
+    } }
 {
     // This is `head + R <= t`, whose sum could overflow.
     let full = head <= actor.t && R as u64 <= actor.t - head;
@@ -340,7 +344,10 @@ fn after_take(actor: &Actor) -> (Actor, Option<OpReply>)
 /// After Q8: returns the dequeue's record, which goes on to repair the tail if nothing is enqueued
 /// after its position, else draws the next position.
 fn after_empty_check(actor: &Actor, count: u64) -> Actor
-    ensures { result ≡ record actor.now { t = count; pc = if nat_le count (actor.now.h + 1) then Pc.Q9 else Pc.Q2 } }
+    ensures { result ≡ record actor.now {
+      t = count;
+      pc = if nat_le count (actor.now.h + 1) then Pc.Q9 else Pc.Q2;
+    } }
 {
     // This is `count <= h + 1`, whose sum could overflow.
     let empty = count == 0 || count - 1 <= actor.h;
@@ -416,7 +423,8 @@ fn with_tail(actor: &Actor, tail: u64) -> Actor
 /// After B3: returns the record and reply of a dequeue on the array, which is over if nothing is
 /// enqueued after its position, else draws the next one.
 fn after_array_empty_check(actor: &Actor, count: u64) -> (Actor, Option<OpReply>)
-    ensures { result ≡ (if nat_le count (actor.now.h + 1) then (idle, Some OpReply.Empty) else (record actor.now { pc = Pc.B1 }, None)) }
+    ensures { result ≡ (if nat_le count (actor.now.h + 1) then (idle, Some OpReply.Empty)
+        else (record actor.now { pc = Pc.B1 }, None)) }
 {
     // This is `count <= h + 1`, whose sum could overflow.
     if count == 0 || count - 1 <= actor.h {
@@ -481,7 +489,8 @@ fn cas_name(actor: &Actor, new: SegName) -> Operation
 /// Returns the operation of E8: a compare-and-swap from the empty cell that was read to the value
 /// at the actor's position.
 fn cas2_to_put(actor: &Actor) -> Operation
-    ensures { result ≡ Cas2 (cell_with actor.now.safe actor.now.idx None) (cell_with true actor.now.t (Some (value_to_put actor.now.op))) }
+    ensures { result ≡ Cas2 (cell_with actor.now.safe actor.now.idx None)
+        (cell_with true actor.now.t (Some (value_to_put actor.now.op))) }
 {
     Operation::Cas2 {
         old: Cell {
@@ -502,7 +511,8 @@ fn cas2_to_put(actor: &Actor) -> Operation
 fn move_on<const R: usize>(actor: &Actor, val: Option<u64>) -> Operation
     requires { R ≤ MOST_CELLS }
     ensures { actor.now.h + R < 2 ^ 64
-        → result ≡ Cas2 (cell_with actor.now.safe actor.now.idx val) (cell_with actor.now.safe (actor.now.h + R) None) }
+        → result ≡ Cas2 (cell_with actor.now.safe actor.now.idx val)
+        (cell_with actor.now.safe (actor.now.h + R) None) }
 {
     Operation::Cas2 {
         old: Cell {
@@ -521,7 +531,8 @@ fn move_on<const R: usize>(actor: &Actor, val: Option<u64>) -> Operation
 /// Returns the operation of Q6: a compare-and-swap from the cell that was read to the same cell,
 /// marked unsafe.
 fn mark_unsafe(actor: &Actor) -> Operation
-    ensures { result ≡ Cas2 (cell_with actor.now.safe actor.now.idx actor.now.val) (cell_with false actor.now.idx actor.now.val) }
+    ensures { result ≡ Cas2 (cell_with actor.now.safe actor.now.idx actor.now.val)
+        (cell_with false actor.now.idx actor.now.val) }
 {
     Operation::Cas2 {
         old: Cell {

@@ -36,7 +36,12 @@ impl Done {
     /// Returns the record of an operation that found this content, answered this, and wrote this of
     /// its place.
     pub fn at(place: Place, found: Content, answer: Answer, wrote: Wrote) -> Done
-        ensures { result ≡ record { place = Some place; old = Some found; answer = answer; wrote = wrote } }
+        ensures { result ≡ record {
+          place = Some place;
+          old = Some found;
+          answer = answer;
+          wrote = wrote;
+        } }
     {
         Done {
             place: Some(place),
@@ -49,7 +54,12 @@ impl Done {
     /// Returns the record of a compare-and-swap that found this content, and lost, or won and wrote
     /// this of its place.
     pub fn swapped(place: Place, found: Content, won: bool, written: Wrote) -> Done
-        ensures { result ≡ record { place = Some place; old = Some found; answer = if won then Answer.Won else Answer.Lost; wrote = if won then written else Wrote.Nothing } }
+        ensures { result ≡ record {
+          place = Some place;
+          old = Some found;
+          answer = if won then Answer.Won else Answer.Lost;
+          wrote = if won then written else Wrote.Nothing;
+        } }
     {
         let (answer, wrote) = if won {
             (Answer::Won, written)

@@ -11,7 +11,9 @@ ghost use Rattle.rd_cell.specs.Operations.{Effect, effect};
 
 /// What a cell is found to have is a cell, and what an operation writes over it is one too.
 pub fn the_content_of_a_cell_is_a_cell()
-    ensures found { (at : Contents) (s : SegName) (i : ℕ) (c : Content) → operand at (Place.Cell s i) ≡ Some c → is_cell c ≡ true }
-    ensures written { (op : Operation) (old : Words) (e : Effect) (c : Content) → effect op (Content.Cell old) ≡ Ok e
+    ensures found { (at : Contents) (s : SegName) (i : ℕ) (c : Content)
+        → operand at (Place.Cell s i) ≡ Some c → is_cell c ≡ true }
+    ensures written { (op : Operation) (old : Words) (e : Effect) (c : Content)
+        → effect op (Content.Cell old) ≡ Ok e
         → e.writes ≡ Some c → is_cell c ≡ true }
 {}

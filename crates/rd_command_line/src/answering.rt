@@ -144,7 +144,8 @@ fn play_named<R: Files, I: Source, O: Sink>(
 ) -> Result<u64, ProgramFault>
     requires input_works { I.has_failed input.old ≡ false }
     requires output_works { O.has_failed output.old ≡ false }
-    ensures { PlaysNamed R.File.remaining name.now (fresh_state (ring_length setup.ring) setup.actors) trace
+    ensures { PlaysNamed R.File.remaining name.now
+        (fresh_state (ring_length setup.ring) setup.actors) trace
         (devices I.Source O.Sink input.old input.new output.old output.new) result }
 {
     match name {
@@ -182,7 +183,8 @@ fn view_files<R: Files + Threads + Wait + Sync, O: Sink>(
     requires output_works { O.has_failed output.old ≡ false }
     requires some_files { 1 ≤ length names.now }
     requires few_files { length names.now ≤ MOST_VIEWERS }
-    ensures { ViewsFiles R.File.remaining (length names.now) (fresh_state (ring_length setup.ring) setup.actors)
+    ensures { ViewsFiles R.File.remaining (length names.now)
+        (fresh_state (ring_length setup.ring) setup.actors)
         (sink_stream O.Sink output.old output.new) result }
 {
     let scripts = whole_files(rt, alloc, names)?;
@@ -248,7 +250,8 @@ fn open_file<R: Files>(rt: &R, name: &str) -> Result<R::File, ProgramFault>
 ///
 /// An outcome that memory was refused, or `Refused` if a word is no text.
 pub fn process_words<R: Env + Alloc<A = Global>>(rt: &R) -> Result<Vec<String>, Outcome>
-    ensures err { IfErr result (λ outcome. (reason : OptionsFault) × IsMistake InvalidValue reason × IsOutcomeOf reason outcome) }
+    ensures err { IfErr result (λ outcome. (reason : OptionsFault) × IsMistake InvalidValue reason
+        × IsOutcomeOf reason outcome) }
 {
     let alloc = rt.alloc();
     match env::args(rt) {

@@ -73,8 +73,10 @@ fn options_from<'a>(
     alloc: Global,
     matches: &ArgMatches<'a>,
 ) -> Result<Option<Options<'a>>, AllocError>
-    ensures some { IfOk result (λ asked. IfSome asked (GivesSubcommand (subcommand_rows_of matches.now))) }
-    ensures none { IfOk result (λ asked. IsNone asked → (o : Options) → GivesSubcommand (subcommand_rows_of matches.now) o → ⊥) }
+    ensures some { IfOk result (λ asked. IfSome asked
+        (GivesSubcommand (subcommand_rows_of matches.now))) }
+    ensures none { IfOk result (λ asked. IsNone asked → (o : Options)
+        → GivesSubcommand (subcommand_rows_of matches.now) o → ⊥) }
 {
     if let Some(run) = matches.subcommand_matches("run") {
         return Ok(run_from(run));
@@ -108,7 +110,8 @@ fn run_from<'a>(run: &ArgMatches<'a>) -> Option<Options<'a>>
 /// the program takes. Fails only if memory is refused.
 fn view_from<'a>(alloc: Global, view: &ArgMatches<'a>) -> Result<Option<Options<'a>>, AllocError>
     ensures some { IfOk result (λ asked. IfSome asked (GivesView (rows_of (found_of view.now)))) }
-    ensures none { IfOk result (λ asked. IsNone asked → (o : Options) → GivesView (rows_of (found_of view.now)) o → ⊥) }
+    ensures none { IfOk result (λ asked. IsNone asked → (o : Options)
+        → GivesView (rows_of (found_of view.now)) o → ⊥) }
 {
     let Some(files) = view.get_strs("files") else {
         return Ok(None);
@@ -130,8 +133,10 @@ fn view_from<'a>(alloc: Global, view: &ArgMatches<'a>) -> Result<Option<Options<
 /// Returns the number of actors and the ring from matches, or none if a value is missing or not one
 /// that the program takes.
 fn world_from<'a>(matches: &ArgMatches<'a>) -> Option<(u8, Ring)>
-    ensures some { IfSome result (λ world. GivesWorld (rows_of (found_of matches.now)) world.0 world.1) }
-    ensures none { IsNone result → (actors : ℕ) (ring : Ring) → GivesWorld (rows_of (found_of matches.now)) actors ring → ⊥ }
+    ensures some { IfSome result (λ world.
+        GivesWorld (rows_of (found_of matches.now)) world.0 world.1) }
+    ensures none { IsNone result → (actors : ℕ) (ring : Ring)
+        → GivesWorld (rows_of (found_of matches.now)) actors ring → ⊥ }
 {
     let actors = matches.get_one::<u8>("actors")?;
     let ring = ring_of(matches.get_str("ring")?)?;
@@ -155,8 +160,10 @@ fn load_from<'a>(load: &ArgMatches<'a>) -> Option<Options<'a>>
 /// Returns the file, and whether the trace is asked for, from the matches of `run` or `load`, or
 /// none if a value is missing or not one that the program takes.
 fn file_from<'a>(matches: &ArgMatches<'a>) -> Option<(&'a str, bool)>
-    ensures some { IfSome result (λ asked. GivesFile (rows_of (found_of matches.now)) asked.0.now asked.1) }
-    ensures none { IsNone result → (file : Text) (trace : Bool) → GivesFile (rows_of (found_of matches.now)) file trace → ⊥ }
+    ensures some { IfSome result (λ asked.
+        GivesFile (rows_of (found_of matches.now)) asked.0.now asked.1) }
+    ensures none { IsNone result → (file : Text) (trace : Bool)
+        → GivesFile (rows_of (found_of matches.now)) file trace → ⊥ }
 {
     let file = matches.get_str("file")?;
     let trace = choice_of(matches.get_str("trace")?)?;
@@ -177,7 +184,8 @@ fn choice_of(text: &str) -> Option<bool>
 
 /// Returns the program's command for `clap`, with its subcommands. Fails only if memory is refused.
 fn program<'a>(alloc: Global) -> Result<Command<'a>, AllocError>
-    ensures { IfOk result (λ c. (names : BothNames) × AreRings names × (app_of c ≡ program_app names)) }
+    ensures { IfOk result (λ c. (names : BothNames) × AreRings names
+        × (app_of c ≡ program_app names)) }
 {
     Command::new(alloc, "lcrqdb")
         .version(VERSION)

@@ -60,8 +60,11 @@ fn goes_on(
     reached: &mut ReachedByKey,
     entry: &Entry,
 ) -> Result<bool, AllocError>
-    ensures same { IfOk result (λ ok. ok ≡ true → GoesOn entry.now (reached_of reached.old) (reached_of reached.new) (left_of left.old) (left_of left.new)) }
-    ensures differs { IfOk result (λ ok. ok ≡ false → IsOutOfOrder entry.now (reached_of reached.old) (left_of left.old)) }
+    ensures same { IfOk result (λ ok. ok ≡ true
+        → GoesOn entry.now (reached_of reached.old) (reached_of reached.new) (left_of left.old)
+        (left_of left.new)) }
+    ensures differs { IfOk result (λ ok. ok ≡ false
+        → IsOutOfOrder entry.now (reached_of reached.old) (left_of left.old)) }
 {
     let Some(other) = left.pop(entry.event.actor) else {
         return Ok(false);

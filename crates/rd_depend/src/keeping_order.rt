@@ -75,8 +75,10 @@ impl ReachedByKey {
     /// `AllocError` if memory is refused. The step may then be taken in under some of its keys
     /// only.
     pub(crate) fn pass(&mut self, entry: &Entry, at: usize) -> Result<bool, AllocError>
-        ensures order { IfOk result (λ ok. IsTrue ok ↔ IsInOrder (reached_of self.old) entry.now at) }
-        ensures reached { OnOk result (reached_of self.new ≡ passed_over (reached_of self.old) entry.now at) }
+        ensures order { IfOk result (λ ok. IsTrue ok
+            ↔ IsInOrder (reached_of self.old) entry.now at) }
+        ensures reached { OnOk result (reached_of self.new
+            ≡ passed_over (reached_of self.old) entry.now at) }
     {
         let wrote = is_written(entry.wrote);
         let value_written = is_value_written(entry.wrote);
@@ -91,7 +93,8 @@ impl ReachedByKey {
     /// does nothing and returns true. Fails only if memory is refused.
     fn pass_under(&mut self, key: Option<Key>, wrote: bool, at: usize) -> Result<bool, AllocError>
         ensures order { IfOk result (λ ok. IsTrue ok ↔ IsAfter (reached_of self.old) key wrote at) }
-        ensures reached { OnOk result (reached_of self.new ≡ passed_under key wrote at (reached_of self.old)) }
+        ensures reached { OnOk result (reached_of self.new
+            ≡ passed_under key wrote at (reached_of self.old)) }
     {
         let Some(key) = key else {
             return Ok(true);
@@ -159,7 +162,8 @@ impl<'a> StepsByActor<'a> {
     fn push(&mut self, at: usize, entry: &'a Entry) -> Result<(), AllocError>
         requires { length self.old.steps.items ≡ ACTORS }
         ensures number { length self.new.steps.items ≡ ACTORS }
-        ensures ok { OnOk result ((n : ℕ) → left_of self.new n ≡ with_first (left_of self.old) entry.entry.now.event.actor (at, entry.entry.now) n) }
+        ensures ok { OnOk result ((n : ℕ) → left_of self.new n
+            ≡ with_first (left_of self.old) entry.entry.now.event.actor (at, entry.entry.now) n) }
     {
         self.steps[usize::from(entry.event.actor)].push(PlacedStep { at, entry })?;
         Ok(())
@@ -167,7 +171,9 @@ impl<'a> StepsByActor<'a> {
 
     /// Removes and returns the first step that is left of the actor, if there is one.
     pub(crate) fn pop(&mut self, actor: u8) -> Option<PlacedStep<'a>>
-        ensures { MatchOption result (left_of self.old actor ≡ []) (λ p. (n : ℕ) → left_of self.old n ≡ with_first (left_of self.new) actor (p.at, p.entry.now) n) }
+        ensures { MatchOption result (left_of self.old actor ≡ [])
+            (λ p. (n : ℕ) → left_of self.old n
+            ≡ with_first (left_of self.new) actor (p.at, p.entry.now) n) }
     {
         match self.steps.get_mut(usize::from(actor)) {
             None => None,
@@ -197,7 +203,8 @@ pub(crate) fn is_alike(a: &Entry, b: &Entry) -> bool
 
 /// Returns an empty list for each number that an actor may have. Fails only if memory is refused.
 fn empty_lists<'a>(alloc: Global) -> Result<Vec<Vec<PlacedStep<'a>>>, AllocError>
-    ensures { IfOk result (λ lists. (length lists.items ≡ ACTORS) × ((n : ℕ) → list_at lists.items n ≡ [])) }
+    ensures { IfOk result (λ lists. (length lists.items ≡ ACTORS)
+        × ((n : ℕ) → list_at lists.items n ≡ [])) }
 {
     let mut lists = Vec::new(alloc);
     for _actor in 0..ACTORS {

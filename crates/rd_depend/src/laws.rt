@@ -14,7 +14,8 @@ ghost use Rattle.rd_depend.specs.Reordering.{IsReordered};
 /// Two entries depend on each other exactly if they have the same actor, or if both touched a place
 /// of the map that at least one of them wrote.
 pub fn entries_depend_where_they_share_an_actor_or_a_place()
-    ensures { (x y : SomeEntry) → (depends x y ≡ true) ↔ ((x.event.actor ≡ y.event.actor) ⊎ SharesPlace x y) }
+    ensures { (x y : SomeEntry) → (depends x y ≡ true)
+        ↔ ((x.event.actor ≡ y.event.actor) ⊎ SharesPlace x y) }
 {}
 
 /// Dependence is symmetric.
@@ -33,24 +34,28 @@ pub fn the_closure_is_the_least_set()
 /// Any sequence of lone undos, none of them refused, that removes a step also removes its whole
 /// closure. So a session's `roll` removes no step that could stay.
 pub fn lone_undos_that_take_a_step_out_take_its_closure_out()
-    ensures { (entries : List SomeEntry) (ns : List ℕ) (k j : ℕ) → AreLoneUndos ns entries → number_after ns k ≡ None
+    ensures { (entries : List SomeEntry) (ns : List ℕ) (k j : ℕ) → AreLoneUndos ns entries
+        → number_after ns k ≡ None
         → IsInClosure entries k j → number_after ns j ≡ None }
 {}
 
 /// Causal equivalence of two runs from one start is symmetric.
 pub fn equivalence_is_symmetric()
-    ensures { (w : World) (es fs : List Event) (r q : Ran) → run w es ≡ Ok r → run w fs ≡ Ok q → IsEquivalent w es fs
+    ensures { (w : World) (es fs : List Event) (r q : Ran) → run w es ≡ Ok r → run w fs ≡ Ok q
+        → IsEquivalent w es fs
         → IsEquivalent w fs es }
 {}
 
 /// Causal equivalence of runs from one start is transitive.
 pub fn equivalence_is_transitive()
-    ensures { (w : World) (es fs gs : List Event) (r q p : Ran) → run w es ≡ Ok r → run w fs ≡ Ok q → run w gs ≡ Ok p
+    ensures { (w : World) (es fs gs : List Event) (r q p : Ran) → run w es ≡ Ok r → run w fs ≡ Ok q
+        → run w gs ≡ Ok p
         → IsEquivalent w es fs → IsEquivalent w fs gs → IsEquivalent w es gs }
 {}
 
 /// A list of events is causally equivalent to one that runs exactly if it comes from that one by
 /// swapping neighbours that do not depend on each other, one pair after another.
 pub fn equivalence_is_reordering()
-    ensures { (w : World) (es fs : List Event) (r : Ran) → run w es ≡ Ok r → IsEquivalent w es fs ↔ IsReordered w es fs }
+    ensures { (w : World) (es fs : List Event) (r : Ran) → run w es ≡ Ok r → IsEquivalent w es fs
+        ↔ IsReordered w es fs }
 {}

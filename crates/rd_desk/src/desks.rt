@@ -40,7 +40,8 @@ impl<const R: usize> Desk<R> {
         viewers: u64,
     ) -> Result<(Desk<R>, Vec<DeskPass<R>>), (NoMemory, Book<R>)>
         requires viewers { (1 ≤ viewers) × (viewers ≤ MOST_VIEWERS) }
-        ensures ok { IfOk result (λ opened. IsOpened book.entry viewers 0 opened.0.lock opened.1.items) }
+        ensures ok { IfOk result
+            (λ opened. IsOpened book.entry viewers 0 opened.0.lock opened.1.items) }
         ensures err { IfErr result (λ refused. refused.1 ≡ book.entry) }
     {
         let kept = match BookWithHistory::new(alloc, book) {
@@ -80,11 +81,15 @@ impl<const R: usize> Desk<R> {
     /// handed in; a pass that was dropped inside a call may have kept the book.
     pub fn close(self, passes: Vec<DeskPass<R>>) -> Result<(Book<R>, History), Busy>
         requires own { AllByRecursion (IsViewerOf self) passes.items }
-        ensures ok { IfOk result (λ closed. IsClosedOver self.entry.lock passes.entry.items (entries closed.1)) }
-        ensures leaves { IfOk result (λ closed. IsLeftBy (opened_state self.entry) (entries closed.1) closed.0) }
+        ensures ok { IfOk result (λ closed. IsClosedOver self.entry.lock passes.entry.items
+            (entries closed.1)) }
+        ensures leaves { IfOk result (λ closed. IsLeftBy (opened_state self.entry)
+            (entries closed.1) closed.0) }
         ensures err { IfErr result (λ words. (words.served < words.next) × (words.next ≤ 2 ^ 63)) }
-        ensures newest { IfErr result (λ words. AllByRecursion (HasSeenUpTo words) passes.entry.items) }
-        ensures succeeds { AreAll (viewers_of self.entry) (map number_of passes.entry.items) → IsOk result }
+        ensures newest { IfErr result (λ words. AllByRecursion
+            (HasSeenUpTo words) passes.entry.items) }
+        ensures succeeds { AreAll (viewers_of self.entry) (map number_of passes.entry.items)
+            → IsOk result }
     {
         let Desk { lock } = self;
         let kept = lock.close(passes)?;

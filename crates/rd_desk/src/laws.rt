@@ -18,17 +18,22 @@ use super::recording::BookWithHistory;
 /// A viewer's own calls grow by just the call that was answered, which is last in what it has seen,
 /// and by no call that was refused.
 pub fn own_calls_grow_by_the_answered_one()
-    ensures answered { (opened : BookState) (viewer : ℕ) (old new : List (ℕ × Call)) (command : Command) (answer : Result Reply Refusal)
+    ensures answered { (opened : BookState) (viewer : ℕ) (old new : List (ℕ × Call))
+        (command : Command) (answer : Result Reply Refusal)
         → SeesAfter opened viewer old command (Ok answer) new
-        → put_by viewer 1 new ≡ put_by viewer 1 old ++ (length new, (viewer_entry viewer command answer).1) ∷ [] }
-    ensures refused { (opened : BookState) (viewer : ℕ) (old new : List (ℕ × Call)) (command : Command) (refusal : DeskRefusal)
-        → SeesAfter opened viewer old command (Err refusal) new → put_by viewer 1 new ≡ put_by viewer 1 old }
+        → put_by viewer 1 new ≡ put_by viewer 1 old
+        ++ (length new, (viewer_entry viewer command answer).1) ∷ [] }
+    ensures refused { (opened : BookState) (viewer : ℕ) (old new : List (ℕ × Call))
+        (command : Command) (refusal : DeskRefusal)
+        → SeesAfter opened viewer old command (Err refusal) new
+        → put_by viewer 1 new ≡ put_by viewer 1 old }
 {}
 
 /// Whenever the lock is taken, the headline holds from the book that was opened to the book that is
 /// there, over the commands of the history and the answers that it records.
 pub fn the_headline_holds_of_a_history<const R: usize>(kept: &BookWithHistory<R>)
-    ensures { IsLeftBy (book_state kept.now.opened.value) (entries kept.now.history) kept.now.book.value }
+    ensures { IsLeftBy (book_state kept.now.opened.value)
+        (entries kept.now.history) kept.now.book.value }
 {
     let _kept = kept;
 }

@@ -71,8 +71,10 @@ impl<const R: usize> BookWithHistory<R> {
     /// In this order: `HistoryFull` if there are `MOST_CALLS` calls; `NotRecorded` if the room for
     /// one more was refused. Book and history are then unchanged.
     pub(crate) fn record(&mut self, viewer: u64, command: &Command) -> Answer
-        ensures recorded { LeavesHistory viewer (entries self.old.history) command.now result (entries self.new.history) }
-        ensures full { IfErr result (λ refusal. refusal ≡ NotRecorded → vec_capacity self.old.history.entries ≤ vec_len self.old.history.entries) }
+        ensures recorded { LeavesHistory viewer (entries self.old.history) command.now result
+            (entries self.new.history) }
+        ensures full { IfErr result (λ refusal. refusal ≡ NotRecorded
+            → vec_capacity self.old.history.entries ≤ vec_len self.old.history.entries) }
         ensures opened { self.new.opened.value ≡ self.old.opened.value }
     {
         if self.history.entries.len() == MOST_CALLS {

@@ -27,8 +27,10 @@ impl<G: Gate> Room<G> {
         work: &Vec<(G::Pass, Vec<Command>)>,
     ) -> Result<Room<G>, AllocError>
         ensures answers { IfOk result (λ room. AllZip IsRoomFor work.now.items room.answers.items) }
-        ensures started { IfOk result (λ room. (room.started.items ≡ []) × (vec_capacity room.started ≡ length work.now.items)) }
-        ensures dones { IfOk result (λ room. (room.dones.items ≡ []) × (vec_capacity room.dones ≡ length work.now.items)) }
+        ensures started { IfOk result (λ room. (room.started.items ≡ [])
+            × (vec_capacity room.started ≡ length work.now.items)) }
+        ensures dones { IfOk result (λ room. (room.dones.items ≡ [])
+            × (vec_capacity room.dones ≡ length work.now.items)) }
     {
         let mut answers = Vec::with_capacity(alloc, work.len())?;
         let started = Vec::with_capacity(alloc, work.len())?;

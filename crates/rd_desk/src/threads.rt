@@ -91,8 +91,10 @@ fn start_all<'s, E: 's, R: Threads + Wait + Sync, G: Gate + Sync>(
         let handle = scope.spawn_with(
             asked,
             move || -> Done<G>
-                requires { G.takes gate.now pass × (room.items ≡ []) × (length commands.items ≤ vec_capacity room) }
-                ensures { IsDone (G.takes gate.entry.now) (G.told gate.entry.now) pass commands.items result }
+                requires { G.takes gate.now pass × (room.items ≡ [])
+                    × (length commands.items ≤ vec_capacity room) }
+                ensures { IsDone (G.takes gate.entry.now)
+                    (G.told gate.entry.now) pass commands.items result }
             { ask_all(rt, gate, pass, commands, room, refused, viewer) },
         );
         let start = match handle {
@@ -138,7 +140,8 @@ pub(crate) fn run_all<R: Threads + Wait + Sync, G: Gate + Sync>(
     requires answers { AllZip IsRoomFor work.items room.answers.items }
     requires started { (room.started.items ≡ []) × (length work.items ≤ vec_capacity room.started) }
     requires dones { (room.dones.items ≡ []) × (length work.items ≤ vec_capacity room.dones) }
-    ensures { AllZip (λ viewer done. IsDone (G.takes gate.now) (G.told gate.now) viewer.0 viewer.1.items done) work.items result.items }
+    ensures { AllZip (λ viewer done. IsDone (G.takes gate.now)
+        (G.told gate.now) viewer.0 viewer.1.items done) work.items result.items }
 {
     let Room {
         answers,
@@ -155,7 +158,8 @@ pub(crate) fn run_all<R: Threads + Wait + Sync, G: Gate + Sync>(
             requires answers { AllZip IsRoomFor work.items answers.items }
             requires started { (started.items ≡ []) × (length work.items ≤ vec_capacity started) }
             requires dones { (dones.items ≡ []) × (length work.items ≤ vec_capacity dones) }
-            ensures { AllZip (λ viewer done. IsDone (G.takes gate.entry.now) (G.told gate.entry.now) viewer.0 viewer.1.items done) work.items result.items }
+            ensures { AllZip (λ viewer done. IsDone (G.takes gate.entry.now)
+                (G.told gate.entry.now) viewer.0 viewer.1.items done) work.items result.items }
         {
             let started = start_all(scope, rt, gate, work, answers, started, refused);
             join_all(rt, started, dones)

@@ -43,7 +43,9 @@ pub fn ask_viewers<R: Threads + Wait + Sync, G: Gate + Sync>(
     work: Vec<(G::Pass, Vec<Command>)>,
 ) -> Result<Vec<(G::Pass, Option<Vec<Answer>>)>, (NoMemory, Vec<(G::Pass, Vec<Command>)>)>
     requires own { AllByRecursion (λ viewer. G.takes gate.now viewer.0) work.items }
-    ensures ok { IfOk result (λ dones. AllZip (λ viewer done. IsDone (G.takes gate.now) (G.told gate.now) viewer.0 viewer.1.items done) work.items dones.items) }
+    ensures ok { IfOk result (λ dones. AllZip
+        (λ viewer done. IsDone (G.takes gate.now)
+        (G.told gate.now) viewer.0 viewer.1.items done) work.items dones.items) }
     ensures err { IfErr result (λ refused. refused.1 ≡ work) }
 {
     match Room::for_viewers(alloc, &work) {
@@ -64,7 +66,8 @@ pub fn run_viewers<R: Threads + Wait + Sync, G: Gate + Sync>(
     work: Vec<(G::Pass, Vec<Command>)>,
 ) -> Result<Vec<Ran<G::Pass>>, (NoMemory, Vec<(G::Pass, Vec<Command>)>)>
     requires own { AllByRecursion (λ viewer. G.takes gate.now viewer.0) work.items }
-    ensures ok { IfOk result (λ rans. AllZip (IsRan (G.takes gate.now) (G.told gate.now)) work.items rans.items) }
+    ensures ok { IfOk result (λ rans. AllZip
+        (IsRan (G.takes gate.now) (G.told gate.now)) work.items rans.items) }
     ensures err { IfErr result (λ refused. refused.1 ≡ work) }
 {
     let Ok(rans) = Vec::with_capacity(alloc, work.len()) else {

@@ -19,7 +19,8 @@ pub fn unstep<const R: usize>(world: &mut World<R>, entry: &Entry)
     ensures back { model world.new ≡ unstep (model world.old) entry.now }
     ensures taken_out { (was : WasStepped (model world.old) entry.now)
         → IsTakenOut (model world.old) (model world.new) entry.now was }
-    ensures room { ReturnsMakersRoom (room_returned entry.now.place entry.now.old_content) (makers_room world.old) (makers_room world.new) }
+    ensures room { ReturnsMakersRoom (room_returned entry.now.place entry.now.old_content)
+        (makers_room world.old) (makers_room world.new) }
 {
     let actor = entry.event.actor;
     if entry.wrote.is_nothing() {

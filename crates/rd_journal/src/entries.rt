@@ -140,9 +140,11 @@ impl Entries {
     /// Moves the border back: the last `n` live entries become the next ones ahead.
     pub(crate) fn step_back(&mut self, n: usize)
         requires enough { n ≤ length (live_entries self.old) }
-        ensures live { live_entries self.new ≡ take (length (live_entries self.old) - n) (live_entries self.old) }
+        ensures live { live_entries self.new ≡ take (length (live_entries self.old) - n)
+            (live_entries self.old) }
         ensures ahead { ahead_entries self.new
-            ≡ drop (length (live_entries self.old) - n) (live_entries self.old) ++ ahead_entries self.old }
+            ≡ drop (length (live_entries self.old) - n) (live_entries self.old)
+            ++ ahead_entries self.old }
         ensures kept { kept_entries self.new ≡ kept_entries self.old }
         ensures capacity { entries_capacity self.new ≡ entries_capacity self.old }
     {
@@ -153,7 +155,8 @@ impl Entries {
     /// Moves the border forward: the next `n` entries ahead become the last live ones.
     pub(crate) fn step_forward(&mut self, n: usize)
         requires enough { n ≤ length (ahead_entries self.old) }
-        ensures live { live_entries self.new ≡ live_entries self.old ++ take n (ahead_entries self.old) }
+        ensures live { live_entries self.new ≡ live_entries self.old
+            ++ take n (ahead_entries self.old) }
         ensures ahead { ahead_entries self.new ≡ drop n (ahead_entries self.old) }
         ensures kept { kept_entries self.new ≡ kept_entries self.old }
         ensures capacity { entries_capacity self.new ≡ entries_capacity self.old }
@@ -168,8 +171,10 @@ impl Entries {
         requires some { 1 ≤ k }
         requires position { k ≤ length (live_entries self.old) }
         ensures live { live_entries self.new ≡ without (live_entries self.old) k }
-        ensures ahead { ahead_entries self.new ≡ just (live_entries self.old) k ++ ahead_entries self.old }
-        ensures kept { kept_entries self.new ≡ moved_to (kept_entries self.old) k (length (live_entries self.old)) }
+        ensures ahead { ahead_entries self.new ≡ just (live_entries self.old) k
+            ++ ahead_entries self.old }
+        ensures kept { kept_entries self.new ≡ moved_to (kept_entries self.old) k
+            (length (live_entries self.old)) }
         ensures capacity { entries_capacity self.new ≡ entries_capacity self.old }
     {
         move_after(&mut self.order, k, self.live);
@@ -187,14 +192,18 @@ impl Entries {
         requires some { 1 ≤ k }
         requires position { k ≤ length (live_entries self.old) }
         requires before { IsIndexOf index.old (take (k - 1) (live_entries self.old)) }
-        requires room { HasRoomFor index.old (drop (k - 1) (live_entries self.old) ++ ahead_entries self.old) }
+        requires room { HasRoomFor index.old (drop (k - 1) (live_entries self.old)
+            ++ ahead_entries self.old) }
         ensures count { result ≡ length (closure_of (live_entries self.old) k) }
-        ensures live { live_entries self.new ≡ without_closure (live_entries self.old) k ++ closure_of (live_entries self.old) k }
+        ensures live { live_entries self.new ≡ without_closure (live_entries self.old) k
+            ++ closure_of (live_entries self.old) k }
         ensures ahead { ahead_entries self.new ≡ ahead_entries self.old }
         ensures len { length (live_entries self.new) ≡ length (live_entries self.old) }
         ensures capacity { entries_capacity self.new ≡ entries_capacity self.old }
-        ensures index { IsIndexOf index.new (take (k - 1) (live_entries self.old) ++ closure_of (live_entries self.old) k) }
-        ensures room { HasRoomFor index.new (drop (k - 1) (without_closure (live_entries self.old) k) ++ ahead_entries self.old) }
+        ensures index { IsIndexOf index.new (take (k - 1) (live_entries self.old)
+            ++ closure_of (live_entries self.old) k) }
+        ensures room { HasRoomFor index.new (drop (k - 1)
+            (without_closure (live_entries self.old) k) ++ ahead_entries self.old) }
     {
         gather(
             &self.slots,
@@ -214,7 +223,8 @@ impl Entries {
         ensures ahead { ahead_entries self.new ≡ ahead_entries self.old }
         ensures ok { OnOk result (needed ≤ entries_capacity self.new) }
         ensures err { OnErr result (entries_capacity self.old < needed) }
-        ensures same { needed ≤ entries_capacity self.old → entries_capacity self.new ≡ entries_capacity self.old }
+        ensures same { needed ≤ entries_capacity self.old
+            → entries_capacity self.new ≡ entries_capacity self.old }
     {
         make_room_in(&mut self.slots, needed)?;
         make_room_in(&mut self.order, needed)?;

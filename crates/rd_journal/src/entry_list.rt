@@ -58,7 +58,8 @@ impl<'a> EntryList<'a> {
 
     /// Returns the entry at this position, from 0; `None` if there is none.
     pub fn get(&self, position: usize) -> Option<&'a Entry>
-        ensures { MatchOption result (slice_get self.now position ≡ None) (λ entry. slice_get self.now position ≡ Some entry.now) }
+        ensures { MatchOption result (slice_get self.now position ≡ None)
+            (λ entry. slice_get self.now position ≡ Some entry.now) }
     {
         if position < self.len() {
             Some(self.at(position))

@@ -35,9 +35,11 @@ pub(crate) fn index_instead(
     requires indexed { IsIndexOf index.old (kept_entries entries.now) }
     requires within { n ≤ length (kept_entries entries.now) }
     requires few { n + length given.now ≤ MOST_STEPS }
-    ensures ok { OnOk result (IsIndexOf index.new (take n (kept_entries entries.now) ++ given.now)) }
+    ensures ok { OnOk result (IsIndexOf index.new
+        (take n (kept_entries entries.now) ++ given.now)) }
     ensures err { OnErr result (IsIndexOf index.new (kept_entries entries.now)) }
-    ensures lacks { OnErr result (HasRoomInstead index.old (drop n (kept_entries entries.now)) given.now → ⊥) }
+    ensures lacks { OnErr result (HasRoomInstead index.old
+        (drop n (kept_entries entries.now)) given.now → ⊥) }
 {
     cut_index(index, entries, n);
     let put = index.push_all(given);
@@ -77,8 +79,10 @@ fn pop_after(index: &mut DependIndex, entries: &Entries, n: usize)
 
 /// Puts into the index the entries after those that it has already. There must be room for them.
 pub(crate) fn fill_index(index: &mut DependIndex, entries: &Entries)
-    requires indexed { IsIndexOf index.old (take (position_count index.old) (kept_entries entries.now)) }
-    requires room { HasRoomFor index.old (drop (position_count index.old) (kept_entries entries.now)) }
+    requires indexed { IsIndexOf index.old (take (position_count index.old)
+        (kept_entries entries.now)) }
+    requires room { HasRoomFor index.old (drop (position_count index.old)
+        (kept_entries entries.now)) }
     ensures { IsIndexOf index.new (kept_entries entries.now) }
 {
     for next in index.len() as usize..entries.kept_len() {
@@ -91,8 +95,10 @@ pub(crate) fn fill_index(index: &mut DependIndex, entries: &Entries)
 pub(crate) fn put_back(index: &mut DependIndex, entry: &Entry)
     requires few { position_count index.old < MOST_STEPS }
     requires room { HasRoomFor index.old (entry.now ∷ []) }
-    ensures put { (es : List SomeEntry) → IsIndexOf index.old es → IsIndexOf index.new (es ++ entry.now ∷ []) }
-    ensures room { (rest : List SomeEntry) → HasRoomFor index.old (entry.now ∷ rest) → HasRoomFor index.new rest }
+    ensures put { (es : List SomeEntry) → IsIndexOf index.old es
+        → IsIndexOf index.new (es ++ entry.now ∷ []) }
+    ensures room { (rest : List SomeEntry) → HasRoomFor index.old (entry.now ∷ rest)
+        → HasRoomFor index.new rest }
 {
     match index.push(entry) {
         Ok(()) => {}

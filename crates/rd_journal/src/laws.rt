@@ -10,13 +10,15 @@ ghost use Rattle.rd_journal.specs.State.{State, state_of, undo_at, back, forward
 /// Going back several steps is undoing the last step as many times.
 #[tactic(auto, using(crate::proofs::LawLemmas::back_more))]
 pub fn going_back_is_undoing_again_and_again()
-    ensures { (s : State) (n : ℕ) → n < length s.live → back s (n + 1) ≡ and_then (back s n) (λ t. back t 1) }
+    ensures { (s : State) (n : ℕ) → n < length s.live
+        → back s (n + 1) ≡ and_then (back s n) (λ t. back t 1) }
 {}
 
 /// Going forward several steps is redoing one step as many times.
 #[tactic(auto, using(crate::proofs::LawLemmas::forward_more))]
 pub fn going_forward_is_redoing_again_and_again()
-    ensures { (s : State) (n : ℕ) → n < length s.undone → forward s (n + 1) ≡ and_then (forward s n) (λ t. forward t 1) }
+    ensures { (s : State) (n : ℕ) → n < length s.undone
+        → forward s (n + 1) ≡ and_then (forward s n) (λ t. forward t 1) }
 {}
 
 /// The loop lemma for states: going back, and then forward by as many steps, restores the start,
@@ -59,7 +61,8 @@ pub fn live_and_undone_are_one_run()
 /// for all rows and all well-formed worlds, and the contract of `unstep` in rd_inverse brings it to
 /// the journal.
 pub fn a_step_undone_alone_and_redone_is_the_last()
-    ensures { (i j k : Journal) (n : ℕ) → IsRun i → IsRun k → undo_at (state_of i) n ≡ Ok (state_of j)
+    ensures { (i j k : Journal) (n : ℕ) → IsRun i → IsRun k
+        → undo_at (state_of i) n ≡ Ok (state_of j)
         → forward (state_of j) 1 ≡ Ok (state_of k) → IsMovedLast n i k }
 {}
 
@@ -67,5 +70,6 @@ pub fn a_step_undone_alone_and_redone_is_the_last()
 /// changed, and the redone steps are the last ones, in their order.
 pub fn a_closure_rolled_back_and_redone_is_last()
     ensures { (i j k : Journal) (n : ℕ) → IsRun i → IsRun k → roll (state_of i) n ≡ Ok (state_of j)
-        → forward (state_of j) (length (closure_of i.live n)) ≡ Ok (state_of k) → IsClosureLast n i k }
+        → forward (state_of j) (length (closure_of i.live n)) ≡ Ok (state_of k)
+        → IsClosureLast n i k }
 {}

@@ -81,8 +81,17 @@ impl<const R: usize> Session<R> {
 
     /// Opens a session in a world, which is its start and keeps its room. Opening takes no memory.
     pub fn open(alloc: Global, world: World<R>) -> Session<R>
-        ensures state { state result ≡ record { start = model world.entry; live = []; undone = [] } }
-        ensures journal { journal result ≡ record { start = model world.entry; world = model world.entry; live = []; undone = [] } }
+        ensures state { state result ≡ record {
+          start = model world.entry;
+          live = [];
+          undone = [];
+        } }
+        ensures journal { journal result ≡ record {
+          start = model world.entry;
+          world = model world.entry;
+          live = [];
+          undone = [];
+        } }
         ensures capacity { capacity result ≡ 0 }
         ensures room { (m : ℕ) → room result m ≡ world_room world.entry m }
     {
@@ -113,14 +122,16 @@ impl<const R: usize> Session<R> {
         // A step is made in the world, and its event is put last in the state.
         ensures ok { OnOk result (apply (state self.old) event ≡ Ok (state self.new)) }
         ensures reply { IfOk result (λ done. reply_to (state self.old) event ≡ done.1.reply) }
-        ensures step { IfOk result (λ done. IsStepOf event done (journal self.old) (journal self.new)) }
+        ensures step { IfOk result (λ done. IsStepOf event done (journal self.old)
+            (journal self.new)) }
 
         // The event is refused in the session's state, or for lack of memory, and then no step
         // changes.
         ensures err { IfErr result (λ refusal. (apply (state self.old) event ≡ Err refusal)
             ⊎ ((refusal ≡ Refusal.NoMemory) × MayLackMemory (state self.old) event)) }
         ensures memory { IfErr result (MayRefuse self.old event) }
-        ensures order { IfErr result (λ refusal. ComesAfterRoom (length (journal self.new).live) (capacity self.new) refusal) }
+        ensures order { IfErr result (λ refusal.
+            ComesAfterRoom (length (journal self.new).live) (capacity self.new) refusal) }
         ensures unchanged { OnErr result (KeepsItsSteps self.old self.new) }
     {
         if self.entries.live_len() == MOST_STEPS {
@@ -281,14 +292,18 @@ impl<const R: usize> Session<R> {
     pub fn switch(&mut self, n: u64, entries: &[Entry]) -> Result<(), Refusal>
         requires within { n ≤ length (journal self.old).live }
         requires few { n + length entries.now ≤ MOST_STEPS }
-        requires run { IsRunFrom (journal self.old).start (take n (journal self.old).live ++ entries.now) }
+        requires run { IsRunFrom (journal self.old).start
+            (take n (journal self.old).live ++ entries.now) }
         ensures ok { OnOk result (state self.new ≡ switch (state self.old) n (events entries.now)) }
-        ensures entries { OnOk result (IsSwitched n entries.now (journal self.old) (journal self.new)) }
+        ensures entries { OnOk result (IsSwitched n entries.now (journal self.old)
+            (journal self.new)) }
         ensures err { IfErr result (λ refusal. (refusal ≡ Refusal.NoMemory)
-            × LacksRoom n (journal self.old) entries.now (capacity self.old) (room self.old) (index self.old)) }
+            × LacksRoom n (journal self.old) entries.now (capacity self.old) (room self.old)
+            (index self.old)) }
         ensures unchanged { OnErr result (KeepsItsSteps self.old self.new) }
         ensures succeeds { entries.now ≡ [] → IsOk result }
-        ensures capacity { n + length entries.now ≤ capacity self.old → capacity self.new ≡ capacity self.old }
+        ensures capacity { n + length entries.now ≤ capacity self.old
+            → capacity self.new ≡ capacity self.old }
     {
         self.make_room_to_switch(n, entries)?;
         self.exchange(n as usize, entries)
@@ -300,7 +315,11 @@ impl<const R: usize> Session<R> {
     /// steps that it undoes or makes again.
     pub fn go_along(&mut self, n: u64)
         requires within { n ≤ length (track self.old) }
-        ensures state { state self.new ≡ record { start = (state self.old).start; live = take n (track self.old); undone = [] } }
+        ensures state { state self.new ≡ record {
+          start = (state self.old).start;
+          live = take n (track self.old);
+          undone = [];
+        } }
         ensures along { GoesAlong self.old self.new }
     {
         let len = self.len();

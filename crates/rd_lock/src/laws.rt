@@ -11,5 +11,6 @@ pub fn own_entries_grow_by_what_is_put<E>()
     ensures named { (pass : ℕ) (old found es : List (ℕ × E)) → Continues pass old found
         → put_by pass 1 (found ++ es) ≡ put_by pass 1 old ++ put_by pass (1 + length found) es }
     ensures signed { (pass : ℕ) (old found : List (ℕ × E)) (es : List E) → Continues pass old found
-        → put_by pass 1 (found ++ signed_by pass es) ≡ put_by pass 1 old ++ placed (1 + length found) es }
+        → put_by pass 1 (found ++ signed_by pass es)
+        ≡ put_by pass 1 old ++ placed (1 + length found) es }
 {}

@@ -28,7 +28,8 @@ impl<T: Recorded> TicketLock<T> {
     ) -> Result<(TicketLock<T>, Vec<Pass<T>>), (NoMemory, T)>
         requires seats { 0 < seats }
         requires empty { T.history value ≡ [] }
-        ensures ok { IfOk result (λ opened. IsOpened (T.origin value) seats 0 opened.0 opened.1.items) }
+        ensures ok { IfOk result (λ opened. IsOpened
+            (T.origin value) seats 0 opened.0 opened.1.items) }
         ensures err { IfErr result (λ refused. refused.1 ≡ value) }
     {
         TicketLock::open_at(alloc, value, seats, 0)
@@ -49,7 +50,8 @@ impl<T: Recorded> TicketLock<T> {
         requires seats { 0 < seats }
         requires first { first ≤ 2 ^ 63 }
         requires empty { T.history value ≡ [] }
-        ensures ok { IfOk result (λ opened. IsOpened (T.origin value) seats first opened.0 opened.1.items) }
+        ensures ok { IfOk result (λ opened. IsOpened
+            (T.origin value) seats first opened.0 opened.1.items) }
         ensures err { IfErr result (λ refused. refused.1 ≡ value) }
     {
         let Ok(mut passes) = Vec::with_capacity(alloc, seats as usize) else {

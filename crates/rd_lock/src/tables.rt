@@ -22,8 +22,10 @@ pub(crate) fn make_table<T: Recorded>(
 ) -> Result<(LockTable<T>, LockSeat<T>), T>
     requires empty { T.history value ≡ [] }
     requires about { (about.now.value.value ≡ value) × (about.now.first ≤ 2 ^ 63) }
-    ensures ok { IfOk result (λ laid. (laid.0.shared.key ≡ about.now) × (laid.0.shared.table_id.words ≡ 2) × (laid.0.shared.table_id.slots ≡ 1)) }
-    ensures seat { IfOk result (λ laid. (laid.1.table_id ≡ laid.0.shared.table_id) × (laid.1.me ≡ (opening_view about.now.seats (T.origin value) about.now.first, []))) }
+    ensures ok { IfOk result (λ laid. (laid.0.shared.key ≡ about.now)
+        × (laid.0.shared.table_id.words ≡ 2) × (laid.0.shared.table_id.slots ≡ 1)) }
+    ensures seat { IfOk result (λ laid. (laid.1.table_id ≡ laid.0.shared.table_id)
+        × (laid.1.me ≡ (opening_view about.now.seats (T.origin value) about.now.first, []))) }
     ensures err { IfErr result (λ back. back ≡ value) }
 {
     let mut slots = Vec::new(alloc);
@@ -52,11 +54,15 @@ pub(crate) fn close_table<T: Recorded>(
     mut passes: Vec<Pass<T>>,
 ) -> Closed<Option<T>, Global>
     requires table { (0 < table.shared.table_id.words) × (0 < table.shared.key.seats) }
-    requires own { AllByRecursion (λ pass. pass.seat.table_id ≡ table.shared.table_id) passes.items }
+    requires own { AllByRecursion (λ pass. pass.seat.table_id
+        ≡ table.shared.table_id) passes.items }
     requires out { AllByRecursion IsOut passes.items }
-    ensures counts { (slots_len result.words ≡ table.shared.table_id.words) × (slots_len result.slots ≡ table.shared.table_id.slots) }
+    ensures counts { (slots_len result.words ≡ table.shared.table_id.words)
+        × (slots_len result.slots ≡ table.shared.table_id.slots) }
     ensures full { IsFull result.words × IsFull result.slots }
-    ensures ended { IsEndedWith (lock_of T.history T.origin table.shared.key.seats (T.origin table.shared.key.value.value)) (map known_by passes.items) (slots_items result.words) (slots_items result.slots) }
+    ensures ended { IsEndedWith (lock_of T.history T.origin table.shared.key.seats
+        (T.origin table.shared.key.value.value)) (map known_by passes.items)
+        (slots_items result.words) (slots_items result.slots) }
 {
     let Some(last) = passes.pop() else {
         return table.close();

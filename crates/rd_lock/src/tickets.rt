@@ -56,7 +56,8 @@ impl<T: Recorded> TicketLock<T> {
         ensures left { OnOk result (next_seen pass.old < 2 ^ 63) }
         ensures err { IfErr result (IsMissed pass.new) }
         ensures out { OnErr result (IsOut pass.new) }
-        ensures succeeds { seats self.now ≡ 1 → IfErr result (λ missed. missed ≡ TryTakeError.TicketsEnded) }
+        ensures succeeds { seats self.now ≡ 1 → IfErr result
+            (λ missed. missed ≡ TryTakeError.TicketsEnded) }
     {
         let shared = &self.table.shared;
         let served = shared.load::<LoadsServed>(&mut pass.seat, SERVED);

@@ -77,7 +77,8 @@ impl Bookmarks {
 
     /// Returns the node of the entries of the bookmark of this name, if there is one.
     pub(crate) fn find(&self, name: &MarkName) -> Option<Node>
-        ensures found { option_map (λ node. entries_in self.now node) result ≡ lookup (mark_name_eq name.now) (lists_in self.now) }
+        ensures found { option_map (λ node. entries_in self.now node) result
+            ≡ lookup (mark_name_eq name.now) (lists_in self.now) }
         ensures within { IfSome result (λ node. IsNodeIn self.now node) }
     {
         match self.names.get(name) {
@@ -90,7 +91,8 @@ impl Bookmarks {
     /// there is one.
     #[tactic(auto, using(crate::proofs::MarkLemmas::at_steps))]
     pub(crate) fn at(&self, index: usize) -> Option<(MarkName, Node)>
-        ensures found { option_map (λ m. (m.0, entries_in self.now m.1)) result ≡ slice_get (lists_in self.now) index }
+        ensures found { option_map (λ m. (m.0, entries_in self.now m.1)) result
+            ≡ slice_get (lists_in self.now) index }
         ensures within { IfSome result (λ m. IsNodeIn self.now m.1) }
     {
         match self.names.get_index(index) {
@@ -138,10 +140,12 @@ impl Bookmarks {
         requires few { length (lists_in self.old) < MOST_MARKS }
         requires runs { AreRuns (state session.now).start (lists_in self.old) }
         requires stands { Begins (events (here_in self.old)) (track session.now) }
-        ensures ok { OnOk result (lists_in self.new ≡ lists_in self.old ++ (name, (journal session.now).live) ∷ []) }
+        ensures ok { OnOk result (lists_in self.new
+            ≡ lists_in self.old ++ (name, (journal session.now).live) ∷ []) }
         ensures runs { AreRuns (state session.now).start (lists_in self.new) }
         ensures stands { Begins (events (here_in self.new)) (track session.now) }
-        ensures succeeds { 0 < spare self.old.names → NeedsNoEntry (marks_of (lists_in self.old)) (state session.now).live → IsOk result }
+        ensures succeeds { 0 < spare self.old.names
+            → NeedsNoEntry (marks_of (lists_in self.old)) (state session.now).live → IsOk result }
         ensures unchanged { OnErr result (lists_in self.new ≡ lists_in self.old) }
     {
         let live = session.live();
@@ -157,7 +161,8 @@ impl Bookmarks {
     /// others keep their order. Returns whether there was one. It takes no memory.
     pub(crate) fn drop(&mut self, name: &MarkName) -> bool
         ensures found { result ≡ is_some (lookup (mark_name_eq name.now) (lists_in self.old)) }
-        ensures lists { lists_in self.new ≡ remove_entry (mark_name_eq name.now) (lists_in self.old) }
+        ensures lists { lists_in self.new ≡ remove_entry (mark_name_eq name.now)
+            (lists_in self.old) }
         ensures here { Begins (here_in self.new) (here_in self.old) }
         ensures room { spare self.old.names ≤ spare self.new.names }
     {
@@ -180,8 +185,10 @@ impl Bookmarks {
     pub(crate) fn are_same(&self, alloc: Global, one: Node, other: Node) -> Result<bool, AllocError>
         requires one { IsNodeIn self.now one }
         requires other { IsNodeIn self.now other }
-        ensures answer { IfOk result (DecidesEquivalence (entries_in self.now one) (entries_in self.now other)) }
-        ensures memory { OnErr result (NeitherBegins (events (entries_in self.now one)) (events (entries_in self.now other))) }
+        ensures answer { IfOk result (DecidesEquivalence (entries_in self.now one)
+            (entries_in self.now other)) }
+        ensures memory { OnErr result (NeitherBegins (events (entries_in self.now one))
+            (events (entries_in self.now other))) }
     {
         let shared = self.stretches.common(one, other);
         if shared == one.number || shared == other.number {

@@ -86,7 +86,8 @@ impl<const R: usize> Book<R> {
     ///
     /// The refusal of `Session::apply`. Nothing has changed then.
     pub fn apply(&mut self, event: Event) -> Result<EventReply, Refusal>
-        ensures answer { Happened (book_state self.old) event (record { answer = result_map as_reply result; state = book_state self.new }) }
+        ensures answer { Happened (book_state self.old) event
+            (record { answer = result_map as_reply result; state = book_state self.new }) }
         ensures memory { IfErr result (MayRefuse (session_of self.old) event) }
         ensures start { (book_state self.new).session.start ≡ (book_state self.old).session.start }
         ensures unchanged { OnErr result (book_state self.new ≡ book_state self.old) }
@@ -112,7 +113,8 @@ impl<const R: usize> Book<R> {
         ensures err { IfErr result (λ refusal. (mark (book_state self.old) name ≡ Err refusal)
             ⊎ ((refusal ≡ Refusal.NoMemory) × IsOk (mark (book_state self.old) name))) }
         ensures succeeds { IsOk (mark (book_state self.old) name) → 0 < name_room self.old
-            → NeedsNoEntry (book_state self.old).marks (book_state self.old).session.live → IsOk result }
+            → NeedsNoEntry (book_state self.old).marks (book_state self.old).session.live
+            → IsOk result }
         ensures unchanged { OnErr result (book_state self.new ≡ book_state self.old) }
     {
         if self.bookmarks.find(&name).is_some() {
@@ -179,7 +181,8 @@ impl<const R: usize> Book<R> {
     /// comparison, which lists of which one begins the other do not ask for.
     #[tactic(auto, using(crate::proofs::MarkLemmas::goto_steps))]
     pub fn same(&self, one: MarkName, other: MarkName) -> Result<bool, Refusal>
-        ensures { AnswersSame (book_state self.now).session.start (marked_events (book_state self.now).marks one)
+        ensures { AnswersSame (book_state self.now).session.start
+            (marked_events (book_state self.now).marks one)
             (marked_events (book_state self.now).marks other) result }
     {
         let Some(one) = self.bookmarks.find(&one) else {

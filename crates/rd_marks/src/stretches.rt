@@ -132,9 +132,11 @@ impl Stretches {
         requires other { IsWithin self.now.list.items other }
         ensures first { result ≤ one.number }
         ensures second { result ≤ other.number }
-        ensures alike { take result (entries_at self.now.list.items one) ≡ take result (entries_at self.now.list.items other) }
+        ensures alike { take result (entries_at self.now.list.items one)
+            ≡ take result (entries_at self.now.list.items other) }
         ensures most { (n : ℕ) → n ≤ one.number → n ≤ other.number
-            → take n (events (entries_at self.now.list.items one)) ≡ take n (events (entries_at self.now.list.items other)) → n ≤ result }
+            → take n (events (entries_at self.now.list.items one))
+            ≡ take n (events (entries_at self.now.list.items other)) → n ≤ result }
     {
         if one.stretch <= other.stretch {
             self.common_up(one, other)
@@ -151,9 +153,11 @@ impl Stretches {
         requires later { one.stretch ≤ other.stretch }
         ensures first { result ≤ one.number }
         ensures second { result ≤ other.number }
-        ensures alike { take result (entries_at self.now.list.items one) ≡ take result (entries_at self.now.list.items other) }
+        ensures alike { take result (entries_at self.now.list.items one)
+            ≡ take result (entries_at self.now.list.items other) }
         ensures most { (n : ℕ) → n ≤ one.number → n ≤ other.number
-            → take n (events (entries_at self.now.list.items one)) ≡ take n (events (entries_at self.now.list.items other)) → n ≤ result }
+            → take n (events (entries_at self.now.list.items one))
+            ≡ take n (events (entries_at self.now.list.items other)) → n ≤ result }
     {
         let mut common = one.number.min(other.number);
         for i in one.stretch..other.stretch {

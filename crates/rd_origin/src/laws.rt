@@ -11,13 +11,17 @@ ghost use Rattle.rd_origin.specs.Laws.{IsHandedOver};
 /// What is taken is what was put: in a run from any well-formed start, if both the call and the put
 /// of a taken value were made in the run, the value is the argument of the call.
 pub fn what_is_taken_is_the_calls_argument()
-    ensures { (w : World) (es : List Event) (ran : Ran) (c p k : ℕ) → IsWellFormed w → run w es ≡ Ok ran
-        → origin_in ran.entries k ≡ Ok (record { call = Some c; put = Some p; take = k }) → IsHandedOver ran.entries c k }
+    ensures { (w : World) (es : List Event) (ran : Ran) (c p k : ℕ) → IsWellFormed w
+        → run w es ≡ Ok ran
+        → origin_in ran.entries k ≡ Ok (record { call = Some c; put = Some p; take = k })
+        → IsHandedOver ran.entries c k }
 {}
 
 /// The last position at which a test passes, by which put, call and writer are defined, is the
 /// greatest one; if there is none, the test passes nowhere.
 pub fn the_last_position_is_the_greatest()
-    ensures some { (test : SomeEntry → Bool) (entries : List SomeEntry) (j : ℕ) → last_position test entries ≡ Some j → IsGreatest test entries j }
-    ensures none { (test : SomeEntry → Bool) (entries : List SomeEntry) → last_position test entries ≡ None → HasNone test entries }
+    ensures some { (test : SomeEntry → Bool) (entries : List SomeEntry) (j : ℕ)
+        → last_position test entries ≡ Some j → IsGreatest test entries j }
+    ensures none { (test : SomeEntry → Bool) (entries : List SomeEntry)
+        → last_position test entries ≡ None → HasNone test entries }
 {}

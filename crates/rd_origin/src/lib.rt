@@ -35,7 +35,8 @@ use searches::{calls_by, last_below, puts_into, step_of};
 /// `NoSuchStep`, with the number of live steps, if `k` is 0 or above that number; `NotATake` if the
 /// step took no value.
 pub fn origin<const R: usize>(session: &Session<R>, k: u64) -> Result<Origin, Refusal>
-    ensures answer { result ≡ and_then (run_of (state session.now)) (λ ran. origin_in ran.entries k) }
+    ensures answer { result ≡ and_then (run_of (state session.now))
+        (λ ran. origin_in ran.entries k) }
 {
     let taken = session.entry(k)?;
     if !takes_value(taken.reply) {
@@ -86,7 +87,8 @@ pub fn last_writer<const R: usize>(
     session: &Session<R>,
     place: Place,
 ) -> Result<Option<u64>, Refusal>
-    ensures answer { result ≡ and_then (run_of (state session.now)) (λ ran. last_writer_in ran place) }
+    ensures answer { result ≡ and_then (run_of (state session.now))
+        (λ ran. last_writer_in ran place) }
 {
     let Some(_) = session.world().content(place) else {
         return Err(Refusal::NoSuchPlace);

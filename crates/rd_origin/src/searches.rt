@@ -21,7 +21,8 @@ pub(crate) fn last_below<F: Fn(&Entry) -> bool>(
     test: F,
 ) -> Option<u64>
     requires { F.IsAlwaysCallable test }
-    ensures { (passes : SomeEntry → Bool) → ((x : SomeEntry) (passed : Bool) → FnReturnsAt F.Fn test x passed → passed ≡ passes x)
+    ensures { (passes : SomeEntry → Bool)
+        → ((x : SomeEntry) (passed : Bool) → FnReturnsAt F.Fn test x passed → passed ≡ passes x)
         → result ≡ last_position passes (take (below - 1) steps.now) }
 {
     for number in (1..below).rev() {
@@ -37,7 +38,8 @@ pub(crate) fn last_below<F: Fn(&Entry) -> bool>(
 
 /// Returns the step of this number, from 1, if there is one.
 pub(crate) fn step_of<'a>(steps: &EntryList<'a>, number: u64) -> Option<&'a Entry>
-    ensures { MatchOption result (numbered steps.now number ≡ None) (λ step. numbered steps.now number ≡ Some step.now) }
+    ensures { MatchOption result (numbered steps.now number ≡ None)
+        (λ step. numbered steps.now number ≡ Some step.now) }
 {
     if number == 0 {
         return None;

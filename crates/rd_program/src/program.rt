@@ -67,7 +67,8 @@ fn write_if<K: Sink>(
     trace: bool,
 ) -> Result<(), WriteTraceFault>
     requires { K.has_failed writer.old ≡ false }
-    ensures { WritesIf trace (any_state book.now) (sink_stream K.Sink writer.old writer.new) result }
+    ensures { WritesIf trace (any_state book.now)
+        (sink_stream K.Sink writer.old writer.new) result }
 {
     if trace {
         return book.write_trace(alloc, writer);
@@ -105,7 +106,8 @@ pub fn resume<S: Source, K: Sink>(
 ///
 /// `NoMemory` if memory was refused; `Read` if the reader failed.
 pub fn whole_text<R: Read>(alloc: Global, reader: &mut R) -> Result<Vec<u8>, ProgramFault>
-    ensures ok { IfOk result (λ text. IfSome (R.remaining reader.old) (λ bytes. text.items ≡ bytes)) }
+    ensures ok { IfOk result (λ text. IfSome (R.remaining reader.old)
+        (λ bytes. text.items ≡ bytes)) }
     ensures err { IfErr result IsUnread }
 {
     let mut text = Vec::new(alloc);

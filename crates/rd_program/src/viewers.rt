@@ -56,7 +56,8 @@ fn view_over<R: Threads + Wait + Sync, K: Sink, const N: usize>(
     requires some { 1 ≤ length scripts.now }
     requires few { length scripts.now ≤ MOST_VIEWERS }
     requires works { K.has_failed writer.old ≡ false }
-    ensures { ViewsOver (book_state book.entry) scripts.now (sink_stream K.Sink writer.old writer.new) result }
+    ensures { ViewsOver (book_state book.entry) scripts.now
+        (sink_stream K.Sink writer.old writer.new) result }
 {
     let history = view_scripts(rt, alloc, scripts, writer, book)?;
     Ok(history.len())

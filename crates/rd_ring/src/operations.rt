@@ -19,8 +19,10 @@ impl<const R: usize> Segment<R> {
     /// then as before.
     pub fn operate(&mut self, place: Place, operation: Operation) -> Result<Done, Refusal>
         requires { IsTrue (suits_segments operation) }
-        ensures ok { IfOk result (λ done. Operates (is_of_same_segment place) place operation done (part self.old) (part self.new)) }
-        ensures err { IfErr result (λ e. operate place operation (operand (part self.old) place) ≡ Err e) }
+        ensures ok { IfOk result (λ done. Operates (is_of_same_segment place) place operation done
+            (part self.old) (part self.new)) }
+        ensures err { IfErr result (λ e. operate place operation (operand (part self.old) place)
+            ≡ Err e) }
         ensures unchanged { OnErr result (self.new ≡ self.old) }
     {
         let found = match self.content(place) {
@@ -64,7 +66,8 @@ impl<const R: usize> Segment<R> {
     pub fn restore(&mut self, place: Place, content: Content)
         requires there { IsTrue (is_some (operand (part self.old) place)) }
         requires kind { IsTrue (can_hold place content) }
-        ensures { Restores (is_of_same_segment place) place (Some content) (part self.old) (part self.new) }
+        ensures { Restores (is_of_same_segment place) place (Some content) (part self.old)
+            (part self.new) }
     {
         match (place, content) {
             (Place::Head(_), Content::Number(count)) => self.restore_head(count),

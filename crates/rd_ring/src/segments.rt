@@ -51,7 +51,8 @@ impl<const R: usize> Segment<R> {
 
     /// Whether both counters are 0, the ring is open, and no segment follows.
     fn has_fresh_words(&self) -> bool
-        ensures { IsTrue result ↔ (((self.now.head ≡ 0) × (self.now.tail ≡ 0)) × ((self.now.closed ≡ false) × (self.now.next ≡ None))) }
+        ensures { IsTrue result ↔ (((self.now.head ≡ 0) × (self.now.tail ≡ 0))
+            × ((self.now.closed ≡ false) × (self.now.next ≡ None))) }
     {
         self.head == 0 && self.tail == 0 && !self.closed && self.next.is_none()
     }
@@ -142,9 +143,12 @@ impl<const R: usize> Segment<R> {
 
     /// Returns the cell of this index, or none if the index is `R` or more.
     pub fn cell(&self, i: u8) -> Option<Cell>
-        ensures value { (s : SegName) → operand (part self.now) (Place.Cell s i) ≡ option_map Content.Cell result }
-        ensures value_half { (s : SegName) → part self.now (Place.Val s i) ≡ option_map (λ c. Content.Val c.val) result }
-        ensures index_half { (s : SegName) → part self.now (Place.Idx s i) ≡ option_map (λ c. Content.Idx c.safe c.idx) result }
+        ensures value { (s : SegName) → operand (part self.now) (Place.Cell s i)
+            ≡ option_map Content.Cell result }
+        ensures value_half { (s : SegName) → part self.now (Place.Val s i)
+            ≡ option_map (λ c. Content.Val c.val) result }
+        ensures index_half { (s : SegName) → part self.now (Place.Idx s i)
+            ≡ option_map (λ c. Content.Idx c.safe c.idx) result }
         ensures there { IsSome result ↔ (i < R) }
     {
         self.cells.get(i as usize).copied()
@@ -156,7 +160,8 @@ impl<const R: usize> Segment<R> {
     ///
     /// `CounterEnd` exactly if the counter is 2^62; the segment is then as before.
     pub fn add_head(&mut self) -> Result<u64, Refusal>
-        ensures ok { IfOk result (λ n. OperatesAt Place.Head Add (Content.Number n) (Answer.Found (Content.Number n)) Wrote.Place self.old self.new) }
+        ensures ok { IfOk result (λ n. OperatesAt Place.Head Add (Content.Number n)
+            (Answer.Found (Content.Number n)) Wrote.Place self.old self.new) }
         ensures err { IfErr result (λ e. RefusesAt Place.Head Add self.old e) }
         ensures end { (result ≡ Err Refusal.CounterEnd) ↔ (head_count self.old ≡ COUNTER_END) }
         ensures unchanged { OnErr result (self.new ≡ self.old) }
@@ -175,7 +180,8 @@ impl<const R: usize> Segment<R> {
     ///
     /// `CounterEnd` exactly if the counter is 2^62; the segment is then as before.
     pub fn add_tail(&mut self) -> Result<(bool, u64), Refusal>
-        ensures ok { IfOk result (λ old. OperatesAt Place.Tail Add (Content.Tail old.0 old.1) (Answer.Found (Content.Tail old.0 old.1)) Wrote.Place self.old self.new) }
+        ensures ok { IfOk result (λ old. OperatesAt Place.Tail Add (Content.Tail old.0 old.1)
+            (Answer.Found (Content.Tail old.0 old.1)) Wrote.Place self.old self.new) }
         ensures err { IfErr result (λ e. RefusesAt Place.Tail Add self.old e) }
         ensures end { (result ≡ Err Refusal.CounterEnd) ↔ (tail_count self.old ≡ COUNTER_END) }
         ensures unchanged { OnErr result (self.new ≡ self.old) }
@@ -190,7 +196,8 @@ impl<const R: usize> Segment<R> {
 
     /// Test-and-set of the closed bit: returns the old bit.
     pub fn close(&mut self) -> bool
-        ensures { OperatesAt Place.Tail Close (Content.Tail result (tail_count self.old)) (Answer.WasClosed result) Wrote.Place self.old self.new }
+        ensures { OperatesAt Place.Tail Close (Content.Tail result (tail_count self.old))
+            (Answer.WasClosed result) Wrote.Place self.old self.new }
     {
         let old = self.closed;
         self.closed = true;
@@ -202,7 +209,8 @@ impl<const R: usize> Segment<R> {
     pub fn cas_tail(&mut self, old: u64, new: u64) -> bool
         requires { new ≤ COUNTER_END }
         ensures { (c : Content) → part self.old (Place.Tail root) ≡ Some c
-            → OperatesAt Place.Tail (CasTail old new) c (swap_answer result) (swap_wrote result Wrote.Place) self.old self.new }
+            → OperatesAt Place.Tail (CasTail old new) c (swap_answer result)
+            (swap_wrote result Wrote.Place) self.old self.new }
     {
         let won = !self.closed && self.tail == old;
         if won {
@@ -214,7 +222,8 @@ impl<const R: usize> Segment<R> {
     /// Compare-and-swap of the next, from none: returns whether it won.
     pub fn cas_next(&mut self, new: SegName) -> bool
         ensures { (c : Content) → part self.old (Place.Next root) ≡ Some c
-            → OperatesAt Place.Next (CasNext new) c (swap_answer result) (swap_wrote result Wrote.Place) self.old self.new }
+            → OperatesAt Place.Next (CasNext new) c (swap_answer result)
+            (swap_wrote result Wrote.Place) self.old self.new }
     {
         let won = self.next.is_none();
         if won {
@@ -227,7 +236,8 @@ impl<const R: usize> Segment<R> {
     pub fn cas2_cell(&mut self, i: u8, old: Cell, new: Cell) -> bool
         requires { i < R }
         ensures { (c : Content) → operand (part self.old) (Place.Cell root i) ≡ Some c
-            → OperatesAt (λ s. Place.Cell s i) (Cas2 old new) c (swap_answer result) (swap_wrote result (wrote_cell old new)) self.old self.new }
+            → OperatesAt (λ s. Place.Cell s i) (Cas2 old new) c (swap_answer result)
+            (swap_wrote result (wrote_cell old new)) self.old self.new }
     {
         let mut cell = self.cells[usize::from(i)];
         let won = cell.cas2(old, new);
@@ -302,7 +312,8 @@ fn fresh_cells<const R: usize>() -> [Cell; R]
 
 /// Whether these are the cells of a fresh segment.
 fn are_fresh(cells: &[Cell]) -> bool
-    ensures { IsTrue result ↔ ((u : ℕ) → u < length cells.now → slice_get cells.now u ≡ Some (new_cell u None)) }
+    ensures { IsTrue result ↔ ((u : ℕ) → u < length cells.now
+        → slice_get cells.now u ≡ Some (new_cell u None)) }
 {
     for i in 0..cells.len() {
         if cells[i] != Cell::fresh(i as u64) {

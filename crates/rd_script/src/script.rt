@@ -46,7 +46,8 @@ pub fn run<S: Source, K: Sink, const R: usize>(
 ) -> Result<u64, ScriptFault>
     requires reader_works { S.has_failed reader.old ≡ false }
     requires writer_works { K.has_failed writer.old ≡ false }
-    ensures runs { RunsScript (book_state book.old) (book_state book.new) (journal (session_of book.new))
+    ensures runs { RunsScript (book_state book.old) (book_state book.new)
+        (journal (session_of book.new))
         (devices S.Source K.Sink reader.old reader.new writer.old writer.new) result }
     ensures start { (book_state book.new).session.start ≡ (book_state book.old).session.start }
 {
@@ -104,7 +105,9 @@ fn answer_line<const R: usize>(book: &mut Book<R>, line: &Line, text: &mut Text)
 
 /// Makes an event happen, and makes the text the line of its answer.
 fn answer_event<const R: usize>(book: &mut Book<R>, event: Event, text: &mut Text)
-    ensures answers { (answer : Result Reply Refusal) × Happened (book_state book.old) event (record { answer = answer; state = book_state book.new })
+    ensures answers { (answer : Result Reply Refusal)
+        × Happened (book_state book.old) event
+        (record { answer = answer; state = book_state book.new })
         × IfErr answer (MayRefuse (session_of book.old) event)
         × (text.new.items ≡ text_of (line_answer answer)) }
     ensures start { (book_state book.new).session.start ≡ (book_state book.old).session.start }
@@ -117,7 +120,9 @@ fn answer_event<const R: usize>(book: &mut Book<R>, event: Event, text: &mut Tex
 
 /// Obeys a command, and makes the text the line of its answer.
 fn answer_command<const R: usize>(book: &mut Book<R>, command: Command, text: &mut Text)
-    ensures answers { (answer : Result Reply Refusal) × IsObeyed (book_state book.old) command (record { answer = answer; state = book_state book.new })
+    ensures answers { (answer : Result Reply Refusal)
+        × IsObeyed (book_state book.old) command
+        (record { answer = answer; state = book_state book.new })
         × ForErr answer (MayRefuseAsGoing book.old command)
         × (text.new.items ≡ text_of (line_answer answer)) }
     ensures start { (book_state book.new).session.start ≡ (book_state book.old).session.start }
@@ -135,8 +140,10 @@ fn answer_command<const R: usize>(book: &mut Book<R>, command: Command, text: &m
 /// `WriteFault` if the writer failed or took nothing; it has then taken a beginning of the line.
 pub fn write_answer<K: Sink>(writer: &mut K, answer: &LineAnswer) -> Result<(), WriteFault>
     requires { K.has_failed writer.old ≡ false }
-    ensures ok { OnOk result (Appends (K.contents writer.old) (K.contents writer.new) (text_of answer.now)) }
-    ensures err { OnErr result (TakesBeginning (K.contents writer.old) (K.contents writer.new) (text_of answer.now)) }
+    ensures ok { OnOk result (Appends (K.contents writer.old) (K.contents writer.new)
+        (text_of answer.now)) }
+    ensures err { OnErr result (TakesBeginning (K.contents writer.old) (K.contents writer.new)
+        (text_of answer.now)) }
     ensures works { OnOk result (K.has_failed writer.new ≡ false) }
     ensures fails { OnErr result (K.has_failed writer.new ≡ true) }
 {

@@ -72,8 +72,10 @@ impl ArrayParts {
     /// place, or a content of another kind, which no actor asks for. The array is then as before.
     pub(crate) fn operate(&mut self, place: Place, operation: Operation) -> Result<Done, Refusal>
         requires { IsTrue (suits_array operation) }
-        ensures ok { IfOk result (λ done. Operates everywhere place operation done (array_part self.old) (array_part self.new)) }
-        ensures err { IfErr result (λ e. operate place operation (operand (array_part self.old) place) ≡ Err e) }
+        ensures ok { IfOk result (λ done. Operates everywhere place operation done
+            (array_part self.old) (array_part self.new)) }
+        ensures err { IfErr result (λ e. operate place operation
+            (operand (array_part self.old) place) ≡ Err e) }
         ensures unchanged { OnErr result (array_part self.new ≡ array_part self.old) }
     {
         match place {
@@ -127,8 +129,10 @@ fn operate_on_counter(
     operation: Operation,
 ) -> Result<Done, Refusal>
     requires { IsTrue (suits_array operation) }
-    ensures ok { IfOk result (λ done. OperatesOn place operation done (Content.Number counter.old) (Content.Number counter.new)) }
-    ensures err { IfErr result (λ e. operate place operation (Some (Content.Number counter.old)) ≡ Err e) }
+    ensures ok { IfOk result (λ done. OperatesOn place operation done (Content.Number counter.old)
+        (Content.Number counter.new)) }
+    ensures err { IfErr result (λ e. operate place operation (Some (Content.Number counter.old))
+        ≡ Err e) }
     ensures unchanged { OnErr result (counter.new ≡ counter.old) }
 {
     let found = Content::Number(*counter);
@@ -148,8 +152,10 @@ fn operate_on_counter(
 /// Does an operation on a slot of the array, a swap, and returns what it did; any other operation
 /// is refused with `NoSuchPlace`.
 fn operate_on_slot(slot: &mut ArrSlot, place: Place, operation: Operation) -> Result<Done, Refusal>
-    ensures ok { IfOk result (λ done. OperatesOn place operation done (Content.Slot slot.old) (Content.Slot slot.new)) }
-    ensures err { IfErr result (λ e. operate place operation (Some (Content.Slot slot.old)) ≡ Err e) }
+    ensures ok { IfOk result (λ done. OperatesOn place operation done (Content.Slot slot.old)
+        (Content.Slot slot.new)) }
+    ensures err { IfErr result (λ e. operate place operation (Some (Content.Slot slot.old))
+        ≡ Err e) }
     ensures unchanged { OnErr result (slot.new ≡ slot.old) }
 {
     let found = Content::Slot(*slot);

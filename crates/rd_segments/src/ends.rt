@@ -16,8 +16,10 @@ pub fn operate_on_name(
     place: Place,
     operation: Operation,
 ) -> Result<Done, Refusal>
-    ensures ok { IfOk result (λ done. OperatesOn place operation done (Content.Name name.old) (Content.Name name.new)) }
-    ensures err { IfErr result (λ e. operate place operation (Some (Content.Name name.old)) ≡ Err e) }
+    ensures ok { IfOk result (λ done. OperatesOn place operation done (Content.Name name.old)
+        (Content.Name name.new)) }
+    ensures err { IfErr result (λ e. operate place operation (Some (Content.Name name.old))
+        ≡ Err e) }
     ensures unchanged { OnErr result (name.new ≡ name.old) }
 {
     let found = Content::Name(*name);

@@ -14,7 +14,8 @@ use std::alloc::AllocError;
 /// Returns the segment of this name, or none if it is not there.
 pub fn find<const R: usize>(makers: &Vec<Vec<Segment<R>>>, name: SegName) -> Option<&Segment<R>>
     requires { R ≤ MOST_CELLS }
-    ensures { MatchOption result (by_name makers.now.items name ≡ None) (λ s. by_name makers.now.items name ≡ Some s.now) }
+    ensures { MatchOption result (by_name makers.now.items name ≡ None)
+        (λ s. by_name makers.now.items name ≡ Some s.now) }
 {
     match makers.get(usize::from(name.maker)) {
         None => None,
@@ -33,8 +34,10 @@ pub fn operate_in<const R: usize>(
     requires small { R ≤ MOST_CELLS }
     requires its { segment_of place ≡ Some name }
     requires suits { IsTrue (suits_segments operation) }
-    ensures ok { IfOk result (λ done. Operates everywhere place operation done (segments_of makers.old.items) (segments_of makers.new.items)) }
-    ensures err { IfErr result (λ e. operate place operation (operand (segments_of makers.old.items) place) ≡ Err e) }
+    ensures ok { IfOk result (λ done. Operates everywhere place operation done
+        (segments_of makers.old.items) (segments_of makers.new.items)) }
+    ensures err { IfErr result (λ e. operate place operation
+        (operand (segments_of makers.old.items) place) ≡ Err e) }
     ensures unchanged { OnErr result (segments_of makers.new.items ≡ segments_of makers.old.items) }
     ensures room { KeepsMakersRoom (makers_room makers.old.items) (makers_room makers.new.items) }
 {
@@ -56,7 +59,8 @@ pub fn restore_in<const R: usize>(
     requires there { IsTrue (is_some (operand (part_of (by_name makers.old.items name)) place)) }
     requires its { segment_of place ≡ Some name }
     requires kind { IsTrue (can_hold place content) }
-    ensures done { Restores everywhere place (Some content) (segments_of makers.old.items) (segments_of makers.new.items) }
+    ensures done { Restores everywhere place (Some content) (segments_of makers.old.items)
+        (segments_of makers.new.items) }
     ensures room { KeepsMakersRoom (makers_room makers.old.items) (makers_room makers.new.items) }
 {
     makers[usize::from(name.maker)][name.n as usize].restore(place, content);
@@ -75,11 +79,15 @@ pub fn make_in<const R: usize>(
     requires positive { 1 ≤ R }
     requires small { R ≤ MOST_CELLS }
     requires maker_there { maker < length makers.old.items }
-    ensures name { IfOk result (λ name. name ≡ record { maker = maker; n = count makers.old.items maker }) }
-    ensures ok { IfOk result (λ name. Makes name (holding R value) (segments_of makers.old.items) (segments_of makers.new.items)) }
-    ensures err { IfErr result (λ e. RefusesMaking (count makers.old.items maker) (spare makers.old.items maker) e) }
+    ensures name { IfOk result (λ name. name
+        ≡ record { maker = maker; n = count makers.old.items maker }) }
+    ensures ok { IfOk result (λ name. Makes name (holding R value) (segments_of makers.old.items)
+        (segments_of makers.new.items)) }
+    ensures err { IfErr result (λ e. RefusesMaking (count makers.old.items maker)
+        (spare makers.old.items maker) e) }
     ensures unchanged { OnErr result (segments_of makers.new.items ≡ segments_of makers.old.items) }
-    ensures room { UsesMakersRoom result true maker (makers_room makers.old.items) (makers_room makers.new.items) }
+    ensures room { UsesMakersRoom result true maker (makers_room makers.old.items)
+        (makers_room makers.new.items) }
 {
     make_next(&mut makers[usize::from(maker)], maker, value)
 }
@@ -94,10 +102,13 @@ fn make_next<const R: usize>(
     requires positive { 1 ≤ R }
     requires small { R ≤ MOST_CELLS }
     ensures ok { IfOk result (λ name. IsLengthened maker value name list.old list.new) }
-    ensures err { IfErr result (λ e. RefusesMaking (length list.old.items) (vec_capacity list.old - vec_len list.old) e) }
+    ensures err { IfErr result (λ e. RefusesMaking (length list.old.items)
+        (vec_capacity list.old - vec_len list.old) e) }
     ensures unchanged { OnErr result (list.new.items ≡ list.old.items) }
-    ensures room { vec_capacity list.old - vec_len list.old ≤ (vec_capacity list.new - vec_len list.new) + (if is_ok result then 1 else 0) }
-    ensures ended { result ≡ Err Refusal.SegmentsEnd → vec_capacity list.new - vec_len list.new ≡ vec_capacity list.old - vec_len list.old }
+    ensures room { vec_capacity list.old - vec_len list.old
+        ≤ (vec_capacity list.new - vec_len list.new) + (if is_ok result then 1 else 0) }
+    ensures ended { result ≡ Err Refusal.SegmentsEnd
+        → vec_capacity list.new - vec_len list.new ≡ vec_capacity list.old - vec_len list.old }
 {
     let n = list.len();
     if n >= MOST_SEGMENTS {
@@ -113,8 +124,11 @@ fn make_next<const R: usize>(
 pub fn unmake_in<const R: usize>(makers: &mut Vec<Vec<Segment<R>>>, maker: u8)
     requires small { R ≤ MOST_CELLS }
     requires has_one { 0 < count makers.old.items maker }
-    ensures gone { Restores everywhere (Place.Whole (record { maker = maker; n = count makers.old.items maker - 1 })) None (segments_of makers.old.items) (segments_of makers.new.items) }
-    ensures room { ReturnsMakersRoom (room_used true maker) (makers_room makers.old.items) (makers_room makers.new.items) }
+    ensures gone { Restores everywhere (Place.Whole
+        (record { maker = maker; n = count makers.old.items maker - 1 })) None
+        (segments_of makers.old.items) (segments_of makers.new.items) }
+    ensures room { ReturnsMakersRoom (room_used true maker) (makers_room makers.old.items)
+        (makers_room makers.new.items) }
 {
     take_last(&mut makers[usize::from(maker)]);
 }
@@ -124,7 +138,8 @@ fn take_last<const R: usize>(list: &mut Vec<Segment<R>>)
     requires small { R ≤ MOST_CELLS }
     requires has_one { 0 < length list.old.items }
     ensures items { list.new.items ≡ take (length list.old.items - 1) list.old.items }
-    ensures room { vec_capacity list.new - vec_len list.new ≡ (vec_capacity list.old - vec_len list.old) + 1 }
+    ensures room { vec_capacity list.new - vec_len list.new
+        ≡ (vec_capacity list.old - vec_len list.old) + 1 }
 {
     let _last = list.pop();
 }
@@ -142,7 +157,8 @@ pub fn make_room_in<const R: usize>(
     requires small { R ≤ MOST_CELLS }
     requires maker_there { maker < length makers.old.items }
     ensures unchanged { segments_of makers.new.items ≡ segments_of makers.old.items }
-    ensures room { AddsMakersRoom result maker more (makers_room makers.old.items) (makers_room makers.new.items) }
+    ensures room { AddsMakersRoom result maker more (makers_room makers.old.items)
+        (makers_room makers.new.items) }
 {
     reserve(&mut makers[usize::from(maker)], more)
 }
@@ -153,7 +169,8 @@ fn reserve<const R: usize>(list: &mut Vec<Segment<R>>, more: usize) -> Result<()
     ensures ok { OnOk result (more ≤ vec_capacity list.new - vec_len list.new) }
     ensures err { OnErr result (vec_capacity list.old - vec_len list.old < more) }
     ensures unchanged { list.new.items ≡ list.old.items }
-    ensures room { vec_capacity list.old - vec_len list.old ≤ vec_capacity list.new - vec_len list.new }
+    ensures room { vec_capacity list.old - vec_len list.old
+        ≤ vec_capacity list.new - vec_len list.new }
 {
     list.reserve(more)
 }

@@ -21,7 +21,8 @@ pub fn lists_from_parts<const R: usize>(
 ) -> Result<Vec<Vec<Segment<R>>>, AllocError>
     requires small { R ≤ MOST_CELLS }
     requires within { IsTrue (each_segment counters_fit parts.now.items) }
-    ensures ok { IfOk result (λ makers. (s : SegName) (q : Place) → part_of (by_name makers.items s) q ≡ part_of_parts (by_name parts.now.items s) q) }
+    ensures ok { IfOk result (λ makers. (s : SegName) (q : Place)
+        → part_of (by_name makers.items s) q ≡ part_of_parts (by_name parts.now.items s) q) }
     ensures number { IfOk result (λ makers. length makers.items ≡ length parts.now.items) }
 {
     let mut makers = Vec::with_capacity(alloc, parts.len())?;
@@ -59,7 +60,8 @@ pub fn parts_of_lists<const R: usize>(
     makers: &Vec<Vec<Segment<R>>>,
 ) -> Result<Vec<Vec<SegmentParts<R>>>, AllocError>
     requires { R ≤ MOST_CELLS }
-    ensures ok { IfOk result (λ parts. (s : SegName) (q : Place) → part_of_parts (by_name parts.items s) q ≡ part_of (by_name makers.now.items s) q) }
+    ensures ok { IfOk result (λ parts. (s : SegName) (q : Place)
+        → part_of_parts (by_name parts.items s) q ≡ part_of (by_name makers.now.items s) q) }
     ensures number { IfOk result (λ parts. length parts.items ≡ length makers.now.items) }
 {
     let mut parts = Vec::with_capacity(alloc, makers.len())?;

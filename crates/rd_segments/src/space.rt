@@ -71,7 +71,8 @@ impl<const R: usize> Space<R> {
 
     /// Whether the array is fresh, and the only segment is the root, fresh too.
     fn has_fresh_array_and_root(&self) -> bool
-        ensures { IsTrue result ↔ ((array_part self.now.array ≡ fresh_array) × IsFresh self.now.makers.items) }
+        ensures { IsTrue result ↔ ((array_part self.now.array ≡ fresh_array)
+            × IsFresh self.now.makers.items) }
     {
         self.array.is_fresh() && are_fresh(&self.makers)
     }
@@ -92,7 +93,8 @@ impl<const R: usize> Space<R> {
         requires positive { 1 ≤ R }
         requires small { R ≤ MOST_CELLS }
         requires within { IsTrue (each_segment counters_fit segments.now.items) }
-        ensures ok { IfOk result (λ space. contents space ≡ contents_of_parts segments.now.items qhead qtail array) }
+        ensures ok { IfOk result (λ space. contents space
+            ≡ contents_of_parts segments.now.items qhead qtail array) }
         ensures number { IfOk result (λ space. lists space ≡ length segments.now.items) }
     {
         let makers = lists_from_parts(alloc, segments)?;
@@ -111,7 +113,9 @@ impl<const R: usize> Space<R> {
     ///
     /// Only if the room for them was refused.
     pub fn segments(&self, alloc: Global) -> Result<Vec<Vec<SegmentParts<R>>>, AllocError>
-        ensures ok { IfOk result (λ segments. contents_of_parts segments.items (head_name self.now) (tail_name self.now) (array_words self.now) ≡ contents self.now) }
+        ensures ok { IfOk result (λ segments.
+            contents_of_parts segments.items (head_name self.now) (tail_name self.now)
+            (array_words self.now) ≡ contents self.now) }
         ensures number { IfOk result (λ segments. length segments.items ≡ lists self.now) }
     {
         parts_of_lists(alloc, &self.makers)
@@ -172,8 +176,10 @@ impl<const R: usize> Space<R> {
     /// another kind, which no actor asks for. The space is then as before.
     pub fn operate(&mut self, place: Place, operation: Operation) -> Result<Done, Refusal>
         requires { IsTrue (suits place operation) }
-        ensures ok { IfOk result (λ done. Operates everywhere place operation done (contents self.old) (contents self.new)) }
-        ensures err { IfErr result (λ e. operate place operation (operand (contents self.old) place) ≡ Err e) }
+        ensures ok { IfOk result (λ done. Operates everywhere place operation done
+            (contents self.old) (contents self.new)) }
+        ensures err { IfErr result (λ e. operate place operation (operand (contents self.old) place)
+            ≡ Err e) }
         ensures unchanged { OnErr result (contents self.new ≡ contents self.old) }
         ensures room { KeepsMakersRoom (makers_room self.old) (makers_room self.new) }
     {
@@ -196,11 +202,15 @@ impl<const R: usize> Space<R> {
     /// which happens only if the maker has no room. The space is then as before.
     pub fn make(&mut self, maker: u8, value: u64) -> Result<SegName, Refusal>
         requires { maker < lists self.old }
-        ensures name { IfOk result (λ name. name ≡ record { maker = maker; n = making_count self.old maker }) }
-        ensures ok { IfOk result (λ name. Makes name (holding R value) (contents self.old) (contents self.new)) }
-        ensures err { IfErr result (λ e. RefusesMaking (making_count self.old maker) (room self.old maker) e) }
+        ensures name { IfOk result (λ name. name
+            ≡ record { maker = maker; n = making_count self.old maker }) }
+        ensures ok { IfOk result (λ name. Makes name (holding R value) (contents self.old)
+            (contents self.new)) }
+        ensures err { IfErr result (λ e. RefusesMaking (making_count self.old maker)
+            (room self.old maker) e) }
         ensures unchanged { OnErr result (contents self.new ≡ contents self.old) }
-        ensures room { UsesMakersRoom result true maker (makers_room self.old) (makers_room self.new) }
+        ensures room { UsesMakersRoom result true maker (makers_room self.old)
+            (makers_room self.new) }
     {
         make_in(&mut self.makers, maker, value)
     }
@@ -208,8 +218,13 @@ impl<const R: usize> Space<R> {
     /// Takes the maker's last segment away, and gives its room back.
     pub fn unmake(&mut self, maker: u8)
         requires { 0 < making_count self.old maker }
-        ensures gone { contents self.new ≡ restore (Some (Place.Whole (record { maker = maker; n = making_count self.old maker - 1 }))) None (contents self.old) }
-        ensures room { ReturnsMakersRoom (room_used true maker) (makers_room self.old) (makers_room self.new) }
+        ensures gone { contents self.new ≡ restore
+            (Some (Place.Whole (record {
+              maker = maker;
+              n = making_count self.old maker - 1;
+            }))) None (contents self.old) }
+        ensures room { ReturnsMakersRoom (room_used true maker) (makers_room self.old)
+            (makers_room self.new) }
     {
         unmake_in(&mut self.makers, maker);
     }
@@ -238,7 +253,8 @@ impl<const R: usize> Space<R> {
     pub fn make_room(&mut self, maker: u8, more: usize) -> Result<(), AllocError>
         requires { maker < lists self.old }
         ensures unchanged { contents self.new ≡ contents self.old }
-        ensures room { AddsMakersRoom result maker more (makers_room self.old) (makers_room self.new) }
+        ensures room { AddsMakersRoom result maker more (makers_room self.old)
+            (makers_room self.new) }
     {
         make_room_in(&mut self.makers, maker, more)
     }

@@ -53,7 +53,8 @@ pub fn common_beginning<A: EventList, B: EventList>(a: &A, b: &B) -> usize
     ensures in_first { result ≤ length (A.listed a.now) }
     ensures in_second { result ≤ length (B.listed b.now) }
     ensures same { take result (A.listed a.now) ≡ take result (B.listed b.now) }
-    ensures longest { (e : Happening) → slice_get (A.listed a.now) result ≡ Some e → slice_get (B.listed b.now) result ≡ Some e → ⊥ }
+    ensures longest { (e : Happening) → slice_get (A.listed a.now) result ≡ Some e
+        → slice_get (B.listed b.now) result ≡ Some e → ⊥ }
 {
     for position in 0..a.count() {
         if a.event(position) != b.event(position) {

@@ -29,9 +29,11 @@ pub fn revert_fields<const R: usize>(
     requires actor_there { IsSome (numbered actors.old.items actor) }
     requires place_there { CanPutBack (contents space.old) place content }
     requires small { R ≤ MOST_CELLS }
-    ensures done { world_of_fields space.new actors.new.items ≡ revert (world_of_fields space.old actors.old.items) actor words place content }
+    ensures done { world_of_fields space.new actors.new.items
+        ≡ revert (world_of_fields space.old actors.old.items) actor words place content }
     ensures actors { length actors.new.items ≡ length actors.old.items }
-    ensures room { ReturnsMakersRoom (room_returned place content) (makers_room space.old) (makers_room space.new) }
+    ensures room { ReturnsMakersRoom (room_returned place content) (makers_room space.old)
+        (makers_room space.new) }
 {
     put_back(space, place, content);
     set_actor(actors, actor, words);
@@ -43,7 +45,8 @@ fn put_back<const R: usize>(space: &mut Space<R>, place: Option<Place>, content:
     requires can { CanPutBack (contents space.old) place content }
     requires small { R ≤ MOST_CELLS }
     ensures done { contents space.new ≡ restore place content (contents space.old) }
-    ensures room { ReturnsMakersRoom (room_returned place content) (makers_room space.old) (makers_room space.new) }
+    ensures room { ReturnsMakersRoom (room_returned place content) (makers_room space.old)
+        (makers_room space.new) }
 {
     match (place, content) {
         (Some(place), Some(content)) => space.restore(place, content),
@@ -57,7 +60,8 @@ fn take_away<const R: usize>(space: &mut Space<R>, place: Place)
     requires can { CanPutBack (contents space.old) (Some place) None }
     requires small { R ≤ MOST_CELLS }
     ensures done { contents space.new ≡ restore (Some place) None (contents space.old) }
-    ensures room { ReturnsMakersRoom (room_returned (Some place) None) (makers_room space.old) (makers_room space.new) }
+    ensures room { ReturnsMakersRoom (room_returned (Some place) None) (makers_room space.old)
+        (makers_room space.new) }
 {
     if let Some(name) = made_at(Some(place), None) {
         space.unmake(name.maker);
@@ -93,10 +97,14 @@ pub fn perform<const R: usize>(
     requires maker_there { actor < lists space.old }
     requires counted { making_count space.old actor ≤ MOST_SEGMENTS }
     requires access_suits { IsTrue (access_suits access) }
-    ensures ok { IfOk result (λ done. HasEffect everywhere (perform R actor (contents space.old) access) done (contents space.old) (contents space.new)) }
-    ensures err { IfErr result (λ e. IsRefused (perform R actor (contents space.old) access) (makes access) (room space.old actor) e) }
+    ensures ok { IfOk result (λ done. HasEffect everywhere
+        (perform R actor (contents space.old) access) done (contents space.old)
+        (contents space.new)) }
+    ensures err { IfErr result (λ e. IsRefused (perform R actor (contents space.old) access)
+        (makes access) (room space.old actor) e) }
     ensures unchanged { OnErr result (contents space.new ≡ contents space.old) }
-    ensures room { UsesMakersRoom result (makes access) actor (makers_room space.old) (makers_room space.new) }
+    ensures room { UsesMakersRoom result (makes access) actor (makers_room space.old)
+        (makers_room space.new) }
 {
     match access {
         Access::NoPlace => Ok(nothing_done()),
@@ -107,7 +115,12 @@ pub fn perform<const R: usize>(
 
 /// Returns what a step without an access did: nothing.
 fn nothing_done() -> Done
-    ensures { result ≡ record { place = None; old = None; answer = Answer.Nothing; wrote = Wrote.Nothing } }
+    ensures { result ≡ record {
+      place = None;
+      old = None;
+      answer = Answer.Nothing;
+      wrote = Wrote.Nothing;
+    } }
 {
     Done {
         place: None,
@@ -123,10 +136,14 @@ fn make<const R: usize>(space: &mut Space<R>, actor: u8, value: u64) -> Result<D
     requires small { R ≤ MOST_CELLS }
     requires maker_there { actor < lists space.old }
     requires counted { making_count space.old actor ≤ MOST_SEGMENTS }
-    ensures ok { IfOk result (λ done. HasEffect everywhere (perform R actor (contents space.old) (Make value)) done (contents space.old) (contents space.new)) }
-    ensures err { IfErr result (λ e. IsRefused (perform R actor (contents space.old) (Make value)) true (room space.old actor) e) }
+    ensures ok { IfOk result (λ done. HasEffect everywhere
+        (perform R actor (contents space.old) (Make value)) done (contents space.old)
+        (contents space.new)) }
+    ensures err { IfErr result (λ e. IsRefused
+        (perform R actor (contents space.old) (Make value)) true (room space.old actor) e) }
     ensures unchanged { OnErr result (contents space.new ≡ contents space.old) }
-    ensures room { UsesMakersRoom result true actor (makers_room space.old) (makers_room space.new) }
+    ensures room { UsesMakersRoom result true actor (makers_room space.old)
+        (makers_room space.new) }
 {
     let name = space.make(actor, value)?;
     Ok(Done {

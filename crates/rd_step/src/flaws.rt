@@ -132,11 +132,13 @@ fn place_names_fit<const R: usize>(parts: &Parts<R>) -> bool
 /// Whether each next that is set names a segment that is there.
 fn all_nexts_fit<const R: usize>(parts: &Parts<R>) -> bool
     requires { R ≤ MOST_CELLS }
-    ensures { result ≡ each_segment (λ s. next_fits (has parts.now) s.next) parts.now.segments.items }
+    ensures { result ≡ each_segment (λ s.
+        next_fits (has parts.now) s.next) parts.now.segments.items }
 {
     parts.segments.iter().all(
         |list| -> bool
-            ensures { result ≡ list_all (λ s. next_fits (has parts.entry.now) s.next) list.now.items }
+            ensures { result ≡ list_all (λ s.
+                next_fits (has parts.entry.now) s.next) list.now.items }
         {
             list.iter().all(
                 |segment| -> bool

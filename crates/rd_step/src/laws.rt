@@ -35,19 +35,22 @@ pub fn entries_undo_their_steps()
 
 /// A step's entry keeps the words of its actor and the content of its place from before the step.
 pub fn entries_keep_the_words_from_before()
-    ensures { (w : Model) (e : Event) (s : Stepped) → IsWellFormed w → step w e ≡ Ok s → KeepsOldWords w s.entry }
+    ensures { (w : Model) (e : Event) (s : Stepped) → IsWellFormed w → step w e ≡ Ok s
+        → KeepsOldWords w s.entry }
 {}
 
 /// A step on which no later one depends may be taken out of a run, and may go last.
 pub fn a_free_step_may_be_taken_out()
     ensures { (w : Model) (e : Event) (s : Stepped) (es : List Event) (r : Ran) → IsWellFormed w
-        → step w e ≡ Ok s → run s.world es ≡ Ok r → IsFree s.entry r.entries → IsRemovable w e s es r }
+        → step w e ≡ Ok s → run s.world es ≡ Ok r → IsFree s.entry r.entries
+        → IsRemovable w e s es r }
 {}
 
 /// Lists of events that are causally equivalent reach one world, and leave the same entries in some
 /// order.
 pub fn equivalent_schedules_reach_one_world()
-    ensures { (w : Model) (es fs : List Event) (r q : Ran) → run w es ≡ Ok r → run w fs ≡ Ok q → IsEquivalent w es fs
+    ensures { (w : Model) (es fs : List Event) (r q : Ran) → run w es ≡ Ok r → run w fs ≡ Ok q
+        → IsEquivalent w es fs
         → ReachesTheSame r q }
 {}
 
@@ -61,9 +64,12 @@ pub fn equivalence_is_reflexive()
 /// the lists are causally equivalent.
 #[tactic(auto, using(crate::proofs::Equivalence::swapped_within))]
 pub fn independent_neighbours_swapped_are_equivalent()
-    ensures { (w : Model) (before : List Event) (e f : Event) (later : List Event) (b : Ran) (v u : Stepped) (r : Ran)
-        → run w before ≡ Ok b → step b.world e ≡ Ok v → step v.world f ≡ Ok u → depends v.entry u.entry ≡ false
-        → run u.world later ≡ Ok r → IsEquivalent w (before ++ e ∷ f ∷ later) (before ++ f ∷ e ∷ later) }
+    ensures { (w : Model) (before : List Event) (e f : Event) (later : List Event) (b : Ran)
+        (v u : Stepped) (r : Ran)
+        → run w before ≡ Ok b → step b.world e ≡ Ok v → step v.world f ≡ Ok u
+        → depends v.entry u.entry ≡ false
+        → run u.world later ≡ Ok r
+        → IsEquivalent w (before ++ e ∷ f ∷ later) (before ++ f ∷ e ∷ later) }
 {}
 
 /// A step keeps a world well-formed.
@@ -83,26 +89,30 @@ pub fn runs_keep_the_ring()
 /// maker's segments. It is never refused because a place is not there.
 #[tactic(auto, using(crate::proofs::Progress::refused_in_cases))]
 pub fn steps_are_refused_in_their_cases_alone()
-    ensures { (w : Model) (e : Event) (refusal : Refusal) → 1 ≤ w.ring → IsWellFormed w → step w e ≡ Err refusal → IsStepRefusal refusal }
+    ensures { (w : Model) (e : Event) (refusal : Refusal) → 1 ≤ w.ring → IsWellFormed w
+        → step w e ≡ Err refusal → IsStepRefusal refusal }
 {}
 
 /// Each operation that an actor of a well-formed world asks for suits the content of its place.
 #[tactic(auto, using(crate::proofs::Progress::suits_content))]
 pub fn operations_suit_their_contents()
-    ensures { (w : Model) (n : ℕ) (a : Actor) (act : Act) (p : Place) (op : Operation) → 1 ≤ w.ring → IsWellFormed w
+    ensures { (w : Model) (n : ℕ) (a : Actor) (act : Act) (p : Place) (op : Operation) → 1 ≤ w.ring
+        → IsWellFormed w
         → w.actor n ≡ Some a → need w.ring a act ≡ Ok (At p op) → SuitsContent w.at p op }
 {}
 
 /// A step leaves its actor at another control point: the table has a row for each answer that
 /// comes, and no row leads to itself.
 pub fn steps_move_their_actors()
-    ensures { (w : Model) (e : Event) (s : Stepped) → 1 ≤ w.ring → IsWellFormed w → step w e ≡ Ok s → MovesOn e w s.world }
+    ensures { (w : Model) (e : Event) (s : Stepped) → 1 ≤ w.ring → IsWellFormed w → step w e ≡ Ok s
+        → MovesOn e w s.world }
 {}
 
 /// A step changes nothing except what its entry's place covers and its event's actor, and no place
 /// at all if it only read.
 pub fn steps_change_one_place_and_one_actor()
-    ensures { (w : Model) (e : Event) (s : Stepped) → step w e ≡ Ok s → ChangesOnly e s.entry w s.world }
+    ensures { (w : Model) (e : Event) (s : Stepped) → step w e ≡ Ok s
+        → ChangesOnly e s.entry w s.world }
 {}
 
 /// Parts have no flaw exactly if there is a list of segments for each maker from 0 to the number of
@@ -111,5 +121,6 @@ pub fn steps_change_one_place_and_one_actor()
 #[tactic(auto, using(crate::proofs::Accepted::exactly))]
 pub fn parts_have_no_flaw_exactly_where_their_world_is_well_formed()
     ensures { (R : ℕ) (p : Parts R) → (first_flaw p ≡ None)
-        ↔ ((length p.segments.items ≡ suc (length p.actors.items)) × IsWellFormed (world_of_parts p)) }
+        ↔ ((length p.segments.items ≡ suc (length p.actors.items))
+        × IsWellFormed (world_of_parts p)) }
 {}

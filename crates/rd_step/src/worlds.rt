@@ -206,10 +206,14 @@ impl<const R: usize> World<R> {
     /// actor that has made 65,535 segments; `NoMemory` if memory was refused for a making that
     /// nothing else refuses. The world is then as before.
     pub fn step(&mut self, event: Event) -> Result<Entry, Refusal>
-        ensures ok { IfOk result (λ entry. step (model self.old) event ≡ Ok (record { world = model self.new; entry = entry })) }
-        ensures err { IfErr result (λ refusal. IsRefused (step (model self.old) event) (makes_segment (model self.old) event) (room self.old event.actor) refusal) }
+        ensures ok { IfOk result (λ entry. step (model self.old) event
+            ≡ Ok (record { world = model self.new; entry = entry })) }
+        ensures err { IfErr result (λ refusal.
+            IsRefused (step (model self.old) event) (makes_segment (model self.old) event)
+            (room self.old event.actor) refusal) }
         ensures unchanged { OnErr result (model self.new ≡ model self.old) }
-        ensures room { UsesMakersRoom result (makes_segment (model self.old) event) event.actor (makers_room self.old) (makers_room self.new) }
+        ensures room { UsesMakersRoom result (makes_segment (model self.old) event) event.actor
+            (makers_room self.old) (makers_room self.new) }
     {
         let actor = match actor_in(&self.actors, event.actor) {
             None => return Err(Refusal::NoActor),
@@ -235,10 +239,15 @@ impl<const R: usize> World<R> {
     /// the entry keeps. No entry is written. A making isn't refused, since its maker must have
     /// room.
     pub fn step_again(&mut self, entry: &Entry)
-        requires goes { (after : Model) × (step (model self.old) entry.now.event ≡ Ok (record { world = after; entry = entry.now })) }
-        requires room { IsTrue (makes_segment (model self.old) entry.now.event) → 1 ≤ room self.old entry.now.event.actor }
-        ensures done { step (model self.old) entry.now.event ≡ Ok (record { world = model self.new; entry = entry.now }) }
-        ensures room { UsesMakersRoom (Ok entry.now) (makes_segment (model self.old) entry.now.event) entry.now.event.actor (makers_room self.old) (makers_room self.new) }
+        requires goes { (after : Model) × (step (model self.old) entry.now.event
+            ≡ Ok (record { world = after; entry = entry.now })) }
+        requires room { IsTrue (makes_segment (model self.old) entry.now.event)
+            → 1 ≤ room self.old entry.now.event.actor }
+        ensures done { step (model self.old) entry.now.event
+            ≡ Ok (record { world = model self.new; entry = entry.now }) }
+        ensures room { UsesMakersRoom (Ok entry.now)
+            (makes_segment (model self.old) entry.now.event) entry.now.event.actor
+            (makers_room self.old) (makers_room self.new) }
     {
         let actor = entry.event.actor;
         let (next, _) = after::<R>(&entry.old_actor, entry.event.act, entry.answer);
@@ -267,7 +276,8 @@ impl<const R: usize> World<R> {
         requires place_there { CanPutBack (model self.old).at place content }
         requires well_formed { IsWellFormed (revert (model self.old) actor words place content) }
         ensures done { model self.new ≡ revert (model self.old) actor words place content }
-        ensures room { ReturnsMakersRoom (room_returned place content) (makers_room self.old) (makers_room self.new) }
+        ensures room { ReturnsMakersRoom (room_returned place content) (makers_room self.old)
+            (makers_room self.new) }
     {
         revert_fields(
             &mut self.space,
@@ -290,7 +300,8 @@ impl<const R: usize> World<R> {
         requires { IsSome ((model self.old).actor actor) }
         ensures err { IfErr result (λ e. e ≡ Refusal.NoMemory) }
         ensures unchanged { model self.new ≡ model self.old }
-        ensures room { AddsMakersRoom result actor more (makers_room self.old) (makers_room self.new) }
+        ensures room { AddsMakersRoom result actor more (makers_room self.old)
+            (makers_room self.new) }
     {
         self.space.make_room(actor, more)?;
         Ok(())

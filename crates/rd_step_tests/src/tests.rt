@@ -243,8 +243,10 @@ fn an_actor_that_is_not_there_is_refused_before_one_that_is_idle(
 
 /// Makes a step, and puts the words of its entry back, so that the step may be made again.
 fn step_and_revert(world: &mut World<4>, event: Event) -> Result<Entry, Refusal>
-    ensures goes { IfOk result (λ entry. (after : Model) × (step (model world.new) entry.event ≡ Ok (record { world = after; entry = entry }))) }
-    ensures room { IfOk result (λ entry. IsTrue (makes_segment (model world.new) entry.event) → 1 ≤ room world.new entry.event.actor) }
+    ensures goes { IfOk result (λ entry. (after : Model)
+        × (step (model world.new) entry.event ≡ Ok (record { world = after; entry = entry }))) }
+    ensures room { IfOk result (λ entry. IsTrue (makes_segment (model world.new) entry.event)
+        → 1 ≤ room world.new entry.event.actor) }
 {
     let entry = world.step(event)?;
     world.revert(

@@ -75,7 +75,8 @@ impl AnyBook {
     /// beginning of the text.
     pub fn write_trace<K: Sink>(&self, alloc: Global, writer: &mut K) -> Result<(), WriteTraceFault>
         requires { K.has_failed writer.old ≡ false }
-        ensures writes { WritesTrace (any_state self.now) (K.contents writer.old) (K.contents writer.new) result }
+        ensures writes { WritesTrace (any_state self.now) (K.contents writer.old)
+            (K.contents writer.new) result }
         ensures failed { K.has_failed writer.new ≡ is_write_fault result }
     {
         match self {

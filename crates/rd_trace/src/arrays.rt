@@ -51,9 +51,11 @@ pub fn array_value(alloc: Global, array: &ArrayParts) -> Result<Value, AllocErro
 /// Returns all slots, where the values of a list spell those that aren't empty, by ascending
 /// positions; none if they don't.
 fn slots_in(list: &Vec<Value>) -> Option<[ArrSlot; SLOTS]>
-    ensures some { IfSome result (λ slots. SpellEach (Gives slot_of) (items_view list.now.items) (filled_slots 0 slots)) }
+    ensures some { IfSome result (λ slots.
+        SpellEach (Gives slot_of) (items_view list.now.items) (filled_slots 0 slots)) }
     ensures length { IfSome result (λ slots. length slots ≡ SLOTS) }
-    ensures none { IfNone result ((slots : List ArrSlot) → length slots ≡ SLOTS → SpellEach (Gives slot_of) (items_view list.now.items) (filled_slots 0 slots) → ⊥) }
+    ensures none { IfNone result ((slots : List ArrSlot) → length slots ≡ SLOTS
+        → SpellEach (Gives slot_of) (items_view list.now.items) (filled_slots 0 slots) → ⊥) }
 {
     let mut slots = [ArrSlot::Empty; SLOTS];
     let mut free = 0;
@@ -70,7 +72,8 @@ fn slots_in(list: &Vec<Value>) -> Option<[ArrSlot; SLOTS]>
 
 /// Returns the JSON values of the slots that aren't empty, with their positions.
 fn slots_value(alloc: Global, slots: &[ArrSlot]) -> Result<Vec<Value>, AllocError>
-    ensures { IfOk result (λ values. items_view values.items ≡ items_by slot_data (filled_slots 0 slots.now)) }
+    ensures { IfOk result (λ values. items_view values.items
+        ≡ items_by slot_data (filled_slots 0 slots.now)) }
 {
     let mut values = Vec::new(alloc);
     for position in 0..slots.len() {

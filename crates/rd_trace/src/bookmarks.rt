@@ -101,7 +101,8 @@ pub fn put_marks<const R: usize>(
     text: &mut String,
     book: &Book<R>,
 ) -> Result<(), AllocError>
-    ensures marks { OnOk result (AreAppended IsMark mark_data (book_state book.now).marks (string_bytes text.old) (string_bytes text.new)) }
+    ensures marks { OnOk result (AreAppended IsMark mark_data (book_state book.now).marks
+        (string_bytes text.old) (string_bytes text.new)) }
     ensures rules { KeepsRules (book_state book.now) }
 {
     let count = book.marks();
@@ -123,7 +124,9 @@ fn put_mark<const R: usize>(
     i: u64,
     name: MarkName,
 ) -> Result<(), AllocError>
-    ensures { OnOk result (IfSome (mark_events (book_state book.now) i) (λ es. IsMarkAppended (record { name = name; events = es }) (string_bytes text.old) (string_bytes text.new))) }
+    ensures { OnOk result (IfSome (mark_events (book_state book.now) i)
+        (λ es. IsMarkAppended (record { name = name; events = es }) (string_bytes text.old)
+        (string_bytes text.new))) }
 {
     let Ok(events) = book.mark_events(alloc, i) else {
         return Err(AllocError);

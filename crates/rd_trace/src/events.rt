@@ -74,7 +74,8 @@ fn act_with(word: &str, value: &Value) -> Option<Act>
 
 /// Appends the texts of events to the text, with commas between them.
 pub fn put_events(text: &mut String, events: &[Event]) -> Result<(), AllocError>
-    ensures { OnOk result (AreAppended (Gives event_of) event_data events.now (string_bytes text.old) (string_bytes text.new)) }
+    ensures { OnOk result (AreAppended (Gives event_of) event_data events.now
+        (string_bytes text.old) (string_bytes text.new)) }
 {
     for i in 0..events.len() {
         put_next(text, i, events[i])?;
@@ -84,7 +85,8 @@ pub fn put_events(text: &mut String, events: &[Event]) -> Result<(), AllocError>
 
 /// Appends the text of an event to a text that has this many of its list.
 pub fn put_next(text: &mut String, count: usize, event: Event) -> Result<(), AllocError>
-    ensures ok { OnOk result (string_bytes text.new ≡ string_bytes text.old ++ (comma_if (nat_lt 0 count) ++ compact_text (event_data event))) }
+    ensures ok { OnOk result (string_bytes text.new
+        ≡ string_bytes text.old ++ (comma_if (nat_lt 0 count) ++ compact_text (event_data event))) }
     ensures kept { OnOk result (IsSpelledBack (Gives event_of) (event_data event) event) }
 {
     text.push_str(comma_after(count))?;
@@ -94,7 +96,8 @@ pub fn put_next(text: &mut String, count: usize, event: Event) -> Result<(), All
 /// Appends the text of an event.
 #[tactic(auto, unfolding(json::specs::Print::escape_byte))]
 fn put_event(text: &mut String, event: Event) -> Result<(), AllocError>
-    ensures ok { OnOk result (string_bytes text.new ≡ string_bytes text.old ++ compact_text (event_data event)) }
+    ensures ok { OnOk result (string_bytes text.new
+        ≡ string_bytes text.old ++ compact_text (event_data event)) }
     ensures spelled { event_of (event_data event) ≡ Some event }
     ensures back { IsReadBack (event_data event) }
 {
@@ -110,7 +113,9 @@ fn put_event(text: &mut String, event: Event) -> Result<(), AllocError>
 
 /// Appends the beginning of an event, its actor, and a number that ends it.
 fn put_long(text: &mut String, opening: &str, actor: u8, x: u64) -> Result<(), AllocError>
-    ensures ok { OnOk result (string_bytes text.new ≡ string_bytes text.old ++ (opening.now ++ (decimal actor ++ (44 ∷ (decimal x ++ 93 ∷ []))))) }
+    ensures ok { OnOk result (string_bytes text.new
+        ≡ string_bytes text.old ++ (opening.now
+        ++ (decimal actor ++ (44 ∷ (decimal x ++ 93 ∷ []))))) }
     ensures back { IsReadBack (number (unsigned x)) }
 {
     put_around(text, opening, actor, ",")?;
@@ -120,7 +125,8 @@ fn put_long(text: &mut String, opening: &str, actor: u8, x: u64) -> Result<(), A
 
 /// Appends the beginning of an event, its actor, and the end of it.
 fn put_around(text: &mut String, opening: &str, actor: u8, closing: &str) -> Result<(), AllocError>
-    ensures { OnOk result (string_bytes text.new ≡ string_bytes text.old ++ (opening.now ++ (decimal actor ++ closing.now))) }
+    ensures { OnOk result (string_bytes text.new
+        ≡ string_bytes text.old ++ (opening.now ++ (decimal actor ++ closing.now))) }
 {
     text.push_str(opening)?;
     put_number(text, u64::from(actor))?;

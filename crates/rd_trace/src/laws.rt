@@ -10,13 +10,16 @@ ghost use Rattle.rd_trace.specs.Loading.{LoadsTrace, IsSameAnswer};
 
 /// A text is at most one trace: with one ring, one book, and one flaw of its start or none.
 pub fn a_text_is_one_trace_at_most()
-    ensures { (text : List ℕ) (R Q : ℕ) (t : Trace R) (u : Trace Q) → IsTraceText text t → IsTraceText text u
-        → (R ≡ Q) × (start_flaw t.start ≡ start_flaw u.start) × IsSameBook (loaded_state t) (loaded_state u) }
+    ensures { (text : List ℕ) (R Q : ℕ) (t : Trace R) (u : Trace Q) → IsTraceText text t
+        → IsTraceText text u
+        → (R ≡ Q) × (start_flaw t.start ≡ start_flaw u.start)
+        × IsSameBook (loaded_state t) (loaded_state u) }
 {}
 
 /// Loading a text has one result, unless memory is refused: one book, or one fault with its flaw,
 /// its numbers and its cause.
 pub fn a_text_has_one_answer()
-    ensures { (text : List ℕ) (one other : Result AnyBook LoadTraceFault) → LoadsTrace text one → LoadsTrace text other
+    ensures { (text : List ℕ) (one other : Result AnyBook LoadTraceFault) → LoadsTrace text one
+        → LoadsTrace text other
         → one ≢ Err NoMemory → other ≢ Err NoMemory → IsSameAnswer one other }
 {}

@@ -37,7 +37,8 @@ use std::alloc::Global;
 /// at any point.
 pub fn load_trace(alloc: Global, text: &[u8]) -> Result<AnyBook, LoadTraceFault>
     ensures loads { LoadsTrace text.now result }
-    ensures again { (b : BookState) → IsTraceRing b.session.start.ring → IsTextOf b text.now → LoadsAgain b result }
+    ensures again { (b : BookState) → IsTraceRing b.session.start.ring → IsTextOf b text.now
+        → LoadsAgain b result }
 {
     let value = parse_value(alloc, text)?;
     match ring_in(&value) {

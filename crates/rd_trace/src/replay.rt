@@ -38,7 +38,8 @@ pub fn replay<const R: usize>(
     requires counted { HasActorCount session.start }
     requires names { HaveDifferentNames (map saved_mark session.marks.items) }
     requires few { length session.marks.items ≤ MOST_MARKS }
-    ensures { Replays (λ book. book_state book ≡ loaded_state (saved_trace session.entry)) (saved_trace session.entry) result }
+    ensures { Replays (λ book. book_state book ≡ loaded_state (saved_trace session.entry))
+        (saved_trace session.entry) result }
 {
     let world = world_of(alloc, session.start)?;
     let mut book = Book::open(alloc, Session::open(alloc, world));
@@ -72,7 +73,8 @@ fn set_marks<const R: usize>(book: &mut Book<R>, marks: &[SavedMark]) -> Result<
     requires names { HaveDifferentNames (map saved_mark marks.now) }
     requires few { length marks.now ≤ MOST_MARKS }
     requires none { (book_state book.old).marks ≡ [] }
-    ensures { SetsMarks (book_state book.old) (map saved_mark marks.now) (book_state book.new) result }
+    ensures { SetsMarks (book_state book.old) (map saved_mark marks.now)
+        (book_state book.new) result }
 {
     for i in 0..marks.len() {
         if let Err(fault) = go_to(book, &marks[i].events) {
@@ -116,9 +118,11 @@ fn go_to<const R: usize>(book: &mut Book<R>, events: &[Event]) -> Result<(), Loa
 /// Makes events happen in order, where none is undone. Fails at the first one that is refused, which
 /// is counted on after the live events.
 fn step_all<const R: usize>(book: &mut Book<R>, events: &[Event]) -> Result<(), LoadTraceFault>
-    requires through { GoThrough (book_state book.old).session.start (book_state book.old).session.live }
+    requires through { GoThrough (book_state book.old).session.start
+        (book_state book.old).session.live }
     requires none { (book_state book.old).session.undone ≡ [] }
-    ensures goes { GoesTo (book_state book.old) ((book_state book.old).session.live ++ events.now) (book_state book.new) result }
+    ensures goes { GoesTo (book_state book.old) ((book_state book.old).session.live ++ events.now)
+        (book_state book.new) result }
     ensures err { IfErr result (λ fault. 0 < length events.now) }
 {
     for event in events {

@@ -68,8 +68,10 @@ pub struct SavedSession<const R: usize> {
 
 /// Returns the ring of the session that a value spells, if a trace may have it.
 pub fn ring_in(value: &Value) -> Option<Ring>
-    ensures some { IfSome result (λ ring. number_at (codes "ring") (view value.now) ≡ Some (ring_length ring)) }
-    ensures none { IfNone result ((cells : ℕ) → number_at (codes "ring") (view value.now) ≡ Some cells → IsTraceRing cells → ⊥) }
+    ensures some { IfSome result (λ ring. number_at (codes "ring") (view value.now)
+        ≡ Some (ring_length ring)) }
+    ensures none { IfNone result ((cells : ℕ)
+        → number_at (codes "ring") (view value.now) ≡ Some cells → IsTraceRing cells → ⊥) }
 {
     Ring::of_length(number_at(value, RING)?)
 }
@@ -145,7 +147,8 @@ fn second_session_in<const R: usize>(
 
 /// Returns the text of a book's session and bookmarks, of version 2, with a line feed after it.
 pub fn text_of<const R: usize>(alloc: Global, book: &Book<R>) -> Result<String, AllocError>
-    ensures { IfOk result (λ text. IsUtf8 (string_bytes text) → IsTextOf (book_state book.now) (string_bytes text)) }
+    ensures { IfOk result (λ text. IsUtf8 (string_bytes text)
+        → IsTextOf (book_state book.now) (string_bytes text)) }
 {
     let session = book.session();
     events_go_through(session);
@@ -167,7 +170,8 @@ pub fn text_of<const R: usize>(alloc: Global, book: &Book<R>) -> Result<String, 
 /// The live events of a session, and then its undone ones, can run from its start: this law follows
 /// from the contract of the session's world.
 fn events_go_through<const R: usize>(session: &Session<R>)
-    ensures { GoThrough (state session.now).start ((state session.now).live ++ (state session.now).undone) }
+    ensures { GoThrough (state session.now).start
+        ((state session.now).live ++ (state session.now).undone) }
 {
     let _world = session.world();
 }
@@ -188,7 +192,8 @@ fn put_start<const R: usize>(
     text: &mut String,
     session: &Session<R>,
 ) -> Result<(), AllocError>
-    ensures { OnOk result (IsStartAppended (state session.now).start (string_bytes text.old) (string_bytes text.new)) }
+    ensures { OnOk result (IsStartAppended (state session.now).start (string_bytes text.old)
+        (string_bytes text.new)) }
 {
     let start = start_of(alloc, session)?;
     let written = start.to_string(alloc)?;
@@ -197,7 +202,8 @@ fn put_start<const R: usize>(
 
 /// Appends the texts of the live events of a session, with commas between them.
 fn put_live<const R: usize>(text: &mut String, session: &Session<R>) -> Result<(), AllocError>
-    ensures { OnOk result (AreAppended (Gives event_of) event_data (state session.now).live (string_bytes text.old) (string_bytes text.new)) }
+    ensures { OnOk result (AreAppended (Gives event_of) event_data (state session.now).live
+        (string_bytes text.old) (string_bytes text.new)) }
 {
     let live = session.live();
     for k in 0..live.len() {
@@ -209,7 +215,8 @@ fn put_live<const R: usize>(text: &mut String, session: &Session<R>) -> Result<(
 /// Appends the texts of the undone events of a session, the one undone last first, with commas
 /// between them.
 fn put_undone<const R: usize>(text: &mut String, session: &Session<R>) -> Result<(), AllocError>
-    ensures { OnOk result (AreAppended (Gives event_of) event_data (state session.now).undone (string_bytes text.old) (string_bytes text.new)) }
+    ensures { OnOk result (AreAppended (Gives event_of) event_data (state session.now).undone
+        (string_bytes text.old) (string_bytes text.new)) }
 {
     for k in 0..session.undone_len() {
         let Some(event) = session.undone_event(k + 1) else {

@@ -98,7 +98,8 @@ impl Written for Cell {
 fn segment_in<const R: usize>(value: &Value) -> Option<SegmentParts<R>>
     requires { R ≤ MOST_CELLS }
     ensures some { IfSome result (IsSegment (view value.now)) }
-    ensures none { IfNone result ((segment : SegmentParts R) → IsSegment (view value.now) segment → ⊥) }
+    ensures none { IfNone result ((segment : SegmentParts R) → IsSegment (view value.now) segment
+        → ⊥) }
 {
     if member_count(value)? != MEMBERS {
         return None;
@@ -136,7 +137,8 @@ fn segment_value<const R: usize>(
 fn cells_in<const R: usize>(list: &Vec<Value>) -> Option<[Cell; R]>
     ensures some { IfSome result (SpellEach (Gives cell_of) (items_view list.now.items)) }
     ensures length { IfSome result (λ cells. length cells ≡ R) }
-    ensures none { IfNone result ((cells : List Cell) → length cells ≡ R → SpellEach (Gives cell_of) (items_view list.now.items) cells → ⊥) }
+    ensures none { IfNone result ((cells : List Cell) → length cells ≡ R
+        → SpellEach (Gives cell_of) (items_view list.now.items) cells → ⊥) }
 {
     if list.len() != R {
         return None;

@@ -160,7 +160,9 @@ fn parts_object(
     qtail: Value,
     segments: Vec<Value>,
 ) -> Result<Value, AllocError>
-    ensures { IfOk result (λ value. view value ≡ parts_object (items_view actors.items) (view slots) (view qhead) (view qtail) (items_view segments.items)) }
+    ensures { IfOk result (λ value. view value
+        ≡ parts_object (items_view actors.items) (view slots) (view qhead) (view qtail)
+        (items_view segments.items)) }
 {
     json!(in alloc; {
         ACTORS: actors,

@@ -25,7 +25,8 @@ pub fn write_trace<K: Sink, const R: usize>(
     book: &Book<R>,
 ) -> Result<(), WriteTraceFault>
     requires { K.has_failed writer.old ≡ false }
-    ensures writes { WritesTrace (book_state book.now) (K.contents writer.old) (K.contents writer.new) result }
+    ensures writes { WritesTrace (book_state book.now) (K.contents writer.old)
+        (K.contents writer.new) result }
     ensures failed { K.has_failed writer.new ≡ is_write_fault result }
 {
     let Ok(text) = text_of(alloc, book) else {

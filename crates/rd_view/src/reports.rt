@@ -53,7 +53,8 @@ fn put_viewer(
     said: &[ParsedLine],
     answered: &Option<Vec<Answer>>,
 ) -> Result<(), AllocError>
-    ensures { OnOk result (text.new.items ≡ text.old.items ++ viewer_text number said.now answered.now) }
+    ensures { OnOk result (text.new.items
+        ≡ text.old.items ++ viewer_text number said.now answered.now) }
 {
     set_heading(line, Heading::Viewer(number));
     text.extend_from_slice(line.as_slice())?;

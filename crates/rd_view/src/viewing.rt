@@ -75,7 +75,8 @@ fn run_over_desk<R: Threads + Wait + Sync, const N: usize>(
 ) -> Result<(ViewerAnswers, History), ViewFault>
     requires some { 1 ≤ length said.now }
     requires few { length said.now ≤ MOST_VIEWERS }
-    ensures ok { IfOk result (λ done. IsViewed (book_state book.entry) said.now done.0.items (entries done.1)) }
+    ensures ok { IfOk result (λ done. IsViewed (book_state book.entry) said.now done.0.items
+        (entries done.1)) }
     ensures err { IfErr result IsUnviewed }
 {
     let Ok((desk, passes)) = Desk::open(alloc, book, said.len() as u64) else {
@@ -99,8 +100,10 @@ fn passes_with_commands<const N: usize>(
     said: &[Vec<ParsedLine>],
 ) -> Result<Vec<(DeskPass<N>, Vec<Command>)>, AllocError>
     requires { length passes.items ≡ length said.now }
-    ensures passes { IfOk result (λ work. map (λ viewer. viewer.0) work.items ≡ passes.entry.items) }
-    ensures commands { IfOk result (λ work. map (λ viewer. viewer.1.items) work.items ≡ map (λ lines. commands_of lines.items) said.now) }
+    ensures passes { IfOk result (λ work. map (λ viewer. viewer.0) work.items
+        ≡ passes.entry.items) }
+    ensures commands { IfOk result (λ work. map (λ viewer. viewer.1.items) work.items
+        ≡ map (λ lines. commands_of lines.items) said.now) }
 {
     let mut work = Vec::new(alloc);
     for pass in passes {
@@ -129,7 +132,8 @@ fn passes_and_answers<const N: usize>(
     dones: Vec<(DeskPass<N>, Option<Vec<Answer>>)>,
 ) -> Result<(Vec<DeskPass<N>>, ViewerAnswers), AllocError>
     ensures passes { IfOk result (λ apart. apart.0.items ≡ map (λ done. done.0) dones.entry.items) }
-    ensures answered { IfOk result (λ apart. apart.1.items ≡ map (λ done. done.1) dones.entry.items) }
+    ensures answered { IfOk result (λ apart. apart.1.items
+        ≡ map (λ done. done.1) dones.entry.items) }
 {
     let mut passes = Vec::new(alloc);
     let mut answered = Vec::new(alloc);

@@ -55,9 +55,12 @@ impl DependIndex {
     /// has changed then, and no room is lost.
     pub fn push(&mut self, entry: &Entry) -> Result<(), AllocError>
         requires { position_count self.old < MOST_STEPS }
-        ensures ok { OnOk result ((es : List SomeEntry) → IsIndexOf self.old es → IsIndexOf self.new (es ++ entry.now ∷ [])) }
-        ensures err { OnErr result ((es : List SomeEntry) → IsIndexOf self.old es → IsIndexOf self.new es) }
-        ensures succeeds { (rest : List SomeEntry) → HasRoomFor self.old (entry.now ∷ rest) → IsOk result }
+        ensures ok { OnOk result ((es : List SomeEntry) → IsIndexOf self.old es
+            → IsIndexOf self.new (es ++ entry.now ∷ [])) }
+        ensures err { OnErr result ((es : List SomeEntry) → IsIndexOf self.old es
+            → IsIndexOf self.new es) }
+        ensures succeeds { (rest : List SomeEntry) → HasRoomFor self.old (entry.now ∷ rest)
+            → IsOk result }
         ensures room { OnOk result (UsesRoom self.old self.new (entry.now ∷ [])) }
         ensures room_stays { OnErr result (LosesNoRoom self.old self.new) }
     {
@@ -76,8 +79,10 @@ impl DependIndex {
     pub fn push_all(&mut self, entries: &[Entry]) -> Result<(), AllocError>
         requires index { IsIndex self.old }
         requires few { position_count self.old + length entries.now ≤ MOST_STEPS }
-        ensures ok { OnOk result ((es : List SomeEntry) → IsIndexOf self.old es → IsIndexOf self.new (es ++ entries.now)) }
-        ensures err { OnErr result ((es : List SomeEntry) → IsIndexOf self.old es → IsIndexOf self.new es) }
+        ensures ok { OnOk result ((es : List SomeEntry) → IsIndexOf self.old es
+            → IsIndexOf self.new (es ++ entries.now)) }
+        ensures err { OnErr result ((es : List SomeEntry) → IsIndexOf self.old es
+            → IsIndexOf self.new es) }
         ensures succeeds { HasRoomFor self.old entries.now → IsOk result }
         ensures room { OnOk result (UsesRoom self.old self.new entries.now) }
         ensures room_stays { OnErr result (LosesNoRoom self.old self.new) }
@@ -114,7 +119,8 @@ impl DependIndex {
     /// the entry again. It takes no memory.
     pub fn pop(&mut self, entry: &Entry)
         requires { IsLast self.old entry.now }
-        ensures left { (es : List SomeEntry) → IsIndexOf self.old (es ++ entry.now ∷ []) → IsIndexOf self.new es }
+        ensures left { (es : List SomeEntry) → IsIndexOf self.old (es ++ entry.now ∷ [])
+            → IsIndexOf self.new es }
         ensures room { GivesRoom self.old self.new (entry.now ∷ []) }
     {
         self.len -= 1;
@@ -131,7 +137,8 @@ impl DependIndex {
     /// memory.
     pub fn remove(&mut self, k: u64, entry: &Entry)
         requires { IsHeld self.old k entry.now }
-        ensures left { (es : List SomeEntry) → IsIndexOf self.old es → numbered es k ≡ Some entry.now → IsIndexOf self.new (without es k) }
+        ensures left { (es : List SomeEntry) → IsIndexOf self.old es
+            → numbered es k ≡ Some entry.now → IsIndexOf self.new (without es k) }
         ensures room { GivesRoom self.old self.new (entry.now ∷ []) }
     {
         self.move_to(k, self.len());
@@ -145,7 +152,8 @@ impl DependIndex {
         requires some { 1 ≤ k }
         requires order { k ≤ n }
         requires within { n ≤ position_count self.old }
-        ensures moved { (es : List SomeEntry) → IsIndexOf self.old es → IsIndexOf self.new (moved_to es k n) }
+        ensures moved { (es : List SomeEntry) → IsIndexOf self.old es
+            → IsIndexOf self.new (moved_to es k n) }
         ensures room { KeepsRoom self.old self.new }
         ensures capacity { (t : Touch) → capacity self.new t ≡ capacity self.old t }
     {
@@ -158,8 +166,10 @@ impl DependIndex {
     /// Removes all positions above `n`. The room that they had is free for their entries again. It
     /// goes over all lists if there are any such positions, and takes no memory.
     pub fn truncate(&mut self, n: u64)
-        ensures left { (es : List SomeEntry) → IsIndexOf self.old es → IsIndexOf self.new (take n es) }
-        ensures room { (es : List SomeEntry) → IsIndexOf self.old es → GivesRoom self.old self.new (drop n es) }
+        ensures left { (es : List SomeEntry) → IsIndexOf self.old es
+            → IsIndexOf self.new (take n es) }
+        ensures room { (es : List SomeEntry) → IsIndexOf self.old es
+            → GivesRoom self.old self.new (drop n es) }
     {
         if n < self.len() {
             self.len = n as usize;
@@ -174,7 +184,8 @@ impl DependIndex {
         requires { homes.now ≡ homes_of entry.now }
         ensures same { Keeps self.old self.new }
         ensures ready { IfOk result (IsReadyFor self.new entry.now homes.now) }
-        ensures succeeds { ((t : Touch) → touches t entry.now ≡ true → 0 < spare self.old t) → IsOk result }
+        ensures succeeds { ((t : Touch) → touches t entry.now ≡ true → 0 < spare self.old t)
+            → IsOk result }
     {
         let actor = usize::from(entry.event.actor);
         grow(&mut self.by_actor, self.alloc, actor + 1)?;
@@ -219,7 +230,8 @@ impl DependIndex {
         requires few { position_count self.old + length entries.now ≤ MOST_STEPS }
         ensures within { result ≤ length entries.now }
         ensures succeeds { HasRoomFor self.old entries.now → result ≡ length entries.now }
-        ensures index { (es : List SomeEntry) → IsIndexOf self.old es → IsIndexOf self.new (es ++ take result entries.now) }
+        ensures index { (es : List SomeEntry) → IsIndexOf self.old es
+            → IsIndexOf self.new (es ++ take result entries.now) }
         ensures room { UsesRoom self.old self.new (take result entries.now) }
     {
         for count in 0..entries.len() {
@@ -233,7 +245,8 @@ impl DependIndex {
     /// Removes the last positions, whose entries must be these.
     fn pop_all(&mut self, entries: &[Entry])
         requires { EndsWith self.old entries.now }
-        ensures index { (es : List SomeEntry) → IsIndexOf self.old (es ++ entries.now) → IsIndexOf self.new es }
+        ensures index { (es : List SomeEntry) → IsIndexOf self.old (es ++ entries.now)
+            → IsIndexOf self.new es }
         ensures room { GivesRoom self.old self.new entries.now }
     {
         let mut left = entries.len();

@@ -45,7 +45,8 @@ impl DependIndex {
     /// positions of the entry's actor, which mostly decide, and takes no memory.
     pub fn depends_after(&self, n: u64, entry: &Entry) -> bool
         requires { n ≤ position_count self.now }
-        ensures { (es : List SomeEntry) → IsIndexOf self.now es → result ≡ depends_on_one (drop n es) entry.now }
+        ensures { (es : List SomeEntry) → IsIndexOf self.now es
+            → result ≡ depends_on_one (drop n es) entry.now }
     {
         let mut probes = Probes::new();
         if self
@@ -62,7 +63,8 @@ impl DependIndex {
     fn first_at(&self, k: u32, place: Place, wrote: Wrote, probes: &mut Probes) -> Option<u64>
         requires { probe_count probes.old < 2 ^ 33 }
         ensures answer { (es : List SomeEntry) → IsIndexOf self.now es
-            → result ≡ find (nat_lt k) (positions (λ y. interfere (Some place) wrote y.place y.wrote) es) }
+            → result ≡ find (nat_lt k)
+            (positions (λ y. interfere (Some place) wrote y.place y.wrote) es) }
         ensures cost { probe_count probes.new ≤ probe_count probes.old + 57 }
         ensures counts { probe_count probes.old ≤ probe_count probes.new }
     {
@@ -86,7 +88,8 @@ impl DependIndex {
     ) -> Option<u64>
         requires { probe_count probes.old < 2 ^ 34 }
         ensures answer { (es : List SomeEntry) → IsIndexOf self.now es
-            → result ≡ find (nat_lt k) (positions (λ y. is_under_some key (touched_or_written (is_writes among) y)) es) }
+            → result ≡ find (nat_lt k)
+            (positions (λ y. is_under_some key (touched_or_written (is_writes among) y)) es) }
         ensures cost { probe_count probes.new ≤ probe_count probes.old + 19 }
         ensures counts { probe_count probes.old ≤ probe_count probes.new }
         ensures looks { IsSome key → probe_count probes.old < probe_count probes.new }
@@ -101,7 +104,8 @@ impl DependIndex {
     /// most 19 probes.
     fn first_by(&self, k: u32, actor: u8, probes: &mut Probes) -> Option<u64>
         requires { probe_count probes.old < 2 ^ 34 }
-        ensures answer { IsAscending (list_at self.now.by_actor.items actor) → length (list_at self.now.by_actor.items actor) < 2 ^ 17
+        ensures answer { IsAscending (list_at self.now.by_actor.items actor)
+            → length (list_at self.now.by_actor.items actor) < 2 ^ 17
             → result ≡ find (nat_lt k) (list_at self.now.by_actor.items actor) }
         ensures cost { probe_count probes.new ≤ probe_count probes.old + 19 }
         ensures counts { probe_count probes.old < probe_count probes.new }

@@ -95,8 +95,10 @@ fn lengthen(list: &mut Vec<u32>) -> Result<(), AllocError>
 pub(crate) fn put_in(lists: &mut Vec<Vec<u32>>, index: usize, position: u32)
     requires { 0 < spare_at lists.old.items index }
     ensures lists { (i : ℕ) → list_at lists.new.items i
-        ≡ (if i == index then list_at lists.old.items i ++ position ∷ [] else list_at lists.old.items i) }
-    ensures room { (i : ℕ) → spare_at lists.old.items i ≤ spare_at lists.new.items i + one_if (i == index) }
+        ≡ (if i == index then list_at lists.old.items i ++ position ∷ []
+        else list_at lists.old.items i) }
+    ensures room { (i : ℕ) → spare_at lists.old.items i
+        ≤ spare_at lists.new.items i + one_if (i == index) }
     ensures number { length lists.new.items ≡ length lists.old.items }
 {
     lists[index].push_reserved(position);
@@ -107,8 +109,10 @@ pub(crate) fn put_in(lists: &mut Vec<Vec<u32>>, index: usize, position: u32)
 pub(crate) fn put_if(lists: &mut Vec<Vec<u32>>, wanted: bool, index: usize, position: u32)
     requires { wanted ≡ true → 0 < spare_at lists.old.items index }
     ensures lists { (i : ℕ) → list_at lists.new.items i
-        ≡ (if wanted && (i == index) then list_at lists.old.items i ++ position ∷ [] else list_at lists.old.items i) }
-    ensures room { (i : ℕ) → spare_at lists.old.items i ≤ spare_at lists.new.items i + one_if (wanted && (i == index)) }
+        ≡ (if wanted && (i == index) then list_at lists.old.items i ++ position ∷ []
+        else list_at lists.old.items i) }
+    ensures room { (i : ℕ) → spare_at lists.old.items i
+        ≤ spare_at lists.new.items i + one_if (wanted && (i == index)) }
     ensures number { length lists.new.items ≡ length lists.old.items }
 {
     if wanted {
@@ -120,8 +124,10 @@ pub(crate) fn put_if(lists: &mut Vec<Vec<u32>>, wanted: bool, index: usize, posi
 pub(crate) fn take_last_in(lists: &mut Vec<Vec<u32>>, index: usize)
     requires { 1 ≤ length (list_at lists.old.items index) }
     ensures lists { (i : ℕ) → list_at lists.new.items i
-        ≡ (if i == index then take (length (list_at lists.old.items i) - 1) (list_at lists.old.items i) else list_at lists.old.items i) }
-    ensures room { (i : ℕ) → spare_at lists.new.items i ≡ spare_at lists.old.items i + one_if (i == index) }
+        ≡ (if i == index then take (length (list_at lists.old.items i) - 1)
+        (list_at lists.old.items i) else list_at lists.old.items i) }
+    ensures room { (i : ℕ) → spare_at lists.new.items i
+        ≡ spare_at lists.old.items i + one_if (i == index) }
     ensures number { length lists.new.items ≡ length lists.old.items }
 {
     let _last = lists[index].pop();
@@ -132,8 +138,11 @@ pub(crate) fn take_last_in(lists: &mut Vec<Vec<u32>>, index: usize)
 pub(crate) fn take_last_if(lists: &mut Vec<Vec<u32>>, wanted: bool, index: usize)
     requires { wanted ≡ true → 1 ≤ length (list_at lists.old.items index) }
     ensures lists { (i : ℕ) → list_at lists.new.items i
-        ≡ (if wanted && (i == index) then take (length (list_at lists.old.items i) - 1) (list_at lists.old.items i) else list_at lists.old.items i) }
-    ensures room { (i : ℕ) → spare_at lists.new.items i ≡ spare_at lists.old.items i + one_if (wanted && (i == index)) }
+        ≡ (if wanted && (i == index)
+        then take (length (list_at lists.old.items i) - 1) (list_at lists.old.items i)
+        else list_at lists.old.items i) }
+    ensures room { (i : ℕ) → spare_at lists.new.items i
+        ≡ spare_at lists.old.items i + one_if (wanted && (i == index)) }
     ensures number { length lists.new.items ≡ length lists.old.items }
 {
     if wanted {
@@ -208,7 +217,8 @@ fn count_up_to(positions: &[u32], k: u32) -> usize
 
 /// Removes the positions above `n` from each list, if it ascends.
 pub(crate) fn truncate_all(lists: &mut Vec<Vec<u32>>, n: u32)
-    ensures lists { (i : ℕ) → IsAscending (list_at lists.old.items i) → list_at lists.new.items i ≡ before_first (nat_lt n) (list_at lists.old.items i) }
+    ensures lists { (i : ℕ) → IsAscending (list_at lists.old.items i)
+        → list_at lists.new.items i ≡ before_first (nat_lt n) (list_at lists.old.items i) }
     ensures capacity { (i : ℕ) → capacity_at lists.new.items i ≡ capacity_at lists.old.items i }
     ensures number { length lists.new.items ≡ length lists.old.items }
 {
@@ -219,7 +229,8 @@ pub(crate) fn truncate_all(lists: &mut Vec<Vec<u32>>, n: u32)
 
 /// Removes the positions above `n` from a list, if it ascends.
 fn truncate_list(list: &mut Vec<u32>, n: u32)
-    ensures items { IsAscending list.old.items → list.new.items ≡ before_first (nat_lt n) list.old.items }
+    ensures items { IsAscending list.old.items
+        → list.new.items ≡ before_first (nat_lt n) list.old.items }
     ensures capacity { vec_capacity list.new ≡ vec_capacity list.old }
 {
     let kept = count_up_to(list, n);

@@ -16,7 +16,8 @@ impl<'a> Positions<'a> {
         ensures within { result ≤ length self.now.items.now }
         ensures cost { probe_count probes.new ≤ probe_count probes.old + 17 }
         ensures counts { probe_count probes.old ≤ probe_count probes.new }
-        ensures count { IsAscending self.now.items.now → length self.now.items.now < 2 ^ 17 → result ≡ position_or_len (nat_lt k) self.now.items.now }
+        ensures count { IsAscending self.now.items.now → length self.now.items.now < 2 ^ 17
+            → result ≡ position_or_len (nat_lt k) self.now.items.now }
     {
         let mut low = 0;
         let mut high = self.len();
@@ -37,7 +38,8 @@ impl<'a> Positions<'a> {
     /// Returns the first position above `k`, if there is one. It makes at most 18 probes.
     pub(crate) fn first_above(&self, k: u32, probes: &mut Probes) -> Option<u64>
         requires { probe_count probes.old < 2 ^ 61 }
-        ensures first { IsAscending self.now.items.now → length self.now.items.now < 2 ^ 17 → result ≡ find (nat_lt k) self.now.items.now }
+        ensures first { IsAscending self.now.items.now → length self.now.items.now < 2 ^ 17
+            → result ≡ find (nat_lt k) self.now.items.now }
         ensures cost { probe_count probes.new ≤ probe_count probes.old + 18 }
         ensures counts { probe_count probes.old ≤ probe_count probes.new }
     {
@@ -52,7 +54,8 @@ impl<'a> Positions<'a> {
     /// Returns the last position up to `k`, if there is one. It makes at most 18 probes.
     pub(crate) fn last_up_to(&self, k: u32, probes: &mut Probes) -> Option<u64>
         requires { probe_count probes.old < 2 ^ 61 }
-        ensures last { IsAscending self.now.items.now → length self.now.items.now < 2 ^ 17 → result ≡ last_or None (before_first (nat_lt k) self.now.items.now) }
+        ensures last { IsAscending self.now.items.now → length self.now.items.now < 2 ^ 17
+            → result ≡ last_or None (before_first (nat_lt k) self.now.items.now) }
         ensures cost { probe_count probes.new ≤ probe_count probes.old + 18 }
         ensures counts { probe_count probes.old ≤ probe_count probes.new }
     {

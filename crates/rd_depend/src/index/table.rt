@@ -129,7 +129,8 @@ impl Table {
     ) -> Result<Option<usize>, AllocError>
         ensures same { KeepsLists self.old self.new }
         ensures ready { IfOk result (AreReady self.new key wrote) }
-        ensures succeeds { ((w : Bool) (k : Kept) → key ≡ Some k → is_kept_in w wrote ≡ true → 0 < spare_in self.old w k) → IsOk result }
+        ensures succeeds { ((w : Bool) (k : Kept) → key ≡ Some k → is_kept_in w wrote ≡ true
+            → 0 < spare_in self.old w k) → IsOk result }
     {
         match key {
             None => Ok(None),
@@ -147,7 +148,8 @@ impl Table {
     fn reserve_under(&mut self, alloc: Global, key: Key, wrote: bool) -> Result<usize, AllocError>
         ensures same { KeepsLists self.old self.new }
         ensures ready { IfOk result (IsReady self.new key wrote) }
-        ensures succeeds { ((w : Bool) → is_kept_in w wrote ≡ true → 0 < spare_in self.old w key) → IsOk result }
+        ensures succeeds { ((w : Bool) → is_kept_in w wrote ≡ true → 0 < spare_in self.old w key)
+            → IsOk result }
     {
         let slot = self.slot_or_new(alloc, key)?;
         reserve_in(&mut self.all, slot)?;
@@ -199,7 +201,8 @@ impl Table {
     /// step wrote. Without an index it does nothing.
     pub(crate) fn put(&mut self, slot: Option<usize>, position: u32, wrote: bool)
         requires { AreReadyAt self.old wrote slot }
-        ensures { (k : Option Kept) → AreReady self.old k wrote slot → Puts k wrote position self.old self.new }
+        ensures { (k : Option Kept) → AreReady self.old k wrote slot
+            → Puts k wrote position self.old self.new }
     {
         if let Some(slot) = slot {
             self.put_at(slot, position, wrote);
@@ -210,7 +213,8 @@ impl Table {
     /// step wrote.
     fn put_at(&mut self, slot: usize, position: u32, wrote: bool)
         requires { IsReadyAt self.old wrote slot }
-        ensures { (k : Kept) → IsReady self.old k wrote slot → Puts (Some k) wrote position self.old self.new }
+        ensures { (k : Kept) → IsReady self.old k wrote slot
+            → Puts (Some k) wrote position self.old self.new }
     {
         put_in(&mut self.all, slot, position);
         put_if(&mut self.writes, wrote, slot, position);

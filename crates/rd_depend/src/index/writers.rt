@@ -24,7 +24,8 @@ impl DependIndex {
     pub fn last_writer(&self, n: u64, place: Place, probes: &mut Probes) -> Option<u64>
         requires within { n ≤ position_count self.now }
         requires counted { probe_count probes.old < 2 ^ 32 }
-        ensures answer { (es : List SomeEntry) → IsIndexOf self.now es → result ≡ last_position (writes_to place) (take n es) }
+        ensures answer { (es : List SomeEntry) → IsIndexOf self.now es
+            → result ≡ last_position (writes_to place) (take n es) }
         ensures cost { probe_count probes.new ≤ probe_count probes.old + 57 }
         ensures counts { probe_count probes.old < probe_count probes.new }
     {
@@ -40,7 +41,8 @@ impl DependIndex {
     fn last_under(&self, n: u32, key: Option<Key>, probes: &mut Probes) -> Option<u64>
         requires { probe_count probes.old < 2 ^ 34 }
         ensures answer { (es : List SomeEntry) → IsIndexOf self.now es
-            → result ≡ last_position (λ y. is_under_some key (touched_or_written true y)) (take n es) }
+            → result ≡ last_position (λ y. is_under_some key (touched_or_written true y))
+            (take n es) }
         ensures cost { probe_count probes.new ≤ probe_count probes.old + 19 }
         ensures counts { probe_count probes.old ≤ probe_count probes.new }
         ensures looks { IsSome key → probe_count probes.old < probe_count probes.new }

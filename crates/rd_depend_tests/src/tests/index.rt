@@ -47,7 +47,8 @@ impl Both {
 
     /// Takes the last entry away, if there is one.
     fn pop(&mut self)
-        ensures { (rest : List SomeEntry) → HasRoomFor self.old.index rest → HasRoomFor self.new.index rest }
+        ensures { (rest : List SomeEntry) → HasRoomFor self.old.index rest
+            → HasRoomFor self.new.index rest }
     {
         if let Some(entry) = self.entries.pop() {
             self.index.pop(&entry);

@@ -32,20 +32,29 @@ pub(crate) fn gather(
     requires few { live ≤ MOST_STEPS }
     requires none { gathered.old.items ≡ [] }
     requires place { length order.old.items ≤ vec_capacity gathered.old }
-    requires before { IsIndexOf index.old (take (k - 1) (take live (at_numbers slots.now order.old.items))) }
-    requires room { HasRoomFor index.old (drop (k - 1) (take live (at_numbers slots.now order.old.items))) }
+    requires before { IsIndexOf index.old (take (k - 1)
+        (take live (at_numbers slots.now order.old.items))) }
+    requires room { HasRoomFor index.old (drop (k - 1)
+        (take live (at_numbers slots.now order.old.items))) }
     ensures ordered { IsOrder (length slots.now) order.new.items }
-    ensures count { result ≡ length (closure_of (take live (at_numbers slots.now order.old.items)) k) }
+    ensures count { result ≡ length (closure_of
+        (take live (at_numbers slots.now order.old.items)) k) }
     ensures moved { take live (at_numbers slots.now order.new.items)
-        ≡ without_closure (take live (at_numbers slots.now order.old.items)) k ++ closure_of (take live (at_numbers slots.now order.old.items)) k }
-    ensures behind { drop live (at_numbers slots.now order.new.items) ≡ drop live (at_numbers slots.now order.old.items) }
+        ≡ without_closure (take live (at_numbers slots.now order.old.items)) k
+        ++ closure_of (take live (at_numbers slots.now order.old.items)) k }
+    ensures behind { drop live (at_numbers slots.now order.new.items)
+        ≡ drop live (at_numbers slots.now order.old.items) }
     ensures order { vec_capacity order.new ≡ vec_capacity order.old }
     ensures none { gathered.new.items ≡ [] }
     ensures place { vec_capacity gathered.new ≡ vec_capacity gathered.old }
-    ensures index { IsIndexOf index.new (take (k - 1) (take live (at_numbers slots.now order.old.items))
+    ensures index { IsIndexOf index.new (take (k - 1)
+        (take live (at_numbers slots.now order.old.items))
         ++ closure_of (take live (at_numbers slots.now order.old.items)) k) }
-    ensures room { (rest : List SomeEntry) → HasRoomFor index.old (drop (k - 1) (take live (at_numbers slots.now order.old.items)) ++ rest)
-        → HasRoomFor index.new (drop (k - 1) (without_closure (take live (at_numbers slots.now order.old.items)) k) ++ rest) }
+    ensures room { (rest : List SomeEntry)
+        → HasRoomFor index.old (drop (k - 1) (take live (at_numbers slots.now order.old.items))
+        ++ rest)
+        → HasRoomFor index.new (drop (k - 1)
+        (without_closure (take live (at_numbers slots.now order.old.items)) k) ++ rest) }
 {
     let mut front = k - 1;
     let first = order[front];

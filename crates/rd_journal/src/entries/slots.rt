@@ -18,7 +18,8 @@ pub(crate) fn put_at(slots: &mut Vec<Entry>, order: &mut Vec<u32>, place: usize,
     requires number { place < vec_capacity order.old }
     ensures ordered { IsOrder (length slots.new.items) order.new.items }
     ensures put { at_numbers slots.new.items order.new.items
-        ≡ take place (at_numbers slots.old.items order.old.items) ++ entry.now ∷ drop (place + 1) (at_numbers slots.old.items order.old.items) }
+        ≡ take place (at_numbers slots.old.items order.old.items)
+        ++ entry.now ∷ drop (place + 1) (at_numbers slots.old.items order.old.items) }
     ensures within { place < length order.new.items }
     ensures longer { (n : ℕ) → place < n → length order.old.items ≤ n → length order.new.items ≤ n }
     ensures slots { vec_capacity slots.new ≡ vec_capacity slots.old }
@@ -38,7 +39,8 @@ pub(crate) fn make_room_in<T>(items: &mut Vec<T>, needed: usize) -> Result<(), A
     ensures items { items.new.items ≡ items.old.items }
     ensures ok { OnOk result (needed ≤ vec_capacity items.new) }
     ensures err { OnErr result (vec_capacity items.old < needed) }
-    ensures same { needed ≤ vec_capacity items.old → vec_capacity items.new ≡ vec_capacity items.old }
+    ensures same { needed ≤ vec_capacity items.old
+        → vec_capacity items.new ≡ vec_capacity items.old }
     ensures stays { vec_capacity items.old ≤ vec_capacity items.new }
 {
     if needed <= items.capacity() {

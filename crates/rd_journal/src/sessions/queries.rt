@@ -122,10 +122,12 @@ impl<const R: usize> Session<R> {
     /// Returns the session's world, to which the live events lead from its start.
     pub fn world(&self) -> &World<R>
         ensures value { model result.now ≡ (journal self.now).world }
-        ensures run { run_of (state self.now) ≡ Ok (record { world = model result.now; entries = (journal self.now).live }) }
+        ensures run { run_of (state self.now)
+            ≡ Ok (record { world = model result.now; entries = (journal self.now).live }) }
         ensures ring { (state self.now).start.ring ≡ R }
         ensures runs { IsRun (journal self.now) }
-        ensures few { length (journal self.now).live + length (journal self.now).undone ≤ MOST_STEPS }
+        ensures few { length (journal self.now).live + length (journal self.now).undone
+            ≤ MOST_STEPS }
     {
         &self.world
     }

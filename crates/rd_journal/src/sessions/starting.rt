@@ -16,8 +16,10 @@ use rd_step::World;
 pub(super) fn undo_after<const R: usize>(world: &mut World<R>, steps: &EntryList, n: usize)
     requires within { n ≤ length steps.now }
     requires leads { (start : Model) × LeadsTo start (model world.old) steps.now }
-    ensures leads { (start : Model) → LeadsTo start (model world.old) steps.now → LeadsTo start (model world.new) (take n steps.now) }
-    ensures room { (m : ℕ) → room world.old m + room_returned_by (drop n steps.now) m ≤ room world.new m }
+    ensures leads { (start : Model) → LeadsTo start (model world.old) steps.now
+        → LeadsTo start (model world.new) (take n steps.now) }
+    ensures room { (m : ℕ) → room world.old m + room_returned_by (drop n steps.now) m
+        ≤ room world.new m }
 {
     for last in (n..steps.len()).rev() {
         unstep(world, steps.at(last));
@@ -29,8 +31,10 @@ pub(super) fn undo_after<const R: usize>(world: &mut World<R>, steps: &EntryList
 pub(super) fn step_all<const R: usize>(world: &mut World<R>, steps: &EntryList)
     requires runs { IsRunFrom (model world.old) steps.now }
     requires room { HasRoom steps.now (room world.old) }
-    ensures ran { run (model world.old) (events steps.now) ≡ Ok (record { world = model world.new; entries = steps.now }) }
-    ensures room { (rest : List SomeEntry) → HasRoom (steps.now ++ rest) (room world.old) → HasRoom rest (room world.new) }
+    ensures ran { run (model world.old) (events steps.now)
+        ≡ Ok (record { world = model world.new; entries = steps.now }) }
+    ensures room { (rest : List SomeEntry) → HasRoom (steps.now ++ rest) (room world.old)
+        → HasRoom rest (room world.new) }
 {
     for next in 0..steps.len() {
         world.step_again(steps.at(next));

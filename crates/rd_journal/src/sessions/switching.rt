@@ -36,9 +36,11 @@ impl<const R: usize> Session<R> {
         ensures makings { OnOk result (HasRoomForAll (journal self.new).world given.now
             (room_without (drop kept (journal self.new).live) (room self.new))) }
         ensures err { IfErr result (λ refusal. (refusal ≡ Refusal.NoMemory)
-            × LacksRoom kept (journal self.old) given.now (capacity self.old) (room self.old) (index self.old)) }
+            × LacksRoom kept (journal self.old) given.now (capacity self.old) (room self.old)
+            (index self.old)) }
         ensures succeeds { given.now ≡ [] → IsOk result }
-        ensures capacity { kept + length given.now ≤ capacity self.old → capacity self.new ≡ capacity self.old }
+        ensures capacity { kept + length given.now ≤ capacity self.old
+            → capacity self.new ≡ capacity self.old }
         ensures unchanged { KeepsItsSteps self.old self.new }
         ensures index { index self.new ≡ index self.old }
     {
@@ -60,12 +62,18 @@ impl<const R: usize> Session<R> {
     pub(super) fn exchange(&mut self, n: usize, given: &[Entry]) -> Result<(), Refusal>
         requires within { n ≤ length (journal self.old).live }
         requires few { n + length given.now ≤ MOST_STEPS }
-        requires run { IsRunFrom (journal self.old).start (take n (journal self.old).live ++ given.now) }
+        requires run { IsRunFrom (journal self.old).start
+            (take n (journal self.old).live ++ given.now) }
         requires capacity { n + length given.now ≤ capacity self.old }
-        requires makings { HasRoomForAll (journal self.old).world given.now (room_without (drop n (journal self.old).live) (room self.old)) }
-        ensures entries { OnOk result (IsSwitched n given.now (journal self.old) (journal self.new)) }
-        ensures state { OnOk result (state self.new ≡ switch (state self.old) n (events given.now)) }
-        ensures err { IfErr result (λ refusal. (refusal ≡ Refusal.NoMemory) × LacksIndexRoom (index self.old) (drop n (journal self.old).live ++ (journal self.old).undone) given.now) }
+        requires makings { HasRoomForAll (journal self.old).world given.now
+            (room_without (drop n (journal self.old).live) (room self.old)) }
+        ensures entries { OnOk result (IsSwitched n given.now (journal self.old)
+            (journal self.new)) }
+        ensures state { OnOk result (state self.new
+            ≡ switch (state self.old) n (events given.now)) }
+        ensures err { IfErr result (λ refusal. (refusal ≡ Refusal.NoMemory)
+            × LacksIndexRoom (index self.old)
+            (drop n (journal self.old).live ++ (journal self.old).undone) given.now) }
         ensures unchanged { OnErr result (KeepsItsSteps self.old self.new) }
         ensures capacity { capacity self.new ≡ capacity self.old }
     {
@@ -80,7 +88,8 @@ impl<const R: usize> Session<R> {
     /// Makes the next `n` steps ahead again, after which no step is undone.
     pub(super) fn redo_ahead(&mut self, n: usize)
         requires within { n ≤ length (ahead_entries self.old.entries) }
-        ensures entries { IsSwitched (length (journal self.old).live) (take n (ahead_entries self.old.entries)) (journal self.old) (journal self.new) }
+        ensures entries { IsSwitched (length (journal self.old).live)
+            (take n (ahead_entries self.old.entries)) (journal self.old) (journal self.new) }
         ensures start { (journal self.new).start ≡ (journal self.old).start }
         ensures along { GoesAlong self.old self.new }
     {
@@ -100,8 +109,10 @@ fn make_room_for_makings<const R: usize>(
     dropped: &EntryList,
     given: &[Entry],
 ) -> Result<(), Refusal>
-    ensures ok { OnOk result (HasRoomForAll (model world.new) given.now (room_without dropped.now (world_room world.new))) }
-    ensures err { IfErr result (λ refusal. (refusal ≡ Refusal.NoMemory) × LacksRoomForMakings given.now (room_without dropped.now (world_room world.old))) }
+    ensures ok { OnOk result (HasRoomForAll (model world.new) given.now
+        (room_without dropped.now (world_room world.new))) }
+    ensures err { IfErr result (λ refusal. (refusal ≡ Refusal.NoMemory)
+        × LacksRoomForMakings given.now (room_without dropped.now (world_room world.old))) }
     ensures succeeds { given.now ≡ [] → IsOk result }
     ensures unchanged { model world.new ≡ model world.old }
     ensures room { (m : ℕ) → world_room world.old m ≤ world_room world.new m }
@@ -130,7 +141,8 @@ fn makings_of(entries: &[Entry]) -> [usize; ACTOR_NUMBERS]
 /// Returns, for each actor's number, the given number of makings without as many as that actor has
 /// among the dropped entries; 0 if those are more.
 fn makings_missing(dropped: &EntryList, given: [usize; ACTOR_NUMBERS]) -> [usize; ACTOR_NUMBERS]
-    ensures { (m : ℕ) → m < ACTOR_NUMBERS → get_or result m 0 ≡ get_or given m 0 - room_returned_by dropped.now m }
+    ensures { (m : ℕ) → m < ACTOR_NUMBERS
+        → get_or result m 0 ≡ get_or given m 0 - room_returned_by dropped.now m }
 {
     let mut counts = given;
     for position in 0..dropped.len() {

@@ -56,7 +56,8 @@ pub(super) fn puts(
 pub(super) fn returns(lock: &TicketLock<Numbers>, pass: &mut Pass<Numbers>, numbers: Numbers)
     requires own { IsPassOf lock.now pass.old }
     requires holds { (ticket : ℕ) × IsHolding pass.old ticket numbers.entries.items }
-    ensures own { IsPassOf lock.now pass.new × IsOut pass.new × (number pass.new ≡ number pass.old) }
+    ensures own { IsPassOf lock.now pass.new × IsOut pass.new
+        × (number pass.new ≡ number pass.old) }
 {
     lock.put_back(pass, numbers);
 }

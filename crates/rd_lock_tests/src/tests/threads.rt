@@ -34,7 +34,8 @@ fn work_both<R: Abort + Threads + Wait + Sync>(
             ensures { IsPassOf lock.entry.now result × IsOut result }
         { works(rt, lock, one, who, TAKES) },
         move || -> Pass<Numbers>
-            requires { IsSync R.row × IsPassOf lock.now other × IsOut other × (number other ≡ whose) }
+            requires { IsSync R.row × IsPassOf lock.now other × IsOut other
+                × (number other ≡ whose) }
             ensures { IsPassOf lock.entry.now result × IsOut result }
         { works(rt, lock, other, whose, TAKES) },
     )
@@ -64,12 +65,16 @@ fn work_all<R: Abort + Threads + Wait + Sync>(
     join(
         rt,
         move || -> (Pass<Numbers>, Pass<Numbers>)
-            requires { IsSync R.row × IsPassOf lock.now one × IsOut one × (number one ≡ 1) × IsPassOf lock.now two × IsOut two × (number two ≡ 2) }
-            ensures { IsPassOf lock.entry.now result.0 × IsOut result.0 × IsPassOf lock.entry.now result.1 × IsOut result.1 }
+            requires { IsSync R.row × IsPassOf lock.now one × IsOut one × (number one ≡ 1)
+                × IsPassOf lock.now two × IsOut two × (number two ≡ 2) }
+            ensures { IsPassOf lock.entry.now result.0 × IsOut result.0
+                × IsPassOf lock.entry.now result.1 × IsOut result.1 }
         { work_both(rt, lock, one, two, 1, 2) },
         move || -> (Pass<Numbers>, Pass<Numbers>)
-            requires { IsSync R.row × IsPassOf lock.now three × IsOut three × (number three ≡ 3) × IsPassOf lock.now four × IsOut four × (number four ≡ 4) }
-            ensures { IsPassOf lock.entry.now result.0 × IsOut result.0 × IsPassOf lock.entry.now result.1 × IsOut result.1 }
+            requires { IsSync R.row × IsPassOf lock.now three × IsOut three × (number three ≡ 3)
+                × IsPassOf lock.now four × IsOut four × (number four ≡ 4) }
+            ensures { IsPassOf lock.entry.now result.0 × IsOut result.0
+                × IsPassOf lock.entry.now result.1 × IsOut result.1 }
         { work_both(rt, lock, three, four, 3, 4) },
     )
 }

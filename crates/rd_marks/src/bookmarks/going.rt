@@ -35,13 +35,20 @@ impl Bookmarks {
         requires run { AreEntriesOfRun (state session.old).start (entries_in self.old node) }
         requires stands { Begins (events (here_in self.old)) (track session.old) }
         ensures ok { OnOk result (state session.new
-            ≡ record { start = (state session.old).start; live = events (entries_in self.old node); undone = [] }) }
+            ≡ record {
+              start = (state session.old).start;
+              live = events (entries_in self.old node);
+              undone = [];
+            }) }
         ensures lists { lists_in self.new ≡ lists_in self.old }
         ensures stands { Begins (events (here_in self.new)) (track session.new) }
         ensures err { IfErr result (λ refusal. (refusal ≡ Refusal.NoMemory)
-            × (LacksRoomFor session.old (events (entries_in self.old node)) ⊎ IsInPieces self.old node)) }
-        ensures succeeds { Begins (events (entries_in self.old node)) (state session.old).live → IsOk result }
-        ensures along { Begins (events (entries_in self.old node)) (events (here_in self.old)) → IsOk result }
+            × (LacksRoomFor session.old (events (entries_in self.old node))
+            ⊎ IsInPieces self.old node)) }
+        ensures succeeds { Begins (events (entries_in self.old node)) (state session.old).live
+            → IsOk result }
+        ensures along { Begins (events (entries_in self.old node)) (events (here_in self.old))
+            → IsOk result }
         ensures unchanged { OnErr result (journal session.new ≡ journal session.old) }
     {
         if self.stretches.common(self.here, node) == node.number {
@@ -71,13 +78,21 @@ fn switch_to<const R: usize>(
 ) -> Result<(), Refusal>
     requires here { IsWithin stretches.now.list.items here }
     requires within { IsWithin stretches.now.list.items node }
-    requires run { AreEntriesOfRun (state session.old).start (entries_at stretches.now.list.items node) }
-    requires stands { Begins (events (entries_at stretches.now.list.items here)) (track session.old) }
+    requires run { AreEntriesOfRun (state session.old).start
+        (entries_at stretches.now.list.items node) }
+    requires stands { Begins (events (entries_at stretches.now.list.items here))
+        (track session.old) }
     ensures ok { OnOk result (state session.new
-        ≡ record { start = (state session.old).start; live = events (entries_at stretches.now.list.items node); undone = [] }) }
+        ≡ record {
+          start = (state session.old).start;
+          live = events (entries_at stretches.now.list.items node);
+          undone = [];
+        }) }
     ensures err { IfErr result (λ refusal. (refusal ≡ Refusal.NoMemory)
-        × (LacksRoomFor session.old (events (entries_at stretches.now.list.items node)) ⊎ AreInPieces stretches.now.list.items node)) }
-    ensures succeeds { Begins (events (entries_at stretches.now.list.items node)) (state session.old).live → IsOk result }
+        × (LacksRoomFor session.old (events (entries_at stretches.now.list.items node))
+        ⊎ AreInPieces stretches.now.list.items node)) }
+    ensures succeeds { Begins (events (entries_at stretches.now.list.items node))
+        (state session.old).live → IsOk result }
     ensures unchanged { OnErr result (journal session.new ≡ journal session.old) }
     ensures track { OnErr result (track session.new ≡ track session.old) }
 {

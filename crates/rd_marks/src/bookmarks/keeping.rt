@@ -19,7 +19,8 @@ pub(super) fn put(names: &mut IndexMap<MarkName, Node>, name: MarkName, grown: G
     requires new { lookup (mark_name_eq name) names.old.entries ≡ None }
     requires room { 0 < spare names.old }
     requires low { All (λ m. IsLow m.1) names.old.entries }
-    ensures { names.new.entries ≡ map (λ m. (m.0, shifted grown.shift m.1)) names.old.entries ++ (name, grown.node) ∷ [] }
+    ensures { names.new.entries ≡ map (λ m. (m.0, shifted grown.shift m.1)) names.old.entries
+        ++ (name, grown.node) ∷ [] }
 {
     move_all(names, grown.shift);
     match names.insert(name, grown.node) {
@@ -51,7 +52,8 @@ pub(super) fn prune(
 )
     requires within { All (λ m. IsWithin stretches.old.list.items m.1) names.old.entries }
     requires here { IsWithin stretches.old.list.items here.old }
-    ensures pruned { IsPruned 0 stretches.old.list.items stretches.new.list.items names.old.entries names.new.entries here.old here.new }
+    ensures pruned { IsPruned 0 stretches.old.list.items stretches.new.list.items
+        names.old.entries names.new.entries here.old here.new }
     ensures room { spare names.new ≡ spare names.old }
 {
     let mut i = stretches.len();
@@ -68,7 +70,8 @@ fn trim(stretches: &mut Stretches, names: &mut IndexMap<MarkName, Node>, here: &
     requires within { All (λ m. IsWithin stretches.old.list.items m.1) names.old.entries }
     requires here { IsWithin stretches.old.list.items here.old }
     requires needed { AreNeededFrom (suc i) stretches.old.list.items (nodes_of names.old.entries) }
-    ensures pruned { IsPruned i stretches.old.list.items stretches.new.list.items names.old.entries names.new.entries here.old here.new }
+    ensures pruned { IsPruned i stretches.old.list.items stretches.new.list.items
+        names.old.entries names.new.entries here.old here.new }
     ensures below { i ≤ length stretches.new.list.items }
     ensures room { spare names.new ≡ spare names.old }
 {

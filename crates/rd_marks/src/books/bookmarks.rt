@@ -14,8 +14,10 @@ impl<const R: usize> Book<R> {
 
     /// Sets a bookmark. Returns how many steps are live.
     pub(super) fn answer_mark(&mut self, name: MarkName) -> Result<Reply, Refusal>
-        ensures answer { IsObeyed (book_state self.old) (command.Mark name) (record { answer = result; state = book_state self.new }) }
-        ensures succeeds { NeedsNoMemory (book_state self.old) (name_room self.old) (command.Mark name) → IsOk result }
+        ensures answer { IsObeyed (book_state self.old) (command.Mark name)
+            (record { answer = result; state = book_state self.new }) }
+        ensures succeeds { NeedsNoMemory (book_state self.old) (name_room self.old)
+            (command.Mark name) → IsOk result }
     {
         self.mark(name)?;
         Ok(Reply::Marked(self.session.len()))
@@ -23,7 +25,8 @@ impl<const R: usize> Book<R> {
 
     /// Drops a bookmark. Returns the reply that it was dropped.
     pub(super) fn answer_drop_mark(&mut self, name: MarkName) -> Result<Reply, Refusal>
-        ensures { IsObeyed (book_state self.old) (command.DropMark name) (record { answer = result; state = book_state self.new }) }
+        ensures { IsObeyed (book_state self.old) (command.DropMark name)
+            (record { answer = result; state = book_state self.new }) }
     {
         self.drop_mark(name)?;
         Ok(Reply::Dropped)
@@ -32,7 +35,8 @@ impl<const R: usize> Book<R> {
     /// Goes to a bookmark. Returns how many steps are live and undone then.
     #[tactic(auto, using(rd_step::proofs::PassedUp::error_passed_up))]
     pub(super) fn answer_goto_mark(&mut self, name: MarkName) -> Result<Reply, Refusal>
-        ensures answer { IsObeyed (book_state self.old) (command.GotoMark name) (record { answer = result; state = book_state self.new }) }
+        ensures answer { IsObeyed (book_state self.old) (command.GotoMark name)
+            (record { answer = result; state = book_state self.new }) }
         ensures memory { IfErr result (MayRefuseToGo self.old name) }
     {
         self.goto_mark(name)?;

@@ -13,7 +13,8 @@ impl<const R: usize> Book<R> {
 
     /// Undoes the live step of this number alone. Returns how many steps are live and undone then.
     pub(super) fn answer_undo_at(&mut self, k: u64) -> Result<Reply, Refusal>
-        ensures { IsObeyed (book_state self.old) (command.UndoAt k) (record { answer = result; state = book_state self.new }) }
+        ensures { IsObeyed (book_state self.old) (command.UndoAt k)
+            (record { answer = result; state = book_state self.new }) }
     {
         self.session.undo_at(k)?;
         self.bookmarks.cut_here(k.saturating_sub(1) as usize);
@@ -23,7 +24,8 @@ impl<const R: usize> Book<R> {
     /// Undoes the live step of this number and just the later ones that depend on it. Returns how
     /// many steps are live and undone then.
     pub(super) fn answer_roll(&mut self, k: u64) -> Result<Reply, Refusal>
-        ensures { IsObeyed (book_state self.old) (command.Roll k) (record { answer = result; state = book_state self.new }) }
+        ensures { IsObeyed (book_state self.old) (command.Roll k)
+            (record { answer = result; state = book_state self.new }) }
     {
         self.session.roll(k)?;
         self.bookmarks.cut_here(k.saturating_sub(1) as usize);
@@ -33,7 +35,8 @@ impl<const R: usize> Book<R> {
     /// Undoes the last `n` live steps, all or none. Returns how many steps are live and undone
     /// then.
     pub(super) fn answer_back(&mut self, n: u64) -> Result<Reply, Refusal>
-        ensures { IsObeyed (book_state self.old) (command.Back n) (record { answer = result; state = book_state self.new }) }
+        ensures { IsObeyed (book_state self.old) (command.Back n)
+            (record { answer = result; state = book_state self.new }) }
     {
         let done = self.session.back(n);
         self.counts_after(done)
@@ -42,7 +45,8 @@ impl<const R: usize> Book<R> {
     /// Makes the `n` steps again that were undone last, all or none. Returns how many steps are
     /// live and undone then.
     pub(super) fn answer_forward(&mut self, n: u64) -> Result<Reply, Refusal>
-        ensures { IsObeyed (book_state self.old) (command.Forward n) (record { answer = result; state = book_state self.new }) }
+        ensures { IsObeyed (book_state self.old) (command.Forward n)
+            (record { answer = result; state = book_state self.new }) }
     {
         let done = self.session.forward(n);
         self.counts_after(done)

@@ -29,9 +29,12 @@ impl<const R: usize> Book<R> {
     /// then.
     #[tactic(auto, using(crate::proofs::ObeyLemmas::no_event_refused))]
     pub fn obey(&mut self, command: Command) -> Result<Reply, Refusal>
-        ensures answer { IsObeyed (book_state self.old) command (record { answer = result; state = book_state self.new }) }
-        ensures succeeds { NeedsNoMemory (book_state self.old) (name_room self.old) command → IsOk result }
-        ensures memory { IfErr result (λ refusal. (event : Happening) → as_event command ≡ Some event → MayRefuse (session_of self.old) event refusal) }
+        ensures answer { IsObeyed (book_state self.old) command
+            (record { answer = result; state = book_state self.new }) }
+        ensures succeeds { NeedsNoMemory (book_state self.old) (name_room self.old) command
+            → IsOk result }
+        ensures memory { IfErr result (λ refusal. (event : Happening)
+            → as_event command ≡ Some event → MayRefuse (session_of self.old) event refusal) }
         ensures room { ForErr result (MayRefuseAsGoing self.old command) }
         ensures start { (book_state self.new).session.start ≡ (book_state self.old).session.start }
         ensures unchanged { OnErr result (book_state self.new ≡ book_state self.old) }
@@ -85,7 +88,9 @@ impl<const R: usize> Book<R> {
         alloc: Global,
         commands: &[Command],
     ) -> Result<Vec<Result<Reply, Refusal>>, Refusal>
-        ensures headline { IfOk result (λ answers. Headline (book_state self.old) commands.now answers.items (book_state self.new) (journal (session_of self.new))) }
+        ensures headline { IfOk result (λ answers.
+            Headline (book_state self.old) commands.now answers.items (book_state self.new)
+            (journal (session_of self.new))) }
         ensures err { IfErr result (λ refusal. refusal ≡ Refusal.NoMemory) }
         ensures succeeds { commands.now ≡ [] → IsOk result }
         ensures start { (book_state self.new).session.start ≡ (book_state self.old).session.start }
@@ -105,8 +110,10 @@ impl<const R: usize> Book<R> {
     /// Makes an event of this actor happen, and returns the reply to its command.
     #[tactic(auto, using(rd_step::proofs::PassedUp::error_passed_up, rd_step::proofs::PassedUp::fact_passed_up, crate::proofs::AnswerLemmas::event_passed_up))]
     fn answer_event(&mut self, actor: u8, act: Act) -> Result<Reply, Refusal>
-        ensures happens { Happened (book_state self.old) (record { actor = actor; act = act }) (record { answer = result; state = book_state self.new }) }
-        ensures memory { IfErr result (MayRefuse (session_of self.old) (record { actor = actor; act = act })) }
+        ensures happens { Happened (book_state self.old) (record { actor = actor; act = act })
+            (record { answer = result; state = book_state self.new }) }
+        ensures memory { IfErr result (MayRefuse (session_of self.old)
+            (record { actor = actor; act = act })) }
         ensures start { (book_state self.new).session.start ≡ (book_state self.old).session.start }
         ensures unchanged { OnErr result (book_state self.new ≡ book_state self.old) }
     {

@@ -61,7 +61,8 @@ impl<const R: usize> Book<R> {
     /// stay. It takes no memory.
     pub fn keep_first(&mut self, n: u64)
         requires within { n ≤ length (book_state self.old).session.live }
-        ensures { book_state self.new ≡ at_events (book_state self.old) (take n (book_state self.old).session.live) }
+        ensures { book_state self.new ≡ at_events (book_state self.old)
+            (take n (book_state self.old).session.live) }
     {
         self.session.go_along(n);
     }

@@ -95,7 +95,8 @@ impl Stretches {
         requires few { length live.now ≤ MOST_STEPS }
         requires along { IsAlong self.old.list.items at.stretch at.number (events live.now) }
         requires deepest { IsDeepest self.old.list.items at.number (events live.now) }
-        ensures ok { IfOk result (λ grown. IsGrown self.old.list.items self.new.list.items at live.now grown) }
+        ensures ok { IfOk result
+            (λ grown. IsGrown self.old.list.items self.new.list.items at live.now grown) }
         ensures err { OnErr result (KeepsItsSteps self.old.list.items self.new.list.items) }
         ensures succeeds { at.number ≡ length live.now → IsOk result }
     {
@@ -135,7 +136,8 @@ impl Stretches {
         requires few { length live.now ≤ MOST_STEPS }
         requires along { IsAlong self.old.list.items at.stretch at.number (events live.now) }
         requires deepest { IsDeepest self.old.list.items at.number (events live.now) }
-        ensures ok { IfOk result (λ grown. IsGrown self.old.list.items self.new.list.items at live.now grown) }
+        ensures ok { IfOk result
+            (λ grown. IsGrown self.old.list.items self.new.list.items at live.now grown) }
         ensures err { OnErr result (KeepsItsSteps self.old.list.items self.new.list.items) }
     {
         let rest = live.after(at.number);
@@ -160,7 +162,8 @@ impl Stretches {
         requires few { length live.now ≤ MOST_STEPS }
         requires along { IsAlong self.old.list.items at.stretch at.number (events live.now) }
         requires deepest { IsDeepest self.old.list.items at.number (events live.now) }
-        ensures ok { IfOk result (λ grown. IsGrown self.old.list.items self.new.list.items at live.now grown) }
+        ensures ok { IfOk result
+            (λ grown. IsGrown self.old.list.items self.new.list.items at live.now grown) }
         ensures err { OnErr result (KeepsItsSteps self.old.list.items self.new.list.items) }
     {
         let i = self.next_off(at);
@@ -191,7 +194,8 @@ impl Stretches {
         ensures first { 0 < length self.now.list.items → 0 < result }
         ensures shares { shared_at self.now.list.items result ≤ at.number }
         ensures within { at.number ≤ length (list_before self.now.list.items result) }
-        ensures same { take at.number (list_before self.now.list.items result) ≡ entries_at self.now.list.items at }
+        ensures same { take at.number (list_before self.now.list.items result)
+            ≡ entries_at self.now.list.items at }
     {
         for i in at.stretch..self.list.len() {
             if self.shared(i) <= at.number && i > at.stretch {
@@ -228,7 +232,8 @@ impl Stretches {
 fn append(entries: &mut Vec<Entry>, more: &EntryList) -> Result<(), AllocError>
     ensures ok { OnOk result (entries.new.items ≡ entries.old.items ++ more.now) }
     ensures err { OnErr result (entries.new.items ≡ entries.old.items) }
-    ensures succeeds { length entries.old.items + length more.now ≤ vec_capacity entries.old → IsOk result }
+    ensures succeeds { length entries.old.items + length more.now ≤ vec_capacity entries.old
+        → IsOk result }
 {
     entries.reserve(more.len())?;
     for index in 0..more.len() {

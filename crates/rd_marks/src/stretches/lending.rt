@@ -51,7 +51,8 @@ impl Stretches {
     ) -> Result<CowSlice<'_, Entry>, AllocError>
         requires present { IsWithin self.now.list.items of }
         requires within { n ≤ of.number }
-        ensures ok { IfOk result (λ entries. cow_slice_items entries ≡ drop n (entries_at self.now.list.items of)) }
+        ensures ok { IfOk result (λ entries. cow_slice_items entries
+            ≡ drop n (entries_at self.now.list.items of)) }
         ensures err { OnErr result (AreInPieces self.now.list.items of) }
         ensures succeeds { of.number ≡ n → IsOk result }
     {
@@ -68,8 +69,10 @@ impl Stretches {
         requires present { IsWithin self.now.list.items of }
         requires own { IsOwn self.now.list.items of }
         requires within { n ≤ of.number }
-        ensures lent { IfSome result (λ entries. entries.now ≡ drop n (entries_at self.now.list.items of)) }
-        ensures found { n < of.number → shared_at self.now.list.items of.stretch ≤ n → IsSome result }
+        ensures lent { IfSome result (λ entries. entries.now
+            ≡ drop n (entries_at self.now.list.items of)) }
+        ensures found { n < of.number → shared_at self.now.list.items of.stretch ≤ n
+            → IsSome result }
     {
         let stretch = self.list.get(of.stretch)?;
         if n < stretch.shared {
@@ -87,7 +90,8 @@ impl Stretches {
     fn copy(&self, alloc: Global, of: Node, n: usize) -> Result<Vec<Entry>, AllocError>
         requires present { IsWithin self.now.list.items of }
         requires within { n ≤ of.number }
-        ensures ok { IfOk result (λ entries. entries.items ≡ drop n (entries_at self.now.list.items of)) }
+        ensures ok { IfOk result (λ entries. entries.items
+            ≡ drop n (entries_at self.now.list.items of)) }
         ensures succeeds { of.number ≡ n → IsOk result }
     {
         let mut entries = Vec::with_capacity(alloc, of.number - n)?;

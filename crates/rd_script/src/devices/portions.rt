@@ -58,7 +58,8 @@ impl Portion {
     /// Replaces the portion's bytes by the next ones of the reader, none only at the reader's end.
     /// Fails if the reader fails.
     pub fn fill<R: Read>(&mut self, reader: &mut R) -> Result<(), ReadFault>
-        ensures ok { OnOk result (Consumes (R.remaining reader.old) (R.remaining reader.new) (pending_bytes self.new)) }
+        ensures ok { OnOk result (Consumes (R.remaining reader.old) (R.remaining reader.new)
+            (pending_bytes self.new)) }
         ensures end { OnOk result (pending_bytes self.new ≡ [] → IsAtEnd (R.remaining reader.new)) }
         ensures err { OnErr result (Keeps (R.remaining reader.old) (R.remaining reader.new)) }
         ensures none { OnErr result (pending_bytes self.new ≡ []) }
@@ -81,7 +82,8 @@ fn read_some<R: Read>(reader: &mut R, bytes: &mut [u8]) -> io::Result<usize>
     requires room { 0 < length bytes.old }
     ensures len { length bytes.new ≡ length bytes.old }
     ensures count { IfOk result (λ n. n ≤ length bytes.new) }
-    ensures ok { IfOk result (λ n. Consumes (R.remaining reader.old) (R.remaining reader.new) (take n bytes.new)) }
+    ensures ok { IfOk result (λ n. Consumes (R.remaining reader.old) (R.remaining reader.new)
+        (take n bytes.new)) }
     ensures end { IfOk result (λ n. n ≡ 0 → IsAtEnd (R.remaining reader.new)) }
     ensures err { OnErr result (Keeps (R.remaining reader.old) (R.remaining reader.new)) }
     ensures retried { IfErr result (λ error. error_kind error ≢ ErrorKind.Interrupted) }

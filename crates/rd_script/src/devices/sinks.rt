@@ -25,7 +25,8 @@ pub trait Sink {
         requires working { has_failed self.old ≡ false }
         requires some { 0 < length given.now }
         ensures count { IfOk result (λ n. (0 < n) × (n ≤ length given.now)) }
-        ensures takes { IfOk result (λ n. Appends (contents self.old) (contents self.new) (take n given.now)) }
+        ensures takes { IfOk result (λ n. Appends (contents self.old) (contents self.new)
+            (take n given.now)) }
         ensures keeps { OnErr result (Keeps (contents self.old) (contents self.new)) }
         ensures works { OnOk result (has_failed self.new ≡ false) }
         ensures fails { OnErr result (has_failed self.new ≡ true) };
@@ -36,7 +37,8 @@ pub trait Sink {
 pub fn write_all<K: Sink>(writer: &mut K, text: &[u8]) -> Result<(), WriteFault>
     requires { K.has_failed writer.old ≡ false }
     ensures ok { OnOk result (Appends (K.contents writer.old) (K.contents writer.new) text.now) }
-    ensures err { OnErr result (TakesBeginning (K.contents writer.old) (K.contents writer.new) text.now) }
+    ensures err { OnErr result (TakesBeginning (K.contents writer.old)
+        (K.contents writer.new) text.now) }
     ensures works { OnOk result (K.has_failed writer.new ≡ false) }
     ensures fails { OnErr result (K.has_failed writer.new ≡ true) }
 {
@@ -89,7 +91,8 @@ impl<W: Write> Sink for WriteSink<W> {
 fn write_some<W: Write>(writer: &mut W, given: &[u8]) -> io::Result<usize>
     requires some { 0 < length given.now }
     ensures count { IfOk result (λ n. (0 < n) × (n ≤ length given.now)) }
-    ensures ok { IfOk result (λ n. Appends (W.contents writer.old) (W.contents writer.new) (take n given.now)) }
+    ensures ok { IfOk result (λ n. Appends (W.contents writer.old) (W.contents writer.new)
+        (take n given.now)) }
     ensures err { OnErr result (Keeps (W.contents writer.old) (W.contents writer.new)) }
     ensures retried { IfErr result (λ error. error_kind error ≢ ErrorKind.Interrupted) }
 {

@@ -18,7 +18,8 @@ use rd_marks::MarkName;
 /// words, or the word spells no such number.
 pub fn byte_alone(words: &[&[u8]]) -> Option<u8>
     ensures some { IfSome result (λ n. map (λ word. word.now) words.now ≡ decimal n ∷ []) }
-    ensures none { IfNone result ((n : ℕ) → n < 256 → map (λ word. word.now) words.now ≢ decimal n ∷ []) }
+    ensures none { IfNone result ((n : ℕ) → n < 256
+        → map (λ word. word.now) words.now ≢ decimal n ∷ []) }
 {
     let [number] = words else {
         return None;
@@ -30,7 +31,8 @@ pub fn byte_alone(words: &[&[u8]]) -> Option<u8>
 /// of words, or the word spells no such number.
 pub fn number_alone(words: &[&[u8]]) -> Option<u64>
     ensures some { IfSome result (λ n. map (λ word. word.now) words.now ≡ decimal n ∷ []) }
-    ensures none { IfNone result ((n : ℕ) → n < 2 ^ 64 → map (λ word. word.now) words.now ≢ decimal n ∷ []) }
+    ensures none { IfNone result ((n : ℕ) → n < 2 ^ 64
+        → map (λ word. word.now) words.now ≢ decimal n ∷ []) }
 {
     let [number] = words else {
         return None;
@@ -40,8 +42,10 @@ pub fn number_alone(words: &[&[u8]]) -> Option<u64>
 
 /// Returns the actor and the value that these words spell; none if they are not just these two.
 pub fn actor_and_value(words: &[&[u8]]) -> Option<(u8, u64)>
-    ensures some { IfSome result (λ r. map (λ word. word.now) words.now ≡ decimal r.0 ∷ decimal r.1 ∷ []) }
-    ensures none { IfNone result ((actor x : ℕ) → actor < 256 → x < 2 ^ 64 → map (λ word. word.now) words.now ≢ decimal actor ∷ decimal x ∷ []) }
+    ensures some { IfSome result (λ r. map (λ word. word.now) words.now
+        ≡ decimal r.0 ∷ decimal r.1 ∷ []) }
+    ensures none { IfNone result ((actor x : ℕ) → actor < 256 → x < 2 ^ 64
+        → map (λ word. word.now) words.now ≢ decimal actor ∷ decimal x ∷ []) }
 {
     let [actor, value] = words else {
         return None;
@@ -51,8 +55,10 @@ pub fn actor_and_value(words: &[&[u8]]) -> Option<(u8, u64)>
 
 /// Returns the actor and its choice that these words spell; none if they are not just these two.
 pub fn actor_and_choice(words: &[&[u8]]) -> Option<(u8, bool)>
-    ensures some { IfSome result (λ r. map (λ word. word.now) words.now ≡ decimal r.0 ∷ yes_or_no r.1 ∷ []) }
-    ensures none { IfNone result ((actor : ℕ) (choice : Bool) → actor < 256 → map (λ word. word.now) words.now ≢ decimal actor ∷ yes_or_no choice ∷ []) }
+    ensures some { IfSome result (λ r. map (λ word. word.now) words.now
+        ≡ decimal r.0 ∷ yes_or_no r.1 ∷ []) }
+    ensures none { IfNone result ((actor : ℕ) (choice : Bool) → actor < 256
+        → map (λ word. word.now) words.now ≢ decimal actor ∷ yes_or_no choice ∷ []) }
 {
     let [actor, choice] = words else {
         return None;
@@ -80,7 +86,8 @@ fn choice_in(word: &[u8]) -> Option<bool>
 ///
 /// `BadLine` if there is not exactly one word; else `BadName` if it is no bookmark's name.
 pub fn name_alone(words: &[&[u8]]) -> Result<MarkName, LineFault>
-    ensures ok { IfOk result (λ name. (is_mark_name (bytes_of name) ≡ true) × (map (λ word. word.now) words.now ≡ bytes_of name ∷ [])) }
+    ensures ok { IfOk result (λ name. (is_mark_name (bytes_of name) ≡ true)
+        × (map (λ word. word.now) words.now ≡ bytes_of name ∷ [])) }
     ensures err { IfErr result (AreNoNames 1 (map (λ word. word.now) words.now)) }
 {
     let [name] = words else {
@@ -95,7 +102,8 @@ pub fn name_alone(words: &[&[u8]]) -> Result<MarkName, LineFault>
 ///
 /// `BadLine` if there are not two words; else `BadName` if one of them is no bookmark's name.
 pub fn two_names(words: &[&[u8]]) -> Result<(MarkName, MarkName), LineFault>
-    ensures ok { IfOk result (λ r. ((is_mark_name (bytes_of r.0) ≡ true) × (is_mark_name (bytes_of r.1) ≡ true))
+    ensures ok { IfOk result (λ r. ((is_mark_name (bytes_of r.0) ≡ true)
+        × (is_mark_name (bytes_of r.1) ≡ true))
         × (map (λ word. word.now) words.now ≡ bytes_of r.0 ∷ bytes_of r.1 ∷ [])) }
     ensures err { IfErr result (AreNoNames 2 (map (λ word. word.now) words.now)) }
 {

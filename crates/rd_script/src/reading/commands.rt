@@ -30,7 +30,8 @@ pub const MOST_LINE_BYTES: usize = 256;
 /// bookmark's name.
 pub fn command_in(line: &[u8]) -> Result<Command, LineFault>
     ensures says { Says line.now result }
-    ensures one { (c : SomeCommand) → length line.now ≤ most_line_bytes → IsInRange c → line.now ≡ spelling c → IsOkAnd result (λ d. AreOne c d) }
+    ensures one { (c : SomeCommand) → length line.now ≤ most_line_bytes → IsInRange c
+        → line.now ≡ spelling c → IsOkAnd result (λ d. AreOne c d) }
 {
     if line.len() > MOST_LINE_BYTES {
         return Err(LineFault::LineTooLong);

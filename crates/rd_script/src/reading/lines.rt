@@ -40,7 +40,8 @@ pub enum Reading {
 /// `ReadFault` if the source failed, or gave 2^64 - 1 bytes without an end.
 pub fn next_line<S: Source>(reader: &mut S, line: &mut Line) -> Result<Reading, ReadFault>
     requires { S.has_failed reader.old ≡ false }
-    ensures reads { ReadsNext (S.bytes reader.old) (S.bytes reader.new) (S.has_failed reader.new) line.new result }
+    ensures reads { ReadsNext (S.bytes reader.old) (S.bytes reader.new)
+        (S.has_failed reader.new) line.new result }
     ensures works { OnOk result (S.has_failed reader.new ≡ false) }
 {
     line.clear();

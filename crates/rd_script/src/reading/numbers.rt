@@ -29,8 +29,10 @@ pub fn number_in(word: &[u8]) -> Option<u64>
 /// Whether a word begins as no number is spelled, though std may read one there: with a plus sign,
 /// or with a zero before another byte.
 fn begins_otherwise(word: &[u8]) -> bool
-    ensures yes { result ≡ true → (get_or word.now 0 0 ≡ 43) ⊎ ((get_or word.now 0 0 ≡ 48) × (1 < length word.now)) }
-    ensures no { result ≡ false → (get_or word.now 0 0 ≢ 43) × (get_or word.now 0 0 ≡ 48 → length word.now ≡ 1) }
+    ensures yes { result ≡ true → (get_or word.now 0 0 ≡ 43)
+        ⊎ ((get_or word.now 0 0 ≡ 48) × (1 < length word.now)) }
+    ensures no { result ≡ false → (get_or word.now 0 0 ≢ 43)
+        × (get_or word.now 0 0 ≡ 48 → length word.now ≡ 1) }
 {
     match word {
         [b'+', ..] | [b'0', _, ..] => true,
@@ -57,7 +59,8 @@ pub fn byte_in(word: &[u8]) -> Option<u8>
 #[tactic(auto, using(crate::proofs::NumeralLemmas::name_from_parts, crate::proofs::NumeralLemmas::no_name_from_parts, crate::proofs::NumeralLemmas::no_name_of_many))]
 pub fn segment_in(word: &[u8]) -> Option<SegName>
     ensures spelled { IfSome result (λ s. word.now ≡ name_words s) }
-    ensures unspelled { IfNone result ((s : Segment) → IsSegmentInRange s → word.now ≢ name_words s) }
+    ensures unspelled { IfNone result ((s : Segment) → IsSegmentInRange s
+        → word.now ≢ name_words s) }
 {
     let parts = parts_of(word, b'.')?;
     segment_of(parts.as_slice())
@@ -65,8 +68,10 @@ pub fn segment_in(word: &[u8]) -> Option<SegName>
 
 /// Returns the name of the segment whose maker and number these two parts spell, or none.
 fn segment_of(parts: &[&[u8]]) -> Option<SegName>
-    ensures spelled { IfSome result (λ s. map (λ part. part.now) parts.now ≡ decimal s.maker ∷ decimal s.n ∷ []) }
-    ensures unspelled { IfNone result ((s : Segment) → IsSegmentInRange s → map (λ part. part.now) parts.now ≢ decimal s.maker ∷ decimal s.n ∷ []) }
+    ensures spelled { IfSome result (λ s. map (λ part. part.now) parts.now
+        ≡ decimal s.maker ∷ decimal s.n ∷ []) }
+    ensures unspelled { IfNone result ((s : Segment) → IsSegmentInRange s
+        → map (λ part. part.now) parts.now ≢ decimal s.maker ∷ decimal s.n ∷ []) }
 {
     let [maker, n] = parts else {
         return None;

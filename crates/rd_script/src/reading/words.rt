@@ -18,8 +18,10 @@ pub type Parts<'a> = ArrayVec<&'a [u8], MOST_PARTS>;
 /// Returns the parts of a text between the bytes that separate them; none if there are more than
 /// four.
 pub fn parts_of(text: &[u8], separator: u8) -> Option<Parts<'_>>
-    ensures some { IfSome result (λ parts. map (λ part. part.now) parts.items ≡ slice_split (λ byte. byte == separator) text.now) }
-    ensures none { IfNone result (MOST_PARTS < length (slice_split (λ byte. byte == separator) text.now)) }
+    ensures some { IfSome result (λ parts. map (λ part. part.now) parts.items
+        ≡ slice_split (λ byte. byte == separator) text.now) }
+    ensures none { IfNone result (MOST_PARTS
+        < length (slice_split (λ byte. byte == separator) text.now)) }
 {
     let mut parts = Parts::new();
     for part in text.split(|byte| *byte == separator) {
