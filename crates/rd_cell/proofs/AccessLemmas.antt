@@ -10,37 +10,37 @@ use Rattle.rd_cell.proofs.PlaceLemmas.{both_cover, written-covers, interfere-sym
 
 -- Writes
 
--- what is no place that is covered has what it had
+-- a write leaves the content of every place that it doesn't cover
 pub after_write-outside : (p : Option Place) (given at : Contents) (q : Place) → some_covers p q ≡ false → after_write_at p given at q ≡ at q
 after_write-outside p given at q h = grind arith
 
--- what is covered has what it was given
+-- a write gives every place that it covers its content in `given`
 pub after_write-inside : (p : Option Place) (given at : Contents) (q : Place) → some_covers p q ≡ true → after_write_at p given at q ≡ given q
 after_write-inside p given at q h = grind arith
 
--- what a place has after a write depends on what it had alone
+-- a place's content after a write depends only on that place's content before it
 pub after_write-same : (p : Option Place) (given at at' : Contents) (q : Place) → at q ≡ at' q
     → after_write_at p given at q ≡ after_write_at p given at' q
 after_write-same p given at at' q h = grind arith
 
 -- What an operation works on
 
--- a cell that is there has both its halves
+-- if two contents make a cell, they are that cell's two halves
 pub halves_there : (a b : Option Content) (c : Content) → cell_of_halves a b ≡ Some c
     → (x : Cell) × (c ≡ content.Cell x) × (a ≡ Some (content.Val x.val)) × (b ≡ Some (content.Idx x.safe x.idx))
 halves_there a b c h = grind arith
 
--- a cell is no place of the map
+-- whether a place is a cell: such a place is none of the map
 abbrev pub is_cell_at : Place → Bool
 is_cell_at (place.Cell s i) = true
 is_cell_at _ = false
 
--- each place of the map that its place covers has its share of it
+-- if p has this operand, each place of the map that p covers has its share of the operand
 pub operand-covered : (p : Place) (at : Contents) (c : Content) (q : Place) → operand at p ≡ Some c → (is_cell_at q ≡ true → at q ≡ None)
     → covers p q ≡ true → at q ≡ share p (Some c) q
 operand-covered p at c q h n k = grind arith
 
--- it is the same if the places that its place covers have the same
+-- the operand at p is the same if all places that p covers have the same content
 pub operand-same : (p : Place) (at at' : Contents) → ((q : Place) → covers p q ≡ true → at q ≡ at' q) → operand at p ≡ operand at' p
 operand-same p at at' same = grind arith
 
@@ -50,10 +50,11 @@ operand-same p at at' same = grind arith
 abbrev pub interferes : Performed → Performed → Bool
 interferes d e = interfere d.place d.wrote e.place e.wrote
 
+-- interference is symmetric
 pub interferes-sym : (d e : Performed) → interferes d e ≡ false → interferes e d ≡ false
 interferes-sym d e h = interfere-sym d.place e.place d.wrote e.wrote h
 
--- if the place of the second covers it, the first leaves what was there
+-- the first access leaves every place that the second touched, if they don't interfere
 stays : (d e : Performed) (at : Contents) (r : Place) → interferes d e ≡ false → some_covers e.place r ≡ true
     → contents_after d at r ≡ at r
 stays d e at r h k =
@@ -65,7 +66,7 @@ stays d e at r h k =
       | inr m ↦ after_write-outside (written d.place d.wrote) d.given at r m
     ]
 
--- at each place, the two orders leave the same
+-- two accesses that don't interfere leave the same content at each place in either order
 after_swap-at : (d e : Performed) (at : Contents) (r : Place) → interferes d e ≡ false
     → contents_after e (contents_after d at) r ≡ contents_after d (contents_after e at) r
 after_swap-at d e at r h =
@@ -79,13 +80,14 @@ after_swap-at d e at r h =
           ∙ sym (after_write-same (written d.place d.wrote) d.given (contents_after e at) at r (after_write-outside place e.given at r m))
     ]
 
--- the two orders leave the same contents
+-- two accesses that don't interfere leave the same contents in either order
 pub after_swap : (d e : Performed) (at : Contents) → interferes d e ≡ false
     → contents_after e (contents_after d at) ≡ contents_after d (contents_after e at)
 after_swap d e at h = fun_ext (λ r. after_swap-at d e at r h)
 
--- The makers don't see each other
+-- A maker's makings are independent of other makers
 
+-- counting a maker's segments gives the same in two maps that have the same segments of the maker
 pub number_made_from-same : (more : ℕ) (at at' : Contents) (maker n : ℕ)
     → ((k : ℕ) → is_some (at (place.Head (record { maker = maker; n = k }))) ≡ is_some (at' (place.Head (record { maker = maker; n = k }))))
     → number_made_from more at maker n ≡ number_made_from more at' maker n
@@ -100,8 +102,8 @@ number_made-same : (at at' : Contents) (maker : ℕ)
 unfolding number_made
 number_made-same at at' maker same = number_made_from-same MOST_SEGMENTS at at' maker 0 same
 
--- an operation on a place that is there keeps which places are there, if it writes contents of the
--- kind that was there
+-- an operation at a place that is there adds and removes no place, if what it writes is of the kind
+-- that was there
 pub after-is_some : (p : Place) (c : Content) (e : Effect) (at : Contents) (q : Place) → operand at p ≡ Some c → (is_cell_at q ≡ true → at q ≡ None)
     → IfSome e.writes (λ d. is_some (share p (Some d) q) ≡ is_some (share p (Some c) q))
     → is_some (contents_after (effect_at p c e) at q) ≡ is_some (at q)
@@ -119,7 +121,7 @@ after-is_some p c e at q h bare kind = by e.writes kind
           | inr m ↦ ap is_some (after_write-outside place (share p (Some d)) at q m)
         ]
 
--- whether an effect at a place writes contents of the kind that was there
+-- an effect at p writes nothing, or a content that gives place q a share exactly if the old one did
 abbrev KeepsKind : Place → Content → Place → Effect → Type 0
 KeepsKind p c q e = IfSome e.writes (λ d. is_some (share p (Some d) q) ≡ is_some (share p (Some c) q))
 
@@ -129,7 +131,7 @@ plain_kind r = grind arith
 cell_kind : (s : SegName) (i : ℕ) (op : Operation) (x : Cell) (q : Place) → IfOk (effect op (content.Cell x)) (KeepsKind (place.Cell s i) (content.Cell x) q)
 cell_kind s i op x q = grind arith
 
--- each does
+-- every operation that isn't refused keeps the kind of its place's content
 effect_kind : (p : Place) (op : Operation) (at : Contents) (c : Content) (q : Place) → operand at p ≡ Some c → IfOk (effect op c) (KeepsKind p c q)
 effect_kind p op at c q h = grind (arith, halves_there, cell_kind, plain_kind)
 
@@ -138,7 +140,7 @@ keeps-effect : (p : Place) (c : Content) (r : Result Effect Refusal) (at : Conte
 keeps-effect p c (Err x) at q h bare kind = tt
 keeps-effect p c (Ok e) at q h bare kind = after-is_some p c e at q h bare kind
 
--- an operation keeps which places are there
+-- an operation adds and removes no place
 pub keeps-operate : (p : Place) (op : Operation) (o : Option Content) (at : Contents) (q : Place) → operand at p ≡ o → (is_cell_at q ≡ true → at q ≡ None)
     → IfOk (operate p op o) (λ did. is_some (contents_after did at q) ≡ is_some (at q))
 keeps-operate p op o at q h bare = grind (arith, keeps-effect, effect_kind)
@@ -147,14 +149,14 @@ keeps-make : (actor n : ℕ) (given at : Contents) (maker k : ℕ) → (actor �
     → IfOk (make (record { maker = actor; n = n }) given) (λ did. is_some (contents_after did at (place.Head (record { maker = maker; n = k }))) ≡ is_some (at (place.Head (record { maker = maker; n = k }))))
 keeps-make actor n given at maker k ne = grind arith
 
--- an access by one actor keeps which segments of another are there
+-- an access by one actor adds and removes no segment of another maker
 pub keeps-perform : (R actor : ℕ) (at : Contents) (x : Access) (maker k : ℕ) → (actor ≡ maker → ⊥)
     → IfOk (perform R actor at x) (λ did. is_some (contents_after did at (place.Head (record { maker = maker; n = k }))) ≡ is_some (at (place.Head (record { maker = maker; n = k }))))
 keeps-perform R actor at NoPlace maker k ne = refl
 keeps-perform R actor at (At p op) maker k ne = keeps-operate p op (operand at p) at (place.Head (record { maker = maker; n = k })) refl (λ e. cc)
 keeps-perform R actor at (Make x) maker k ne = keeps-make actor (number_made at actor) (holding R x) at maker k ne
 
--- an access by one actor leaves the number of segments that another has made
+-- an access by one actor leaves the number of segments that another maker has made
 pub number_made-after : (R actor : ℕ) (at : Contents) (x : Access) (did : Performed) (maker : ℕ) → (actor ≡ maker → ⊥)
     → perform R actor at x ≡ Ok did → number_made (contents_after did at) maker ≡ number_made at maker
 number_made-after R actor at x did maker ne h =
@@ -164,32 +166,34 @@ number_made-after R actor at x did maker ne h =
 
 -- The law
 
--- the place that an access reads and perhaps writes, if there is one
+-- the place on which an access operates; none for a making or without an access
 abbrev pub place_of : Access → Option Place
 place_of NoPlace = None
 place_of (At p op) = Some p
 place_of (Make x) = None
 
--- if an access finds the same content at its place, and its actor has made as many segments, it
--- does the same
+-- an access does the same in two maps if its place has the same operand there, and its actor has
+-- made as many segments
 perform_same : (R actor : ℕ) (at at' : Contents) (x : Access)
     → ((p : Place) → place_of x ≡ Some p → operand at p ≡ operand at' p) → number_made at actor ≡ number_made at' actor
     → perform R actor at x ≡ perform R actor at' x
 perform_same R actor at at' x same count = grind arith
 
+-- what an operation did names its place
 pub place-operate : (p : Place) (op : Operation) (o : Option Content) → IfOk (operate p op o) (λ did. did.place ≡ Some p)
 place-operate p op o = grind arith
 
+-- what a making did names the whole of the segment
 pub place-make : (s : SegName) (given : Contents) → IfOk (make s given) (λ did. did.place ≡ Some (place.Whole s))
 place-make s given = grind arith
 
--- what an access did was at its place
+-- an operation's record names the place of its access
 pub place_performed : (R actor : ℕ) (at : Contents) (x : Access) (did : Performed) (p : Place) → perform R actor at x ≡ Ok did
     → place_of x ≡ Some p → did.place ≡ Some p
 place_performed R actor at x did p h e = grind arith
 
--- an access finds the same at its place before and after another that doesn't interfere with what
--- it did, wherever it did that
+-- an access y by actor b does the same with or without an earlier access by actor a, if what y did
+-- in some map doesn't interfere with that access
 pub perform_around : (R a b : ℕ) (at there : Contents) (x y : Access) (d e : Performed) → (a ≡ b → ⊥)
     → perform R a at x ≡ Ok d → perform R b there y ≡ Ok e → interferes d e ≡ false
     → perform R b (contents_after d at) y ≡ perform R b at y

@@ -1,4 +1,4 @@
--- An effect on some of the places, as one on all of them.
+-- An effect that is known at some of the places, as an effect on all places.
 use Rattle.rd_cell.proofs.Prelude.{common_steps, ◌≡◌, true, false, Bool, inl, inr, sym, ◌∙◌, ap, Option, Some, None, Result, Ok, Err, IfOk, arith, cases_Bool, false_from_ne_true, both_ways, IfOk-at_ok, SegName, Wrote, Content, Operation, Refusal, is_of, place_eq, is_of_same_segment, covers, segment_of, some_covers, written, Contents, restore, operand, effect, Performed, operate, HasEffect, everywhere, Operates, OperatesOn, Restores}
 use Rattle.rd_cell.specs.declared.places.Place.{Place}
 use Rattle.rd_cell.specs.declared.places.Wrote.TheVariants as wrote
@@ -7,19 +7,19 @@ use Rattle.rd_cell.specs.declared.access.Done.{Done}
 use Rattle.rd_cell.proofs.PlaceLemmas.{place_eq-true, written-covers}
 use Rattle.rd_cell.proofs.AccessLemmas.{after_write-outside, after_write-same, place-operate}
 
--- if two pairs of contents agree on the places that are looked at, and nothing else is covered or
--- changed
+-- two pairs of contents, old and new, agree: they are equal at the places at which we look, and all
+-- other places are neither covered by p nor changed
 pub record Agrees (looked_at : Place → Bool) (p : Place) (old new old' new' : Contents) : Type 0 where
   pub old_inside : (q : Place) → looked_at q ≡ true → old q ≡ old' q
   pub new_inside : (q : Place) → looked_at q ≡ true → new q ≡ new' q
   pub not_covered : (q : Place) → looked_at q ≡ false → covers p q ≡ false
   pub outside : (q : Place) → looked_at q ≡ false → new' q ≡ old' q
 
--- what an access doesn't touch it didn't write
+-- an access wrote no place that it didn't touch
 pub not_written : (p : Option Place) (w : Wrote) (q : Place) → some_covers p q ≡ false → some_covers (written p w) q ≡ false
 not_written p w q h = false_from_ne_true (some_covers (written p w) q) (λ k. both_ways (some_covers p q) h (written-covers p w q k))
 
--- an effect at p on the places that are looked at is one on all places
+-- an effect at p, seen at some places, is the effect on all places of contents that agree
 pub lift : (looked_at : Place → Bool) (p : Place) (does does' : Result Performed Refusal) (done : Done) (old new old' new' : Contents)
     → does' ≡ does → IfOk does (λ did. did.place ≡ Some p) → Agrees looked_at p old new old' new' → HasEffect looked_at does done old new
     → HasEffect everywhere does' done old' new'
@@ -40,46 +40,48 @@ lift looked_at p does does' done old new old' new' same place agrees h = record 
       ];
 }
 
--- so is an operation
+-- an operation at p, seen at some places, is done on all places of contents that agree
 lift_operation : (looked_at : Place → Bool) (p : Place) (op : Operation) (o : Option Content) (done : Done) (old new old' new' : Contents)
     → operand old' p ≡ o → Agrees looked_at p old new old' new' → HasEffect looked_at (operate p op o) done old new
     → Operates everywhere p op done old' new'
 lift_operation looked_at p op o done old new old' new' found agrees h = grind (arith, lift, place-operate)
 
--- what an operation at p works on is the same in both
+-- contents that agree have the same operand at p
 pub operand_agrees : (looked_at : Place → Bool) (p : Place) (old new old' new' : Contents) → Agrees looked_at p old new old' new'
     → operand old' p ≡ operand old p
 operand_agrees looked_at p old new old' new' agrees = grind arith
 
+-- an operation, seen at some places, is done on all places of contents that agree
 pub lift_operates : (looked_at : Place → Bool) (p : Place) (op : Operation) (done : Done) (old new old' new' : Contents)
     → Agrees looked_at p old new old' new' → Operates looked_at p op done old new → Operates everywhere p op done old' new'
 lift_operates looked_at p op done old new old' new' agrees h = grind (arith, lift_operation, operand_agrees)
 
--- and what is put back
+-- an old content put back at p, seen at some places, is put back in all places of contents that
+-- agree
 pub lift_restore : (looked_at : Place → Bool) (p : Place) (o : Option Content) (old new old' new' : Contents)
     → Agrees looked_at p old new old' new' → Restores looked_at p o old new → (q : Place) → new' q ≡ restore (Some p) o old' q
 lift_restore looked_at p o old new old' new' agrees h q = grind arith
 
--- an effect on all places is one on those that are looked at
+-- an effect on all places is also one as seen at some of them
 pub narrow : (looked_at : Place → Bool) (does : Result Performed Refusal) (done : Done) (old new : Contents)
     → HasEffect everywhere does done old new → HasEffect looked_at does done old new
 narrow looked_at does done old new h = grind arith
 
 -- One place
 
--- an operation that wrote nothing
+-- an operation that writes nothing is done at a place that keeps its content
 pub read_on : (p : Place) (op : Operation) (old : Content) (answer : Answer) (done : Done)
     → effect op old ≡ Ok (record { answer = answer; writes = None }) → done ≡ record { place = Some p; old = Some old; answer = answer; wrote = wrote.Nothing }
     → OperatesOn p op done old old
 read_on p op old answer done does notes = grind arith
 
--- if two contents have this at p alone
+-- the contents before and after a change of p alone agree with p's own old and new content
 pub agrees_at : (p : Place) (was now : Content) (old new : Contents) → ((q : Place) → covers p q ≡ place_eq p q) → old p ≡ Some was → new p ≡ Some now
     → ((q : Place) → place_eq p q ≡ false → new q ≡ old q) → Agrees (place_eq p) p (λ q. Some was) (λ q. Some now) old new
 agrees_at p was now old new plain found left others = grind (arith, common_steps, place_eq-true)
 
--- an operation that had its effect on what is at a place, if every other place is as before, was
--- done there
+-- an operation on the content of a place is done at that place, if every other place stays as it
+-- was
 pub place_operates : (p : Place) (op : Operation) (was now : Content) (old new : Contents) → ((q : Place) → covers p q ≡ place_eq p q)
     → operand old p ≡ Some was → old p ≡ Some was → new p ≡ Some now → ((q : Place) → place_eq p q ≡ false → new q ≡ old q)
     → (r : Result Done Refusal) → IfOk r (λ done. OperatesOn p op done was now) → IfOk r (λ done. Operates everywhere p op done old new)
@@ -89,10 +91,10 @@ place_operates p op was now old new plain works found left others (Ok done) h =
 
 -- The places of one segment
 
--- the places beside one that a segment has are that segment's
+-- the places of the same segment as p are the places of the segment to which p belongs
 pub beside_is_of : (p q : Place) (name : SegName) → segment_of p ≡ Some name → is_of_same_segment p q ≡ is_of name q
 beside_is_of p q name h = grind arith
 
--- a place that a segment has covers nothing outside of it
+-- a place that belongs to a segment covers nothing outside of that segment
 pub not_covered_outside : (p q : Place) (name : SegName) → segment_of p ≡ Some name → is_of name q ≡ false → covers p q ≡ false
 not_covered_outside p q name h other = grind arith

@@ -20,8 +20,9 @@ use Rattle.rd_cell.specs.Contents.{Contents, share, after_write_at, restore, ope
 use Rattle.rd_cell.specs.Operations.{Effect, effect, wrote_by}
 use Rattle.rd_cell.specs.Results.{and_then, result_map}
 
--- what an access did: its place and that place's old content, if there is one, its answer, which
--- part of the place it wrote, and the new content of each place that it wrote
+-- what an access did: its `place` and that place's `old` content, each none if there is none; its
+-- `answer`; which part of the place it `wrote`; and in `given` the new content of each place that
+-- it wrote
 pub record Performed : Type 0 where
   pub place : Option Place
   pub old : Option Content
@@ -29,22 +30,22 @@ pub record Performed : Type 0 where
   pub wrote : Wrote
   pub given : Contents
 
--- the contents of all places after an access that did this
+-- the contents of all places after this access, given those before it
 abbrev pub contents_after : Performed → Contents → Contents
 contents_after did = after_write_at (written did.place did.wrote) did.given
 
--- what the entry of a step records of an access
+-- the part of what an access did that the entry of its step records
 abbrev pub done_of : Performed → Done
 done_of did = record { place = did.place; old = did.old; answer = did.answer; wrote = did.wrote }
 
--- the number of the maker's first segment, from the n-th on, that is not there; at most this many
--- names are looked at
+-- the number of the maker's first segment, from the n-th on, that is not there. At most this many
+-- names are tried; if all of them are there, it is the number after the last
 unfoldable pub number_made_from : ℕ → Contents → ℕ → ℕ → ℕ
 number_made_from zero at maker n = n
 number_made_from (suc more) at maker n =
     if is_some (at (place.Head (record { maker = maker; n = n }))) then number_made_from more at maker (n + 1) else n
 
--- how many segments the maker has made: the number of its next one
+-- the number of segments that the maker has made, which is the number of its next one
 unfoldable pub number_made : Contents → ℕ → ℕ
 number_made at maker = number_made_from MOST_SEGMENTS at maker 0
 
@@ -56,52 +57,54 @@ no_access = record { place = None; old = None; answer = answer.Nothing; wrote = 
 abbrev pub effect_at : Place → Content → Effect → Performed
 effect_at p c e = record { place = Some p; old = Some c; answer = e.answer; wrote = wrote_by c e.writes; given = share p e.writes }
 
--- what an operation does at a place with this content; it is refused if the place has none
+-- what an operation does at a place with this content; it is refused if there is no content, or as
+-- `effect` refuses it
 abbrev pub operate : Place → Operation → Option Content → Result Performed Refusal
 operate p op o = and_then (ok_or o refusal.NoSuchPlace) (λ c. result_map (effect_at p c) (effect op c))
 
--- what the making of this segment does: it writes all places of the segment, which are given these
--- contents; refused if a maker may have no segment of this number
+-- what the making of this segment does: it writes all places of the segment, with the contents
+-- `given`; `SegmentsEnd` if its number is 65,535 or more
 abbrev pub make : SegName → Contents → Result Performed Refusal
 make s given =
     if nat_lt s.n MOST_SEGMENTS
     then Ok (record { place = Some (place.Whole s); old = None; answer = answer.Made s; wrote = wrote.Place; given = given })
     else Err refusal.SegmentsEnd
 
--- what an access by this actor does, over rings of R cells, where `at` is the content of each place
+-- what an access by this actor does over rings of R cells, if `at` has the content of each place
+-- before it
 abbrev pub perform : ℕ → ℕ → Contents → Access → Result Performed Refusal
 perform R actor at NoPlace = Ok no_access
 perform R actor at (At p op) = operate p op (operand at p)
 perform R actor at (Make x) = make (record { maker = actor; n = number_made at actor }) (holding R x)
 
--- an access that does this took place: each place that is looked at has now what the access leaves
--- there, and `done` is what the entry of its step records
+-- an access took place: `performed` is what it did, `done` is what the entry of its step records,
+-- and each place at which we look has the content that the access leaves there
 pub record HasEffect (looked_at : Place → Bool) (does : Result Performed Refusal) (done : Done) (old new : Contents) : Type 0 where
   pub performed : Performed
   pub performs : does ≡ Ok performed
   pub keeps : done_of performed ≡ done
   pub leaves : (q : Place) → looked_at q ≡ true → new q ≡ contents_after performed old q
 
--- the test of places to look at that holds of every place
+-- the test that every place passes: we look at all places
 abbrev pub everywhere : Place → Bool
 everywhere q = true
 
--- the operation was done at this place: each place that is looked at has now what the operation
--- leaves there
+-- the operation was done at this place, and left its effect at each place at which we look
 abbrev pub Operates : (Place → Bool) → Place → Operation → Done → Contents → Contents → Type 0
 Operates looked_at p op done old new = HasEffect looked_at (operate p op (operand old p)) done old new
 
--- the operation was done at this place, which has the new content where it had the old one
+-- the operation was done at this place, and turned its old content into the new one; no other place
+-- is looked at
 abbrev pub OperatesOn : Place → Operation → Done → Content → Content → Type 0
 OperatesOn p op done old new = HasEffect (place_eq p) (operate p op (Some old)) done (λ q. Some old) (λ q. Some new)
 
--- this segment was made, its places have what they are given, and no other place changed
+-- this segment was made, its places have the contents `given`, and no other place changed
 abbrev pub Makes : SegName → Contents → Contents → Contents → Type 0
 Makes s given old new =
     HasEffect everywhere (make s given) (record { place = Some (place.Whole s); old = None; answer = answer.Made s; wrote = wrote.Place }) old new
 
--- this old content was put back at the place, or, if it is none, the places that this place covers
--- were taken away, as seen at the places that are looked at
+-- this old content was put back at the place or, if it is none, the places that this place covers
+-- were removed; the contents are compared only at the places at which we look
 abbrev pub Restores : (Place → Bool) → Place → Option Content → Contents → Contents → Type 0
 Restores looked_at p o old new = (q : Place) → looked_at q ≡ true → new q ≡ restore (Some p) o old q
 

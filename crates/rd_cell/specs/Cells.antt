@@ -1,4 +1,4 @@
--- Cells: when two are equal, and those of a new segment.
+-- Cells: equality, and the cells of a new segment.
 use Rattle.std.specs.Prelude.{ℕ, Bool, true, ◌==◌, ◌&&◌, Option}
 use Rattle.std.specs.Bool.{beq}
 use Rattle.std.specs.Option.{option_eq}
@@ -8,6 +8,6 @@ use Rattle.rd_cell.specs.declared.cells.Cell.{Cell}
 abbrev pub cell_eq : Cell → Cell → Bool
 cell_eq a b = beq a.safe b.safe && (a.idx == b.idx) && option_eq ◌==◌ a.val b.val
 
--- cell u of a new segment, with this value: safe and at index u
+-- cell u of a new segment, with this value or none: it is safe and has index u
 abbrev pub new_cell : ℕ → Option ℕ → Cell
 new_cell u val = record { safe = true; idx = u; val = val }

@@ -1,4 +1,4 @@
--- Contents: what each place has, before and after a write.
+-- Contents: what each place holds, before and after a write.
 use Rattle.std.specs.Prelude.{ℕ, Bool, true, false, ◌==◌, nat_lt, nat_le, if◌then◌else◌, Option, Some, None, is_some}
 use Rattle.rd_cell.specs.declared.limits.TheConstants.{COUNTER_END, SLOTS}
 use Rattle.rd_cell.specs.declared.places.SegName.{SegName}
@@ -10,60 +10,59 @@ use Rattle.rd_cell.specs.Places.{covers}
 use Rattle.rd_cell.specs.declared.cells.Cell.{Cell}
 
 -- the content of each place, or none if the place is not there. A cell and the whole of a segment
--- are no places of the map: the first is a name for the cell's two halves, the second for the
--- segment's 2R + 3 places together
+-- are no places of the map: they only name the cell's two halves and the segment's 2R + 3 places
 abbrev pub Contents : Type 0
 Contents = Place → Option Content
 
--- the contents after a write at a place: each place that it covers has what it is given, and every
--- other what it had
+-- the contents after a write at a place: each place that it covers has the content in `given`, and
+-- every other place keeps its own
 abbrev pub after_write : Place → Contents → Contents → Contents
 after_write p given at q = if covers p q then given q else at q
 
--- the content that each place has of a cell: its two halves have their words, and no other place
--- has any
+-- the part of a cell that each place holds: the value at a value half, safe bit and index at an
+-- index half, and nothing elsewhere
 abbrev pub half : Cell → Contents
 half c (place.Val s i) = Some (content.Val c.val)
 half c (place.Idx s i) = Some (content.Idx c.safe c.idx)
 half c _ = None
 
--- the cell that these two halves make, if both are there
+-- the cell whose value half and index half these contents are; none unless they are such halves
 abbrev pub cell_of_halves : Option Content → Option Content → Option Content
 cell_of_halves (Some (content.Val val)) (Some (content.Idx safe idx)) = Some (content.Cell (record { safe = safe; idx = idx; val = val }))
 cell_of_halves _ _ = None
 
--- whether a content is that of a whole cell
+-- whether a content is a whole cell
 abbrev pub is_cell : Content → Bool
 is_cell (content.Cell c) = true
 is_cell _ = false
 
--- what each place that the written place covers gets of a content, or of none: of a cell its half,
--- else all of it. A cell is found to have, and is given, no content of another kind
--- (`laws::the_content_of_a_cell_is_a_cell`)
+-- what each place that the written place covers gets of a content, or of none: a half of a cell
+-- gets its half, any other place all of it. No cell is found with, or given, a content of another
+-- kind (`laws::the_content_of_a_cell_is_a_cell`)
 abbrev pub share : Place → Option Content → Contents
 share (place.Cell s i) (Some (content.Cell c)) q = half c q
 share p o q = o
 
--- the contents after a write at a place, or as they were if there is no place
+-- the contents after a write at a place; without a place, the contents as they were
 abbrev pub after_write_at : Option Place → Contents → Contents → Contents
 after_write_at None given at = at
 after_write_at (Some p) given at = after_write p given at
 
--- the contents with this old content put back at a place; if it is none, the places that the place
--- covers are taken away
+-- the contents with this old content put back at a place. Without an old content, the places that
+-- it covers are removed; without a place, nothing changes
 abbrev pub restore : Option Place → Option Content → Contents → Contents
 restore None old at = at
 restore (Some p) old at = after_write p (share p old) at
 
--- the content on which an operation at a place works: that of the place, and of a cell that of its
--- two halves together. The whole of a segment takes no operation
+-- the content on which an operation at a place works: the place's own, for a cell its two halves
+-- together, and none for the whole of a segment
 abbrev pub operand : Contents → Place → Option Content
 operand at (place.Whole s) = None
 operand at (place.Cell s i) = cell_of_halves (at (place.Val s i)) (at (place.Idx s i))
 operand at p = at p
 
 -- whether a place can hold a content: the content is of the place's kind, and a counter is at most
--- its end. The whole of a segment has no content
+-- its end. The whole of a segment can hold none
 abbrev pub can_hold : Place → Content → Bool
 can_hold place.QHead (content.Name s) = true
 can_hold place.QTail (content.Name s) = true
@@ -78,18 +77,18 @@ can_hold place.ArrTail (content.Number n) = nat_le n SLOTS
 can_hold (place.ArrCell i) (content.Slot slot) = true
 can_hold _ _ = false
 
--- whether a segment is there: its head counter is, and with it all of its places
+-- whether a segment is there, which its head counter tells: a well-formed world has all places of a
+-- segment or none
 abbrev pub is_there : Contents → SegName → Bool
 is_there at s = is_some (at (place.Head s))
 
--- what a query answers at a place: the content on which an operation there works, and for the whole
--- of a segment that it is there
+-- what a query shows at a place: its `operand`, or `Whole` for a segment that is there
 abbrev pub content_at : Contents → Place → Option Content
 content_at at (place.Whole s) = if is_there at s then Some content.Whole else None
 content_at at p = operand at p
 
--- the content of each place of a fresh segment with R cells: its counters are 0, and it is open and
--- empty
+-- the content of each place of a fresh segment with R cells: its counters are 0, it is open and has
+-- no next, and each cell u is empty and safe, with index u
 abbrev pub fresh_segment : ℕ → Contents
 fresh_segment R (place.Head s) = Some (content.Number 0)
 fresh_segment R (place.Tail s) = Some (content.Tail false 0)
@@ -98,8 +97,8 @@ fresh_segment R (place.Val s u) = if nat_lt u R then Some (content.Val None) els
 fresh_segment R (place.Idx s u) = if nat_lt u R then Some (content.Idx true u) else None
 fresh_segment R _ = None
 
--- the content of each place of a new segment with R cells into which x was enqueued already: that
--- of a fresh one, except that its tail is 1 and x is in cell 0
+-- the content of each place of a new segment with R cells that already holds x: as in a fresh one,
+-- except that its tail counter is 1 and x is in cell 0
 abbrev pub holding : ℕ → ℕ → Contents
 holding R x (place.Tail s) = Some (content.Tail false 1)
 holding R x (place.Val s u) = if nat_lt u R then Some (content.Val (if u == 0 then Some x else None)) else None

@@ -17,8 +17,8 @@ use Rattle.rd_cell.specs.declared.refusal.Refusal.TheVariants as refusal
 use Rattle.rd_cell.specs.Places.{name_eq, is_array}
 use Rattle.rd_cell.specs.Cells.{cell_eq}
 
--- what an operation does to one content: what it answers, and the content that it writes, or none
--- if it only reads
+-- what an operation does to one content: its `answer`, and the content that it `writes`, or none if
+-- it only reads
 pub record Effect : Type 0 where
   pub answer : Answer
   pub writes : Option Content
@@ -31,18 +31,17 @@ reads said = Ok (record { answer = said; writes = None })
 abbrev pub writes : Answer → Content → Result Effect Refusal
 writes said c = Ok (record { answer = said; writes = Some c })
 
--- the effect of a compare-and-swap: if the test holds it wins and writes this content, else it
--- loses and writes nothing
+-- the effect of a compare-and-swap: if it `won`, it writes this content, else it writes nothing
 abbrev pub swaps : Bool → Content → Result Effect Refusal
 swaps won c = if won then writes answer.Won c else reads answer.Lost
 
--- the effect of a fetch-and-add on a counter at n: it answers the old content and writes the new
--- one, or is refused where n is the limit
+-- the effect of a fetch-and-add on a counter at n: below the limit it answers the old content and
+-- writes the new one, from the limit on it is refused for this cause
 abbrev pub adds : ℕ → ℕ → Refusal → Content → Content → Result Effect Refusal
 adds limit n cause old new = if nat_lt n limit then writes (answer.Found old) new else Err cause
 
--- the effect of an operation on a content; no well-formed world asks for one on a content of
--- another kind
+-- the effect of an operation on a content; `NoSuchPlace` on a content of another kind, for which no
+-- well-formed world asks
 abbrev pub effect : Operation → Content → Result Effect Refusal
 effect Read (content.Name s) = reads (answer.Found (content.Name s))
 effect Read (content.Number n) = reads (answer.Found (content.Number n))
@@ -62,20 +61,19 @@ effect (Cas2 old new) (content.Cell c) = swaps (cell_eq c old) (content.Cell new
 effect (Swap new) (content.Slot old) = writes (answer.Found (content.Slot old)) (content.Slot new)
 effect _ _ = Err refusal.NoSuchPlace
 
--- what putting a new cell over an old one writes: the index half always, and the value half if the
--- values differ
+-- which part of a cell is written when a new cell replaces the old one: the index half alone if the
+-- values are equal, else both halves
 abbrev pub wrote_cell : Words → Words → Wrote
 wrote_cell old new = if option_eq ◌==◌ old.val new.val then wrote.Index else wrote.Place
 
--- what an effect wrote of the place that had this content: if it wrote, all of it, or the index half
--- alone of a cell that keeps its value
+-- which part of its place an operation wrote over this old content: nothing if it only read, the
+-- index half alone of a cell that keeps its value, else all
 abbrev pub wrote_by : Content → Option Content → Wrote
 wrote_by old None = wrote.Nothing
 wrote_by (content.Cell old) (Some (content.Cell new)) = wrote_cell old new
 wrote_by old (Some new) = wrote.Place
 
--- what a read answers on this content; none if the content is of another kind, or if this is no
--- read
+-- the answer of an operation that is a read for this kind of content, else none
 abbrev pub read_answer : Operation → Content → Option Answer
 read_answer Read (content.Name s) = Some (answer.Found (content.Name s))
 read_answer Read (content.Number n) = Some (answer.Found (content.Number n))
@@ -85,17 +83,19 @@ read_answer ReadValue (content.Val val) = Some (answer.Value val)
 read_answer ReadSafeAndIndex (content.Idx safe idx) = Some (answer.SafeAndIndex safe idx)
 read_answer _ _ = None
 
--- whether an operation is one for the places of a segment, and puts no counter past its end
+-- whether an operation keeps a segment's counters at most at their end: all do, except the array's
+-- fetch-and-add and a compare-and-swap that would set the tail past 2^62
 abbrev pub suits_segments : Operation → Bool
 suits_segments AddArray = false
 suits_segments (CasTail old new) = nat_le new COUNTER_END
 suits_segments _ = true
 
--- whether an operation is one for the places of the array, whose counters end before a segment's
+-- whether an operation keeps the array's counters at most at their end: all do, except a segment's
+-- fetch-and-add, whose limit is higher
 abbrev pub suits_array : Operation → Bool
 suits_array Add = false
 suits_array _ = true
 
--- whether an operation is one for this kind of place, and puts no counter past its end
+-- whether an operation at this place keeps its counter, if it has one, at most at its end
 abbrev pub suits : Place → Operation → Bool
 suits p op = if is_array p then suits_array op else suits_segments op

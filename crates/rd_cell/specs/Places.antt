@@ -15,7 +15,8 @@ root = record { maker = 0; n = 0 }
 abbrev pub name_eq : SegName → SegName → Bool
 name_eq s t = (s.maker == t.maker) && (s.n == t.n)
 
--- the segment that a place names, if it names one: its own, or that of which it is the whole
+-- the segment to which a place belongs, or of which it is the whole; none for the queue's ends and
+-- the array's places
 abbrev pub named : Place → Option SegName
 named (place.Head s) = Some s
 named (place.Tail s) = Some s
@@ -37,11 +38,12 @@ is_of_cell s i (place.Val t j) = name_eq s t && (i == j)
 is_of_cell s i (place.Idx t j) = name_eq s t && (i == j)
 is_of_cell s i _ = false
 
--- whether the second place belongs to the segment to which the first belongs
+-- whether the second place is of the segment that the first names (`is_of`); false if the first
+-- names none
 abbrev pub is_of_same_segment : Place → Place → Bool
 is_of_same_segment p q = option_map_or (λ s. is_of s q) (named p) false
 
--- the segment that has a place, if one does; the whole of a segment is none of its places
+-- the segment to which a place belongs, if any; the whole of a segment belongs to none
 abbrev pub segment_of : Place → Option SegName
 segment_of (place.Whole s) = None
 segment_of p = named p
@@ -69,8 +71,8 @@ place_eq place.ArrTail place.ArrTail = true
 place_eq (place.ArrCell i) (place.ArrCell j) = i == j
 place_eq _ _ = false
 
--- whether a write of p may change what is at q: q is p, or p is the cell of which q is a half, or
--- the whole of q's segment
+-- whether a write of p may change what is at q: they are equal, p is the cell and q one of its
+-- halves, or p is the whole of q's segment
 abbrev pub covers : Place → Place → Bool
 covers (place.Whole s) q = is_of s q
 covers (place.Cell s i) q = is_of_cell s i q
@@ -80,11 +82,11 @@ covers p q = place_eq p q
 abbrev pub overlaps : Place → Place → Bool
 overlaps p q = covers p q || covers q p
 
--- whether a place, if there is one, covers another
+-- whether a place covers q; false without a place
 abbrev pub some_covers : Option Place → Place → Bool
 some_covers o q = option_map_or (λ p. covers p q) o false
 
--- whether two places, if there are two, overlap
+-- whether two places overlap; false unless both are there
 abbrev pub some_overlap : Option Place → Option Place → Bool
 some_overlap (Some p) (Some q) = overlaps p q
 some_overlap _ _ = false
@@ -94,18 +96,18 @@ abbrev pub is_nothing : Wrote → Bool
 is_nothing wrote.Nothing = true
 is_nothing _ = false
 
--- the half of a cell that has its safe bit and its index, and any other place itself
+-- a cell's index half, which has its safe bit and its index; any other place itself
 abbrev pub index_half : Place → Place
 index_half (place.Cell s i) = place.Idx s i
 index_half p = p
 
 -- the place that names what an access wrote, or none if it only read or had no place. The access
--- touched each place of the map that its own place covers, and wrote each that this one covers
+-- touched the places of the map that its own place covers, and wrote those that this one covers
 abbrev pub written : Option Place → Wrote → Option Place
 written o wrote.Nothing = None
 written o wrote.Place = o
 written o wrote.Index = option_map index_half o
 
--- whether two accesses interfere: there is a place that both touch, and one of them wrote it
+-- whether two accesses interfere: one of them wrote a place that the other touched
 abbrev pub interfere : Option Place → Wrote → Option Place → Wrote → Bool
 interfere p v q w = some_overlap (written p v) q || some_overlap p (written q w)

@@ -9,7 +9,7 @@ use super::places::{Place, Wrote};
 /// The one access of a step.
 #[derive(Clone, Copy, Debug, PartialEq, Eq)]
 pub enum Access {
-    /// None: a call or a choice.
+    /// No access: a call begins, or the actor makes the choice at E10.
     NoPlace,
     /// An operation on the content of one place.
     At(Place, Operation),
@@ -22,19 +22,19 @@ pub enum Access {
 pub struct Done {
     /// The place, or none if there was no access.
     pub place: Option<Place>,
-    /// The whole content of the place before; none for a making, or if there is no place.
+    /// The whole content of the place before the access; none for a making or without a place.
     pub old: Option<Content>,
     /// What the access answered.
     pub answer: Answer,
-    /// What it wrote of its place. A read, and a compare-and-swap that lost, wrote nothing. A
-    /// double-word compare-and-swap that won and left the cell's value as it was wrote the index
-    /// half. All others wrote all of the place.
+    /// Which part of its place the access wrote: nothing if it was a read, a compare-and-swap that
+    /// lost, or no access; the index half if it was a CAS2 that won and left the cell's value; else
+    /// all.
     pub wrote: Wrote,
 }
 
 impl Done {
-    /// Returns the record of an operation that found this content, answered this, and wrote this of
-    /// its place.
+    /// Returns the record of an operation: its place, the content that it found there, its answer,
+    /// and which part of the place it wrote.
     pub fn at(place: Place, found: Content, answer: Answer, wrote: Wrote) -> Done
         ensures { result ≡ record {
           place = Some place;
@@ -51,8 +51,8 @@ impl Done {
         }
     }
 
-    /// Returns the record of a compare-and-swap that found this content, and lost, or won and wrote
-    /// this of its place.
+    /// Returns the record of a compare-and-swap that found this content. If it won, it wrote the
+    /// part `written` of its place; if it lost, it wrote nothing.
     pub fn swapped(place: Place, found: Content, won: bool, written: Wrote) -> Done
         ensures { result ≡ record {
           place = Some place;

@@ -12,15 +12,14 @@ use super::places::Wrote;
 pub struct Cell {
     /// Whether an enqueue may use the cell without looking at the ring's head.
     pub safe: bool,
-    /// The cell's index: the position in the queue that it serves next, at most 2^62 plus the
-    /// ring's size.
+    /// The cell's index: the position for which it stands, at most 2^62 plus the ring's size.
     pub idx: u64,
     /// The value that waits here, or none.
     pub val: Option<u64>,
 }
 
 impl Cell {
-    /// Returns the cell of this index in a fresh segment: it is safe, at its index, and empty.
+    /// Returns the cell with this index in a fresh segment: it is safe and empty.
     pub fn fresh(index: u64) -> Cell
         ensures { result ≡ new_cell index None }
     {
@@ -31,8 +30,8 @@ impl Cell {
         }
     }
 
-    /// Returns what putting `new` over this cell writes: the index half alone if the values are
-    /// equal, else the whole cell.
+    /// Returns which part of the cell is written when `new` replaces it: the index half alone if
+    /// the values are equal, else the whole cell.
     pub fn wrote(self, new: Cell) -> Wrote
         ensures { result ≡ wrote_cell self new }
     {
@@ -43,9 +42,9 @@ impl Cell {
         }
     }
 
-    /// Compare-and-swap of the whole cell (CAS2). If the cell equals `old`, it becomes `new`, and
-    /// the result is true, even if `old` and `new` are equal; else the cell does not change, and
-    /// the result is false.
+    /// Performs a compare-and-swap of the whole cell (CAS2), and returns whether it won. If the
+    /// cell equals `old`, it becomes `new` and the swap has won, even if `old` and `new` are equal.
+    /// Otherwise the cell stays as it was.
     pub fn cas2(&mut self, old: Cell, new: Cell) -> bool
         ensures won { IsTrue result ↔ (self.old ≡ old) }
         ensures swapped { OnTrue result (self.new ≡ new) }

@@ -1,4 +1,4 @@
-//! What a place has in it.
+//! The content of a place.
 
 use super::cells::Cell;
 use super::places::SegName;
@@ -6,15 +6,15 @@ use super::places::SegName;
 /// A slot of the array queue.
 #[derive(Clone, Copy, Debug, PartialEq, Eq)]
 pub enum ArrSlot {
-    /// Nobody has come here yet.
+    /// No call has swapped anything in yet.
     Empty,
-    /// A dequeue was here first.
+    /// A dequeue was here, so an enqueue that comes later goes on to another slot.
     Top,
-    /// An enqueued value.
+    /// A value that an enqueue swapped in.
     Value(u64),
 }
 
-/// The content of one place. Each kind of place has contents of one kind.
+/// The content of one place. Each kind of place has one kind of content.
 #[derive(Clone, Copy, Debug, PartialEq, Eq)]
 pub enum Content {
     /// The queue's head or tail: the name of a segment.
@@ -30,7 +30,7 @@ pub enum Content {
     },
     /// The segment that follows, or none.
     Next(Option<SegName>),
-    /// A cell of a ring: what its two halves have together.
+    /// A cell of a ring: its two halves together.
     Cell(Cell),
     /// The value of a cell, or none.
     Val(Option<u64>),
@@ -41,7 +41,7 @@ pub enum Content {
         /// The index.
         idx: u64,
     },
-    /// That a segment is there.
+    /// What a query shows at the whole of a segment that is there.
     Whole,
     /// A slot of the array.
     Slot(ArrSlot),

@@ -9,7 +9,8 @@ ghost use Rattle.rd_cell.specs.declared.places.SegName.{SegName};
 ghost use Rattle.rd_cell.specs.Contents.{Contents, is_cell, operand};
 ghost use Rattle.rd_cell.specs.Operations.{Effect, effect};
 
-/// What a cell is found to have is a cell, and what an operation writes over it is one too.
+/// Reading a cell's place yields a cell, and whatever an operation writes over a cell is again a
+/// cell.
 pub fn the_content_of_a_cell_is_a_cell()
     ensures found { (at : Contents) (s : SegName) (i : ℕ) (c : Content)
         → operand at (Place.Cell s i) ≡ Some c → is_cell c ≡ true }

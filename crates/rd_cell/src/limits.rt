@@ -4,23 +4,23 @@
 /// The end of a segment's counters: 2^62.
 pub const COUNTER_END: u64 = 1 << 62;
 
-/// How many segments one maker may make.
+/// The most segments that one maker may make.
 pub const MOST_SEGMENTS: usize = 65_535;
 
-/// How many cells a ring may have.
+/// The most cells that a ring may have.
 pub const MOST_CELLS: usize = 64;
 
-/// How many slots the array has, and the end of its counters.
+/// The number of slots of the array, which is also the end of its counters.
 pub const SLOTS: usize = 64;
 
-/// How many actors a world may have.
+/// The most actors that a world may have.
 pub const MOST_ACTORS: usize = 16;
 
-/// How many steps may be live in a journal.
+/// The most steps that may be live in a journal.
 pub const MOST_STEPS: usize = 65_535;
 
-/// How many bookmarks there may be over a session.
+/// The most bookmarks that a session may have.
 pub const MOST_MARKS: usize = 64;
 
-/// How many bytes a bookmark's name may have.
+/// The most bytes that a bookmark's name may have.
 pub const MOST_NAME_BYTES: usize = 16;

@@ -7,7 +7,7 @@ use super::cells::Cell;
 use super::contents::{ArrSlot, Content};
 use super::places::SegName;
 
-/// What is done to one content.
+/// What one access does to the content of its place.
 #[derive(Clone, Copy, Debug, PartialEq, Eq)]
 pub enum Operation {
     /// Reads a name, a number, a tail or a next.
@@ -66,19 +66,18 @@ pub enum Answer {
         /// The index.
         idx: u64,
     },
-    /// That a test-and-set found the ring closed, or open.
+    /// Whether a test-and-set found the ring closed.
     WasClosed(bool),
-    /// That a compare-and-swap won.
+    /// A compare-and-swap won.
     Won,
-    /// That a compare-and-swap lost.
+    /// A compare-and-swap lost.
     Lost,
     /// The segment that was made.
     Made(SegName),
 }
 
 impl Operation {
-    /// Returns what a read answers on this content; none if the content is of another kind, or if
-    /// this is no read.
+    /// Returns the answer of this operation if it is a read for this kind of content, else none.
     pub fn read(self, content: Content) -> Option<Answer>
         ensures { result ≡ read_answer self content }
     {

@@ -5,13 +5,13 @@ ghost use Rattle.std.specs.Prelude.{◌≡◌};
 ghost use Rattle.rd_cell.specs.declared.places.TheConstants.SegName.{ROOT};
 ghost use Rattle.rd_cell.specs.Places.{covers, is_array, is_of, is_of_cell, overlaps, root, segment_of, index_half, is_nothing, written};
 
-/// The name of a segment: (maker, n) is the one that this actor made as its n-th, from 0. The root
-/// is (0, 0).
+/// The name of a segment: (maker, n) is the segment that actor `maker` made as its n-th, counted
+/// from 0. The root is (0, 0).
 #[derive(Clone, Copy, Debug, PartialEq, Eq)]
 pub struct SegName {
     /// The number of the actor that made the segment, 1 to 16, or 0 for the root.
     pub maker: u8,
-    /// How many segments that maker had made before, 0 to 65,534.
+    /// The number of segments that the maker had made before, 0 to 65,534.
     pub n: u32,
 }
 
@@ -25,7 +25,7 @@ impl SegName {
 pub enum Place {
     /// The name of the segment at the head of the queue.
     QHead,
-    /// The name of the segment at its tail.
+    /// The name of the segment at the tail of the queue.
     QTail,
     /// A segment's head counter.
     Head(SegName),
@@ -50,14 +50,14 @@ pub enum Place {
     ArrCell(u8),
 }
 
-/// What an access wrote of its place.
+/// Which part of its place an access wrote.
 #[derive(Clone, Copy, Debug, PartialEq, Eq)]
 pub enum Wrote {
     /// Nothing: it only read.
     Nothing,
     /// All that the place names.
     Place,
-    /// Of a cell the index half alone: its value stayed as it was.
+    /// Only the index half of a cell: the value stayed the same.
     Index,
 }
 
@@ -71,8 +71,8 @@ impl Wrote {
 }
 
 impl Place {
-    /// Returns the segment that has this place; none for the queue's ends, the array's places and
-    /// the whole of a segment.
+    /// Returns the segment to which this place belongs; none for the queue's ends, the array's
+    /// places and the whole of a segment.
     pub fn segment(self) -> Option<SegName>
         ensures { result ≡ segment_of self }
     {
@@ -105,8 +105,9 @@ impl Place {
     }
 }
 
-/// Returns the place that names what an access wrote, or none if it only read or had no place. What
-/// an access touches is what its own place names. Dependence is defined by these two alone.
+/// Returns the place that names what an access wrote, or none if it only read or had no place. The
+/// access touched what its own place names, and dependence is defined by what two accesses touched
+/// and wrote.
 #[inline(always)]
 pub fn written(place: Option<Place>, wrote: Wrote) -> Option<Place>
     ensures { result ≡ written place wrote }
@@ -119,9 +120,9 @@ pub fn written(place: Option<Place>, wrote: Wrote) -> Option<Place>
     }
 }
 
-/// Whether two places overlap: they are equal, or one is the cell of which the other is a half, or
-/// the whole of the segment that the other belongs to. A scan for a dependant asks this for each
-/// step, so it looks at each place only once where it can.
+/// Whether two places overlap: they are equal, one is a cell and the other one of its halves, or
+/// one is the whole of the other's segment. A search for a dependant asks this for each step, so
+/// the code avoids comparing two places twice.
 #[inline(always)]
 pub fn overlaps(a: Place, b: Place) -> bool
     ensures { result ≡ overlaps a b }
@@ -133,7 +134,8 @@ pub fn overlaps(a: Place, b: Place) -> bool
     }
 }
 
-/// Whether a write of `a` may change what is at `b`.
+/// Whether a write of `a` may change what is at `b`: they are equal, `b` is a half of the cell `a`,
+/// or `a` is the whole of the segment of `b`.
 #[inline(always)]
 fn covers(a: Place, b: Place) -> bool
     ensures { result ≡ covers a b }

@@ -35,11 +35,11 @@ pub enum Refusal {
     Depended(u64),
     /// 14: there is no bookmark of that name.
     NoMark,
-    /// 15: there is a bookmark of that name.
+    /// 15: there is a bookmark of that name already.
     MarkTaken,
-    /// 16: there are 64 bookmarks.
+    /// 16: there are 64 bookmarks already.
     TooManyMarks,
-    /// 17: a bookmark's name is 1 to 16 bytes of a-z, 0-9 and `-`.
+    /// 17: the bookmark's name is not 1 to 16 bytes of a-z, 0-9 and `-`.
     BadName,
     /// 18: that step took no value.
     NotATake,
