@@ -1,5 +1,5 @@
--- The table of control points, one row a control point: what an actor asks for there, and how it
--- goes on.
+-- The table of control points, one row a control point: the access for which an actor asks there,
+-- and how it goes on.
 use Rattle.std.specs.Prelude.{ℕ, ◌+◌, ◌%◌, ◌^◌, ◌<◌, Bool, true, false, ◌==◌, ◌&&◌, ◌||◌, nat_lt, nat_le, if◌then◌else◌, Option, Some, None, is_some, is_none, Result, Ok, Err}
 use Rattle.std.specs.Bool.{beq}
 use Rattle.rd_cell.specs.declared.cells.Cell.{Cell}
@@ -24,8 +24,8 @@ use Rattle.rd_actor.specs.declared.actors.Pc.{Pc}
 use Rattle.rd_actor.specs.declared.actors.Pc.TheVariants.{Idle, E1, E2, E3, E4, E5, E6, E7, E8, E9, E10, E11, E12, E13, E14, Q1, Q2, Q3, Q4, Q5, Q6, Q7, Q8, Q9, Q10, Q11, Q12, Q13, Q14, A1, A2, B1, B2, B3}
 use Rattle.rd_actor.specs.Actors.{idle, calling}
 
--- the value that an enqueue is to put, on either queue. A dequeue puts none: where a row asks for the
--- value, an actor whose words fit is in an enqueue (`words_fit_at`)
+-- the value that an enqueue puts, on either queue; 0 in a dequeue or without a call. Where a row
+-- asks for it, an actor whose words fit is in an enqueue (`words_fit_at`)
 abbrev pub value_to_put : Option Op → ℕ
 value_to_put (Some (op.Enq x)) = x
 value_to_put (Some (op.AEnq x)) = x
@@ -33,12 +33,12 @@ value_to_put (Some op.Deq) = 0
 value_to_put (Some op.ADeq) = 0
 value_to_put None = 0
 
--- a cell of these words
+-- the cell with these words
 abbrev pub cell_with : Bool → ℕ → Option ℕ → Cell
 cell_with safe idx val = record { safe = safe; idx = idx; val = val }
 
--- the access that an actor at this control point asks for, over rings of R cells, or why it has
--- none
+-- the access for which an actor at this control point asks, over rings of R cells, or the refusal
+-- if it has none
 abbrev pub need_at : ℕ → Pc → Actor → Result Access Refusal
 need_at R E1 a = Ok (At place.QTail Read)
 need_at R E2 a = Ok (At (place.Next a.crq) Read)
@@ -75,26 +75,25 @@ need_at R B2 a = Ok (At (place.ArrCell a.h) (Swap slot.Top))
 need_at R B3 a = Ok (At place.ArrTail Read)
 need_at R Idle a = Err refusal.Idle
 
--- what a call asks for at this control point: it needs an idle actor, and accesses no place
+-- the access of a call at this control point: none, and refused unless the actor is idle
 abbrev pub need_call : Pc → Result Access Refusal
 need_call Idle = Ok NoPlace
 need_call _ = Err refusal.NotIdle
 
--- what a choice asks for at this control point: it needs an actor that has to make one, and
--- accesses no place
+-- the access of a choice at this control point: none, and refused except at E10
 abbrev pub need_choice : Pc → Result Access Refusal
 need_choice Idle = Err refusal.Idle
 need_choice E10 = Ok NoPlace
 need_choice _ = Err refusal.NoChoice
 
--- the one access that an actor asks for over rings of R cells, or why it has none
+-- the one access for which an actor asks by this act, over rings of R cells, or why it is refused
 abbrev pub need : ℕ → Actor → Act → Result Access Refusal
 need R a act.Go = need_at R a.pc a
 need R a (act.Starve b) = need_choice a.pc
 need R a _ = need_call a.pc
 
--- the numbers in this row's access fit the words of the program: the index of a cell that is moved
--- on to its next round is below 2^64, and the number of a slot of the array is a byte
+-- the numbers in this row's access fit the words of the program: the index of a cell's next round
+-- is below 2^64 (Q5, Q7), and the number of an array slot is a byte (A2, B2)
 abbrev pub IsRepresentableAt : ℕ → Pc → Actor → Type 0
 IsRepresentableAt R Q5 a = a.h + R < 2 ^ 64
 IsRepresentableAt R Q7 a = a.h + R < 2 ^ 64
@@ -102,59 +101,61 @@ IsRepresentableAt R A2 a = a.t < 2 ^ 8
 IsRepresentableAt R B2 a = a.h < 2 ^ 8
 IsRepresentableAt R _ a = Unit {0}
 
--- the numbers in the access that an actor asks for by this act fit the words of the program; calls
--- and choices have no number
+-- the numbers in the access for which an actor asks by this act fit the words of the program; calls
+-- and choices have no access, and so no number
 abbrev pub IsRepresentable : ℕ → Actor → Act → Type 0
 IsRepresentable R a act.Go = IsRepresentableAt R a.pc a
 IsRepresentable R a _ = Unit {0}
 
--- the control point after a pass that found its segment empty: the first pass reads the next
--- segment, the second moves the queue's head
+-- the control point after a pass that found its segment empty: Q13, which reads the next segment,
+-- after pass 1, and Q14, which moves the queue's head, after pass 2
 abbrev pub pc_after_empty_pass : Actor → Pc
 pc_after_empty_pass a = if a.pass == 1 then Q13 else Q14
 
--- an enqueue that read a cell's safe bit and index tries the cell if it is empty and its index is
--- not past the position: at once if the cell is safe, else after a look at the head
+-- the record of an enqueue that read a cell's safe bit and index. It tries the cell if the cell is
+-- empty and its index is at most the position: at once if the cell is safe, else after a look at
+-- the head
 abbrev pub after_enqueue_reads_index : Actor → Bool → ℕ → Actor
 after_enqueue_reads_index a safe idx =
     record a { safe = safe; idx = idx; pc = if is_none a.val && nat_le idx a.t then (if safe then E8 else E7) else E9 }
 
--- a dequeue that read a cell's safe bit and index takes the value of its position, marks the cell
--- unsafe if the value is older, moves an empty cell on to the next round, and passes by a cell
--- whose index is past its position
+-- the record of a dequeue that read a cell's safe bit and index. It takes the value of its
+-- position, marks the cell unsafe if the value is older, and moves an empty cell on to the next
+-- round. It passes by a cell whose index is past its position
 abbrev pub after_dequeue_reads_index : Actor → Bool → ℕ → Actor
 after_dequeue_reads_index a safe idx =
     record a { safe = safe; idx = idx; pc = if nat_lt a.h idx then Q8 else (if is_some a.val then (if idx == a.h then Q5 else Q6) else Q7) }
 
--- a repair that read the tail again starts over if the tail changed, ends if the tail is closed or
--- not below the head, and else tries to move it
+-- the record of a repair that read the tail again: it starts over if the tail changed, ends if the
+-- tail is closed or at least the head, and else tries to raise it
 abbrev pub after_repair_check : Actor → Bool → ℕ → Actor
 after_repair_check a closed count =
     record a { pc = if beq closed a.closed && (count == a.t) then (if a.closed || nat_le a.h a.t then pc_after_empty_pass a else Q12) else Q9 }
 
--- a dequeue that took this value replies it, and its call is over; without a value it stays as it
--- is
+-- the record and reply of a dequeue that took this value: its call is over, and it replies the
+-- value. Without a value the record stays, and there is no reply
 abbrev pub after_take : Option ℕ → Actor → Actor × Option OpReply
 after_take (Some v) a = (idle, Some (op_reply.Value v))
 after_take None a = (a, None)
 
--- how an actor at this control point goes on with an answer, and what it replies. An answer of a
--- kind that the row's access never gives changes nothing: no step of a well-formed world comes to that
--- last row, since each leads to another control point (`laws::steps_move_their_actors` of rd_step)
+-- the next record of an actor that goes on from this control point with an answer, and its reply if
+-- its call is over. The last row, which changes nothing, is for answers that a row's access never
+-- gives. No step of a well-formed world comes to it, since each leads to another control point
+-- (`laws::steps_move_their_actors` of rd_step)
 abbrev pub after_at : ℕ → Pc → Actor → Answer → Actor × Option OpReply
 after_at R E1 a (answer.Found (content.Name s)) = (record a { crq = s; pc = E2 }, None)
 after_at R E2 a (answer.Found (content.Next (Some m))) = (record a { next = m; pc = E3 }, None)
 after_at R E2 a (answer.Found (content.Next None)) = (record a { pc = E4 }, None)
 after_at R E3 a _ = (record a { pc = E1 }, None)
--- on to the cell of the position drawn, or to a segment of its own if the ring is closed
+-- E4: on to the cell of the position drawn, or to a segment of its own if the ring is closed
 after_at R E4 a (answer.Found (content.Tail closed count)) = (record a { t = count; pc = if closed then E12 else E5 }, None)
 after_at R E5 a (answer.Value v) = (record a { val = v; pc = E6 }, None)
 after_at R E6 a (answer.SafeAndIndex safe idx) = (after_enqueue_reads_index a safe idx, None)
--- tries the unsafe cell if its position is not below the head
+-- E7: tries the unsafe cell if the head is at most its position
 after_at R E7 a (answer.Found (content.Number g)) = (record a { pc = if nat_le g a.t then E8 else E9 }, None)
 after_at R E8 a answer.Won = (idle, Some op_reply.Enqueued)
 after_at R E8 a answer.Lost = (record a { pc = E9 }, None)
--- closes the ring if it is full, else has to choose whether it starves
+-- E9: on to close the ring if it is full, else to choose whether it starves
 after_at R E9 a (answer.Found (content.Number g)) = (record a { h = g; pc = if nat_le (g + R) a.t then E11 else E10 }, None)
 after_at R E11 a _ = (record a { pc = E12 }, None)
 after_at R E12 a (answer.Made s) = (record a { new = s; pc = E13 }, None)
@@ -171,7 +172,8 @@ after_at R Q6 a answer.Won = (record a { pc = Q8 }, None)
 after_at R Q6 a answer.Lost = (record a { pc = Q3 }, None)
 after_at R Q7 a answer.Won = (record a { pc = Q8 }, None)
 after_at R Q7 a answer.Lost = (record a { pc = Q3 }, None)
--- on to repair the tail if nothing is enqueued after its position, else draws the next one
+-- Q8: on to repair the tail if the tail counter is at most one past its position, else draws the
+-- next one
 after_at R Q8 a (answer.Found (content.Tail closed count)) = (record a { t = count; pc = if nat_le count (a.h + 1) then Q9 else Q2 }, None)
 after_at R Q9 a (answer.Found (content.Tail closed count)) = (record a { closed = closed; t = count; pc = Q10 }, None)
 after_at R Q10 a (answer.Found (content.Number g)) = (record a { h = g; pc = Q11 }, None)
@@ -182,18 +184,18 @@ after_at R Q13 a (answer.Found (content.Next None)) = (idle, Some op_reply.Empty
 after_at R Q13 a (answer.Found (content.Next (Some m))) = (record a { next = m; pass = 2; pc = Q2 }, None)
 after_at R Q14 a _ = (record a { pc = Q1 }, None)
 after_at R A1 a (answer.Found (content.Number u)) = (record a { t = u; pc = A2 }, None)
--- over if nobody had been at the slot before, else draws the next position
+-- A2: over if the slot was empty, else draws the next position
 after_at R A2 a (answer.Found (content.Slot slot.Empty)) = (idle, Some op_reply.Enqueued)
 after_at R A2 a (answer.Found (content.Slot _)) = (record a { pc = A1 }, None)
 after_at R B1 a (answer.Found (content.Number g)) = (record a { h = g; pc = B2 }, None)
--- replies the value that it found, else looks at the tail
+-- B2: replies the value that was in the slot; without one, looks at the tail
 after_at R B2 a (answer.Found (content.Slot (slot.Value v))) = (idle, Some (op_reply.Value v))
 after_at R B2 a (answer.Found (content.Slot _)) = (record a { pc = B3 }, None)
--- over if nothing is enqueued after its position, else draws the next one
+-- B3: over if the tail counter is at most one past its position, else draws the next one
 after_at R B3 a (answer.Found (content.Number u)) = if nat_le u (a.h + 1) then (idle, Some op_reply.Empty) else (record a { pc = B1 }, None)
 after_at R _ a _ = (a, None)
 
--- the actor's next record, and what it replies if its call is over
+-- the actor's next record after this act and answer, and its reply if its call is over
 abbrev pub after : ℕ → Actor → Act → Answer → Actor × Option OpReply
 after R a (act.Enq x) _ = (calling E1 (op.Enq x), None)
 after R a act.Deq _ = (calling Q1 op.Deq, None)

@@ -8,37 +8,37 @@ use Rattle.rd_actor.specs.declared.actors.Op.TheVariants as op
 use Rattle.rd_actor.specs.declared.actors.Pc.{Pc}
 use Rattle.rd_actor.specs.declared.actors.Pc.TheVariants.{Idle, E1, E2, E3, E4, E5, E6, E7, E8, E9, E10, E11, E12, E13, E14, Q1, Q2, Q3, Q4, Q5, Q6, Q7, Q8, Q9, Q10, Q11, Q12, Q13, Q14, A1, A2, B1, B2, B3}
 
--- whether there is a call, and it is an enqueue
+-- whether this is a call of an enqueue, not on the array
 abbrev pub enqueues : Option Op → Bool
 enqueues (Some (op.Enq x)) = true
 enqueues _ = false
 
--- whether there is a call, and it is a dequeue
+-- whether this is a call of a dequeue, not on the array
 abbrev pub dequeues : Option Op → Bool
 dequeues (Some op.Deq) = true
 dequeues _ = false
 
--- whether there is a call, and it is an enqueue on the array
+-- whether this is a call of an enqueue on the array
 abbrev pub array_enqueues : Option Op → Bool
 array_enqueues (Some (op.AEnq x)) = true
 array_enqueues _ = false
 
--- whether there is a call, and it is a dequeue on the array
+-- whether this is a call of a dequeue on the array
 abbrev pub array_dequeues : Option Op → Bool
 array_dequeues (Some op.ADeq) = true
 array_dequeues _ = false
 
--- whether the words, except the control point, are those of the idle record
+-- whether all words except the control point are those of the idle record
 abbrev pub has_idle_words : Actor → Bool
 has_idle_words a =
     is_none a.op && name_eq a.crq root && name_eq a.new root && name_eq a.next root && (a.t == 0) && (a.h == 0)
     && not a.closed && is_none a.val && not a.safe && (a.idx == 0) && (a.pass == 0)
 
--- whether the actor is in an enqueue, and so in no pass
+-- whether the actor is in an enqueue, with pass 0
 abbrev pub enqueue_fits : Actor → Bool
 enqueue_fits a = enqueues a.op && (a.pass == 0)
 
--- whether the actor is in a dequeue, in its first or second pass over a segment
+-- whether the actor is in a dequeue, in pass 1 or 2 over its segment
 abbrev pub pass_fits : Actor → Bool
 pass_fits a = dequeues a.op && ((a.pass == 1) || (a.pass == 2))
 

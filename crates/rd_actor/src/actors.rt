@@ -1,4 +1,4 @@
-//! An actor's record, what it may be asked to do, and what its calls reply.
+//! An actor's record, the acts that it may be asked to do, and the replies of its calls.
 
 ghost use Rattle.std.specs.Prelude.{◌≡◌, ◌↔◌, IsTrue};
 ghost use Rattle.rd_actor.specs.Actors.{idle, poised, calling};
@@ -22,7 +22,7 @@ pub enum Pc {
     E5,
     /// Enqueue: reads the cell's safe bit and index.
     E6,
-    /// Enqueue: reads the segment's head, because the cell is unsafe.
+    /// Enqueue: reads the segment's head, since the cell is unsafe.
     E7,
     /// Enqueue: tries to put the value into the cell.
     E8,
@@ -52,7 +52,7 @@ pub enum Pc {
     Q6,
     /// Dequeue: tries to move the empty cell on to its next round.
     Q7,
-    /// Dequeue: reads the tail, to see whether the ring is empty.
+    /// Dequeue: reads the tail, to see whether anything is left after its position.
     Q8,
     /// Dequeue: the repair reads the tail.
     Q9,
@@ -72,7 +72,7 @@ pub enum Pc {
     A2,
     /// Dequeue on the array: fetch-and-add on its head.
     B1,
-    /// Dequeue on the array: swaps the slot out, and leaves `Top`.
+    /// Dequeue on the array: swaps `Top` into the slot, and takes the value, if one was there.
     B2,
     /// Dequeue on the array: reads its tail.
     B3,
@@ -91,20 +91,20 @@ pub enum Op {
     ADeq,
 }
 
-/// What an actor is to do in one step.
+/// What an actor does in one step.
 #[derive(Clone, Copy, Debug, PartialEq, Eq)]
 pub enum Act {
-    /// The call of an enqueue of this value.
+    /// Begins an enqueue of this value.
     Enq(u64),
-    /// The call of a dequeue.
+    /// Begins a dequeue.
     Deq,
-    /// The call of an enqueue of this value on the array.
+    /// Begins an enqueue of this value on the array.
     AEnq(u64),
-    /// The call of a dequeue on the array.
+    /// Begins a dequeue on the array.
     ADeq,
-    /// The step of the control point where the actor is.
+    /// Makes the step of the control point where the actor is.
     Go,
-    /// The choice whether an enqueue starves and closes the ring.
+    /// Chooses whether an enqueue starves, and so closes the ring.
     Starve(bool),
 }
 
@@ -119,39 +119,41 @@ pub enum OpReply {
     Empty,
 }
 
-/// The words of one actor. The small ones are together, so that the record is short: every step
-/// copies it, and every entry of a journal keeps one.
+/// The record of one actor: its control point, its call and its words. The small fields are
+/// together to keep the record short, since every step copies it and every entry of a journal keeps
+/// one.
 #[derive(Clone, Copy, Debug, PartialEq, Eq)]
 pub struct Actor {
-    /// The control point where it is.
+    /// The control point where the actor is.
     pub pc: Pc,
-    /// The pass of a dequeue over its segment: 0 before the first, then 1 or 2.
+    /// The pass of a dequeue over its segment, 1 or 2; 0 before the first pass and in all other
+    /// calls.
     pub pass: u8,
-    /// The closed bit that its repair read.
+    /// The closed bit that the actor's repair read.
     pub closed: bool,
-    /// The safe bit that it read from a cell.
+    /// The safe bit that the actor read last from a cell.
     pub safe: bool,
-    /// The segment on which it works.
+    /// The segment on which the actor works.
     pub crq: SegName,
-    /// The segment that it made last in this call.
+    /// The segment that the actor made last in this call.
     pub new: SegName,
-    /// The next segment that it read last.
+    /// The segment that the actor read last as the next one.
     pub next: SegName,
-    /// The call that it is in, if any.
+    /// The call that the actor is in, if any.
     pub op: Option<Op>,
-    /// The tail position that it read or drew last, at most 2^62.
+    /// The tail counter that the actor read or drew from last, at most 2^62.
     pub t: u64,
-    /// The head position that it read or drew last, at most 2^62.
+    /// The head counter that the actor read or drew from last, at most 2^62.
     pub h: u64,
-    /// The value that it read from a cell.
+    /// The value that the actor read last from a cell, or none.
     pub val: Option<u64>,
-    /// The index that it read from a cell, at most 2^62 plus the ring's size.
+    /// The index that the actor read last from a cell, at most 2^62 plus the ring's size.
     pub idx: u64,
 }
 
 impl Actor {
-    /// Returns the record of an actor in no call: all names the root, all numbers 0, all bits 0, no
-    /// value.
+    /// Returns the record of an actor in no call: its names are the root, its numbers 0 and its
+    /// bits 0, and it has no value.
     pub fn idle() -> Actor
         ensures { result ≡ idle }
     {
@@ -178,8 +180,8 @@ impl Actor {
         *self == Actor::idle()
     }
 
-    /// Returns the record of an actor in an enqueue of this value, at its fetch-and-add on the
-    /// root's tail.
+    /// Returns the record of an actor in an enqueue of this value, about to draw a position from
+    /// the root's tail.
     pub fn poised(value: u64) -> Actor
         ensures { result ≡ poised value }
     {
@@ -190,7 +192,8 @@ impl Actor {
         }
     }
 
-    /// Returns the record of an actor that begins this call at this control point.
+    /// Returns the record of an actor that begins this call at this control point. Its other words
+    /// are those of the idle record.
     pub fn calling(pc: Pc, op: Op) -> Actor
         ensures { result ≡ calling pc op }
     {

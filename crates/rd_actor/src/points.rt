@@ -1,4 +1,4 @@
-//! The control points one by one: all of them, and the label of each.
+//! The list of all control points, and the label of each.
 
 ghost use Rattle.std.specs.Prelude.{◌≡◌, ◌≢◌, ◌≤◌, IfSome, IfNone, length};
 ghost use Rattle.rd_actor.specs.declared.actors.Pc.{Pc as Point};
@@ -45,7 +45,7 @@ impl Pc {
         Pc::B3,
     ];
 
-    /// Returns the control point of this label, or none.
+    /// Returns the control point with this label, or none if no control point has it.
     pub fn of_label(word: &str) -> Option<Pc>
         ensures some { IfSome result (λ pc. label pc ≡ word.now) }
         ensures none { IfNone result ((pc : Point) → label pc ≢ word.now) }

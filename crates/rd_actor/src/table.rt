@@ -1,4 +1,4 @@
-//! The table of control points: what an actor asks for at each, and how it goes on.
+//! The table of control points: the access for which an actor asks at each, and how it goes on.
 //!
 //! A row a control point, in the table's order. `need` has the column of accesses, `after` those of
 //! the words set and of the next control point. The helpers below have the rows that choose between
@@ -13,9 +13,9 @@ ghost use Rattle.rd_actor.specs.Table.{value_to_put, cell_with, need, need_at, I
 use super::actors::{Act, Actor, Op, OpReply, Pc};
 use rd_cell::{Access, Answer, ArrSlot, Cell, Content, Operation, Place, Refusal, SegName};
 
-/// Returns the one access that the actor's next step makes, over rings of `R` cells. The actors of
-/// a world name only indexes and slots that fit their words; of others the access is not known at
-/// Q5, Q7, A2 and B2 (`IsRepresentable`).
+/// Returns the one access that the actor's next step makes, over rings of `R` cells. The contract
+/// holds if the numbers in the access fit the program's words (`IsRepresentable`), as they do for
+/// every actor of a well-formed world. Only the accesses of Q5, Q7, A2 and B2 might have others.
 ///
 /// # Errors
 ///
@@ -38,7 +38,8 @@ pub fn need<const R: usize>(actor: &Actor, act: Act) -> Result<Access, Refusal>
     }
 }
 
-/// Returns the access that an actor asks for at its control point, or why it has none.
+/// Returns the access for which an actor asks at its control point. Fails with `Idle` in no call,
+/// and with `NeedsChoice` at E10.
 fn need_at<const R: usize>(actor: &Actor) -> Result<Access, Refusal>
     requires positive { 1 ≤ R }
     requires small { R ≤ MOST_CELLS }
@@ -91,8 +92,8 @@ fn need_at<const R: usize>(actor: &Actor) -> Result<Access, Refusal>
     }
 }
 
-/// Returns the actor's record after a step, by what the access answered, and what the call replies
-/// if the step ended it.
+/// Returns the actor's next record after its access got this answer, and the call's reply if the
+/// step ended the call.
 pub fn after<const R: usize>(actor: &Actor, act: Act, answer: Answer) -> (Actor, Option<OpReply>)
     requires { R ≤ MOST_CELLS }
     ensures { result ≡ after R actor.now act answer }
@@ -107,8 +108,9 @@ pub fn after<const R: usize>(actor: &Actor, act: Act, answer: Answer) -> (Actor,
     }
 }
 
-/// Returns how an actor at its control point goes on: its next record, and its reply if its call is
-/// over. An answer that its row's access never gives leaves it as it is.
+/// Returns the next record of an actor that goes on from its control point with this answer, and
+/// its reply if its call is over. An answer that the row's access never gives leaves the record as
+/// it is.
 fn after_at<const R: usize>(actor: &Actor, answer: Answer) -> (Actor, Option<OpReply>)
     requires { R ≤ MOST_CELLS }
     ensures { result ≡ after_at R actor.now.pc actor.now answer }
@@ -176,14 +178,14 @@ fn after_at<const R: usize>(actor: &Actor, answer: Answer) -> (Actor, Option<OpR
     (next, None)
 }
 
-/// Returns the actor moved to this control point, with its other words as they are.
+/// Returns the actor's record at this control point, with its other words as they are.
 fn with_pc(actor: &Actor, pc: Pc) -> Actor
     ensures { result ≡ record actor.now { pc = pc } }
 {
     Actor { pc, ..*actor }
 }
 
-/// After E1: returns the enqueue's record, which works on this segment, at the queue's tail.
+/// Returns the record after E1: the enqueue works on this segment, which the queue's tail named.
 fn with_tail_segment(actor: &Actor, name: SegName) -> Actor
     ensures { result ≡ record actor.now { crq = name; pc = Pc.E2 } }
 {
@@ -194,8 +196,8 @@ fn with_tail_segment(actor: &Actor, name: SegName) -> Actor
     }
 }
 
-/// After E2: returns the enqueue's record, which goes on to move the lagging tail of the queue to
-/// this next segment.
+/// Returns the record after an E2 that read this next segment: the enqueue goes on to move the
+/// queue's tail to it.
 fn help_tail(actor: &Actor, name: SegName) -> Actor
     ensures { result ≡ record actor.now { next = name; pc = Pc.E3 } }
 {
@@ -206,8 +208,8 @@ fn help_tail(actor: &Actor, name: SegName) -> Actor
     }
 }
 
-/// After E4: returns the enqueue's record, which drew this position and goes on to its cell, or to
-/// make a segment if the ring is closed.
+/// Returns the record after E4: the enqueue drew this position, and goes on to its cell, or to make
+/// a segment if the ring is closed.
 fn after_tail_add(actor: &Actor, closed: bool, count: u64) -> Actor
     ensures { result ≡ record actor.now { t = count; pc = if closed then Pc.E12 else Pc.E5 } }
 {
@@ -218,16 +220,16 @@ fn after_tail_add(actor: &Actor, closed: bool, count: u64) -> Actor
     }
 }
 
-/// After E5 or Q3: returns the record of an actor that read this value in a cell, and goes on to
-/// `pc`.
+/// Returns the record after E5 or Q3: the actor read this value, or none, in its cell and goes on
+/// to `pc`.
 fn with_value(actor: &Actor, val: Option<u64>, pc: Pc) -> Actor
     ensures { result ≡ record actor.now { val = val; pc = pc } }
 {
     Actor { val, pc, ..*actor }
 }
 
-/// After E6: returns the enqueue's record, which tries the cell if it is empty and its index is not
-/// past the position; an unsafe cell only after a look at the head.
+/// Returns the record after E6: the enqueue tries its cell if the cell is empty and its index is at
+/// most the position; an unsafe cell only after a look at the head.
 fn after_enqueue_reads_index(actor: &Actor, safe: bool, idx: u64) -> Actor
     ensures { result ≡ after_enqueue_reads_index actor.now safe idx }
 {
@@ -244,8 +246,8 @@ fn after_enqueue_reads_index(actor: &Actor, safe: bool, idx: u64) -> Actor
     }
 }
 
-/// After E7: returns the enqueue's record, which tries the unsafe cell if its position is not below
-/// this head.
+/// Returns the record after E7: the enqueue tries its unsafe cell if this head is at most its
+/// position.
 fn after_unsafe_check(actor: &Actor, head: u64) -> Actor
     ensures { result ≡ record actor.now { pc = if nat_le head actor.now.t then Pc.E8 else Pc.E9 } }
 {
@@ -253,7 +255,7 @@ fn after_unsafe_check(actor: &Actor, head: u64) -> Actor
     Actor { pc, ..*actor }
 }
 
-/// After E9: returns the enqueue's record, which closes the ring if it is full, else has to choose
+/// Returns the record after E9: the enqueue goes on to close the ring if it is full, else to choose
 /// whether it starves.
 fn after_full_check<const R: usize>(actor: &Actor, head: u64) -> Actor
     requires { R ≤ MOST_CELLS }
@@ -272,7 +274,7 @@ fn after_full_check<const R: usize>(actor: &Actor, head: u64) -> Actor
     }
 }
 
-/// After E12: returns the enqueue's record, which goes on to link this segment that it made.
+/// Returns the record after E12: the enqueue made this segment, and goes on to link it.
 fn with_new(actor: &Actor, name: SegName) -> Actor
     ensures { result ≡ record actor.now { new = name; pc = Pc.E13 } }
 {
@@ -283,8 +285,8 @@ fn with_new(actor: &Actor, name: SegName) -> Actor
     }
 }
 
-/// After Q1: returns the dequeue's record, which begins its first pass over this segment, at the
-/// queue's head.
+/// Returns the record after Q1: the dequeue begins its first pass over this segment, which the
+/// queue's head named.
 fn with_head_segment(actor: &Actor, name: SegName) -> Actor
     ensures { result ≡ record actor.now { crq = name; pass = 1; pc = Pc.Q2 } }
 {
@@ -296,8 +298,8 @@ fn with_head_segment(actor: &Actor, name: SegName) -> Actor
     }
 }
 
-/// After Q2 or Q10: returns the record of an actor that drew or read this head position, and goes
-/// on to `pc`.
+/// Returns the record after Q2 or Q10: the actor drew or read this head counter, and goes on to
+/// `pc`.
 fn with_head(actor: &Actor, head: u64, pc: Pc) -> Actor
     ensures { result ≡ record actor.now { h = head; pc = pc } }
 {
@@ -308,9 +310,9 @@ fn with_head(actor: &Actor, head: u64, pc: Pc) -> Actor
     }
 }
 
-/// After Q4: returns the dequeue's record. It takes the value of its position, marks the cell
-/// unsafe if the value is older, moves an empty cell on to the next round, and passes by a cell
-/// whose index is past its position.
+/// Returns the record after Q4. The dequeue goes on to take the value of its position, to mark the
+/// cell unsafe if the value is older, or to move an empty cell on to the next round. It passes by a
+/// cell whose index is past its position.
 fn after_dequeue_reads_index(actor: &Actor, safe: bool, idx: u64) -> Actor
     ensures { result ≡ after_dequeue_reads_index actor.now safe idx }
 {
@@ -331,7 +333,8 @@ fn after_dequeue_reads_index(actor: &Actor, safe: bool, idx: u64) -> Actor
     }
 }
 
-/// After Q5: returns the record of a dequeue that took the value which it had read, and the reply.
+/// Returns the record and reply after a Q5 that won: the dequeue replies the value that it had
+/// read. A record without a value stays, without a reply.
 fn after_take(actor: &Actor) -> (Actor, Option<OpReply>)
     ensures { result ≡ after_take actor.now.val actor.now }
 {
@@ -341,8 +344,8 @@ fn after_take(actor: &Actor) -> (Actor, Option<OpReply>)
     }
 }
 
-/// After Q8: returns the dequeue's record, which goes on to repair the tail if nothing is enqueued
-/// after its position, else draws the next position.
+/// Returns the record after Q8: the dequeue goes on to repair the tail if this tail counter is at
+/// most one past its position, else it draws the next position.
 fn after_empty_check(actor: &Actor, count: u64) -> Actor
     ensures { result ≡ record actor.now {
       t = count;
@@ -359,7 +362,7 @@ fn after_empty_check(actor: &Actor, count: u64) -> Actor
     }
 }
 
-/// After Q9: returns the record of a dequeue whose repair read this tail.
+/// Returns the record after Q9: the dequeue's repair read this tail.
 fn with_repair_tail(actor: &Actor, closed: bool, count: u64) -> Actor
     ensures { result ≡ record actor.now { closed = closed; t = count; pc = Pc.Q10 } }
 {
@@ -371,8 +374,8 @@ fn with_repair_tail(actor: &Actor, closed: bool, count: u64) -> Actor
     }
 }
 
-/// After Q11: returns the dequeue's record, whose repair starts over if the tail changed, ends if
-/// the tail is closed or not below the head, and else tries to move it.
+/// Returns the record after Q11: the repair starts over if the tail changed, ends if the tail is
+/// closed or at least the head, and else tries to raise it.
 fn after_repair_check(actor: &Actor, closed: bool, count: u64) -> Actor
     ensures { result ≡ after_repair_check actor.now closed count }
 {
@@ -388,16 +391,16 @@ fn after_repair_check(actor: &Actor, closed: bool, count: u64) -> Actor
     Actor { pc, ..*actor }
 }
 
-/// Returns the control point after a pass that found its segment empty: the first pass reads the
-/// next segment, the second moves the queue's head.
+/// Returns the control point after a pass that found its segment empty: Q13, which reads the next
+/// segment, after the first pass, and Q14, which moves the queue's head, after the second.
 fn pc_after_empty_pass(actor: &Actor) -> Pc
     ensures { result ≡ pc_after_empty_pass actor.now }
 {
     if actor.pass == 1 { Pc::Q13 } else { Pc::Q14 }
 }
 
-/// After Q13: returns the dequeue's record, which passes over its segment a second time, as this
-/// segment follows.
+/// Returns the record after a Q13 that read this next segment: the dequeue passes over its own
+/// segment a second time.
 fn second_pass(actor: &Actor, name: SegName) -> Actor
     ensures { result ≡ record actor.now { next = name; pass = 2; pc = Pc.Q2 } }
 {
@@ -409,7 +412,7 @@ fn second_pass(actor: &Actor, name: SegName) -> Actor
     }
 }
 
-/// After A1: returns the record of an enqueue on the array that drew this position.
+/// Returns the record after A1: the enqueue on the array drew this position.
 fn with_tail(actor: &Actor, tail: u64) -> Actor
     ensures { result ≡ record actor.now { t = tail; pc = Pc.A2 } }
 {
@@ -420,8 +423,8 @@ fn with_tail(actor: &Actor, tail: u64) -> Actor
     }
 }
 
-/// After B3: returns the record and reply of a dequeue on the array, which is over if nothing is
-/// enqueued after its position, else draws the next one.
+/// Returns the record and reply after B3: the dequeue on the array replies `Empty` if this tail
+/// counter is at most one past its position, else it draws the next one.
 fn after_array_empty_check(actor: &Actor, count: u64) -> (Actor, Option<OpReply>)
     ensures { result ≡ (if nat_le count (actor.now.h + 1) then (idle, Some OpReply.Empty)
         else (record actor.now { pc = Pc.B1 }, None)) }
@@ -434,7 +437,7 @@ fn after_array_empty_check(actor: &Actor, count: u64) -> (Actor, Option<OpReply>
     }
 }
 
-/// Returns the value that an enqueue is to put, on either queue.
+/// Returns the value that an enqueue puts, on either queue; 0 in a dequeue or without a call.
 fn value_to_put(op: Option<Op>) -> u64
     ensures { result ≡ value_to_put op }
 {
@@ -444,7 +447,7 @@ fn value_to_put(op: Option<Op>) -> u64
     }
 }
 
-/// Returns the cell of this position in the actor's segment.
+/// Returns the cell of this position in the segment on which the actor works.
 fn cell_at<const R: usize>(actor: &Actor, position: u64) -> Place
     requires positive { 1 ≤ R }
     requires small { R ≤ MOST_CELLS }
@@ -453,7 +456,7 @@ fn cell_at<const R: usize>(actor: &Actor, position: u64) -> Place
     Place::Cell(actor.crq, index_of::<R>(position))
 }
 
-/// Returns the index, in a ring of `R` cells, of the cell of this position.
+/// Returns the number of this position's cell in a ring of `R` cells.
 fn index_of<const R: usize>(position: u64) -> u8
     requires positive { 1 ≤ R }
     requires small { R ≤ MOST_CELLS }
@@ -462,21 +465,23 @@ fn index_of<const R: usize>(position: u64) -> u8
     (position % R as u64) as u8
 }
 
-/// Returns the slot of the array at this position, which is 0 to 63 for the actors of a world.
+/// Returns the slot of the array at this position, which is 0 to 63 in a well-formed world. A
+/// position above 255 gives slot 255, which the array doesn't have.
 fn slot_at(position: u64) -> Place
     ensures { position < 2 ^ 8 → result ≡ Place.ArrCell position }
 {
     Place::ArrCell(u8::try_from(position).unwrap_or(u8::MAX))
 }
 
-/// Returns the operation of A2: the enqueue's value is swapped into the slot.
+/// Returns the operation of A2: a swap of the enqueue's value into the slot.
 fn swap_in(actor: &Actor) -> Operation
     ensures { result ≡ Swap (ArrSlot.Value (value_to_put actor.now.op)) }
 {
     Operation::Swap(ArrSlot::Value(value_to_put(actor.op)))
 }
 
-/// Returns a compare-and-swap from the name of the actor's segment to another name.
+/// Returns a compare-and-swap from the name of the segment on which the actor works to another
+/// name.
 fn cas_name(actor: &Actor, new: SegName) -> Operation
     ensures { result ≡ CasName actor.now.crq new }
 {
@@ -486,8 +491,8 @@ fn cas_name(actor: &Actor, new: SegName) -> Operation
     }
 }
 
-/// Returns the operation of E8: a compare-and-swap from the empty cell that was read to the value
-/// at the actor's position.
+/// Returns the operation of E8: a CAS2 from the empty cell that was read to a safe cell with the
+/// enqueue's value, whose index is the actor's position.
 fn cas2_to_put(actor: &Actor) -> Operation
     ensures { result ≡ Cas2 (cell_with actor.now.safe actor.now.idx None)
         (cell_with true actor.now.t (Some (value_to_put actor.now.op))) }
@@ -506,8 +511,8 @@ fn cas2_to_put(actor: &Actor) -> Operation
     }
 }
 
-/// Returns the operation of Q5 and Q7: a compare-and-swap from the cell that was read, with this
-/// value, to an empty one for the next round.
+/// Returns the operation of Q5 and Q7: a CAS2 from the cell that was read, with this value or none,
+/// to an empty cell at the index of the next round.
 fn move_on<const R: usize>(actor: &Actor, val: Option<u64>) -> Operation
     requires { R ≤ MOST_CELLS }
     ensures { actor.now.h + R < 2 ^ 64
@@ -528,8 +533,7 @@ fn move_on<const R: usize>(actor: &Actor, val: Option<u64>) -> Operation
     }
 }
 
-/// Returns the operation of Q6: a compare-and-swap from the cell that was read to the same cell,
-/// marked unsafe.
+/// Returns the operation of Q6: a CAS2 from the cell that was read to the same cell, marked unsafe.
 fn mark_unsafe(actor: &Actor) -> Operation
     ensures { result ≡ Cas2 (cell_with actor.now.safe actor.now.idx actor.now.val)
         (cell_with false actor.now.idx actor.now.val) }
@@ -548,7 +552,7 @@ fn mark_unsafe(actor: &Actor) -> Operation
     }
 }
 
-/// Returns the operation of Q12: a compare-and-swap that moves the tail up to the head.
+/// Returns the operation of Q12: a compare-and-swap that raises the open tail to the head.
 fn move_tail(actor: &Actor) -> Operation
     ensures { result ≡ CasTail actor.now.t actor.now.h }
 {

@@ -1,5 +1,5 @@
-//! Which words fit an actor's control point, one row a control point. Every step keeps this, and no
-//! actor whose words do not fit comes into a world.
+//! Which words fit an actor's control point, one row a control point. The words of every actor in a
+//! world fit: `World::assemble` refuses others, and every step keeps this.
 
 ghost use Rattle.std.specs.Prelude.{◌≡◌};
 ghost use Rattle.rd_actor.specs.Words.{words_fit, has_idle_words, enqueues, dequeues, array_enqueues, array_dequeues, enqueue_fits, pass_fits};
@@ -36,7 +36,7 @@ impl Actor {
     }
 }
 
-/// Whether the words, except the control point, are those of an actor in no call.
+/// Whether all words except the control point are those of an actor in no call.
 fn has_idle_words(actor: &Actor) -> bool
     ensures { result ≡ has_idle_words actor.now }
 {
@@ -53,42 +53,42 @@ fn has_idle_words(actor: &Actor) -> bool
         && actor.pass == 0
 }
 
-/// Whether the actor is in an enqueue, and so in no pass.
+/// Whether the actor is in an enqueue, with pass 0.
 fn enqueue_fits(actor: &Actor) -> bool
     ensures { result ≡ enqueue_fits actor.now }
 {
     enqueues(actor.op) && actor.pass == 0
 }
 
-/// Whether the actor is in a dequeue, in its first or second pass over a segment.
+/// Whether the actor is in a dequeue, in pass 1 or 2 over its segment.
 fn pass_fits(actor: &Actor) -> bool
     ensures { result ≡ pass_fits actor.now }
 {
     dequeues(actor.op) && (actor.pass == 1 || actor.pass == 2)
 }
 
-/// Whether there is a call, and it is an enqueue.
+/// Whether this is a call of an enqueue, not on the array.
 fn enqueues(op: Option<Op>) -> bool
     ensures { result ≡ enqueues op }
 {
     matches!(op, Some(Op::Enq(_)))
 }
 
-/// Whether there is a call, and it is a dequeue.
+/// Whether this is a call of a dequeue, not on the array.
 fn dequeues(op: Option<Op>) -> bool
     ensures { result ≡ dequeues op }
 {
     matches!(op, Some(Op::Deq))
 }
 
-/// Whether there is a call, and it is an enqueue on the array.
+/// Whether this is a call of an enqueue on the array.
 fn array_enqueues(op: Option<Op>) -> bool
     ensures { result ≡ array_enqueues op }
 {
     matches!(op, Some(Op::AEnq(_)))
 }
 
-/// Whether there is a call, and it is a dequeue on the array.
+/// Whether this is a call of a dequeue on the array.
 fn array_dequeues(op: Option<Op>) -> bool
     ensures { result ≡ array_dequeues op }
 {

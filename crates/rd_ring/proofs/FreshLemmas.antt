@@ -1,4 +1,4 @@
--- When a segment is as a fresh one: by its words and its cells.
+-- A segment is fresh exactly if its words and its cells are.
 use Rattle.rd_ring.proofs.Prelude.{◌≡◌, ℕ, ◌<◌, false, true, if◌then◌else◌, nat_lt, length, get_or, slice_get, Some, None, option_map, inl, inr, refl, sym, ap, ◌∙◌, arith, lt-ltb, le-ltb, cases_lt, cond-true, cond-false, slice_get-get_or, slice_get_past, part}
 use Rattle.rd_ring.specs.Prelude.{Cell, Place, Content, root, fresh_segment, new_cell}
 use Rattle.rd_ring.specs.declared.segments.Segment.{Segment}
@@ -24,7 +24,7 @@ module _ {R : ℕ} (s : Segment R) where
     segment_fresh head tail closed next (place.Idx n i) = half_at (λ c. content.Idx c.safe c.idx) i
     segment_fresh head tail closed next _ = refl
 
-  -- and back
+  -- conversely, a segment whose contents are fresh has fresh words and fresh cells
   module _ (e : (q : Place) → part s q ≡ fresh_segment R q) where
     pub fresh_words : ((s.head ≡ 0) × (s.tail ≡ 0)) × ((s.closed ≡ false) × (s.next ≡ None))
     fresh_words =

@@ -6,24 +6,25 @@ use Rattle.rd_cell.specs.declared.places.Place.TheVariants as place
 use Rattle.rd_cell.specs.declared.places.Wrote.TheVariants as wrote
 use Rattle.rd_cell.specs.declared.contents.Content.TheVariants as content
 
--- a read, at whatever place it found its content
+-- a read answers what it finds, is done at its place, and leaves the segment as it was
 pub reads_at : {R : ℕ} (seg : Segment R) (p : Place) (op : Operation) (c : Content) (a : Answer) (done : Done) → operand (part seg) p ≡ Some c
     → read_answer op c ≡ Some a → done ≡ record { place = Some p; old = Some c; answer = a; wrote = wrote.Nothing }
     → Operates (is_of_same_segment p) p op done (part seg) (part seg)
 reads_at seg p op c a done found answers notes = grind arith
 
--- an operation of the segment's own at one of its places is done at that place, whatever the place
--- names
+-- an operation that is done at a place under every name of the segment is done at the place under
+-- the name that the place has
 pub does_at : {R : ℕ} (old new : Segment R) (place : SegName → Place) (s : SegName) (p : Place) (op op' : Operation) (c d : Content) (answer : Answer) (wrote : Wrote) (done : Done)
     → ((q : Place) → is_of_same_segment (place s) q ≡ is_of s q) → p ≡ place s → op' ≡ op → operand (part old) p ≡ Some d → OperatesAt place op c answer wrote old new
     → (d ≡ c → done ≡ record { place = Some p; old = Some c; answer = answer; wrote = wrote })
     → Operates (is_of_same_segment p) p op' done (part old) (part new)
 does_at {R} old new place s p op op' c d answer wrote done beside at same found operates notes = grind arith
 
--- a cell or a half of one that is there is one of the R cells
+-- a number at which the segment has a cell is below R
 within_cells : {R : ℕ} (seg : Segment R) (i : ℕ) → (slice_get seg.cells i ≡ None → ⊥) → i < R
 within_cells {R} seg i there = grind (arith, slice_get_past)
 
+-- a cell that an operation finds is one of the R cells
 pub cell_is_within : {R : ℕ} (seg : Segment R) (s : SegName) (i : ℕ) (p : Place) (c : Content) → p ≡ place.Cell s i → operand (part seg) p ≡ Some c → i < R
 cell_is_within seg s i p c at found =
     within_cells seg i (λ none.

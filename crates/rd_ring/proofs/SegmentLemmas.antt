@@ -10,19 +10,19 @@ use Rattle.rd_cell.specs.declared.contents.Content.TheVariants as content
 use Rattle.rd_cell.specs.declared.operations.Answer.TheVariants as answer
 use Rattle.rd_cell.specs.declared.refusal.Refusal.TheVariants as refusal
 
--- the contents of a cell's two halves
+-- a cell's value half, and below it the index half, as contents
 abbrev value_of : Cell → Content
 value_of c = content.Val c.val
 
 abbrev index_of : Cell → Content
 index_of c = content.Idx c.safe c.idx
 
--- what is read of a list after one cell was written
+-- after one cell is written, its half is the new cell's, and the halves of all others stay
 part_written : (f : Cell → Content) (cells : List Cell) (i : ℕ) (cell : Cell) (b : Bool) → i < length cells → (j : ℕ) → b ≡ true
     → option_map f (slice_get (set cells i cell) j) ≡ (if b && (i == j) then Some (f cell) else option_map f (slice_get cells j))
 part_written f cells i cell b within j h = grind (arith, option_map, slice_get, slice_get-set_same, cond-true, and_from, eq-eqb, slice_get-set_other, cond-false, and_right, ne_eqb)
 
--- two segments that differ in one cell alone
+-- if two segments differ in one cell alone, the new one is the old one with this cell put back
 pub cell_put : {R : ℕ} (old new : Segment R) (i : ℕ) (cell : Cell) → i < length old.cells → new.head ≡ old.head → new.next ≡ old.next
     → new.cells ≡ set old.cells i cell → new.closed ≡ old.closed → new.tail ≡ old.tail → RestoresAt (λ s. place.Cell s i) (content.Cell cell) old new
 cell_put old new i cell within head next cells bit tail = record { named = at }
@@ -42,7 +42,7 @@ cell_put old new i cell within head next cells bit tail = record { named = at }
 
 -- Operations at a place
 
--- an operation that wrote nothing
+-- an operation that writes nothing is done if no place changed
 read_at : {R : ℕ} (old new : Segment R) (place : SegName → Place) (op : Operation) (found : Content) (answer : Answer)
     → ((s : SegName) → operand (part old) (place s) ≡ Some found) → effect op found ≡ Ok (record { answer = answer; writes = None })
     → ((q : Place) → part new q ≡ part old q) → OperatesAt place op found answer wrote.Nothing old new
@@ -57,35 +57,37 @@ read_at old new place op found answer there does same = record {
 
 -- Fetch-and-adds
 
+-- a fetch-and-add on a head counter at its end is refused
 pub head_ended : {R : ℕ} (old : Segment R) → old.head ≡ COUNTER_END → RefusesAt place.Head Add old refusal.CounterEnd
 head_ended old ended = grind arith
 
+-- a fetch-and-add on a tail counter at its end is refused
 pub tail_ended : {R : ℕ} (old : Segment R) → old.tail ≡ COUNTER_END → RefusesAt place.Tail Add old refusal.CounterEnd
 tail_ended old ended = grind arith
 
 -- Compare-and-swaps
 
--- two segments with the same words
+-- two segments with the same words have the same content at each place
 parts_same : {R : ℕ} (old new : Segment R) → new.head ≡ old.head → new.next ≡ old.next → new.cells ≡ old.cells → new.closed ≡ old.closed
     → new.tail ≡ old.tail → (q : Place) → part new q ≡ part old q
 parts_same old new head next cells bit tail q = grind arith
 
--- writing what is there writes nothing
+-- writing an element where it already is leaves the list
 set_read : (xs : List Cell) (i : ℕ) (x : Cell) → slice_get xs i ≡ Some x → set xs i x ≡ xs
 set_read [] i x h = refl
 set_read (y ∷ xs) zero x h = let e : y ≡ x = cc in ap (λ (z : Cell). z ∷ xs) (sym e)
 set_read (y ∷ xs) (suc i) x h = ap (λ (zs : List Cell). y ∷ zs) (set_read xs i x h)
 
--- what an operation at a cell works on is the cell
+-- the operand of an operation at a cell is the cell in the segment's list
 pub cell_found : {R : ℕ} (seg : Segment R) (s : SegName) (i : ℕ) (x : Cell) → slice_get seg.cells i ≡ Some x → operand (part seg) (place.Cell s i) ≡ Some (content.Cell x)
 cell_found seg s i x read = grind arith
 
--- a cell that was swapped for another
+-- a CAS2 that finds the expected cell and puts the new one is done
 cell_won : {R : ℕ} (old new : Segment R) (i : ℕ) (x from to : Cell) → slice_get old.cells i ≡ Some x → x ≡ from
     → RestoresAt (λ s. place.Cell s i) (content.Cell to) old new → OperatesAt (λ s. place.Cell s i) (Cas2 from to) (content.Cell x) answer.Won (wrote_cell x to) old new
 cell_won old new i x from to read is puts = grind arith
 
--- a cell that was compared with one and swapped for another
+-- a CAS2 is done if it puts the new cell exactly where it found the expected one
 pub cell_swapped : {R : ℕ} (old new : Segment R) (i : ℕ) (x y from to : Cell) (won : Bool) → i < length old.cells → slice_get old.cells i ≡ Some x
     → new.head ≡ old.head → new.next ≡ old.next → new.cells ≡ set old.cells i y → new.closed ≡ old.closed → new.tail ≡ old.tail
     → (won ≡ true) ↔ (x ≡ from) → OnTrue won (y ≡ to) → OnFalse won (y ≡ x)

@@ -1,4 +1,4 @@
--- What a segment has at each of its places, and what its operations do.
+-- The content of each place of a segment, and what the segment's operations do.
 use Rattle.std.specs.Prelude.{◌≡◌, ℕ, Bool, ◌&&◌, nat_le, if◌then◌else◌, List, Option, Some, None, option_map, slice_get, Err}
 use Rattle.rd_ring.specs.Prelude.{COUNTER_END, Cell, SegName, Place, Wrote, Content, Operation, Answer, Refusal, is_of, Contents, operand, operate, Operates, Restores}
 use Rattle.rd_ring.specs.declared.segments.Segment.{Segment}
@@ -8,7 +8,8 @@ use Rattle.rd_cell.specs.declared.places.Wrote.TheVariants as wrote
 use Rattle.rd_cell.specs.declared.contents.Content.TheVariants as content
 use Rattle.rd_cell.specs.declared.operations.Answer.TheVariants as answer
 
--- the content of each place of a segment with these words, whatever the segment's name
+-- the content of each place of a segment with these words; the segment's name in the place is
+-- ignored
 abbrev pub part_with : ℕ → ℕ → Bool → Option SegName → List Cell → Contents
 part_with head tail closed next cells (place.Head name) = Some (content.Number head)
 part_with head tail closed next cells (place.Tail name) = Some (content.Tail closed tail)
@@ -21,7 +22,7 @@ part_with head tail closed next cells _ = None
 abbrev pub part : {R : ℕ} → Segment R → Contents
 part s = part_with s.head s.tail s.closed s.next s.cells
 
--- the content of each place of the segment that is put together from these words
+-- the content of each place of the segment that these parts describe
 abbrev pub part_from : {R : ℕ} → SegmentParts R → Contents
 part_from s = part_with s.head s.tail s.closed s.next s.cells
 
@@ -37,25 +38,25 @@ head_count s = s.head
 abbrev pub tail_count : {R : ℕ} → Segment R → ℕ
 tail_count s = s.tail
 
--- whatever the segment is named, an operation at this place of it found this content, answered
--- this, wrote this of it, and left every other place as it was
+-- under every name of the segment: the operation at this place found this content, answered this,
+-- wrote this part of the place, and left all other places of the segment as they were
 pub record OperatesAt {R : ℕ} (place_of : SegName → Place) (op : Operation) (found : Content) (said : Answer) (written : Wrote) (old new : Segment R) : Type 0 where
   pub named : (s : SegName)
       → Operates (is_of s) (place_of s) op (record { place = Some (place_of s); old = Some found; answer = said; wrote = written }) (part old) (part new)
 
--- whatever the segment is named, the operation is refused at this place of it
+-- under every name of the segment: the operation at this place is refused for this cause
 abbrev pub RefusesAt : {R : ℕ} → (SegName → Place) → Operation → Segment R → Refusal → Type 0
 RefusesAt place_of op old cause = (s : SegName) → operate (place_of s) op (operand (part old) (place_of s)) ≡ Err cause
 
--- whatever the segment is named, this content was put back at this place of it, and every other
--- place of it is as it was
+-- under every name of the segment: this old content was put back at this place, and all other
+-- places of the segment stayed as they were
 pub record RestoresAt {R : ℕ} (place_of : SegName → Place) (was : Content) (old new : Segment R) : Type 0 where
   pub named : (s : SegName) → Restores (is_of s) (place_of s) (Some was) (part old) (part new)
 
--- the answer of a compare-and-swap that won, or that lost
+-- the answer of a compare-and-swap, by whether it won
 abbrev pub swap_answer : Bool → Answer
 swap_answer won = if won then answer.Won else answer.Lost
 
--- what a compare-and-swap wrote of its place: this if it won, else nothing
+-- which part of its place a compare-and-swap wrote: `written` if it won, else nothing
 abbrev pub swap_wrote : Bool → Wrote → Wrote
 swap_wrote won written = if won then written else wrote.Nothing

@@ -1,8 +1,8 @@
 //! One segment: a ring of `R` cells with its two counters, its closed bit and the name of the
 //! segment that follows.
 //!
-//! Each operation is one atomic access of Morrison and Afek's CRQ. For each that writes there is an
-//! inverse, which takes the content from before it.
+//! Each operation is one atomic access of Morrison and Afek's CRQ. Each operation that writes has
+//! an inverse, which takes the old content and puts it back.
 #![tactic(auto)]
 
 mod operations;

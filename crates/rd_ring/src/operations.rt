@@ -1,4 +1,4 @@
-//! Any operation at any place of a segment, done by the segment's own operations.
+//! Any operation at any place of a segment, by way of the segment's own operations.
 
 ghost use Rattle.std.specs.Prelude.{◌≡◌, Some, is_some, IsTrue, IfOk, IfErr, OnErr, Err};
 ghost use Rattle.rd_ring.specs.Prelude.{is_of_same_segment, can_hold, operand, operate, Operates, Restores};
@@ -61,8 +61,8 @@ impl<const R: usize> Segment<R> {
         }
     }
 
-    /// Puts an old content back at one of the segment's places: the inverse of each operation that
-    /// writes.
+    /// Puts an old content back at one of the segment's places. This undoes each operation that
+    /// writes there.
     pub fn restore(&mut self, place: Place, content: Content)
         requires there { IsTrue (is_some (operand (part self.old) place)) }
         requires kind { IsTrue (can_hold place content) }

@@ -1,13 +1,13 @@
-//! The words of a segment, as they are given by a caller.
+//! The words of a segment, as a caller gives them.
 
 ghost use Rattle.std.specs.Prelude.{◌≡◌, ◌≤◌, length};
 ghost use Rattle.rd_ring.specs.Prelude.{MOST_CELLS};
 
 use rd_cell::{Cell, SegName};
 
-/// The words of a segment that is to be put together. In a well-formed world the counters are at
-/// most 2^62, the cells' indexes at most 2^62 + `R`, and the next, if any, names a segment that is
-/// there; here nothing of this is known yet.
+/// The words of a segment that is to be put together; they need not fit a well-formed world. In
+/// such a world the counters are at most 2^62, the cells' indexes at most 2^62 + `R`, and the next,
+/// if any, names a segment that is there.
 #[derive(Clone, Copy, Debug)]
 pub struct SegmentParts<const R: usize> {
     /// The head counter.
@@ -18,7 +18,7 @@ pub struct SegmentParts<const R: usize> {
     pub closed: bool,
     /// The name of the segment that follows, or none.
     pub next: Option<SegName>,
-    /// The cells, by their indexes.
+    /// The cells in their order: cell 0 first.
     pub cells: [Cell; R],
     ghost small: { R ≤ MOST_CELLS },
     ghost sized: { length cells ≡ R },

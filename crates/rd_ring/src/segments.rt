@@ -26,8 +26,8 @@ pub struct Segment<const R: usize> {
 impl<const R: usize> Segment<R> {
     ghost use Rattle.rd_ring.specs.Segments.{part, part_from, counters_fit, head_count, tail_count, swap_answer, swap_wrote, OperatesAt, RefusesAt, RestoresAt};
 
-    /// Returns a fresh segment: both counters are 0, it is open, no segment follows, and cell u is
-    /// safe, at index u, and empty.
+    /// Returns a fresh segment: both counters are 0, it is open, no segment follows, and each cell
+    /// is safe and empty, with its own number as its index.
     pub fn fresh() -> Self
         requires { R ≤ MOST_CELLS }
         ensures { (q : Place) → part result q ≡ fresh_segment R q }
@@ -41,8 +41,8 @@ impl<const R: usize> Segment<R> {
         }
     }
 
-    /// Whether the segment equals a fresh one, because nothing was done to it or all of it was
-    /// undone.
+    /// Whether the segment equals a fresh one, as it does before its first operation and once all
+    /// of its operations are undone.
     pub fn is_fresh(&self) -> bool
         ensures { IsTrue result ↔ ((q : Place) → part self.now q ≡ fresh_segment R q) }
     {
@@ -57,8 +57,8 @@ impl<const R: usize> Segment<R> {
         self.head == 0 && self.tail == 0 && !self.closed && self.next.is_none()
     }
 
-    /// Returns a new segment that holds a value already: a fresh one, except that its tail is 1 and
-    /// the value is in cell 0.
+    /// Returns a new segment that already holds a value: it is fresh, except that its tail counter
+    /// is 1 and the value is in cell 0.
     pub fn holding(value: u64) -> Self
         requires positive { 1 ≤ R }
         requires small { R ≤ MOST_CELLS }
@@ -89,7 +89,7 @@ impl<const R: usize> Segment<R> {
         }
     }
 
-    /// Returns the words of the segment, from which `from_parts` puts it together again.
+    /// Returns the words of the segment; `from_parts` makes an equal segment from them.
     pub fn parts(&self) -> SegmentParts<R>
         ensures same { (q : Place) → part_from result q ≡ part self.now q }
         ensures within { IsTrue (counters_fit result) }
@@ -103,8 +103,8 @@ impl<const R: usize> Segment<R> {
         }
     }
 
-    /// Returns the content at a place of the segment, whatever name the place gives the segment;
-    /// for a cell, that of its two halves together. None if the segment has no such place.
+    /// Returns the content at a place of the segment, whichever segment the place names. For a
+    /// cell, this is its two halves together. None if a segment has no such place.
     pub fn content(&self, place: Place) -> Option<Content>
         ensures { result ≡ operand (part self.now) place }
     {
@@ -141,7 +141,7 @@ impl<const R: usize> Segment<R> {
         self.next
     }
 
-    /// Returns the cell of this index, or none if the index is `R` or more.
+    /// Returns the cell at this number in the ring, or none if the number is `R` or more.
     pub fn cell(&self, i: u8) -> Option<Cell>
         ensures value { (s : SegName) → operand (part self.now) (Place.Cell s i)
             ≡ option_map Content.Cell result }
@@ -154,7 +154,7 @@ impl<const R: usize> Segment<R> {
         self.cells.get(i as usize).copied()
     }
 
-    /// Fetch-and-add of 1 on the head: returns the counter from before.
+    /// Adds 1 to the head counter (fetch-and-add), and returns its old value.
     ///
     /// # Errors
     ///
@@ -174,7 +174,7 @@ impl<const R: usize> Segment<R> {
         Ok(old)
     }
 
-    /// Fetch-and-add of 1 on the tail: returns the closed bit and the counter from before.
+    /// Adds 1 to the tail counter (fetch-and-add), and returns the closed bit and the old counter.
     ///
     /// # Errors
     ///
@@ -194,7 +194,7 @@ impl<const R: usize> Segment<R> {
         Ok(old)
     }
 
-    /// Test-and-set of the closed bit: returns the old bit.
+    /// Sets the closed bit (test-and-set), and returns whether it was set before.
     pub fn close(&mut self) -> bool
         ensures { OperatesAt Place.Tail Close (Content.Tail result (tail_count self.old))
             (Answer.WasClosed result) Wrote.Place self.old self.new }
@@ -204,8 +204,8 @@ impl<const R: usize> Segment<R> {
         old
     }
 
-    /// Compare-and-swap of the tail, from open at one count to open at another: returns whether it
-    /// won.
+    /// Changes the tail from open at the count `old` to open at the count `new` (compare-and-swap),
+    /// and returns whether it won.
     pub fn cas_tail(&mut self, old: u64, new: u64) -> bool
         requires { new ≤ COUNTER_END }
         ensures { (c : Content) → part self.old (Place.Tail root) ≡ Some c
@@ -219,7 +219,7 @@ impl<const R: usize> Segment<R> {
         won
     }
 
-    /// Compare-and-swap of the next, from none: returns whether it won.
+    /// Changes the next from none to this name (compare-and-swap), and returns whether it won.
     pub fn cas_next(&mut self, new: SegName) -> bool
         ensures { (c : Content) → part self.old (Place.Next root) ≡ Some c
             → OperatesAt Place.Next (CasNext new) c (swap_answer result)
@@ -232,7 +232,7 @@ impl<const R: usize> Segment<R> {
         won
     }
 
-    /// Compare-and-swap of a whole cell: returns whether it won.
+    /// Changes a cell from `old` to `new` (CAS2), and returns whether it won.
     pub fn cas2_cell(&mut self, i: u8, old: Cell, new: Cell) -> bool
         requires { i < R }
         ensures { (c : Content) → operand (part self.old) (Place.Cell root i) ≡ Some c
@@ -245,7 +245,7 @@ impl<const R: usize> Segment<R> {
         won
     }
 
-    /// Sets the head counter back to this old value: the inverse of what writes the head.
+    /// Sets the head counter to this old value. This undoes a write of the head.
     pub fn restore_head(&mut self, count: u64)
         requires { count ≤ COUNTER_END }
         ensures { RestoresAt Place.Head (Content.Number count) self.old self.new }
@@ -253,8 +253,7 @@ impl<const R: usize> Segment<R> {
         self.head = count;
     }
 
-    /// Sets the tail's closed bit and counter back to these old values: the inverse of what writes
-    /// the tail.
+    /// Sets the tail's closed bit and counter to these old values. This undoes a write of the tail.
     pub fn restore_tail(&mut self, closed: bool, count: u64)
         requires { count ≤ COUNTER_END }
         ensures { RestoresAt Place.Tail (Content.Tail closed count) self.old self.new }
@@ -263,14 +262,14 @@ impl<const R: usize> Segment<R> {
         self.tail = count;
     }
 
-    /// Sets the next back to this old name, or to none: the inverse of what writes the next.
+    /// Sets the next to this old name, or to none. This undoes a write of the next.
     pub fn restore_next(&mut self, next: Option<SegName>)
         ensures { RestoresAt Place.Next (Content.Next next) self.old self.new }
     {
         self.next = next;
     }
 
-    /// Sets the cell of this index back to this old cell: the inverse of what writes a cell.
+    /// Sets a cell to this old one. This undoes a write of the whole cell.
     pub fn restore_cell(&mut self, i: u8, cell: Cell)
         requires { i < R }
         ensures { RestoresAt (λ s. Place.Cell s i) (Content.Cell cell) self.old self.new }
@@ -278,7 +277,7 @@ impl<const R: usize> Segment<R> {
         self.cells[usize::from(i)] = cell;
     }
 
-    /// Sets the value of a cell back to this old one: the inverse of what writes a value half.
+    /// Sets a cell's value to this old one. This undoes a write of the value half.
     pub fn restore_value(&mut self, i: u8, val: Option<u64>)
         requires { i < R }
         ensures { RestoresAt (λ s. Place.Val s i) (Content.Val val) self.old self.new }
@@ -286,8 +285,7 @@ impl<const R: usize> Segment<R> {
         self.cells[usize::from(i)].val = val;
     }
 
-    /// Sets the safe bit and the index of a cell back to these old ones: the inverse of what writes
-    /// an index half.
+    /// Sets a cell's safe bit and index to these old ones. This undoes a write of the index half.
     pub fn restore_index(&mut self, i: u8, safe: bool, idx: u64)
         requires { i < R }
         ensures { RestoresAt (λ s. Place.Idx s i) (Content.Idx safe idx) self.old self.new }
@@ -323,7 +321,7 @@ fn are_fresh(cells: &[Cell]) -> bool
     true
 }
 
-/// Returns a copy of the given cells, which are `R`.
+/// Returns a copy of the given `R` cells.
 fn copied_cells<const R: usize>(given: &[Cell]) -> [Cell; R]
     requires small { R ≤ MOST_CELLS }
     requires sized { length given.now ≡ R }
