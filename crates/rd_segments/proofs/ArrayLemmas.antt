@@ -16,6 +16,7 @@ fresh_slot i =
           ∙ sym (cond-false (nat_lt i SLOTS) (Some (content.Slot slot.Empty)) None (le-ltb i SLOTS past))
     ]
 
+-- two counters at 0 and 64 empty slots are a fresh array
 pub fresh_by : array_of 0 0 (replicate SLOTS slot.Empty) ≡ fresh_array
 fresh_by = grind (arith, replicate, fresh_slot)
 
@@ -31,6 +32,7 @@ slot_other : (head tail : ℕ) (cells : List ArrSlot) (i : ℕ) (slot : ArrSlot)
     → array_of head tail (set cells i slot) q ≡ array_of head tail cells q
 slot_other head tail cells i slot q h = grind (arith, eqb-false, option_map, slice_get-set_other)
 
+-- an operation on the head counter's content is done on the array
 pub head_does : (m n tail : ℕ) (cells : List ArrSlot) (p : Place) (op : Operation) → p ≡ place.ArrHead → (r : Result Done Refusal)
     → IfOk r (λ done. OperatesOn p op done (content.Number m) (content.Number n)) → IfOk r (λ done. Operates everywhere p op done (array_of m tail cells) (array_of n tail cells))
 head_does m n tail cells p op at r =
@@ -39,6 +41,7 @@ head_does m n tail cells p op at r =
     (place_operates place.ArrHead op (content.Number m) (content.Number n) (array_of m tail cells) (array_of n tail cells) (λ q. refl) refl refl refl
     (λ q e. head_other m n tail cells q e) r)
 
+-- an operation on the tail counter's content is done on the array
 pub tail_does : (head m n : ℕ) (cells : List ArrSlot) (p : Place) (op : Operation) → p ≡ place.ArrTail → (r : Result Done Refusal)
     → IfOk r (λ done. OperatesOn p op done (content.Number m) (content.Number n)) → IfOk r (λ done. Operates everywhere p op done (array_of head m cells) (array_of head n cells))
 tail_does head m n cells p op at r =
@@ -52,7 +55,8 @@ slot_does_at : (head tail : ℕ) (cells : List ArrSlot) (i : ℕ) (old new d : A
     → IfOk r (λ done. Operates everywhere (place.ArrCell i) op done (array_of head tail cells) (array_of head tail (set cells i new)))
 slot_does_at head tail cells i old new d op within read r = grind (arith, slice_get, slice_get-get_or, place_operates, option_map, slice_get-set_same, slot_other)
 
--- the same at the index of the place
+-- an operation on the content of a slot is done at that slot's place, if place and index are the
+-- slot's
 pub slot_does : (head tail : ℕ) (cells : List ArrSlot) (i j : ℕ) (old new d : ArrSlot) (p : Place) (op : Operation) → p ≡ place.ArrCell i → j ≡ i
     → j < length cells → old ≡ get_or cells j d → (r : Result Done Refusal)
     → IfOk r (λ done. OperatesOn (place.ArrCell i) op done (content.Slot old) (content.Slot new))

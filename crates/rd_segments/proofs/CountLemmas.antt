@@ -1,24 +1,28 @@
--- How many segments a maker has made, counted in the map and in its list.
+-- The number of segments that a maker has made is the same in the map and in its list.
 use Rattle.rd_segments.proofs.Prelude.{◌≡◌, ℕ, zero, suc, ◌+◌, ◌<◌, ◌≤◌, true, false, inl, inr, ◌∙◌, ap, arith, List, Vec, Global, length, Option, is_some, slice_get, cases_lt, cond-true, cond-false, slice_get_past, MOST_SEGMENTS, SegName, Segment, ArrayParts, ListOf, by_number, part_of, count_in, count, contents_of, slice_get_cases, is_there, number_made_from, number_made}
 use Rattle.rd_cell.specs.declared.places.Place.TheVariants as place
 
+-- every position below a list's length has an element
 pub in_list : {X : Type 0} (xs : List X) (n : ℕ) → n < length xs → is_some (slice_get xs n) ≡ true
 in_list xs n h = elim (slice_get_cases xs n).1 [ inl w ↦ ap is_some w.2 | inr p ↦ absurd (omega (arith, p.0)) ]
 
+-- a number below the length of a maker's list has an element
 pub numbered_there : {X : Type 0} (o : Option (Vec X Global)) (n : ℕ) → n < count_in o → is_some (by_number o n) ≡ true
 numbered_there o n h = grind (arith, in_list)
 
+-- a number from the length of a maker's list on has no element
 pub numbered_absent : {X : Type 0} (o : Option (Vec X Global)) (n : ℕ) → count_in o ≤ n → is_some (by_number o n) ≡ false
 numbered_absent o n h = grind (arith, is_some, slice_get_past)
 
 head_there : {R : ℕ} (o : Option (Segment R)) (s : SegName) → is_some (part_of o (place.Head s)) ≡ is_some o
 head_there o s = grind arith
 
--- a segment is there if its number is below its maker's count
+-- a segment whose number is below its maker's count is there
 pub there_below : {R : ℕ} (makers : List (ListOf (Segment R))) (qhead qtail : SegName) (array : ArrayParts) (m n : ℕ) → n < count makers m
     → is_there (contents_of makers qhead qtail array) (record { maker = m; n = n }) ≡ true
 there_below makers qhead qtail array m n h = grind (arith, head_there, numbered_there, slice_get)
 
+-- a segment whose number is its maker's count or more is not there
 pub absent_from : {R : ℕ} (makers : List (ListOf (Segment R))) (qhead qtail : SegName) (array : ArrayParts) (m n : ℕ) → count makers m ≤ n
     → is_there (contents_of makers qhead qtail array) (record { maker = m; n = n }) ≡ false
 absent_from makers qhead qtail array m n h = grind (arith, head_there, numbered_absent, slice_get)
@@ -36,7 +40,7 @@ counts_from makers qhead qtail array (suc more) m n low high =
           cond-false _ (number_made_from more (contents_of makers qhead qtail array) m (n + 1)) n (absent_from makers qhead qtail array m n past) ∙ (omega arith)
     ]
 
--- the map and the list count the same
+-- counting a maker's segments in the map gives the length of its list
 pub counts : {R : ℕ} (makers : List (ListOf (Segment R))) (qhead qtail : SegName) (array : ArrayParts) (m : ℕ) → count makers m ≤ MOST_SEGMENTS
     → number_made (contents_of makers qhead qtail array) m ≡ count makers m
 unfolding number_made

@@ -1,4 +1,4 @@
--- When a space is as a fresh one: by its ends, its array and its makers' lists.
+-- A space is fresh exactly if its ends, its array and its makers' lists are.
 use Rattle.rd_segments.proofs.Prelude.{◌≡◌, ℕ, zero, suc, ◌-◌, ◌<◌, ◌≤◌, ◌&&◌, ◌==◌, if◌then◌else◌, nat_lt, All, List, [], ◌∷◌, length, get_or, take, drop, slice_get, Option, Some, None, option_map, inl, inr, refl, sym, ap, ◌∙◌, arith, lt-ltb, le-ltb, ne_eqb, common_steps, cases_Bool, cases_lt, cond-true, cond-false, and_left, and_right, slice_get-get_or, slice_get_past, fun_ext, name_eq-true, SLOTS, SegName, Place, Content, root, name_eq, Contents, fresh_segment, Segment, part, ListOf, by_number, by_name, part_of, IsFresh, IsFreshAlone, ArrayParts, array_part, fresh_array, contents_of, fresh_space, take_rest, All-head, All-tail}
 use Rattle.rd_cell.specs.declared.places.Place.TheVariants as place
 use Rattle.rd_cell.specs.declared.contents.ArrSlot.TheVariants as slot
@@ -6,6 +6,7 @@ use Rattle.rd_cell.specs.declared.contents.Content.TheVariants as content
 
 -- ---- the array
 
+-- an array with counters 0 and empty slots is fresh
 pub array_fresh : (a : ArrayParts) → a.head ≡ 0 → a.tail ≡ 0 → All (λ x. x ≡ slot.Empty) a.cells → array_part a ≡ fresh_array
 array_fresh a head tail all = fun_ext each
   where
@@ -27,7 +28,7 @@ array_fresh a head tail all = fun_ext each
     each (place.ArrCell i) = slot_at i
     each _ = refl
 
--- and back
+-- conversely, an array with fresh contents has fresh counters and slots
 module _ (a : ArrayParts) (e : array_part a ≡ fresh_array) where
   pub array_counters : (a.head ≡ 0) × (a.tail ≡ 0)
   array_counters =
@@ -45,19 +46,23 @@ module _ (a : ArrayParts) (e : array_part a ≡ fresh_array) where
 -- ---- the makers' lists
 
 module _ {R : ℕ} where
+  -- a list of one fresh segment has just that segment
   pub one_alone : (s : Segment R) → ((q : Place) → part s q ≡ fresh_segment R q) → IsFreshAlone (s ∷ [])
   one_alone s parts = record { segment = s; fresh_parts = parts; alone = refl }
 
+  -- the one segment of such a list is fresh
   pub alone_one : (s : Segment R) → IsFreshAlone (s ∷ []) → (q : Place) → part s q ≡ fresh_segment R q
   alone_one s h q = let same : s ≡ h.segment = cc (h.alone) in ap (λ (x : Segment R). part x q) same ∙ h.fresh_parts q
 
+  -- a list of length 1 is its first element alone
   pub only_one : (ss : List (Segment R)) (s : Segment R) → length ss ≡ 1 → s ≡ get_or ss 0 s → ss ≡ s ∷ []
   only_one ss s len is = grind (arith, common_steps)
 
+  -- a list of another length has not just one fresh segment
   pub not_alone : (ss : List (Segment R)) → (length ss ≡ 1 → ⊥) → IsFreshAlone ss → ⊥
   not_alone ss other h = other (ap length h.alone)
 
-  -- the first list, and the others
+  -- a list that isn't empty is its first element followed by the others
   pub first_and_others : (makers : List (ListOf (Segment R))) (first : ListOf (Segment R)) → 1 ≤ length makers → first ≡ get_or makers 0 first
       → makers ≡ first ∷ take (length makers - 1) (drop 1 makers)
   first_and_others makers first some is = grind (arith, common_steps, take_rest)
@@ -77,6 +82,7 @@ module _ {R : ℕ} where
       → by_number (slice_get (first ∷ lists) m) n ≡ (if name_eq root (record { maker = m; n = n }) then Some s else None)
   root_alone first lists s one none m n = grind (arith, slice_get, later_segment, none_in, other_maker)
 
+  -- lists are fresh if the first has just a fresh segment and all others are empty
   pub fresh_lists : (first : ListOf (Segment R)) (lists : List (ListOf (Segment R))) → IsFreshAlone first.items → All (λ list. list.items ≡ []) lists → IsFresh (first ∷ lists)
   fresh_lists first lists h none = record {
     segment = h.segment;
@@ -84,7 +90,7 @@ module _ {R : ℕ} where
     at = λ t. root_alone first lists h.segment h.alone none t.maker t.n;
   }
 
-  -- and back
+  -- conversely, the lists of a fresh space are not empty, since they have the root
   pub no_lists : (makers : List (ListOf (Segment R))) → makers ≡ [] → IsFresh makers → ⊥
   no_lists [] e h = let no : None ≡ Some h.segment = h.at root in cc
   no_lists (first ∷ lists) e h = cc

@@ -5,28 +5,28 @@ use Rattle.std.specs.Result.{is_ok}
 use Rattle.std.proofs.lemmas.List.{length-set}
 use Rattle.rd_cell.specs.declared.refusal.Refusal.TheVariants as refusal
 
--- a maker's list was changed at one number
+-- changing a maker's list at one number alone changes the segment of that name alone
 pub list_changed : {R : ℕ} (old : List (ListOf (Segment R))) (m n : ℕ) (was now : ListOf (Segment R)) (o : Option (Segment R)) → slice_get old m ≡ Some was
     → ((k : ℕ) → k ≢ n → slice_get now.items k ≡ slice_get was.items k) → slice_get now.items n ≡ o
     → Changes (record { maker = m; n = n }) o old (set old m now)
 list_changed {R} old m n was now o there others here = grind (arith, slice_get, slice_get-set_same, slice_get_within, cond-true, and_from, eq-eqb, cond-false, and_right, ne_eqb, slice_get-set_other, and_left)
 
--- a list that is read at a maker whose segment is there is that maker's
+-- a list read at a maker's number is that maker's, if the maker has a segment
 maker_list : {R : ℕ} (makers : List (ListOf (Segment R))) (m n : ℕ) (list : ListOf (Segment R)) → is_some (by_number (slice_get makers m) n) ≡ true
     → list ≡ get_or makers m list → slice_get makers m ≡ Some list
 maker_list makers m n list there read = grind (arith, slice_get-get_or, is_some, slice_get_past)
 
--- and the number is one of the list's
+-- the number of a segment that is there is below the length of its maker's list
 number_within : {R : ℕ} (makers : List (ListOf (Segment R))) (name : SegName) (list : ListOf (Segment R)) → slice_get makers name.maker ≡ Some list
     → is_some (by_name makers name) ≡ true → name.n < length list.items
 number_within makers name list found there = grind (arith, is_some, slice_get_past)
 
--- the segment that is read there is the one of the name
+-- the segment that is read from the list at a name's numbers is the segment of that name
 pub named_is : {R : ℕ} (makers : List (ListOf (Segment R))) (name : SegName) (m : ℕ) (list : ListOf (Segment R)) (segment : Segment R) → m ≡ name.maker
     → is_some (by_name makers name) ≡ true → list ≡ get_or makers m list → segment ≡ get_or list.items name.n segment → by_name makers name ≡ Some segment
 named_is makers name m list segment is there read held = grind (arith, maker_list, get_or, slice_get-get_or, number_within)
 
--- the segment of a name was written
+-- writing the segment of a name in its list changes that segment alone
 pub segment_written : {R : ℕ} (makers : List (ListOf (Segment R))) (name : SegName) (m : ℕ) (list : ListOf (Segment R)) (segment : Segment R) → m ≡ name.maker
     → is_some (by_name makers name) ≡ true → list ≡ get_or makers m list
     → Changes name (Some segment) makers (set makers m (with_item list name.n segment))
@@ -37,11 +37,12 @@ segment_written {R} makers name m list segment is there read =
     list_changed makers name.maker name.n list (with_item list name.n segment) (Some segment) found
     (λ k ne. slice_get-set_other list.items name.n k segment ne) (slice_get-set_same list.items name.n segment within))
 
--- a list with one element written has the room that it had
+-- writing a segment in a list leaves the room of every maker
 spare_written : {R : ℕ} (makers : List (ListOf (Segment R))) (m n : ℕ) (list : ListOf (Segment R)) (segment : Segment R) → m < length makers → list ≡ get_or makers m list
     → (k : ℕ) → spare (set makers m (with_item list n segment)) k ≡ spare makers k
 spare_written makers m n list segment within read k = grind (arith, slice_get, slice_get-set_same, slice_get-get_or, slice_get-set_other)
 
+-- writing a segment in a list leaves the room of every maker, and the number of lists
 pub written_keeps : {R : ℕ} (makers : List (ListOf (Segment R))) (m n : ℕ) (list : ListOf (Segment R)) (segment : Segment R) → m < length makers → list ≡ get_or makers m list
     → KeepsMakersRoom (makers_room makers) (makers_room (set makers m (with_item list n segment)))
 written_keeps makers m n list segment within read = record {
@@ -49,34 +50,38 @@ written_keeps makers m n list segment within read = record {
   same = spare_written makers m n list segment within read;
 }
 
+-- the maker of a segment that is there has a list
 pub maker_within : {R : ℕ} (makers : List (ListOf (Segment R))) (name : SegName) → is_some (by_name makers name) ≡ true → name.maker < length makers
 maker_within makers name there = grind (arith, is_some, slice_get_past)
 
+-- where an operation finds a content, there is a segment
 pub segment_there : {R : ℕ} (o : Option (Segment R)) (p : Place) → is_some (operand (part_of o) p) ≡ true → is_some o ≡ true
 segment_there o p h = grind arith
 
--- a maker's list is read at its number
+-- the list read at a maker's number is that maker's
 pub list_read : {R : ℕ} (makers : List (ListOf (Segment R))) (m : ℕ) (list : ListOf (Segment R)) → m < length makers → list ≡ get_or makers m list → slice_get makers m ≡ Some list
 list_read makers m list within read = slice_get-get_or makers m list within ∙ ap Some (sym read)
 
--- a segment whose number is within its maker's list is there
+-- a segment is there if its number is below the length of its maker's list
 pub found_there : {R : ℕ} (makers : List (ListOf (Segment R))) (name : SegName) (m : ℕ) (list : ListOf (Segment R)) → m ≡ name.maker → m < length makers
     → list ≡ get_or makers m list → name.n < length list.items → is_some (by_name makers name) ≡ true
 found_there makers name m list is within read below = grind (arith, list_read, slice_get_cases)
 
--- a list that another took the place of, at one maker
+-- after one maker's list is replaced, that maker has the new list's room, and every other its own
 spare_replaced : {R : ℕ} (makers : List (ListOf (Segment R))) (m : ℕ) (list left : ListOf (Segment R)) → m < length makers → list ≡ get_or makers m list
     → (k : ℕ) → ((k ≡ m) × (spare (set makers m left) k ≡ spare_in (Some left)) × (spare makers k ≡ spare_in (Some list)))
     ⊎ ((k ≡ m → ⊥) × (spare (set makers m left) k ≡ spare makers k))
 spare_replaced makers m list left within read k = grind (arith, slice_get, slice_get-set_same, list_read, slice_get-set_other)
 
+-- a making uses 1 of its own maker's room, or none if it failed
 room_used-same : (made : Bool) (maker k : ℕ) → k ≡ maker → room_used made maker k ≡ (if made then 1 else 0)
 room_used-same made maker k e = grind arith
 
+-- a making uses no room of another maker
 room_used-other : (made : Bool) (maker k : ℕ) → (k ≡ maker → ⊥) → room_used made maker k ≡ 0
 room_used-other made maker k ne = grind arith
 
--- a maker's list was lengthened
+-- lengthening a maker's list adds the new segment under its name, and changes no other
 pub list_lengthened : {R : ℕ} (makers : List (ListOf (Segment R))) (maker m value : ℕ) (name : SegName) (list left : ListOf (Segment R)) → m ≡ maker → maker < length makers
     → list ≡ get_or makers m list → (h : IsLengthened maker value name list left) → Changes name (Some h.segment) makers (set makers m left)
 list_lengthened {R} makers maker m value name list left is within read h =
@@ -89,13 +94,15 @@ list_lengthened {R} makers maker m value name list left is within read h =
     subst (λ (k : ℕ). Changes name (Some h.segment) makers (set makers k left)) (sym is)
     (subst (λ (s : SegName). Changes s (Some h.segment) makers (set makers maker left)) (sym h.name_is) changed)
 
--- a list that was left with the same segments leaves the names as they were
+-- replacing a list by one with the same segments changes no segment
 pub list_same : {R : ℕ} (makers : List (ListOf (Segment R))) (maker m : ℕ) (list left : ListOf (Segment R)) → m ≡ maker → maker < length makers
     → list ≡ get_or makers m list → left.items ≡ list.items → (t : SegName) → by_name (set makers m left) t ≡ by_name makers t
 list_same makers maker m list left is within read same t = grind (arith, slice_get, slice_get-set_same, list_read, slice_get-set_other)
 
 -- The room after a list took another's place
 
+-- a making that used at most 1 of its list's room used at most 1 of its maker's, and none of
+-- others'
 pub made_uses : {R : ℕ} {T : Type 0} (makers : List (ListOf (Segment R))) (maker m : ℕ) (list left : ListOf (Segment R)) (r : Result T Refusal) → m ≡ maker
     → maker < length makers → list ≡ get_or makers m list → spare_in (Some list) ≤ spare_in (Some left) + (if is_ok r then 1 else 0)
     → (r ≡ Err refusal.SegmentsEnd → spare_in (Some left) ≡ spare_in (Some list)) → UsesMakersRoom r true maker (makers_room makers) (makers_room (set makers m left))
@@ -111,6 +118,7 @@ made_uses {T = T} makers maker m list left r is within read room ended = record 
     used (Ok x) h k = grind (arith, spare_replaced, room_used-same)
     used (Err x) h k = grind (arith, spare_replaced)
 
+-- a list that got 1 more room gives its maker 1 more, and leaves the room of all others
 pub given_returns : {R : ℕ} (makers : List (ListOf (Segment R))) (maker m : ℕ) (list left : ListOf (Segment R)) → m ≡ maker → maker < length makers
     → list ≡ get_or makers m list → spare_in (Some left) ≡ spare_in (Some list) + 1
     → ReturnsMakersRoom (room_used true maker) (makers_room makers) (makers_room (set makers m left))
@@ -119,23 +127,27 @@ given_returns makers maker m list left is within read room = record {
   returns = λ k. grind (arith, spare_replaced, room_used-same, room_used-other);
 }
 
--- the room at the maker's own list
+-- after a maker's list is replaced, the maker has the new list's room
 spare_here : {R : ℕ} (makers : List (ListOf (Segment R))) (maker m : ℕ) (left : ListOf (Segment R)) → m ≡ maker → maker < length makers
     → spare (set makers m left) maker ≡ spare_in (Some left)
 spare_here makers maker m left is within = grind (arith, slice_get, slice_get-set_same)
 
+-- a maker has the room of the list that is read at its number
 spare_read : {R : ℕ} (makers : List (ListOf (Segment R))) (maker m : ℕ) (list : ListOf (Segment R)) → m ≡ maker → maker < length makers
     → list ≡ get_or makers m list → spare makers maker ≡ spare_in (Some list)
 spare_read makers maker m list is within read = ap spare_in (list_read makers maker list within (read ∙ ap (λ (k : ℕ). get_or makers k list) is))
 
+-- if a reservation succeeds, its maker has the room asked for
 room_made : {R : ℕ} (makers : List (ListOf (Segment R))) (maker m : ℕ) (left : ListOf (Segment R)) (more : ℕ) → m ≡ maker → maker < length makers
     → (r : Result (Unit {0}) AllocError) → OnOk r (more ≤ spare_in (Some left)) → OnOk r (more ≤ spare (set makers m left) maker)
 room_made makers maker m left more is within r h = grind (arith, spare_here)
 
+-- if a reservation is refused, its maker had less room than was asked for
 room_refused : {R : ℕ} (makers : List (ListOf (Segment R))) (maker m : ℕ) (list : ListOf (Segment R)) (more : ℕ) → m ≡ maker → maker < length makers
     → list ≡ get_or makers m list → (r : Result (Unit {0}) AllocError) → OnErr r (spare_in (Some list) < more) → OnErr r (spare makers maker < more)
 room_refused makers maker m list more is within read r h = grind (arith, spare_read)
 
+-- a reservation in one maker's list adds room for that maker alone
 pub reserved_adds : {R : ℕ} (makers : List (ListOf (Segment R))) (maker m more : ℕ) (list left : ListOf (Segment R)) (r : Result (Unit {0}) AllocError) → m ≡ maker
     → maker < length makers → list ≡ get_or makers m list → OnOk r (more ≤ spare_in (Some left)) → OnErr r (spare_in (Some list) < more)
     → spare_in (Some list) ≤ spare_in (Some left) → AddsMakersRoom r maker more (makers_room makers) (makers_room (set makers m left))
@@ -147,15 +159,16 @@ reserved_adds makers maker m more list left r is within read ok err room = recor
   others = λ k ne. ap spare_in (slice_get-set_other makers m k left (λ e. ne (e ∙ is)));
 }
 
--- a maker that has a segment has a list
+-- a maker whose count is above 0 has a list
 pub count_within : {R : ℕ} (makers : List (ListOf (Segment R))) (m : ℕ) → 0 < count makers m → m < length makers
 count_within makers m h = grind (arith, slice_get_past)
 
+-- a maker's count is the length of the list that is read at its number
 pub count_read : {R : ℕ} (makers : List (ListOf (Segment R))) (maker m : ℕ) (list : ListOf (Segment R)) → m ≡ maker → maker < length makers
     → list ≡ get_or makers m list → count makers maker ≡ length list.items
 count_read makers maker m list is within read = ap count_in (list_read makers maker list within (read ∙ ap (λ (k : ℕ). get_or makers k list) is))
 
--- the maker's last segment was taken away
+-- removing the last element of a maker's list removes its last segment, and changes no other
 pub last_taken : {R : ℕ} (makers : List (ListOf (Segment R))) (maker m : ℕ) (list left : ListOf (Segment R)) → m ≡ maker → maker < length makers
     → list ≡ get_or makers m list → left.items ≡ take (length list.items - 1) list.items
     → Changes (record { maker = maker; n = count makers maker - 1 }) None makers (set makers m left)
@@ -170,16 +183,17 @@ last_taken {R} makers maker m list left is within read items =
 
 -- The lists of a fresh space
 
+-- a list of one list of one segment has that segment at maker 0 and number 0, and no other
 first_at : {R : ℕ} (list : ListOf (Segment R)) (segment : Segment R) → list.items ≡ segment ∷ [] → (m n : ℕ)
     → by_number (slice_get (list ∷ []) m) n ≡ (if (0 == m) && (0 == n) then Some segment else None)
 first_at list segment items m n = grind arith
 
--- a list of one list of one segment has that as the root
+-- a list of one list of one segment has that segment as the root, and no other
 pub first_list : {R : ℕ} (list : ListOf (Segment R)) (segment : Segment R) → list.items ≡ segment ∷ []
     → (t : SegName) → by_name (list ∷ []) t ≡ (if name_eq root t then Some segment else None)
 first_list list segment items t = first_at list segment items t.maker t.n
 
--- an empty list at the end adds no segment
+-- pushing an empty list adds no segment
 pub empty_pushed : {R : ℕ} (makers : List (ListOf (Segment R))) (empty : ListOf (Segment R)) → empty.items ≡ [] → (t : SegName)
     → by_name (makers ++ empty ∷ []) t ≡ by_name makers t
 empty_pushed makers empty none t = grind (arith, slice_get, slice_get-push_same, slice_get_past, slice_get-push_other)

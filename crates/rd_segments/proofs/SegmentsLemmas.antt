@@ -5,31 +5,31 @@ use Rattle.rd_cell.specs.declared.places.Place.TheVariants as place
 use Rattle.rd_cell.specs.declared.places.Wrote.TheVariants as wrote
 use Rattle.rd_cell.specs.declared.operations.Answer.TheVariants as answer
 
--- what the segment of a name has at its places is what is there
+-- a segment's own places have the contents that the map has under its name
 pub segments_part : {R : ℕ} (makers : List (ListOf (Segment R))) (name : SegName) (segment : Segment R) (q : Place) → by_name makers name ≡ Some segment
     → is_of name q ≡ true → part segment q ≡ segments_of makers q
 segments_part {R} makers name segment q there h = grind arith
 
--- the places of the other segments have what they had
+-- a change of one segment leaves the places of all others
 pub segments_other : {R : ℕ} (old new : List (ListOf (Segment R))) (name : SegName) (o : Option (Segment R)) (q : Place) → Changes name o old new
     → is_of name q ≡ false → segments_of new q ≡ segments_of old q
 segments_other {R} old new name o q changes h = grind arith
 
--- the places are those of the names alone
+-- lists with the same segment under each name have the same contents
 pub segments_same : {R : ℕ} (old new : List (ListOf (Segment R))) → ((t : SegName) → by_name new t ≡ by_name old t) → segments_of new ≡ segments_of old
 segments_same {R} old new same = grind arith
 
--- the name of a change has what it says
+-- after a change, the changed name has its new segment, or none
 changed_here : {R : ℕ} (old new : List (ListOf (Segment R))) (name : SegName) (o : Option (Segment R)) → Changes name o old new → by_name new name ≡ o
 changed_here old new name o changes = changes.at name ∙ cond-true (name_eq name name) o (by_name old name) (name_eq-refl name)
 
--- a change of one segment, as one of the segments' places
+-- a change of one segment agrees with the change of the map of all segments
 segment_agrees : {R : ℕ} (old new : List (ListOf (Segment R))) (name : SegName) (before left : Segment R) (p : Place) → by_name old name ≡ Some before
     → Changes name (Some left) old new → segment_of p ≡ Some name
     → Agrees (is_of_same_segment p) p (part before) (part left) (segments_of old) (segments_of new)
 segment_agrees old new name before left p there changes own = grind (arith, segments_part, beside_is_of, changed_here, not_covered_outside, segments_other)
 
--- the segment that an operation or a restore at a place goes to, as it is read in its list
+-- the code reads `before`, the segment to which p belongs, in `list`, which it reads at maker m
 pub record Reads {R : ℕ} (makers : List (ListOf (Segment R))) (name : SegName) (m : ℕ) (list : ListOf (Segment R)) (before : Segment R) (p : Place) : Type 0 where
   pub maker : m ≡ name.maker
   pub there : is_some (by_name makers name) ≡ true
@@ -37,11 +37,13 @@ pub record Reads {R : ℕ} (makers : List (ListOf (Segment R))) (name : SegName)
   pub segment_is : before ≡ get_or list.items name.n before
   pub own : segment_of p ≡ Some name
 
+-- a change of the segment that was read agrees with the change of the map of all segments
 reads_agree : {R : ℕ} (makers : List (ListOf (Segment R))) (name : SegName) (m : ℕ) (list : ListOf (Segment R)) (before left : Segment R) (p : Place)
     → Reads makers name m list before p
     → Agrees (is_of_same_segment p) p (part before) (part left) (segments_of makers) (segments_of (set makers m (with_item list name.n left)))
 reads_agree makers name m list before left p h = grind (arith, common_steps, segment_agrees, named_is, segment_written)
 
+-- an operation done on the segment that was read is done on all segments
 pub operates_in : {R : ℕ} (makers : List (ListOf (Segment R))) (name : SegName) (m : ℕ) (list : ListOf (Segment R)) (before left : Segment R) (p : Place) (op : Operation)
     → Reads makers name m list before p → (r : Result Done Refusal) → IfOk r (λ done. Operates (is_of_same_segment p) p op done (part before) (part left))
     → IfOk r (λ done. Operates everywhere p op done (segments_of makers) (segments_of (set makers m (with_item list name.n left))))
@@ -50,6 +52,7 @@ operates_in makers name m list before left p op reads (Ok done) h =
     lift_operates (is_of_same_segment p) p op done (part before) (part left) (segments_of makers) (segments_of (set makers m (with_item list name.n left)))
     (reads_agree makers name m list before left p reads) h
 
+-- an operation that the segment that was read refuses is refused for the same cause on all segments
 pub refuses_in : {R : ℕ} (makers : List (ListOf (Segment R))) (name : SegName) (m : ℕ) (list : ListOf (Segment R)) (before left : Segment R) (p : Place) (op : Operation)
     → Reads makers name m list before p → (r : Result Done Refusal) → IfErr r (λ e. operate p op (operand (part before) p) ≡ Err e)
     → IfErr r (λ e. operate p op (operand (segments_of makers) p) ≡ Err e)
@@ -59,7 +62,7 @@ refuses_in makers name m list before left p op reads (Err e) h =
     (operand_agrees (is_of_same_segment p) p (part before) (part left) (segments_of makers) (segments_of (set makers m (with_item list name.n left)))
     (reads_agree makers name m list before left p reads)) ∙ h
 
--- a segment that was left as it was leaves the places as they were
+-- if an error leaves the segment that was read, it leaves all segments
 pub unchanged_in : {R : ℕ} (makers : List (ListOf (Segment R))) (name : SegName) (m : ℕ) (list : ListOf (Segment R)) (before left : Segment R) (p : Place)
     → Reads makers name m list before p → (r : Result Done Refusal) → OnErr r (left ≡ before)
     → OnErr r (segments_of (set makers m (with_item list name.n left)) ≡ segments_of makers)
@@ -72,6 +75,7 @@ unchanged_in {R} makers name m list before left p reads (Err e) same = fun_ext e
         elim (cases_Bool (is_of_same_segment p q))
         [ inl h ↦ sym (agrees.new_inside q h) ∙ ap (λ (s : Segment R). part s q) same ∙ agrees.old_inside q h | inr h ↦ agrees.outside q h ]
 
+-- a content put back in the segment that was read is put back in the map of all segments
 pub restores_in : {R : ℕ} (makers : List (ListOf (Segment R))) (name : SegName) (m : ℕ) (list : ListOf (Segment R)) (before left : Segment R) (p : Place) (c : Content)
     → Reads makers name m list before p → Restores (is_of_same_segment p) p (Some c) (part before) (part left)
     → Restores everywhere p (Some c) (segments_of makers) (segments_of (set makers m (with_item list name.n left)))
@@ -81,6 +85,7 @@ restores_in makers name m list before left p c reads h = λ q _.
 
 -- Makings
 
+-- after a change of one segment, its places have the contents `news`, and all others their own
 made_at : {R : ℕ} (old new : List (ListOf (Segment R))) (name : SegName) (o : Option (Segment R)) (news : Contents) (q : Place) → Changes name o old new
     → ((s : Segment R) (x : Place) → o ≡ Some s → part s x ≡ news x) → (o ≡ None → (x : Place) → news x ≡ None)
     → segments_of new q ≡ (if is_of name q then news q else segments_of old q)
@@ -93,15 +98,17 @@ made_at old new name (Some s) news q changes holds none =
     ]
 made_at old new name None news q changes holds none = grind arith
 
--- a maker's list as it is read
+-- the code reads `list` at the number m of a maker that has a list
 pub record ReadsList {R : ℕ} (makers : List (ListOf (Segment R))) (maker m : ℕ) (list : ListOf (Segment R)) : Type 0 where
   pub maker_is : m ≡ maker
   pub within : maker < length makers
   pub list_is : list ≡ get_or makers m list
 
+-- the list that is read is the maker's
 list_found : {R : ℕ} (makers : List (ListOf (Segment R))) (maker m : ℕ) (list : ListOf (Segment R)) → ReadsList makers maker m list → slice_get makers maker ≡ Some list
 list_found makers maker m list h = list_read makers maker list h.within (h.list_is ∙ ap (λ (k : ℕ). get_or makers k list) h.maker_is)
 
+-- lengthening the list that was read makes the segment in the map
 pub makes_in : {R : ℕ} (makers : List (ListOf (Segment R))) (maker m value : ℕ) (list left : ListOf (Segment R)) → ReadsList makers maker m list
     → (r : Result SegName Refusal) → IfOk r (λ name. IsLengthened maker value name list left)
     → IfOk r (λ name. Makes name (holding R value) (segments_of makers) (segments_of (set makers m left)))
@@ -118,22 +125,25 @@ makes_in {R} makers maker m value list left reads (Ok name) h =
           (λ s x e. let same : h.segment ≡ s = cc in ap (λ (y : Segment R). part y x) (sym same) ∙ h.holds x) (λ e. cc);
     }
 
+-- the new segment's number is its maker's old count
 pub named_in : {R : ℕ} (makers : List (ListOf (Segment R))) (maker m value : ℕ) (list left : ListOf (Segment R)) → ReadsList makers maker m list
     → (r : Result SegName Refusal) → IfOk r (λ name. IsLengthened maker value name list left)
     → IfOk r (λ name. name ≡ record { maker = maker; n = count makers maker })
 named_in makers maker m value list left reads r h = grind (arith, list_found)
 
+-- a making is refused for the maker as it is refused for the list that was read
 pub refuses_making : {R : ℕ} (makers : List (ListOf (Segment R))) (maker m : ℕ) (list : ListOf (Segment R)) → ReadsList makers maker m list
     → (r : Result SegName Refusal) → IfErr r (λ e. RefusesMaking (length list.items) (vec_capacity list - vec_len list) e)
     → IfErr r (λ e. RefusesMaking (count makers maker) (spare makers maker) e)
 refuses_making makers maker m list reads (Ok name) h = tt
 refuses_making {R} makers maker m list reads (Err e) h = grind (arith, list_found)
 
+-- a making that is refused changes no place
 pub making_same : {R : ℕ} (makers : List (ListOf (Segment R))) (maker m : ℕ) (list left : ListOf (Segment R)) → ReadsList makers maker m list
     → (r : Result SegName Refusal) → OnErr r (left.items ≡ list.items) → OnErr r (segments_of (set makers m left) ≡ segments_of makers)
 making_same makers maker m list left reads r same = grind (arith, segments_same, list_same)
 
--- the maker's last segment was taken away
+-- removing the last element of a maker's list removes all places of the maker's last segment
 pub unmakes_in : {R : ℕ} (makers : List (ListOf (Segment R))) (maker m : ℕ) (list left : ListOf (Segment R)) → ReadsList makers maker m list
     → left.items ≡ take (length list.items - 1) list.items
     → Restores everywhere (place.Whole (record { maker = maker; n = count makers maker - 1 })) None (segments_of makers) (segments_of (set makers m left))

@@ -17,13 +17,14 @@ of_segments _ = true
 own_of : (p : Place) (name : SegName) → segment_of p ≡ Some name → of_segments p ≡ true
 own_of p name h = grind arith
 
--- the segments' places are those of the space
+-- a change of the segments' map agrees with the change of the space's map
 segments_agree : (old new : Contents) (qhead qtail : SegName) (array : Contents) (p : Place) → of_segments p ≡ true
     → Agrees of_segments p old new (contents_by old qhead qtail array) (contents_by new qhead qtail array)
 segments_agree old new qhead qtail array p own = grind arith
 
--- An operation on a segment, and what is put back there
+-- An operation on a segment, or a content put back there
 
+-- an operation done on the segments is done on the space
 pub space_operates : {R : ℕ} (old new : List (ListOf (Segment R))) (qhead qtail : SegName) (array : ArrayParts) (name : SegName) (p : Place) (op : Operation) → segment_of p ≡ Some name
     → (r : Result Done Refusal) → IfOk r (λ done. Operates everywhere p op done (segments_of old) (segments_of new))
     → IfOk r (λ done. Operates everywhere p op done (contents_of old qhead qtail array) (contents_of new qhead qtail array))
@@ -33,11 +34,12 @@ space_operates old new qhead qtail array name p op own (Ok done) h =
     (segments_agree (segments_of old) (segments_of new) qhead qtail (array_part array) p (own_of p name own))
     (narrow of_segments (operate p op (operand (segments_of old) p)) done (segments_of old) (segments_of new) h)
 
--- the map is that of the segments' places
+-- if an error leaves the segments' places, it leaves the space's
 pub unchanged_fields : {R : ℕ} (old new : List (ListOf (Segment R))) (qhead qtail : SegName) (array : ArrayParts) {T : Type 0} → (r : Result T Refusal)
     → OnErr r (segments_of new ≡ segments_of old) → OnErr r (contents_of new qhead qtail array ≡ contents_of old qhead qtail array)
 unchanged_fields old new qhead qtail array r h = grind arith
 
+-- if the segments' places stay, so do the space's
 pub same_fields : {R : ℕ} (old new : List (ListOf (Segment R))) (qhead qtail : SegName) (array : ArrayParts) → segments_of new ≡ segments_of old
     → contents_of new qhead qtail array ≡ contents_of old qhead qtail array
 same_fields old new qhead qtail array h = ap (λ (at : Contents). contents_by at qhead qtail (array_part array)) h
@@ -52,6 +54,7 @@ tail_others : {R : ℕ} (makers : List (ListOf (Segment R))) (qhead old new : Se
     → contents_of makers qhead new array q ≡ contents_of makers qhead old array q
 tail_others makers qhead old new array q h = grind arith
 
+-- an operation on the name at the queue's head is done on the space
 pub head_operates : {R : ℕ} (makers : List (ListOf (Segment R))) (old new qtail : SegName) (array : ArrayParts) (p : Place) (op : Operation) → p ≡ place.QHead
     → (r : Result Done Refusal) → IfOk r (λ done. OperatesOn p op done (content.Name old) (content.Name new))
     → IfOk r (λ done. Operates everywhere p op done (contents_of makers old qtail array) (contents_of makers new qtail array))
@@ -61,6 +64,7 @@ head_operates makers old new qtail array p op at r =
     (place_operates place.QHead op (content.Name old) (content.Name new) (contents_of makers old qtail array) (contents_of makers new qtail array) (λ q. refl) refl refl refl
     (λ q h. head_others makers old new qtail array q h) r)
 
+-- an operation on the name at the queue's tail is done on the space
 pub tail_operates : {R : ℕ} (makers : List (ListOf (Segment R))) (qhead old new : SegName) (array : ArrayParts) (p : Place) (op : Operation) → p ≡ place.QTail
     → (r : Result Done Refusal) → IfOk r (λ done. OperatesOn p op done (content.Name old) (content.Name new))
     → IfOk r (λ done. Operates everywhere p op done (contents_of makers qhead old array) (contents_of makers qhead new array))
@@ -70,12 +74,14 @@ tail_operates makers qhead old new array p op at r =
     (place_operates place.QTail op (content.Name old) (content.Name new) (contents_of makers qhead old array) (contents_of makers qhead new array) (λ q. refl) refl refl refl
     (λ q h. tail_others makers qhead old new array q h) r)
 
--- An operation on the array, and what is put back there
+-- An operation on the array, or a content put back there
 
+-- a change of the array agrees with the change of the space
 array_agrees : {R : ℕ} (makers : List (ListOf (Segment R))) (qhead qtail : SegName) (old new : ArrayParts) (p : Place) → is_array p ≡ true
     → Agrees is_array p (array_part old) (array_part new) (contents_of makers qhead qtail old) (contents_of makers qhead qtail new)
 array_agrees makers qhead qtail old new p own = grind arith
 
+-- an operation done on the array is done on the space
 pub array_operates : {R : ℕ} (makers : List (ListOf (Segment R))) (qhead qtail : SegName) (old new : ArrayParts) (p : Place) (op : Operation) → is_array p ≡ true
     → (r : Result Done Refusal) → IfOk r (λ done. Operates everywhere p op done (array_part old) (array_part new))
     → IfOk r (λ done. Operates everywhere p op done (contents_of makers qhead qtail old) (contents_of makers qhead qtail new))
@@ -84,11 +90,13 @@ array_operates makers qhead qtail old new p op own (Ok done) h =
     lift_operates is_array p op done (array_part old) (array_part new) (contents_of makers qhead qtail old) (contents_of makers qhead qtail new)
     (array_agrees makers qhead qtail old new p own) (narrow is_array (operate p op (operand (array_part old) p)) done (array_part old) (array_part new) h)
 
+-- if an error leaves the array, it leaves the space
 pub array_unchanged : {R : ℕ} (makers : List (ListOf (Segment R))) (qhead qtail : SegName) (old new : ArrayParts) {T : Type 0} → (r : Result T Refusal)
     → OnErr r (array_part new ≡ array_part old) → OnErr r (contents_of makers qhead qtail new ≡ contents_of makers qhead qtail old)
 array_unchanged makers qhead qtail old new (Ok done) h = tt
 array_unchanged makers qhead qtail old new (Err e) h = ap (λ (at : Contents). contents_by (segments_of makers) qhead qtail at) h
 
+-- a content put back in the array is put back in the space
 pub array_restored : {R : ℕ} (makers : List (ListOf (Segment R))) (qhead qtail : SegName) (old new : ArrayParts) (p : Place) (c : Content) → is_array p ≡ true
     → array_part new ≡ restore (Some p) (Some c) (array_part old)
     → contents_of makers qhead qtail new ≡ restore (Some p) (Some c) (contents_of makers qhead qtail old)
@@ -102,6 +110,7 @@ fresh_parts : {R : ℕ} (makers : List (ListOf (Segment R))) (t : SegName) (q : 
     → part_of (by_name makers t) q ≡ (if is_of root q then fresh_segment R q else None)
 fresh_parts {R} makers t q h of = grind arith
 
+-- fresh lists and a fresh array, with the root at the queue's ends, are a fresh space
 pub space_fresh : {R : ℕ} (makers : List (ListOf (Segment R))) (array : ArrayParts) → IsFresh makers → array_part array ≡ fresh_array
     → contents_of makers root root array ≡ fresh_space R
 space_fresh {R} makers array h k = λ i. contents_by (fun_ext each i) root root (k i)

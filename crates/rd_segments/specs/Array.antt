@@ -1,4 +1,4 @@
--- What the array has at each of its places.
+-- The content of each place of the array.
 use Rattle.std.specs.Prelude.{ℕ, nat_lt, if◌then◌else◌, List, Some, None, option_map, slice_get}
 use Rattle.rd_ring.specs.Prelude.{SLOTS, ArrSlot, Contents}
 use Rattle.rd_segments.specs.declared.array.ArrayParts.{ArrayParts}
@@ -17,7 +17,7 @@ array_of head tail cells _ = None
 abbrev pub array_part : ArrayParts → Contents
 array_part a = array_of a.head a.tail a.cells
 
--- the contents of a fresh array: its counters are 0, and its slots are empty
+-- the content of each place of a fresh array: its counters are 0, and its 64 slots are empty
 abbrev pub fresh_array : Contents
 fresh_array place.ArrHead = Some (content.Number 0)
 fresh_array place.ArrTail = Some (content.Number 0)

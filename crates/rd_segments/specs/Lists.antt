@@ -10,20 +10,20 @@ use Rattle.rd_ring.specs.Segments.{part}
 abbrev pub ListOf : Type 0 → Type 0
 ListOf X = Vec X Global
 
--- the element n, from 0, of a maker's list; none if there is no list
+-- element n, counted from 0, of a maker's list; none if there is no such list or element
 abbrev pub by_number : {X : Type 0} → Option (ListOf X) → ℕ → Option X
 by_number o n = option_and_then (λ list. slice_get list.items n) o
 
--- the element of this name in the makers' lists, if there is one
+-- the element of this name in the makers' lists; none if there is none
 abbrev pub by_name : {X : Type 0} → List (ListOf X) → SegName → Option X
 by_name makers s = by_number (slice_get makers s.maker) s.n
 
--- the content of a segment's place, or none if there is no segment
+-- the content at a place of a segment; none without a segment, or if it has no such place
 abbrev pub part_of : {R : ℕ} → Option (Segment R) → Place → Option Content
 part_of o p = option_and_then (λ s. part s p) o
 
--- the contents of the places of all segments, where `segment` gives the contents of the segment of
--- each name
+-- the contents of the places of all segments, if `segment` gives each name the contents of its
+-- segment
 abbrev pub segments_by : (SegName → Contents) → Contents
 segments_by segment p = option_and_then (λ s. segment s p) (named p)
 
@@ -31,21 +31,21 @@ segments_by segment p = option_and_then (λ s. segment s p) (named p)
 abbrev pub segments_of : {R : ℕ} → List (ListOf (Segment R)) → Contents
 segments_of makers = segments_by (λ n. part_of (by_name makers n))
 
--- how many segments there are in a list, if there is one
+-- the number of segments in a list; 0 without a list
 abbrev pub count_in : {X : Type 0} → Option (ListOf X) → ℕ
 count_in o = option_map_or (λ list. length list.items) o 0
 
--- how many segments this maker has in the lists
+-- the number of segments in this maker's list; 0 if the maker has no list
 abbrev pub count : {X : Type 0} → List (ListOf X) → ℕ → ℕ
 count makers m = count_in (slice_get makers m)
 
--- the lists have this segment, or none, under this name now, and under every other name what they
--- had
+-- the new lists have `o`, a segment or none, under this name, and under every other name what the
+-- old lists had
 pub record Changes {R : ℕ} (name : SegName) (o : Option (Segment R)) (old new : List (ListOf (Segment R))) : Type 0 where
   pub at : (t : SegName) → by_name new t ≡ (if name_eq name t then o else by_name old t)
 
--- a maker's list got one more segment at its end, which holds the value and has the list's old
--- length as its number
+-- a maker's list got one more segment at its end, which holds the value. The segment's name has the
+-- list's old length as its number, which is below the most that a maker may make
 pub record IsLengthened {R : ℕ} (maker value : ℕ) (name : SegName) (old new : ListOf (Segment R)) : Type 0 where
   pub name_is : name ≡ record { maker = maker; n = length old.items }
   pub below : length old.items < MOST_SEGMENTS
@@ -53,13 +53,13 @@ pub record IsLengthened {R : ℕ} (maker value : ℕ) (name : SegName) (old new 
   pub holds : (q : Place) → part segment q ≡ holding R value q
   pub pushed : new.items ≡ old.items ++ segment ∷ []
 
--- the lists of a fresh space: the root is there, fresh, and no other segment
+-- the lists of a fresh space: the root is the only segment, and it is fresh
 pub record IsFresh {R : ℕ} (makers : List (ListOf (Segment R))) : Type 0 where
   pub segment : Segment R
   pub fresh_parts : (q : Place) → part segment q ≡ fresh_segment R q
   pub at : (t : SegName) → by_name makers t ≡ (if name_eq root t then Some segment else None)
 
--- there is just one segment, and it is fresh
+-- the list has just one segment, and it is fresh
 pub record IsFreshAlone {R : ℕ} (list : List (Segment R)) : Type 0 where
   pub segment : Segment R
   pub fresh_parts : (q : Place) → part segment q ≡ fresh_segment R q

@@ -1,4 +1,4 @@
--- Room: how many segments of each maker can be made before its list has to grow.
+-- Room: the number of segments of each maker that can be made before its list has to grow.
 use Rattle.std.specs.Option.{option_map_or}
 use Rattle.std.specs.Prelude.{◌≡◌, ◌≢◌, ℕ, ◌+◌, ◌-◌, ◌<◌, ◌≤◌, ◌==◌, ◌&&◌, Bool, true, IsTrue, List, Option, Some, None, Result, Err, OnOk, OnErr, is_ok, slice_get, if◌then◌else◌, length, vec_len, vec_capacity}
 use Rattle.rd_ring.specs.Prelude.{Place, Content, Refusal}
@@ -7,33 +7,33 @@ use Rattle.rd_segments.specs.Lists.{ListOf}
 use Rattle.rd_cell.specs.declared.places.Place.TheVariants as place
 use Rattle.rd_cell.specs.declared.refusal.Refusal.TheVariants as refusal
 
--- how many more segments a list has room for, if there is one
+-- the number of further segments for which a list has room; 0 without a list
 abbrev pub spare_in : {R : ℕ} → Option (ListOf (Segment R)) → ℕ
 spare_in o = option_map_or (λ list. vec_capacity list - vec_len list) o 0
 
--- how many more segments this maker's list has room for
+-- the number of further segments for which this maker's list has room; 0 if the maker has no list
 abbrev pub spare : {R : ℕ} → List (ListOf (Segment R)) → ℕ → ℕ
 spare makers m = spare_in (slice_get makers m)
 
--- how much of maker m's room a making by `maker` uses: one if it succeeded and the two are one
--- maker
+-- the room of maker m that a making by `maker` uses: 1 if the making succeeded and m is that maker,
+-- else 0
 abbrev pub room_used : Bool → ℕ → ℕ → ℕ
 room_used made maker m = if made && (m == maker) then 1 else 0
 
--- how much of maker m's room is given back if all places that this place covers are taken away: one
--- for the whole of a segment of m
+-- the room of maker m that is given back when the places that this place covers are removed: 1 for
+-- the whole of a segment of m, else 0
 abbrev pub room_of_place : Option Place → ℕ → ℕ
 room_of_place (Some (place.Whole s)) m = room_used true s.maker m
 room_of_place _ m = 0
 
--- how much of maker m's room is given back if this old content, or none, is put back at a place:
--- one if that takes a segment of m away
+-- the room of maker m that is given back when this old content, or none, is put back at a place: 1
+-- if that removes a segment of m, else 0
 abbrev pub room_returned : Option Place → Option Content → ℕ → ℕ
 room_returned p (Some c) m = 0
 room_returned p None m = room_of_place p m
 
--- the room of all makers: how many of them have a list, and how many more segments each list has
--- room for
+-- the room of all makers: the number of makers that have a list, and in `at` the number of further
+-- segments for which each maker's list has room
 pub record MakersRoom : Type 0 where
   pub makers : ℕ
   pub at : ℕ → ℕ
@@ -42,27 +42,28 @@ pub record MakersRoom : Type 0 where
 abbrev pub makers_room : {R : ℕ} → List (ListOf (Segment R)) → MakersRoom
 makers_room makers = record { makers = length makers; at = spare makers }
 
--- the room of every maker stays
+-- no maker's room changed, and no maker got or lost a list
 pub record KeepsMakersRoom (old new : MakersRoom) : Type 0 where
   pub makers : new.makers ≡ old.makers
   pub same : (m : ℕ) → new.at m ≡ old.at m
 
--- a call with this result, which makes a segment of this maker if `makes` holds, used room for one
--- segment of that maker at most, and none if it was refused. All other room stays, and all room if
--- the call was refused with SegmentsEnd
+-- a call with this result used room: at most 1 of this maker's if `makes` holds and the call
+-- succeeded, else none. Only this maker's room may change, and only if `makes` holds. A call that
+-- was refused with `SegmentsEnd` changes no room
 pub record UsesMakersRoom {T : Type 0} (result : Result T Refusal) (makes : Bool) (maker : ℕ) (old new : MakersRoom) : Type 0 where
   pub makers : new.makers ≡ old.makers
   pub used : (m : ℕ) → old.at m ≤ new.at m + room_used (is_ok result && makes) maker m
   pub others : (m : ℕ) → (IsTrue makes → m ≢ maker) → new.at m ≡ old.at m
   pub ended : result ≡ Err refusal.SegmentsEnd → (m : ℕ) → new.at m ≡ old.at m
 
--- each maker has its old room, and as much more as is returned to it
+-- each maker has its old room, and in addition the room `returned` to it
 pub record ReturnsMakersRoom (returned : ℕ → ℕ) (old new : MakersRoom) : Type 0 where
   pub makers : new.makers ≡ old.makers
   pub returns : (m : ℕ) → new.at m ≡ old.at m + returned m
 
--- a call with this result gave this maker room for `more` segments, or was refused, and then the
--- maker had less room. No maker has less room than before, and the room of other makers stays
+-- a call with this result gave this maker room for `more` segments, or it was refused, and then the
+-- maker had less room before. No maker has less room than before, and the room of other makers
+-- stays
 pub record AddsMakersRoom {T E : Type 0} (result : Result T E) (maker more : ℕ) (old new : MakersRoom) : Type 0 where
   pub makers : new.makers ≡ old.makers
   pub ok : OnOk result (more ≤ new.at maker)

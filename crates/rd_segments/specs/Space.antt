@@ -1,4 +1,4 @@
--- The space, as public clauses see it.
+-- The space as public contracts see it.
 use Rattle.std.specs.Prelude.{ℕ, length}
 use Rattle.rd_ring.specs.Prelude.{SegName, Contents}
 use Rattle.rd_segments.specs.declared.array.ArrayParts.{ArrayParts}
@@ -15,15 +15,15 @@ contents s = contents_of s.makers.items s.qhead s.qtail s.array
 abbrev pub lists : {R : ℕ} → Space R → ℕ
 lists s = length s.makers.items
 
--- how many segments a maker has made
+-- the number of segments that a maker has made
 abbrev pub making_count : {R : ℕ} → Space R → ℕ → ℕ
 making_count s m = count s.makers.items m
 
--- how many more segments a maker can make without memory being asked for
+-- the number of further segments that a maker can make without asking for memory
 abbrev pub room : {R : ℕ} → Space R → ℕ → ℕ
 room s m = spare s.makers.items m
 
--- the room of all makers
+-- the room of all makers of the space
 abbrev pub makers_room : {R : ℕ} → Space R → MakersRoom
 makers_room s = room_of_lists s.makers.items
 

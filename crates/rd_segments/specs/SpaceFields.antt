@@ -8,8 +8,8 @@ use Rattle.rd_segments.specs.Array.{array_part, fresh_array}
 use Rattle.rd_cell.specs.declared.places.Place.TheVariants as place
 use Rattle.rd_cell.specs.declared.contents.Content.TheVariants as content
 
--- the content of each place of a space with these contents of the segments, these names at the
--- queue's ends and these contents of the array
+-- the content of each place of a space that has the segments' contents, the names at the queue's
+-- ends and the array's contents given here
 abbrev pub contents_by : Contents → SegName → SegName → Contents → Contents
 contents_by segments qhead qtail array place.QHead = Some (content.Name qhead)
 contents_by segments qhead qtail array place.QTail = Some (content.Name qtail)
@@ -18,12 +18,12 @@ contents_by segments qhead qtail array place.ArrTail = array place.ArrTail
 contents_by segments qhead qtail array (place.ArrCell i) = array (place.ArrCell i)
 contents_by segments qhead qtail array p = segments p
 
--- the content of each place of a space with these lists of segments, these names at the queue's
--- ends and this array
+-- the content of each place of a space that has the makers' lists, the names at the queue's ends
+-- and the array given here
 abbrev pub contents_of : {R : ℕ} → List (ListOf (Segment R)) → SegName → SegName → ArrayParts → Contents
 contents_of makers qhead qtail array = contents_by (segments_of makers) qhead qtail (array_part array)
 
--- the contents of a fresh space of rings of R cells: the root alone is there, it is fresh, the
--- queue's ends name it, and the array is fresh
+-- the contents of a fresh space with rings of R cells: the root is the only segment and is fresh,
+-- the queue's ends name it, and the array is fresh
 abbrev pub fresh_space : ℕ → Contents
 fresh_space R = contents_by (λ p. if is_of root p then fresh_segment R p else None) root root fresh_array

@@ -1,5 +1,4 @@
-//! The array of the array queue (Morrison and Afek's queue over an infinite array, here of 64
-//! slots): its two counters and its slots.
+//! The array queue's two counters and 64 slots. Morrison and Afek's queue has an infinite array.
 
 ghost use Rattle.std.specs.Prelude.{◌≡◌, ◌↔◌, is_some, length, Some, Err, IsTrue, IfOk, IfErr, OnErr};
 ghost use Rattle.std.specs.List.{All};
@@ -16,7 +15,7 @@ pub struct ArrayParts {
     pub head: u64,
     /// The tail counter: the next position that an enqueue draws, 0 to 64 in a well-formed world.
     pub tail: u64,
-    /// The slots, by their positions.
+    /// The slots in the order of their positions: slot 0 first.
     pub cells: [ArrSlot; SLOTS],
     ghost sized: { length cells ≡ SLOTS },
 }
@@ -49,7 +48,7 @@ impl ArrayParts {
         self.head == 0 && self.tail == 0
     }
 
-    /// Returns the content at a place of the array; none if it has no such place.
+    /// Returns the content at a place of the array, or none if the place is not one of the array's.
     pub(crate) fn content(&self, place: Place) -> Option<Content>
         ensures { result ≡ array_part self.now place }
     {
@@ -64,12 +63,13 @@ impl ArrayParts {
         }
     }
 
-    /// Does an operation at a place of the array, and returns what it did.
+    /// Does an operation at a place of the array, and returns what it found, answered and wrote.
     ///
     /// # Errors
     ///
-    /// `ArrayEnd` for a fetch-and-add on a counter that is 64; `NoSuchPlace` if there is no such
-    /// place, or a content of another kind, which no actor asks for. The array is then as before.
+    /// `ArrayEnd` for a fetch-and-add on a counter that is 64; `NoSuchPlace` if the array has no
+    /// such place, or one with another kind of content, for which no actor asks. The array is then
+    /// as before.
     pub(crate) fn operate(&mut self, place: Place, operation: Operation) -> Result<Done, Refusal>
         requires { IsTrue (suits_array operation) }
         ensures ok { IfOk result (λ done. Operates everywhere place operation done
@@ -91,8 +91,7 @@ impl ArrayParts {
         }
     }
 
-    /// Puts an old content back at a place of the array: the inverse of a fetch-and-add and of a
-    /// swap.
+    /// Puts an old content back at a place of the array. This undoes a fetch-and-add or a swap.
     pub(crate) fn restore(&mut self, place: Place, content: Content)
         requires there { IsTrue (is_some (array_part self.old place)) }
         requires kind { IsTrue (can_hold place content) }
@@ -121,8 +120,9 @@ fn is_empty(slot: &ArrSlot) -> bool
     *slot == ArrSlot::Empty
 }
 
-/// Does an operation on a counter of the array, a read or a fetch-and-add, and returns what it did;
-/// refused as `operate` is.
+/// Does a read or a fetch-and-add on a counter of the array, and returns what it found, answered
+/// and wrote. Fails with `ArrayEnd` if a fetch-and-add finds 64, and with `NoSuchPlace` for any
+/// other operation; the counter then stays.
 fn operate_on_counter(
     counter: &mut u64,
     place: Place,
@@ -149,8 +149,8 @@ fn operate_on_counter(
     }
 }
 
-/// Does an operation on a slot of the array, a swap, and returns what it did; any other operation
-/// is refused with `NoSuchPlace`.
+/// Does a swap on a slot of the array, and returns what it found, answered and wrote. Fails with
+/// `NoSuchPlace` for any other operation; the slot then stays.
 fn operate_on_slot(slot: &mut ArrSlot, place: Place, operation: Operation) -> Result<Done, Refusal>
     ensures ok { IfOk result (λ done. OperatesOn place operation done (Content.Slot slot.old)
         (Content.Slot slot.new)) }

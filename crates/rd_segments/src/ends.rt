@@ -5,12 +5,12 @@ ghost use Rattle.rd_ring.specs.Prelude.{operate, OperatesOn};
 
 use rd_cell::{Answer, Content, Done, Operation, Place, Refusal, SegName, Wrote};
 
-/// Does an operation at one of the queue's ends, a read or a compare-and-swap of its name, and
-/// returns what it did.
+/// Does a read or a compare-and-swap of the name at one of the queue's ends, and returns what it
+/// found, answered and wrote.
 ///
 /// # Errors
 ///
-/// `NoSuchPlace` for another operation, which no actor asks for.
+/// `NoSuchPlace` for any other operation, for which no actor asks. The name then stays.
 pub fn operate_on_name(
     name: &mut SegName,
     place: Place,

@@ -1,4 +1,4 @@
-//! The space of the queue: its segments by their makers, and the names at its head and its tail.
+//! The space of both queues: the makers' segments, the names at the queue's ends, and the array.
 //!
 //! The crates above see it as one map from places to contents.
 #![tactic(auto)]

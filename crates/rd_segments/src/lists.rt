@@ -1,4 +1,4 @@
-//! The makers' lists of segments: what is done to one segment of one list.
+//! The makers' lists of segments, and the operations on one segment of one list.
 
 ghost use Rattle.std.specs.Prelude.{◌≡◌, ◌≢◌, ◌+◌, ◌-◌, ◌<◌, ◌≤◌, ℕ, Some, None, Err, is_some, IsTrue, IfOk, IfErr, OnOk, OnErr, MatchOption, take, true, length, is_ok, vec_len, vec_capacity, if◌then◌else◌};
 ghost use Rattle.rd_ring.specs.Prelude.{MOST_CELLS, SegName, Place, segment_of, can_hold, operand, operate, holding, everywhere, Operates, Makes, Restores, RefusesMaking};
@@ -23,8 +23,9 @@ pub fn find<const R: usize>(makers: &Vec<Vec<Segment<R>>>, name: SegName) -> Opt
     }
 }
 
-/// Does an operation on the segment of this name, and returns what it did; refused as
-/// `Segment::operate` is, and by `NoSuchPlace` if there is no such segment.
+/// Does an operation at a place of the segment of this name, and returns what it found, answered
+/// and wrote. Fails with `NoSuchPlace` if there is no such segment, and otherwise as
+/// `Segment::operate` does; nothing changes then.
 pub fn operate_in<const R: usize>(
     makers: &mut Vec<Vec<Segment<R>>>,
     name: SegName,
@@ -48,7 +49,7 @@ pub fn operate_in<const R: usize>(
     makers[maker][n].operate(place, operation)
 }
 
-/// Puts an old content back at a place of the segment of this name, which must be there.
+/// Puts an old content back at a place of the segment of this name. That place must be there.
 pub fn restore_in<const R: usize>(
     makers: &mut Vec<Vec<Segment<R>>>,
     name: SegName,
@@ -70,7 +71,8 @@ pub fn restore_in<const R: usize>(
 ///
 /// # Errors
 ///
-/// `SegmentsEnd` exactly if the maker has made 65,535; else `NoMemory` if memory was refused.
+/// `SegmentsEnd` exactly if the maker has made 65,535; else `NoMemory` if memory was refused. No
+/// segment changes then.
 pub fn make_in<const R: usize>(
     makers: &mut Vec<Vec<Segment<R>>>,
     maker: u8,
@@ -92,8 +94,9 @@ pub fn make_in<const R: usize>(
     make_next(&mut makers[usize::from(maker)], maker, value)
 }
 
-/// Makes the next segment at the end of one maker's list, and returns its name; refused as
-/// `make_in` is.
+/// Makes the next segment at the end of one maker's list, and returns its name. Fails with
+/// `SegmentsEnd` if the list has 65,535 segments, and with `NoMemory` if memory is refused; the
+/// list's segments then stay.
 fn make_next<const R: usize>(
     list: &mut Vec<Segment<R>>,
     maker: u8,
@@ -120,7 +123,7 @@ fn make_next<const R: usize>(
     }
 }
 
-/// Takes the maker's last segment away, and gives its room back.
+/// Removes the maker's last segment, and so gives its room back.
 pub fn unmake_in<const R: usize>(makers: &mut Vec<Vec<Segment<R>>>, maker: u8)
     requires small { R ≤ MOST_CELLS }
     requires has_one { 0 < count makers.old.items maker }
@@ -133,7 +136,7 @@ pub fn unmake_in<const R: usize>(makers: &mut Vec<Vec<Segment<R>>>, maker: u8)
     take_last(&mut makers[usize::from(maker)]);
 }
 
-/// Removes the last segment of one maker's list.
+/// Removes the last segment of one maker's list, and so gives its room back.
 fn take_last<const R: usize>(list: &mut Vec<Segment<R>>)
     requires small { R ≤ MOST_CELLS }
     requires has_one { 0 < length list.old.items }
@@ -148,7 +151,7 @@ fn take_last<const R: usize>(list: &mut Vec<Segment<R>>)
 ///
 /// # Errors
 ///
-/// Only if the growth was refused. No segment changes.
+/// Only if memory was refused for the growth. No segment changes.
 pub fn make_room_in<const R: usize>(
     makers: &mut Vec<Vec<Segment<R>>>,
     maker: u8,
@@ -163,7 +166,7 @@ pub fn make_room_in<const R: usize>(
     reserve(&mut makers[usize::from(maker)], more)
 }
 
-/// Gives one maker's list room for this many more segments, or fails if the growth was refused.
+/// Gives one maker's list room for this many more segments. Fails only if memory is refused.
 fn reserve<const R: usize>(list: &mut Vec<Segment<R>>, more: usize) -> Result<(), AllocError>
     requires { R ≤ MOST_CELLS }
     ensures ok { OnOk result (more ≤ vec_capacity list.new - vec_len list.new) }

@@ -1,4 +1,4 @@
-//! The makers' lists of a fresh space, and whether lists are those.
+//! The makers' lists of a fresh space, and the test for them.
 
 ghost use Rattle.std.specs.Prelude.{◌≡◌, ◌≤◌, ◌↔◌, IfOk, IsTrue, [], suc, length};
 ghost use Rattle.std.specs.List.{All};
@@ -8,12 +8,12 @@ ghost use Rattle.rd_segments.specs.Lists.{IsFresh, IsFreshAlone};
 use rd_ring::Segment;
 use std::alloc::{AllocError, Global};
 
-/// Returns a list for each maker from 0 to the number of actors: that of maker 0 has the root,
-/// fresh, and the others are empty.
+/// Returns a list for each maker from 0 to the number of actors. Maker 0's list has just the root,
+/// which is fresh, and the others are empty.
 ///
 /// # Errors
 ///
-/// Only if the room for them was refused.
+/// Only if memory was refused.
 pub fn first_lists<const R: usize>(
     alloc: Global,
     actors: u8,
@@ -32,7 +32,7 @@ pub fn first_lists<const R: usize>(
     Ok(makers)
 }
 
-/// Whether these are the lists of a fresh space: the root is there, fresh, and no other segment.
+/// Whether these are the lists of a fresh space: the root is the only segment, and it is fresh.
 pub fn are_fresh<const R: usize>(makers: &[Vec<Segment<R>>]) -> bool
     requires { R ≤ MOST_CELLS }
     ensures { IsTrue result ↔ IsFresh makers.now }
@@ -43,7 +43,7 @@ pub fn are_fresh<const R: usize>(makers: &[Vec<Segment<R>>]) -> bool
     }
 }
 
-/// Whether the list has just one segment, and that is fresh.
+/// Whether the list has just one segment, which is fresh.
 fn is_fresh_alone<const R: usize>(list: &[Segment<R>]) -> bool
     requires { R ≤ MOST_CELLS }
     ensures { IsTrue result ↔ IsFreshAlone list.now }

@@ -14,7 +14,7 @@ use std::alloc::{AllocError, Global};
 ///
 /// # Errors
 ///
-/// Only if the room for them was refused.
+/// Only if memory was refused.
 pub fn lists_from_parts<const R: usize>(
     alloc: Global,
     parts: &Vec<Vec<SegmentParts<R>>>,
@@ -33,8 +33,8 @@ pub fn lists_from_parts<const R: usize>(
     Ok(makers)
 }
 
-/// Returns one maker's list with the segments that these parts describe; fails only if the room for
-/// it was refused.
+/// Returns one maker's list with the segments that these parts describe. Fails only if memory is
+/// refused.
 fn list_from_parts<const R: usize>(
     alloc: Global,
     parts: &Vec<SegmentParts<R>>,
@@ -50,11 +50,11 @@ fn list_from_parts<const R: usize>(
     Ok(list)
 }
 
-/// Returns the parts of the makers' lists, from which `lists_from_parts` makes them again.
+/// Returns the parts of the makers' lists; `lists_from_parts` makes equal lists from them.
 ///
 /// # Errors
 ///
-/// Only if the room for them was refused.
+/// Only if memory was refused.
 pub fn parts_of_lists<const R: usize>(
     alloc: Global,
     makers: &Vec<Vec<Segment<R>>>,
@@ -72,7 +72,7 @@ pub fn parts_of_lists<const R: usize>(
     Ok(parts)
 }
 
-/// Returns the parts of one maker's list; fails only if the room for them was refused.
+/// Returns the parts of one maker's list. Fails only if memory is refused.
 fn parts_of_list<const R: usize>(
     alloc: Global,
     list: &Vec<Segment<R>>,

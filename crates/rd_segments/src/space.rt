@@ -1,4 +1,4 @@
-//! The space and what is done to it.
+//! The space, and the operations on it.
 
 ghost use Rattle.std.specs.Prelude.{◌≡◌, ◌≢◌, ◌+◌, ◌-◌, ◌<◌, ◌≤◌, ◌↔◌, ℕ, suc, true, Some, None, is_ok, is_some, Err, IsTrue, IfOk, IfErr, OnOk, OnErr, length};
 ghost use Rattle.rd_ring.specs.Prelude.{MOST_CELLS, root, content_at, can_hold, operand, operate, restore, holding, everywhere, Operates, Makes, RefusesMaking};
@@ -19,8 +19,8 @@ use rd_cell::{Content, Done, Operation, Place, Refusal, SegName};
 use rd_ring::{Segment, SegmentParts};
 use std::alloc::{AllocError, Global};
 
-/// The places of both queues: the segments, by their makers, the names at the queue's two ends, and
-/// the array.
+/// The content of all places: the makers' segments, the names at the queue's two ends, and the
+/// array.
 #[derive(Drop)]
 pub struct Space<const R: usize> {
     makers: Vec<Vec<Segment<R>>>,
@@ -39,7 +39,7 @@ impl<const R: usize> Space<R> {
     ///
     /// # Errors
     ///
-    /// Only if the room for the makers' lists was refused.
+    /// Only if memory was refused for the makers' lists.
     pub fn fresh(alloc: Global, actors: u8) -> Result<Space<R>, AllocError>
         requires positive { 1 ≤ R }
         requires small { R ≤ MOST_CELLS }
@@ -55,7 +55,7 @@ impl<const R: usize> Space<R> {
         })
     }
 
-    /// Whether each place has the content that it has in a fresh space.
+    /// Whether the space is fresh: each place has the content that it has in a fresh space.
     pub fn is_fresh(&self) -> bool
         ensures { IsTrue result ↔ (contents self.now ≡ fresh_space R) }
     {
@@ -69,7 +69,7 @@ impl<const R: usize> Space<R> {
         self.qhead == SegName::ROOT && self.qtail == SegName::ROOT
     }
 
-    /// Whether the array is fresh, and the only segment is the root, fresh too.
+    /// Whether the array is fresh, and the root is the only segment and is fresh too.
     fn has_fresh_array_and_root(&self) -> bool
         ensures { IsTrue result ↔ ((array_part self.now.array ≡ fresh_array)
             × IsFresh self.now.makers.items) }
@@ -77,12 +77,12 @@ impl<const R: usize> Space<R> {
         self.array.is_fresh() && are_fresh(&self.makers)
     }
 
-    /// Returns the space of these parts: element m of `segments` has maker m's segments, in the
+    /// Returns the space with these parts: element m of `segments` has maker m's segments, in the
     /// order of their making.
     ///
     /// # Errors
     ///
-    /// Only if the room for the lists was refused.
+    /// Only if memory was refused for the lists.
     pub fn from_parts(
         alloc: Global,
         segments: &Vec<Vec<SegmentParts<R>>>,
@@ -106,12 +106,12 @@ impl<const R: usize> Space<R> {
         })
     }
 
-    /// Returns the parts of the segments by their makers. From these, the names at the queue's ends
-    /// and the array, `from_parts` puts the space together again.
+    /// Returns the parts of each maker's segments. `from_parts` makes an equal space from these,
+    /// the names at the queue's ends and the array.
     ///
     /// # Errors
     ///
-    /// Only if the room for them was refused.
+    /// Only if memory was refused.
     pub fn segments(&self, alloc: Global) -> Result<Vec<Vec<SegmentParts<R>>>, AllocError>
         ensures ok { IfOk result (λ segments.
             contents_of_parts segments.items (head_name self.now) (tail_name self.now)
@@ -142,8 +142,8 @@ impl<const R: usize> Space<R> {
         self.array
     }
 
-    /// Returns the content at a place, or none if the place is not there. A cell has what its
-    /// halves have together, and the whole of a segment that is there has `Whole`.
+    /// Returns the content at a place, or none if the place is not there. For a cell, this is its
+    /// two halves together; for the whole of a segment that is there, it is `Whole`.
     pub fn content(&self, place: Place) -> Option<Content>
         ensures { result ≡ content_at (contents self.now) place }
     {
@@ -167,13 +167,13 @@ impl<const R: usize> Space<R> {
         }
     }
 
-    /// Does an operation at a place, and returns what it did.
+    /// Does an operation at a place, and returns what it found, answered and wrote.
     ///
     /// # Errors
     ///
     /// `CounterEnd` for a fetch-and-add on a segment's counter that is 2^62, `ArrayEnd` for one on
-    /// a counter of the array that is 64; `NoSuchPlace` if there is no such place, or a content of
-    /// another kind, which no actor asks for. The space is then as before.
+    /// a counter of the array that is 64; `NoSuchPlace` if there is no such place, or one with
+    /// another kind of content, for which no actor asks. The space is then as before.
     pub fn operate(&mut self, place: Place, operation: Operation) -> Result<Done, Refusal>
         requires { IsTrue (suits place operation) }
         ensures ok { IfOk result (λ done. Operates everywhere place operation done
@@ -199,7 +199,7 @@ impl<const R: usize> Space<R> {
     /// # Errors
     ///
     /// `SegmentsEnd` exactly if the maker has made 65,535; else `NoMemory` if memory was refused,
-    /// which happens only if the maker has no room. The space is then as before.
+    /// which happens only if the maker has no room left. The space is then as before.
     pub fn make(&mut self, maker: u8, value: u64) -> Result<SegName, Refusal>
         requires { maker < lists self.old }
         ensures name { IfOk result (λ name. name
@@ -215,7 +215,7 @@ impl<const R: usize> Space<R> {
         make_in(&mut self.makers, maker, value)
     }
 
-    /// Takes the maker's last segment away, and gives its room back.
+    /// Removes the maker's last segment, and so gives its room back.
     pub fn unmake(&mut self, maker: u8)
         requires { 0 < making_count self.old maker }
         ensures gone { contents self.new ≡ restore
@@ -229,7 +229,7 @@ impl<const R: usize> Space<R> {
         unmake_in(&mut self.makers, maker);
     }
 
-    /// Puts an old content back at a place that is there.
+    /// Puts an old content back at a place, which must be there.
     pub fn restore(&mut self, place: Place, content: Content)
         requires there { IsTrue (is_some (operand (contents self.old) place)) }
         requires kind { IsTrue (can_hold place content) }
@@ -245,11 +245,11 @@ impl<const R: usize> Space<R> {
         }
     }
 
-    /// Gives a maker room for this many more segments, whose making is then not refused for memory.
+    /// Gives a maker room for this many more segments; making them then needs no memory.
     ///
     /// # Errors
     ///
-    /// Only if the growth was refused. No place changes.
+    /// Only if memory was refused for the growth. No place changes.
     pub fn make_room(&mut self, maker: u8, more: usize) -> Result<(), AllocError>
         requires { maker < lists self.old }
         ensures unchanged { contents self.new ≡ contents self.old }
