@@ -9,7 +9,7 @@ use Rattle.rd_cell.specs.declared.contents.Content.TheVariants as content
 unflawed : {R : ℕ} (p : Parts R) → NoFlaw p → first_flaw p ≡ None
 unflawed {R} p f = grind arith
 
--- What holds of the one at each index holds of each element
+-- A test that holds at each index holds of each element
 
 all_from : {X : Type 0} (test : X → Bool) (xs : List X) → ((i : ℕ) (x : X) → slice_get xs i ≡ Some x → test x ≡ true) → list_all test xs ≡ true
 all_from test [] h = refl
@@ -27,7 +27,7 @@ few_actors : (xs : List Actor) → IsNumbered (is_actor (numbered xs)) → lengt
 few_actors [] by_number = omega arith
 few_actors (x ∷ xs) by_number = by_number.to_most (suc (length xs)) (in_list (x ∷ xs) (length xs) (omega arith))
 
--- the root is there, and a second segment without a maker is not
+-- maker 0's list has just the root
 one_root : {R : ℕ} (p : Parts R) → AreMade (is_actor (numbered p.actors.items)) (has p) → count p.segments.items 0 ≡ 1
 one_root p made =
     let some = numbered_below (slice_get p.segments.items 0) 0 made.rooted in
@@ -37,7 +37,7 @@ one_root p made =
       | inr few ↦ omega arith
     ]
 
--- a maker's list has no segment of number 65,535
+-- no maker's list has more than 65,535 segments
 few_made : {R : ℕ} (p : Parts R) → AreMade (is_actor (numbered p.actors.items)) (has p) → (m : ℕ) → count p.segments.items m ≤ MOST_SEGMENTS
 few_made p made zero = let e = one_root p made in omega arith
 few_made p made (suc m) =
@@ -64,12 +64,13 @@ contents_fit : (R : ℕ) (p : Parts R) → IsWellFormed (world_of_parts p) → (
 contents_fit R p formed q =
     subst (λ (there : Presence). place_fits R there q ((world_of_parts p).at q) ≡ true) (presence p) (formed.contents q)
 
--- what a segment of the parts has at a place
+-- a segment's own content at a place fits if the content under the segment's name does
 part_fits : (R : ℕ) (p : Parts R) (s : SegName) (x : SegmentParts R) (q : Place) → by_name p.segments.items s ≡ Some x
     → place_fits R (has p) q (part_of_parts (by_name p.segments.items s) q) ≡ true → place_fits R (has p) q (part_from x q) ≡ true
 part_fits R p s x q e h = subst (λ (o : Option (SegmentParts R)). place_fits R (has p) q (part_of_parts o q) ≡ true) e h
 
--- a content that fits its place, by the three parts of that
+-- a content that fits can be held at its place, names a segment that is there, and has no index
+-- past the end
 content_parts : (R : ℕ) (p : Parts R) (q : Place) (c : Content) → content_fits R (has p) q c ≡ true
     → (can_hold q c ≡ true) × (segments_named_fit (has p) c ≡ true) × (index_within (index_end R) c ≡ true)
 content_parts R p q c fits = grind (arith, and_parts)
@@ -92,7 +93,7 @@ indexes_within : (R : ℕ) (p : Parts R) → IsWellFormed (world_of_parts p) →
     → indexes_fit (index_end R) x ≡ true
 indexes_within R p formed s x e = all_from (λ c. nat_le c.idx (index_end R)) x.cells (cell_within R p formed s x e)
 
--- an actor's record fits
+-- an actor's record fits, by its parts
 record ActorFits (R : ℕ) (there : Presence) (a : Actor) : Type 0 where
   pub names : names_fit there a ≡ true
   pub numbers : numbers_within (index_end R) a ≡ true
@@ -106,6 +107,7 @@ actor_within R p formed n a e =
     let first = and_parts (names_fit (has p) a) (numbers_within (index_end R) a) both.0 in
     record { names = first.0; numbers = first.1; words = both.1 }
 
+-- parts with a list for each maker, whose world is well-formed, have no flaw
 pub accepted : (R : ℕ) (p : Parts R) → length p.segments.items ≡ suc (length p.actors.items) → IsWellFormed (world_of_parts p) → first_flaw p ≡ None
 accepted R p lists formed =
     let made = segments_made p formed in
@@ -128,6 +130,6 @@ accepted R p lists formed =
       words = all_from words_fit p.actors.items (λ n a e. (actor_within R p formed n a e).words);
     })
 
--- the two directions
+-- parts have no flaw exactly if they have a list for each maker, and their world is well-formed
 pub exactly : (R : ℕ) (p : Parts R) → (first_flaw p ≡ None) ↔ ((length p.segments.items ≡ suc (length p.actors.items)) × IsWellFormed (world_of_parts p))
 exactly R p = (λ none. (lists_right p none, assembled R p none), λ both. accepted R p both.0 both.1)

@@ -5,7 +5,7 @@ use Rattle.rd_cell.specs.declared.contents.Content.TheVariants as content
 
 -- No flaw
 
--- the conditions, each by itself
+-- the conditions of parts without a flaw, each by itself
 pub record NoFlaw {R : ℕ} (p : Parts R) : Type 0 where
   pub some_actors : nat_le 1 (length p.actors.items) ≡ true
   pub few_actors : nat_le (length p.actors.items) MOST_ACTORS ≡ true
@@ -23,14 +23,14 @@ pub record NoFlaw {R : ℕ} (p : Parts R) : Type 0 where
   pub numbers : list_all (numbers_within (index_end R)) p.actors.items ≡ true
   pub words : list_all words_fit p.actors.items ≡ true
 
--- if no flaw is named, the first condition holds and none of the rest is flawed
+-- if a chain of tests names no flaw, its first test passes, and the rest of it names none
 not_first : (b : Bool) (f : Flaw) (rest : Option Flaw) → (if not b then Some f else rest) ≡ None → (b ≡ true) × (rest ≡ None)
 not_first b f rest h = grind arith
 
 no_flaw : {R : ℕ} (p : Parts R) → first_flaw p ≡ None → NoFlaw p
 no_flaw {R} p h = grind (arith, not_first, nat_le, and_parts)
 
--- What holds of each element holds of the one at an index
+-- A test that holds of each element holds at each index
 
 all_at : {X : Type 0} (test : X → Bool) (xs : List X) (i : ℕ) (x : X) → list_all test xs ≡ true → slice_get xs i ≡ Some x → test x ≡ true
 all_at test [] i x h k = cc
@@ -47,19 +47,22 @@ each_at test makers t s h there = each_in test makers t.maker t.n (slice_get mak
 
 -- Which actors and which segments are there
 
+-- the index of an element that is there is below the list's length
 pub within : {X : Type 0} (xs : List X) (n : ℕ) → is_some (slice_get xs n) ≡ true → n < length xs
 within xs n h = elim (cases_lt n (length xs)) [ inl lt ↦ lt | inr past ↦ absurd (cc (ap is_some (slice_get_past xs n past), h)) ]
 
 actors_numbered : (xs : List Actor) → 1 ≤ length xs → length xs ≤ MOST_ACTORS → IsNumbered (is_actor (numbered xs))
 actors_numbered xs some few = grind (arith, in_list, within)
 
--- a segment is there if it has a place that each has
+-- a place that every segment has is there exactly if the segment is
 there_if : {R : ℕ} (o : Option (SegmentParts R)) (q : Place) → ((x : SegmentParts R) → is_some (part_from x q) ≡ true) → is_some (part_of_parts o q) ≡ is_some o
 there_if o q each = grind arith
 
+-- the parts' world has exactly the segments of the parts
 pub presence : {R : ℕ} (p : Parts R) → is_there (world_of_parts p).at ≡ has p
 presence p = fun_ext (λ s. there_if (by_name p.segments.items s) (place.Head s) (λ x. refl))
 
+-- the number of a segment that is there is below the length of its list
 pub numbered_below : {R : ℕ} (o : Option (ListOf (SegmentParts R))) (n : ℕ) → is_some (by_number o n) ≡ true → n < count_in o
 numbered_below o n h = grind (arith, both_ways, is_some, numbered_absent)
 
@@ -133,6 +136,7 @@ one_fits R p n (Some a) f e =
 actors_fit : (R : ℕ) (p : Parts R) → NoFlaw p → (n : ℕ) → actor_fits R (has p) (numbered p.actors.items n) ≡ true
 actors_fit R p f n = grind (arith, one_fits, slice_get)
 
+-- the world of parts without a flaw is well-formed
 pub assembled : (R : ℕ) (p : Parts R) → first_flaw p ≡ None → IsWellFormed (world_of_parts p)
 assembled R p h =
     let f = no_flaw p h in
@@ -146,10 +150,11 @@ assembled R p h =
       actors = λ n. subst (λ (there : Presence). actor_fits R there (numbered p.actors.items n) ≡ true) same (actors_fit R p f n);
     }
 
+-- parts without a flaw have a list for each maker from 0 to the number of actors
 pub lists_right : {R : ℕ} (p : Parts R) → first_flaw p ≡ None → length p.segments.items ≡ suc (length p.actors.items)
 lists_right p h = eqb-true (length p.segments.items) (suc (length p.actors.items)) (no_flaw p h).lists
 
--- a space that has what the parts have, with their actors, is their world
+-- a space with the contents that the parts describe, with their actors, is their world
 pub parts_make : {R : ℕ} (p : Parts R) (space : Space R) → contents space ≡ contents_of_parts p.segments.items p.qhead p.qtail p.array
     → world_of_fields space p.actors.items ≡ world_of_parts p
 parts_make {R} p space same = λ i. record { ring = R; at = same i; actor = numbered p.actors.items }

@@ -2,12 +2,12 @@
 use Rattle.rd_step.proofs.Prelude.{◌≡◌, ◌≢◌, ℕ, false, ◌==◌, refl, sym, ◌∙◌, subst, Option, Some, Ok, arith, eqb-false, or_parts, Access, Performed, contents_after, perform, Actor, need, after, World, Event, Stepped, with_actor, step_outcome, step, depends, CommutingSquare, interferes, interferes-sym, perform_around, after_swap}
 use Rattle.rd_step.proofs.Steps.{Took, took, step_of, with_actor-other}
 
--- the records of two actors may be set in either order
+-- setting the records of two actors gives the same actors in either order
 with_actor-swap : (m n : ℕ) (a b : Actor) (actors : ℕ → Option Actor) → m ≢ n
     → with_actor m a (with_actor n b actors) ≡ with_actor n b (with_actor m a actors)
 with_actor-swap m n a b actors ne = grind arith
 
--- the law, for two steps taken apart
+-- the law for two steps, each given by its actor's record, its access and what that did
 swapped : (w : World) (e f : Event) (a b : Actor) (x y : Access) (d k : Performed)
     → w.actor e.actor ≡ Some a → need w.ring a e.act ≡ Ok x → perform w.ring e.actor w.at x ≡ Ok d
     → (step_outcome w e a d (after w.ring a e.act d.answer)).world.actor f.actor ≡ Some b → need w.ring b f.act ≡ Ok y

@@ -7,7 +7,7 @@ use Rattle.rd_step.proofs.Symmetry.{symmetric}
 use Rattle.rd_step.proofs.Inverse.{ran_on, run-cons}
 use Rattle.rd_step.proofs.RunParts.{free_parts}
 
--- equal answers are of equal values
+-- equal successes have equal values
 
 abbrev as_ran : Ran → Result Ran Refusal
 as_ran r = Ok r
@@ -23,13 +23,13 @@ as_stepped-same s u h = cc
 
 -- The step of e after the run of `earlier`, and a run on from there, with e moved to the front
 
--- e steps from w with this entry, and the others run on from there to the last world, with their
--- entries
+-- e goes first: it steps from w with the entry x, and the other events run on from there as `rest`
 pub record GoesFirst (w : World) (e : Event) (x : Entry) (others : List Event) (rest : Ran) : Type 0 where
   pub after : World
   pub goes : step w e ≡ Ok (record { world = after; entry = x })
   pub runs : run after others ≡ Ok rest
 
+-- if e's entry depends on none of the entries before it in a run, e may go first
 pub goes_first : (w : World) (e : Event) (earlier later : List Event) (r : Ran) (s : Stepped) (q : Ran)
     → run w earlier ≡ Ok r → step r.world e ≡ Ok s → IsFree s.entry r.entries → run s.world later ≡ Ok q
     → GoesFirst w e s.entry (earlier ++ later) (record { world = q.world; entries = r.entries ++ q.entries })
@@ -52,7 +52,7 @@ goes_first w e (f ∷ fs) later r s q h k free l =
           ∙ ap (λ (y : Ran). Ok (record { world = q.world; entries = y.entries ++ q.entries })) ran.joins;
     }
 
--- the entries of a run are of its events
+-- the events of a run's entries are the events that were run
 pub run_events : (w : World) (es : List Event) (r : Ran) → run w es ≡ Ok r → events r.entries ≡ es
 run_events w [] r h = let p : record { world = w; entries = [] } ≡ r = cc in ap (λ (y : Ran). events y.entries) (sym p)
 run_events w (e ∷ es) r h =
@@ -64,6 +64,8 @@ run_events w (e ∷ es) r h =
 
 -- A run taken apart at one of its steps
 
+-- the run of a list taken apart at its event e: the run before e, e's step, and the run of the
+-- later events from there
 pub record RanThrough (w : World) (earlier : List Event) (e : Event) (later : List Event) (q : Ran) : Type 0 where
   pub before : Ran
   pub runs : run w earlier ≡ Ok before
@@ -73,6 +75,7 @@ pub record RanThrough (w : World) (earlier : List Event) (e : Event) (later : Li
   pub goes_on : run one.world later ≡ Ok rest
   pub joins : record { world = rest.world; entries = before.entries ++ one.entry ∷ rest.entries } ≡ q
 
+-- every run through e can be taken apart there
 pub ran_through : (w : World) (earlier : List Event) (e : Event) (later : List Event) (q : Ran) → run w (earlier ++ e ∷ later) ≡ Ok q
     → RanThrough w earlier e later q
 ran_through w [] e later q h =
@@ -101,8 +104,8 @@ ran_through w (f ∷ fs) e later q h =
 
 -- The first list's first event in the run of the second
 
--- a list that may begin with e, in its run: e's entry, which depends on none of those before it,
--- and the run of the others after e
+-- e stands in the run of a list that may begin with it: its entry x depends on no entry `before`
+-- it, and e may go first, with the other events after it
 pub record StandsIn (w : World) (e : Event) (earlier later : List Event) (q : Ran) : Type 0 where
   pub x : Entry
   pub of_event : x.event ≡ e
@@ -118,6 +121,7 @@ stands_through : (w : World) (e : Event) (earlier later : List Event) (q : Ran) 
     → IsFree t.one.entry t.before.entries → StandsIn w e earlier later q
 stands_through w e earlier later q t free = grind (arith, took, goes_first, run_events)
 
+-- an event that is independent of those before it stands so in the run of the list
 pub stands_in : (w : World) (e : Event) (earlier later : List Event) (q : Ran) → run w (earlier ++ e ∷ later) ≡ Ok q
     → IsIndependentOf w e earlier → StandsIn w e earlier later q
 stands_in w e earlier later q h alone =
@@ -159,7 +163,7 @@ reach_the_same w (e ∷ es) fs r q h k same =
           (subst (λ (y : Stepped). IsPermutation (y.entry ∷ (s.before ++ s.behind)) (s.before ++ s.x ∷ s.behind)) one moved)));
     }
 
--- equivalent lists stay so after one more event
+-- equivalent lists stay equivalent if the same event is put in front of both
 after_one : (w : World) (e : Event) (es fs : List Event) (s : Stepped) → step w e ≡ Ok s → IsEquivalent s.world es fs → IsEquivalent w (e ∷ es) (e ∷ fs)
 after_one w e es fs s h same = record {
   earlier = [];
@@ -178,7 +182,8 @@ reflexive w (e ∷ es) r h =
     let ran = ran_on w e es r h in
     after_one w e es es ran.one ran.goes (reflexive ran.one.world es ran.rest ran.goes_on)
 
--- two neighbours that do not depend on each other may change places at the head of a list
+-- swapping the first two events of a list, if they don't depend on each other, gives an equivalent
+-- list
 neighbours_swapped : (w : World) (e f : Event) (es : List Event) (s u : Stepped) (r : Ran) → step w e ≡ Ok s
     → step s.world f ≡ Ok u → depends s.entry u.entry ≡ false → run u.world es ≡ Ok r → IsEquivalent w (e ∷ f ∷ es) (f ∷ e ∷ es)
 neighbours_swapped w e f es s u r h k free l =
@@ -200,7 +205,8 @@ neighbours_swapped w e f es s u r h k free l =
       rest = reflexive s.world (f ∷ es) (record { world = r.world; entries = u.entry ∷ r.entries }) (run-cons s.world f es u r k l);
     }
 
--- and anywhere in it
+-- swapping two neighbours that don't depend on each other, anywhere in a list, gives an equivalent
+-- list
 pub swapped_within : (w : World) (before : List Event) (e f : Event) (later : List Event) (b : Ran) (s u : Stepped) (r : Ran) → run w before ≡ Ok b
     → step b.world e ≡ Ok s → step s.world f ≡ Ok u → depends s.entry u.entry ≡ false → run u.world later ≡ Ok r
     → IsEquivalent w (before ++ e ∷ f ∷ later) (before ++ f ∷ e ∷ later)

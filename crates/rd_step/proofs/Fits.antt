@@ -1,11 +1,11 @@
--- Which accesses and answers fit, and that an actor whose record fits asks for an access that fits.
+-- Which accesses and answers fit. An actor whose record fits asks for an access that fits.
 use Rattle.rd_step.proofs.Prelude.{nat_lt, ◌≡◌, ℕ, Bool, true, not, ◌&&◌, nat_le, arith, Option, Some, IfOk, and_parts, SLOTS, COUNTER_END, SegName, Place, Access, NoPlace, At, Make, Answer, Operation, Add, AddArray, CasName, CasNext, CasTail, Cas2, is_array, Act, Actor, Pc, need, need_at, words_fit, Presence, names_fit, numbers_within, record_fits, actor_fits, index_end}
 use Rattle.rd_cell.specs.declared.contents.Content.TheVariants as content
 use Rattle.rd_cell.specs.declared.operations.Answer.TheVariants as answer
 
 -- A record that fits, by its parts
 
--- the names and the numbers of a record that fits
+-- the names and numbers of a record that fits, each by itself
 pub record PartsFit (R : ℕ) (there : Presence) (a : Actor) : Type 0 where
   pub crq : there a.crq ≡ true
   pub new : there a.new ≡ true
@@ -14,33 +14,37 @@ pub record PartsFit (R : ℕ) (there : Presence) (a : Actor) : Type 0 where
   pub h : nat_le a.h COUNTER_END ≡ true
   pub idx : nat_le a.idx (index_end R) ≡ true
 
+-- a record that fits has these parts
 pub parts_of : (R : ℕ) (there : Presence) (a : Actor) → record_fits R there a ≡ true → PartsFit R there a
 parts_of R there a fits = grind arith
 
+-- the words of a record that fits fit its control point
 pub words_of : (R : ℕ) (there : Presence) (a : Actor) → record_fits R there a ≡ true → words_fit a ≡ true
 words_of R there a fits = (and_parts (names_fit there a && numbers_within (index_end R) a) (words_fit a) fits).1
 
--- and back: these parts and the words make a record that fits
+-- conversely, these parts and words that fit make a record that fits
 pub together : (R : ℕ) (there : Presence) (a : Actor) → PartsFit R there a → words_fit a ≡ true → record_fits R there a ≡ true
 together R there a f words = grind arith
 
 -- What fits goes on to fit if more segments are there
 
--- each segment that is there in the first is there in the second
+-- each segment that is there at first is there afterwards
 abbrev pub Grows : Presence → Presence → Type 0
 Grows there there' = (s : SegName) → there s ≡ true → there' s ≡ true
 
+-- a record that fits goes on to fit if more segments are there
 pub record_grows : (R : ℕ) (there there' : Presence) (a : Actor) → Grows there there' → record_fits R there a ≡ true
     → record_fits R there' a ≡ true
 record_grows R there there' a more h = grind arith
 
+-- an actor whose record fits goes on to fit if more segments are there
 pub actor_grows : (R : ℕ) (there there' : Presence) (o : Option Actor) → Grows there there' → actor_fits R there o ≡ true
     → actor_fits R there' o ≡ true
 actor_grows R there there' o more h = grind arith
 
--- What an actor asks for
+-- The access for which an actor asks
 
--- whether what an operation at this place would put fits
+-- whether what an operation would write at this place fits
 abbrev pub op_fits : ℕ → Presence → Place → Operation → Bool
 op_fits R there p (CasName old new) = there new
 op_fits R there p (CasNext new) = there new
@@ -50,14 +54,13 @@ op_fits R there p Add = not (is_array p)
 op_fits R there p AddArray = is_array p
 op_fits R there p _ = true
 
--- whether an access fits
+-- whether an access fits: its operation does; true if it has none
 abbrev pub access_fits : ℕ → Presence → Access → Bool
 access_fits R there NoPlace = true
 access_fits R there (At p op) = op_fits R there p op
 access_fits R there (Make x) = true
 
--- whether an answer fits: the segments that it names are there, and its numbers are within their
--- ends
+-- whether an answer fits: a segment that it names is there, and its numbers are not past their ends
 abbrev pub answer_fits : ℕ → Presence → Answer → Bool
 answer_fits R there (answer.Found (content.Name s)) = there s
 answer_fits R there (answer.Found (content.Number g)) = nat_le g COUNTER_END
@@ -67,11 +70,14 @@ answer_fits R there (answer.SafeAndIndex safe idx) = nat_le idx (index_end R)
 answer_fits R there (answer.Made s) = there s
 answer_fits R there _ = true
 
--- whether the position that a fetch-and-add on the array drew has a slot
+-- whether the array has a slot for the position that a fetch-and-add on it drew; true for all other
+-- operations
 abbrev pub has_slot : Operation → Answer → Bool
 has_slot AddArray (answer.Found (content.Number g)) = nat_lt g SLOTS
 has_slot _ _ = true
 
+-- whether the array has a slot for the position that this access drew there; true for all other
+-- accesses
 abbrev pub drew_slot : Access → Answer → Bool
 drew_slot (At p op) answer = has_slot op answer
 drew_slot _ answer = true

@@ -1,15 +1,15 @@
--- The words that an entry keeps give the world before its step back, and a step on which no later
--- one depends may be taken out of a run.
+-- Putting back the words that an entry keeps gives the world before its step, and a step on which
+-- no later one depends may be taken out of a run.
 use Rattle.rd_step.proofs.Prelude.{◌≡◌, ℕ, zero, suc, ◌+◌, ◌<◌, true, false, nat_lt, refl, sym, ◌∙◌, subst, arith, List, ◌∷◌, Option, Some, None, Result, Ok, Err, IfOk, ltb-true, cond-false, cond_both, IfOk-at_ok, fun_ext, MOST_SEGMENTS, SegName, Place, Content, Access, NoPlace, At, Make, Operation, Refusal, is_of, Contents, after_write, operand, restore, is_there, holding, Effect, Performed, contents_after, operate, make, perform, effect_at, number_made_from, result_map, is_cell_at, after_write-outside, Actor, after, World, Event, Stepped, with_actor, step, unstep, Ran, run, Presence, belongs, IsWellFormed, number_made, operand-covered, not_written}
 use Rattle.rd_step.proofs.Halves.{nothing_there, bare_cell}
 use Rattle.rd_step.proofs.Steps.{took}
 use Rattle.rd_cell.specs.declared.places.Place.TheVariants as place
 
--- the contents that an access left, with what was at its place put back, are those from before it
+-- putting back the old content of an access's place gives the contents before the access
 abbrev PutsBack : Contents → Performed → Type 0
 PutsBack at did = (q : Place) → restore did.place did.old (contents_after did at) q ≡ at q
 
--- a cell is no place of the map
+-- these contents have no cell as a place
 abbrev Bare : Contents → Type 0
 Bare at = (q : Place) → is_cell_at q ≡ true → at q ≡ None
 
@@ -23,18 +23,19 @@ back-result p c (Ok e) at bare h = back-effect p c e at bare h
 back-operate : (p : Place) (op : Operation) (o : Option Content) (at : Contents) → Bare at → operand at p ≡ o → IfOk (operate p op o) (PutsBack at)
 back-operate p op o at bare h = grind (arith, back-result)
 
--- below the bound, the number that counting ends at names no segment that is there
+-- if counting ends before its bound, the number at which it ends names no segment that is there
 number_made_from-absent : (more : ℕ) (at : Contents) (m n : ℕ) → number_made_from more at m n < n + more
     → is_there at (record { maker = m; n = number_made_from more at m n }) ≡ false
 unfolding number_made_from
 number_made_from-absent zero at m n h = absurd (omega arith)
 number_made_from-absent (suc more) at m n h = grind (arith, number_made_from-absent more at m (n + 1))
 
+-- the segment that a maker below its limit makes next is not there
 pub number_made-absent : (at : Contents) (m : ℕ) → number_made at m < MOST_SEGMENTS → is_there at (record { maker = m; n = number_made at m }) ≡ false
 unfolding number_made
 number_made-absent at m h = number_made_from-absent MOST_SEGMENTS at m 0 h
 
--- a place of a segment that is not there has nothing
+-- no place of a segment that is not there belongs to the world
 pub absent_place : (R : ℕ) (there : Presence) (s : SegName) (q : Place) → there s ≡ false → is_of s q ≡ true → belongs R there q ≡ false
 absent_place R there s q h e = grind arith
 
@@ -54,11 +55,11 @@ back-perform actor w NoPlace formed = λ q. refl
 back-perform actor w (At p op) formed = back-operate p op (operand w.at p) w.at (bare_cell w formed) refl
 back-perform actor w (Make x) formed = back-make actor (number_made w.at actor) x w formed (number_made-absent w.at actor)
 
--- the actors with one's old record put back are those from before
+-- giving one actor its old record back gives the actors before
 actor_back : (n : ℕ) (a b : Actor) (actors : ℕ → Option Actor) → actors n ≡ Some a → with_actor n a (with_actor n b actors) ≡ actors
 actor_back n a b actors has = grind arith
 
--- the words that an entry keeps give back the world before its step
+-- putting back the words that an entry keeps gives the world before its step
 pub undoes : (w : World) (e : Event) (s : Stepped) → IsWellFormed w → step w e ≡ Ok s → unstep s.world s.entry ≡ w
 undoes w e s formed h =
     let t = took w e s h in
@@ -68,7 +69,7 @@ undoes w e s formed h =
     let actors = actor_back e.actor t.a next.0 w.actor t.has in
     subst (λ (x : Stepped). unstep x.world x.entry ≡ w) t.ends (λ i. record { ring = w.ring; at = all i; actor = actors i })
 
--- a run of at least one step, taken apart
+-- a run of at least one event, taken apart into its first step and the run of the others
 pub record RanOn (w : World) (e : Event) (es : List Event) (r : Ran) : Type 0 where
   pub one : Stepped
   pub goes : step w e ≡ Ok one
@@ -76,10 +77,11 @@ pub record RanOn (w : World) (e : Event) (es : List Event) (r : Ran) : Type 0 wh
   pub goes_on : run one.world es ≡ Ok rest
   pub joins : record { world = rest.world; entries = one.entry ∷ rest.entries } ≡ r
 
+-- every run of at least one event can be taken apart so
 pub ran_on : (w : World) (e : Event) (es : List Event) (r : Ran) → run w (e ∷ es) ≡ Ok r → RanOn w e es r
 ran_on w e es r h = grind arith
 
--- a step and a run after it make a run
+-- a step, followed by a run from the world after it, is a run
 pub run-cons : (w : World) (e : Event) (es : List Event) (s : Stepped) (r : Ran) → step w e ≡ Ok s → run s.world es ≡ Ok r
     → run w (e ∷ es) ≡ Ok (record { world = r.world; entries = s.entry ∷ r.entries })
 run-cons w e es s r h k = grind arith

@@ -14,7 +14,7 @@ is_actor-same : (n : ℕ) (a b : Actor) (actors : ℕ → Option Actor) → acto
     → is_actor (with_actor n b actors) ≡ is_actor actors
 is_actor-same n a b actors has = grind arith
 
--- what is left at each place by an operation at one that is there fits, if what is written fits
+-- an operation leaves a content that fits at each place, if what it writes fits
 effect_left_fits : (R : ℕ) (there : Presence) (at : Contents) (p : Place) (c : Content) (f : Effect) (q : Place)
     → IfSome f.writes (λ d. content_fits R there p d ≡ true) → place_fits R there q (at q) ≡ true
     → place_fits R there q (contents_after (effect_at p c f) at q) ≡ true
@@ -57,7 +57,7 @@ keeps_by w n a next p c f formed has there_is fits next_fits =
       actors = λ m. subst (λ (there : Presence). actor_fits w.ring there (with_actor n next w.actor m) ≡ true) presence (each_actor m);
     }
 
--- the same if only the actor goes on
+-- a step that changes only its actor's record keeps the world well-formed, if the new record fits
 keeps_actor : (w : World) (n : ℕ) (a next : Actor) → IsWellFormed w → w.actor n ≡ Some a
     → record_fits w.ring (is_there w.at) next ≡ true → IsWellFormed (record { ring = w.ring; at = w.at; actor = with_actor n next w.actor })
 keeps_actor w n a next formed has next_fits =
@@ -72,7 +72,8 @@ keeps_actor w n a next formed has next_fits =
           (λ e. next_fits) (λ e. formed.actors m);
     }
 
--- the same if it makes its next segment
+-- a step that makes its actor's next segment keeps the world well-formed, if the actor's next
+-- record fits
 keeps_made : (w : World) (n x : ℕ) (a next : Actor) → IsWellFormed w → w.actor n ≡ Some a → nat_lt (number_made w.at n) MOST_SEGMENTS ≡ true
     → record_fits w.ring (is_there (laid w.ring (record { maker = n; n = number_made w.at n }) x w.at)) next ≡ true
     → IsWellFormed (record { ring = w.ring; at = laid w.ring (record { maker = n; n = number_made w.at n }) x w.at; actor = with_actor n next w.actor })
@@ -95,7 +96,7 @@ keeps_made w n x a next formed has below next_fits =
 
 -- What an actor's access does, and how it goes on, keeps the world well-formed
 
--- the world after what the access of e's actor did is well-formed
+-- the world after e's step is well-formed, if its actor had the record a and its access did `did`
 abbrev Keeps : World → Event → Actor → Performed → Type 0
 Keeps w e a did = IsWellFormed (step_outcome w e a did (after w.ring a e.act did.answer)).world
 

@@ -1,10 +1,10 @@
--- The step of an entry, made again by what the entry keeps.
+-- Making the step of an entry again from what the entry keeps.
 use Rattle.rd_step.proofs.Prelude.{◌≡◌, ℕ, ◌≤◌, true, inl, inr, refl, sym, ◌∙◌, ap, subst, arith, List, Option, Some, IsTrue, Result, Ok, Err, IfOk, IfErr, fun_ext, Access, Done, Refusal, is_nothing, Performed, contents_after, perform, everywhere, HasEffect, Space, contents, room, Actor, OpReply, need, after, World, Entry, Stepped, with_actor, step, world_of_fields, numbered, makes, makes_segment, IsRefused, IsWellFormed}
 use Rattle.rd_step.proofs.Keeps.{keeps}
 use Rattle.rd_step.proofs.Progress.{changes_only}
 use Rattle.rd_step.proofs.Steps.{took}
 
--- the step from w that leaves v and this entry, by the words that the entry keeps
+-- the step of the entry x leads from w to v: its access, what that did, and the world after it
 pub record Leaves (w v : World) (x : Entry) : Type 0 where
   pub has : w.actor x.event.actor ≡ Some x.old_actor
   pub access : Access
@@ -15,6 +15,7 @@ pub record Leaves (w v : World) (x : Entry) : Type 0 where
   pub places : v.at ≡ contents_after did w.at
   pub actors : v.actor ≡ with_actor x.event.actor (after w.ring x.old_actor x.event.act x.answer).0 w.actor
 
+-- an entry's step has these parts
 pub leaves : (w v : World) (x : Entry) → step w x.event ≡ Ok (record { world = v; entry = x }) → Leaves w v x
 leaves w v x h =
     let t = took w x.event (record { world = v; entry = x }) h in
@@ -30,7 +31,7 @@ leaves w v x h =
       actors = subst (λ (s : Stepped). s.world.actor ≡ with_actor x.event.actor (after w.ring s.entry.old_actor x.event.act s.entry.answer).0 w.actor) t.ends refl;
     }
 
--- the entry's access, made again, is refused neither by the model nor for want of room
+-- the access of the entry's step, done again, is refused neither by the model nor for lack of room
 pub not_refused : (R : ℕ) (space : Space R) (xs : List Actor) (v : World) (x : Entry) (access : Access) (refusal : Refusal)
     → step (world_of_fields space xs) x.event ≡ Ok (record { world = v; entry = x }) → need R x.old_actor x.event.act ≡ Ok access
     → (IsTrue (makes_segment (world_of_fields space xs) x.event) → 1 ≤ room space x.event.actor)
@@ -41,7 +42,7 @@ not_refused R space xs v x access refusal h needs has_room (inl refused) =
     cc (sym (ap (λ (y : Access). perform R x.event.actor (contents space) y) same) ∙ l.does, refused)
 not_refused R space xs v x access refusal h needs has_room (inr lacks) = grind arith
 
--- the step of the entry leaves these fields, and they are a well-formed world
+-- the entry's step leads from the old fields to the new ones, which are a well-formed world
 pub record IsMadeAgain (R : ℕ) (old new : Space R) (xs ys : List Actor) (x : Entry) : Type 0 where
   pub goes : step (world_of_fields old xs) x.event ≡ Ok (record { world = world_of_fields new ys; entry = x })
   pub formed : IsWellFormed (world_of_fields new ys)
@@ -59,7 +60,7 @@ made_again R old new xs ys v x next formed h goes_on actors places =
       formed = subst (λ (w : World). IsWellFormed w) same (keeps (world_of_fields old xs) x.event _ formed h);
     }
 
--- a step that only read is made again by its actor's words alone
+-- a step that only read is made again by setting its actor's record alone
 pub read_again : (R : ℕ) (space : Space R) (xs ys : List Actor) (v : World) (x : Entry) (next : Actor × Option OpReply)
     → IsWellFormed (world_of_fields space xs) → step (world_of_fields space xs) x.event ≡ Ok (record { world = v; entry = x })
     → next ≡ after R x.old_actor x.event.act x.answer → numbered ys ≡ with_actor x.event.actor next.0 (numbered xs)
@@ -68,7 +69,7 @@ read_again R space xs ys v x next formed h goes_on actors reads =
     made_again R space space xs ys v x next formed h goes_on actors
     ((changes_only (world_of_fields space xs) x.event (record { world = v; entry = x }) h).reading reads)
 
--- any step is made again by its access, which is not refused, and its actor's words
+-- any step is made again by doing its access, which is not refused, and setting its actor's record
 pub access_again : (R : ℕ) (old new : Space R) (xs ys : List Actor) (v : World) (x : Entry) (next : Actor × Option OpReply) (access : Access) (r : Result Done Refusal)
     → IsWellFormed (world_of_fields old xs) → step (world_of_fields old xs) x.event ≡ Ok (record { world = v; entry = x })
     → (IsTrue (makes_segment (world_of_fields old xs) x.event) → 1 ≤ room old x.event.actor)

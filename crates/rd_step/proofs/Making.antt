@@ -1,42 +1,45 @@
--- A making keeps a world well-formed: the new segment is its maker's next one, and its places are
--- just those that belong there.
+-- A making keeps a world well-formed: the new segment is its maker's next one, and just the places
+-- that belong to it are added.
 use Rattle.rd_step.proofs.Prelude.{◌≡◌, ℕ, zero, suc, ◌+◌, ◌<◌, ◌≤◌, Bool, true, false, not, ◌==◌, nat_lt, inl, inr, sym, ◌∙◌, ap, subst, arith, Some, is_some, eqb-true, cases_Bool, cond-true, cond-false, and_parts, MOST_SEGMENTS, SegName, Place, root, name_eq, Contents, is_there, after_write, holding, number_made_from, name_eq-true, belongs, place_fits, maker_fits, AreMade, number_made}
 use Rattle.rd_step.proofs.Fits.{Grows}
 use Rattle.rd_cell.specs.declared.places.Place.TheVariants as place
 use Rattle.rd_cell.specs.declared.contents.Content.TheVariants as content
 
--- every number below the one that counting ends at names a segment that is there
+-- every number that counting passes names a segment that is there
 made_from-below : (more : ℕ) (at : Contents) (m n k : ℕ) → n ≤ k → k < number_made_from more at m n
     → is_there at (record { maker = m; n = k }) ≡ true
 unfolding number_made_from
 made_from-below zero at m n k h l = absurd (omega arith)
 made_from-below (suc more) at m n k h l = grind (arith, made_from-below more at m (n + 1) k)
 
+-- a segment whose number is below its maker's count is there
 pub made-below : (at : Contents) (m k : ℕ) → k < number_made at m → is_there at (record { maker = m; n = k }) ≡ true
 unfolding number_made
 made-below at m k h = made_from-below MOST_SEGMENTS at m 0 k (omega arith) h
 
--- the contents with a new segment
+-- the contents after the making of segment s, which holds x
 abbrev pub laid : ℕ → SegName → ℕ → Contents → Contents
 laid R s x at = after_write (place.Whole s) (holding R x) at
 
--- the new segment is there, and which others are stays
+-- the new segment is there, and no other segment is added or removed
 pub laid_new : (R : ℕ) (s : SegName) (x : ℕ) (at : Contents) (t : SegName) → name_eq s t ≡ true → is_there (laid R s x at) t ≡ true
 laid_new R s x at t e = ap is_some (cond-true (name_eq s t) (Some (content.Number 0)) (at (place.Head t)) e)
 
+-- a making adds and removes no other segment
 pub laid_other : (R : ℕ) (s : SegName) (x : ℕ) (at : Contents) (t : SegName) → name_eq s t ≡ false
     → is_there (laid R s x at) t ≡ is_there at t
 laid_other R s x at t e = ap is_some (cond-false (name_eq s t) (Some (content.Number 0)) (at (place.Head t)) e)
 
+-- a making removes no segment
 pub laid_grows : (R : ℕ) (s : SegName) (x : ℕ) (at : Contents) → Grows (is_there at) (is_there (laid R s x at))
 laid_grows R s x at t h = grind arith
 
--- a maker is an actor
+-- an actor may be the maker of a segment whose number is below 65,535
 pub maker_is : (is_actor : ℕ → Bool) (m n : ℕ) → not (is_actor 0) ≡ true → is_actor m ≡ true → nat_lt n MOST_SEGMENTS ≡ true
     → maker_fits is_actor m n ≡ true
 maker_is is_actor m n h k l = grind arith
 
--- the segments stay such as actors made
+-- after a making, actors made all segments but the root, and no maker's numbers have a gap
 pub laid_made : (R : ℕ) (s : SegName) (x : ℕ) (at : Contents) (is_actor : ℕ → Bool) → maker_fits is_actor s.maker s.n ≡ true
     → ((k : ℕ) → k < s.n → is_there at (record { maker = s.maker; n = k }) ≡ true) → AreMade is_actor (is_there at)
     → AreMade is_actor (is_there (laid R s x at))
@@ -63,10 +66,12 @@ laid_made R s x at is_actor fits below were = record { rooted = laid_grows R s x
               (were.no_gap m n (sym (laid_other R s x at (record { maker = m; n = suc n }) e) ∙ h))
         ]
 
+-- after a making, exactly the places that belong to the world are there
 pub laid_places : (R : ℕ) (s : SegName) (x : ℕ) (at : Contents) → ((p : Place) → is_some (at p) ≡ belongs R (is_there at) p) → (p : Place)
     → is_some (laid R s x at p) ≡ belongs R (is_there (laid R s x at)) p
 laid_places R s x at were p = grind arith
 
+-- after a making, every content fits its place
 pub laid_fits : (R : ℕ) (s : SegName) (x : ℕ) (at : Contents) → ((p : Place) → place_fits R (is_there at) p (at p) ≡ true) → (p : Place)
     → place_fits R (is_there (laid R s x at)) p (laid R s x at p) ≡ true
 laid_fits R s x at were p = grind arith

@@ -1,5 +1,5 @@
--- Progress: what an actor of a well-formed world asks for suits what is there, and the answer leads
--- it to another control point.
+-- Progress: the access for which an actor of a well-formed world asks suits its place, and the
+-- answer leads the actor to another control point.
 use Rattle.rd_step.proofs.Prelude.{◌≡◌, ◌≢◌, ℕ, ◌≤◌, Bool, true, false, if◌then◌else◌, nat_lt, nat_le, refl, sym, ◌∙◌, ap, subst, arith, Option, Some, is_some, is_none, ok_or, Result, Ok, Err, IfOk, holding, common_steps, cond_both, and_parts, IfOk-at_ok, fun_ext, MOST_SEGMENTS, Cell, SegName, Place, Wrote, ArrSlot, Content, Operation, Access, NoPlace, At, Make, Refusal, some_covers, is_nothing, written, Contents, is_there, operand, Effect, effect, Performed, operate, make, perform, swaps, adds, effect_at, result_map, after_write-outside, written-covers, ok_or_ok, Act, Actor, Pc, Idle, E4, E11, Q5, A2, B2, need, need_at, need_call, need_choice, after_take, after_at, after, words_fit_at, World, Event, Stepped, step, Presence, content_fits, record_fits, actor_fits, IsWellFormed, number_made, and_then_err, IsStepRefusal, SuitsContent, MovesOn, ChangesOnly}
 use Rattle.rd_step.proofs.Halves.{has_place, has_operand}
 use Rattle.rd_step.proofs.Fits.{PartsFit, parts_of, words_of}
@@ -12,7 +12,7 @@ use Rattle.rd_actor.specs.declared.actors.Act.TheVariants as act
 
 -- Contents by the kinds of their places
 
--- what holds of each content that a place can hold
+-- P holds of each content of the kind that this place holds
 abbrev OfKind : Place → (Content → Type 0) → Type 0
 OfKind place.QHead P = (s : SegName) → P (content.Name s)
 OfKind place.QTail P = (s : SegName) → P (content.Name s)
@@ -39,13 +39,13 @@ Goes R pc a (Err refusal.CounterEnd) = Unit {0}
 Goes R pc a (Err refusal.ArrayEnd) = Unit {0}
 Goes R pc a (Err _) = ⊥
 
--- what the access of a row does leads on
+-- the access of a row leads on, whatever content of the right kind it finds
 abbrev Leads : ℕ → Presence → Pc → Actor → Access → Type 0
 Leads R there pc a NoPlace = ⊥
 Leads R there pc a (At p op) = OfKind p (λ c. Goes R pc a (effect op c))
 Leads R there pc a (Make x) = (s : SegName) → (after_at R pc a (answer.Made s)).0.pc ≢ pc
 
--- of two control points that are others than this one, each is
+-- a choice between two control points other than z is other than z
 other : (b : Bool) (x y z : Pc) → x ≢ z → y ≢ z → (if b then x else y) ≢ z
 other b x y z h k = cond_both b x y (λ (pc : Pc). pc ≢ z) (λ e. h) (λ e. k)
 
@@ -70,9 +70,9 @@ swap_out_leads R a slot = grind arith
 row_leads : (R : ℕ) (there : Presence) (pc : Pc) (a : Actor) → words_fit_at pc a ≡ true → IfOk (need_at R pc a) (Leads R there pc a)
 row_leads R there pc a w = grind (arith, common_steps, swaps_lead, adds_lead, other, is_none, nat_le, nat_lt, is_some, take_leads, and_parts, swap_in_leads, swap_out_leads)
 
--- The places that are asked for are there
+-- The places of accesses are there
 
--- an access at a place that is there
+-- the place on which an access operates is there
 abbrev IsAtPlace : ℕ → Presence → Access → Type 0
 IsAtPlace R there (At p op) = has_place R there p ≡ true
 IsAtPlace R there _ = Unit {0}
@@ -83,7 +83,7 @@ row_place R there pc a some f w = grind arith
 
 -- A step
 
--- what an operation that is asked for at a control point works on
+-- the operation of the row at pc finds a content at p, and its effect leads the actor on
 pub record WorksOn (w : World) (pc : Pc) (a : Actor) (p : Place) (op : Operation) : Type 0 where
   pub content : Content
   pub found : operand w.at p ≡ Some content
@@ -98,7 +98,7 @@ works_on w pc a p op some formed parts words needs =
     let on = has_operand w p formed place in
     record { content = on.content; found = on.found; goes = at_kind w.ring there p (λ c. Goes w.ring pc a (effect op c)) leads on.content on.fits }
 
--- what an access of an actor leads to: another control point, or a refusal of a step
+-- an access ends well: its actor goes on to another control point, or the refusal is one of a step
 abbrev Ends : ℕ → Actor → Act → Result Performed Refusal → Type 0
 Ends R a act (Ok did) = (after R a act did.answer).0.pc ≢ a.pc
 Ends R a act (Err refusal) = IsStepRefusal refusal
@@ -109,7 +109,7 @@ goes_ends R a p c r h = grind arith
 make_ends : (R : ℕ) (there : Presence) (a : Actor) (s : SegName) (x : ℕ) → Leads R there a.pc a (Make x) → Ends R a act.Go (make s (holding R x))
 make_ends R there a s x h = cond_both (nat_lt s.n MOST_SEGMENTS) _ _ (λ (r : Result Performed Refusal). Ends R a act.Go r) (λ e. h s) (λ e. tt)
 
--- a call goes on from idle, and a choice from the control point of choices
+-- a call moves its actor on from Idle, and a choice from E10
 call_ends : (pc x : Pc) (y : Access) → need_call pc ≡ Ok y → (Idle ≡ x → ⊥) → x ≢ pc
 call_ends pc x y h ne = grind arith
 
@@ -122,7 +122,7 @@ call_place pc y h = grind arith
 choice_place : (pc : Pc) (y : Access) → need_choice pc ≡ Ok y → y ≡ NoPlace
 choice_place pc y h = grind arith
 
--- an access that a call or a choice asks for is none
+-- a call or a choice, which has no access, ends well if it moves its actor on
 ends_there : (R actor : ℕ) (at : Contents) (a : Actor) (act : Act) (y : Access) → y ≡ NoPlace → (after R a act answer.Nothing).0.pc ≢ a.pc
     → Ends R a act (perform R actor at y)
 ends_there R actor at a act y e h = subst (λ (x : Access). Ends R a act (perform R actor at x)) (sym e) h
@@ -151,7 +151,7 @@ fits_here w n a formed has = subst (λ (o : Option Actor). actor_fits w.ring (is
 need_refused : (R : ℕ) (a : Actor) (act : Act) (refusal : Refusal) → need R a act ≡ Err refusal → IsStepRefusal refusal
 need_refused R a act refusal h = grind arith
 
--- a step is refused in its cases alone
+-- a well-formed world refuses a step only for the causes in `IsStepRefusal`
 pub refused_in_cases : (w : World) (e : Event) (cause : Refusal) → 1 ≤ w.ring → IsWellFormed w → step w e ≡ Err cause → IsStepRefusal cause
 refused_in_cases w e cause some formed h =
     and_then_err (ok_or (w.actor e.actor) refusal.NoActor) _ cause h (no_actor (w.actor e.actor)) (λ a there h1.
@@ -164,7 +164,7 @@ refused_in_cases w e cause some formed h =
     no_actor : (o : Option Actor) → ok_or o refusal.NoActor ≡ Err cause → IsStepRefusal cause
     no_actor o l = grind arith
 
--- what is asked for suits what is there
+-- the operation for which an actor of a well-formed world asks suits the content of its place
 pub suits_content : (w : World) (n : ℕ) (a : Actor) (x : Act) (p : Place) (op : Operation) → 1 ≤ w.ring → IsWellFormed w
     → w.actor n ≡ Some a → need w.ring a x ≡ Ok (At p op) → SuitsContent w.at p op
 suits_content w n a x p op some formed has needs = by_act x needs
@@ -208,7 +208,7 @@ moves_on w e s some formed h =
 nothing_written : (p : Option Place) (w : Wrote) (q : Place) → is_nothing w ≡ true → some_covers (written p w) q ≡ false
 nothing_written p w q h = grind arith
 
--- a step changes one place, the two of one cell, or those of one segment, and one actor
+-- a step changes only places that its entry's place covers, and one actor
 pub changes_only : (w : World) (e : Event) (s : Stepped) → step w e ≡ Ok s → ChangesOnly e s.entry w s.world
 changes_only w e s h =
     let t = took w e s h in

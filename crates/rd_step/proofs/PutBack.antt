@@ -1,5 +1,5 @@
--- A step takes nothing away, makes no segment of another actor, and what its entry keeps may be put
--- back after it.
+-- A step removes no place and makes no segment of another actor, and the words that its entry keeps
+-- may be put back after it.
 use Rattle.rd_step.proofs.Prelude.{◌≡◌, ◌≢◌, ℕ, suc, ◌+◌, ◌<◌, ◌≤◌, Bool, true, false, not, ◌==◌, nat_lt, refl, ◌∙◌, ap, subst, arith, Option, Some, None, is_some, Result, Ok, IfOk, ltb-true, holding, cond_both, and_right, both_ways, IfOk-at_ok, MOST_SEGMENTS, operand, SegName, Place, Content, Access, NoPlace, At, Make, Operation, Refusal, is_of, Contents, is_there, Effect, effect, Performed, contents_after, operate, make, perform, effect_at, result_map, name_eq-refl, is_cell_at, Actor, World, Event, Stepped, step, CanPutBack, content_fits, place_fits, IsWellFormed, ne_eqb, false_from_ne_true, number_made, keeps-operate}
 use Rattle.rd_step.proofs.Halves.{bare_cell, operand_fits}
 use Rattle.rd_step.proofs.Steps.{took}
@@ -9,7 +9,7 @@ use Rattle.rd_cell.specs.declared.places.Place.TheVariants as place
 
 -- Which places are there
 
--- whether a place is there stays
+-- q is there after the access exactly if it was there before
 abbrev StaysAt : Contents → Place → Performed → Type 0
 StaysAt at q did = is_some (contents_after did at q) ≡ is_some (at q)
 
@@ -17,19 +17,19 @@ stays-make : (R : ℕ) (s : SegName) (x : ℕ) (at : Contents) (q : Place) → (
     → IfOk (make s (holding R x)) (StaysAt at q)
 stays-make R s x at q other = grind arith
 
--- an access keeps which places are there that are none of its actor's next segment
+-- an access adds and removes no place, except places of its actor's next segment
 stays-perform : (R actor : ℕ) (at : Contents) (x : Access) (q : Place) → (is_cell_at q ≡ true → at q ≡ None)
     → (number_made at actor < MOST_SEGMENTS → is_of (record { maker = actor; n = number_made at actor }) q ≡ false) → IfOk (perform R actor at x) (StaysAt at q)
 stays-perform R actor at x q bare other = grind (arith, keeps-operate, stays-make)
 
--- a place that is there is none of a segment that an actor may make next
+-- a place that is there belongs to no segment that an actor may make next
 not_next : (w : World) (n : ℕ) (q : Place) → IsWellFormed w → is_some (w.at q) ≡ true → number_made w.at n < MOST_SEGMENTS
     → is_of (record { maker = n; n = number_made w.at n }) q ≡ false
 not_next w n q formed there below =
     let s : SegName = record { maker = n; n = number_made w.at n } in
     false_from_ne_true (is_of s q) (λ e. both_ways (is_some (w.at q)) (formed.places q ∙ absent_place w.ring (is_there w.at) s q (number_made-absent w.at n below) e) there)
 
--- a step takes nothing away
+-- a step removes no place
 pub stays_at : (w : World) (e : Event) (s : Stepped) (q : Place) → IsWellFormed w → step w e ≡ Ok s → is_some (w.at q) ≡ true
     → is_some (s.world.at q) ≡ true
 stays_at w e s q formed h there =
@@ -37,20 +37,21 @@ stays_at w e s q formed h there =
     let same : StaysAt w.at q t.did = IfOk-at_ok (StaysAt w.at q) t.does (stays-perform w.ring e.actor w.at t.access q (bare_cell w formed q) (not_next w e.actor q formed there)) in
     subst (λ (x : Stepped). is_some (x.world.at q) ≡ true) t.ends (same ∙ there)
 
--- a step by one actor keeps which of another's segments are there
+-- a step by one actor adds and removes no segment of another maker
 pub others_stay : (w : World) (e : Event) (s : Stepped) (n k : ℕ) → step w e ≡ Ok s → (n == s.entry.event.actor) ≡ false
     → is_there s.world.at (record { maker = n; n = k }) ≡ is_there w.at (record { maker = n; n = k })
 others_stay w e s n k h other = grind arith
 
 -- What may be put back
 
--- what is there after an access goes on to be there, what is there fits, and the actor makes no
--- segment more
+-- the world went on from `after` to `at`: no place was removed, every content fits, and actor n
+-- made no further segment
 record GoesOn (R n : ℕ) (after at : Contents) : Type 0 where
   pub fits : (q : Place) → place_fits R (is_there at) q (at q) ≡ true
   pub stays : (q : Place) → is_some (after q) ≡ true → is_some (at q) ≡ true
   pub made : (k : ℕ) → is_there at (record { maker = n; n = k }) ≡ is_there after (record { maker = n; n = k })
 
+-- the old content of an access's place may be put back after the world went on
 abbrev CanGoBack : ℕ → ℕ → Contents → Contents → Performed → Type 0
 CanGoBack R n before at did = GoesOn R n (contents_after did before) at → CanPutBack at did.place did.old
 
@@ -96,8 +97,8 @@ can-perform w n a at NoPlace formed has = λ on. tt
 can-perform w n a at (At p op) formed has = can-operate n w at p op (operand w.at p) formed refl
 can-perform w n a at (Make x) formed has = can-make w n a at x formed has
 
--- what a step's entry keeps may be put back wherever the places are there that were there after it,
--- and its actor has made no segment more
+-- the words that a step's entry keeps may be put back where every place is there that was there
+-- after the step, and the actor has made no further segment
 pub entry_can : (w : World) (e : Event) (s : Stepped) (at : Contents) → IsWellFormed w → step w e ≡ Ok s
     → ((q : Place) → is_some (s.world.at q) ≡ true → is_some (at q) ≡ true)
     → ((k : ℕ) → is_there at (record { maker = s.entry.event.actor; n = k }) ≡ is_there s.world.at (record { maker = s.entry.event.actor; n = k }))

@@ -7,18 +7,19 @@ use Rattle.rd_step.proofs.Inverse.{undoes, ran_on}
 use Rattle.rd_step.proofs.RunParts.{free_parts}
 use Rattle.rd_step.proofs.PutBack.{stays_at, others_stay, entry_can}
 
--- the last step of a run taken out
+-- the last step of a run may be taken out
 last_removed : (w : World) (e : Event) (s : Stepped) → IsWellFormed w → step w e ≡ Ok s
     → IsRemovable w e s [] (record { world = s.world; entries = [] })
 last_removed w e s formed h = grind (arith, undoes)
 
--- a step that the next one doesn't depend on, taken out before it
+-- a step may be taken out of a run if it may swap with the next one, and may then be taken out of
+-- the rest
 removed_before : (w : World) (e f : Event) (s u : Stepped) (fs : List Event) (rest : Ran) (sw : CommutingSquare w e f s u)
     → IsRemovable sw.first.world e sw.second fs rest
     → IsRemovable w e s (f ∷ fs) (record { world = rest.world; entries = u.entry ∷ rest.entries })
 removed_before w e f s u fs rest sw r = grind arith
 
--- the law
+-- a step on which no later one depends may be taken out of a run, and go last
 pub removes : (w : World) (e : Event) (s : Stepped) (es : List Event) (r : Ran) → IsWellFormed w → step w e ≡ Ok s
     → run s.world es ≡ Ok r → IsFree s.entry r.entries → IsRemovable w e s es r
 removes w e s [] r formed h k free =
@@ -34,9 +35,9 @@ removes w e s (f ∷ fs) r formed h k free =
     (removed_before w e f s ran.one fs ran.rest sw
     (removes sw.first.world e sw.second fs ran.rest (keeps w f sw.first formed sw.goes_first) sw.goes_second goes_on free_on))
 
--- Runs keep the size of the rings, that a world is well-formed, and what is there
+-- Runs keep the size of the rings, well-formedness, and the places and actors that are there
 
--- what each step keeps, a run keeps
+-- an invariant of every step is one of every run
 run_invariant : (P : World → Type 0) → ((v : World) (e : Event) (s : Stepped) → P v → step v e ≡ Ok s → P s.world) → (w : World) (es : List Event) (r : Ran)
     → P w → run w es ≡ Ok r → P r.world
 run_invariant P stays w [] r p h = let same : w ≡ r.world = cc in subst P same p
@@ -48,17 +49,20 @@ run_invariant P stays w (e ∷ es) r p h =
 step_ring : (w : World) (e : Event) (s : Stepped) → step w e ≡ Ok s → s.world.ring ≡ w.ring
 step_ring w e s h = ap (λ (x : Stepped). x.world.ring) (sym (took w e s h).ends)
 
+-- a run keeps the size of the rings
 pub run_ring : (w : World) (es : List Event) (r : Ran) → run w es ≡ Ok r → r.world.ring ≡ w.ring
 run_ring w es r h = run_invariant (λ v. v.ring ≡ w.ring) (λ v e s same goes. step_ring v e s goes ∙ same) w es r refl h
 
+-- a run keeps a world well-formed
 pub run_keeps : (w : World) (es : List Event) (r : Ran) → IsWellFormed w → run w es ≡ Ok r → IsWellFormed r.world
 run_keeps w es r formed h = run_invariant IsWellFormed keeps w es r formed h
 
--- neither a step nor a run takes an actor or a place away
+-- no step and no run removes an actor or a place
 stays_actor : (w : World) (e : Event) (s : Stepped) (n : ℕ) → step w e ≡ Ok s → is_some (w.actor n) ≡ true
     → is_some (s.world.actor n) ≡ true
 stays_actor w e s n h there = grind arith
 
+-- a run removes no actor
 pub run_stays_actor : (w : World) (es : List Event) (r : Ran) (n : ℕ) → run w es ≡ Ok r → is_some (w.actor n) ≡ true
     → is_some (r.world.actor n) ≡ true
 run_stays_actor w es r n h there = run_invariant (λ v. is_some (v.actor n) ≡ true) (λ v e s some goes. stays_actor v e s n goes some) w es r there h
@@ -68,7 +72,7 @@ run_stays_at : (w : World) (es : List Event) (r : Ran) (q : Place) → IsWellFor
 run_stays_at w es r q formed h there =
     (run_invariant (λ v. IsWellFormed v × (is_some (v.at q) ≡ true)) (λ v e s p goes. (keeps v e s p.0 goes, stays_at v e s q p.0 goes p.1)) w es r (formed, there) h).1
 
--- steps that do not depend on x keep which segments of its actor are there
+-- steps that do not depend on x add and remove no segment of x's actor
 run_others : (w : World) (es : List Event) (r : Ran) (x : Entry) (k : ℕ) → run w es ≡ Ok r → IsFree x r.entries
     → is_there r.world.at (record { maker = x.event.actor; n = k }) ≡ is_there w.at (record { maker = x.event.actor; n = k })
 run_others w [] r x k h free = grind arith
@@ -87,8 +91,8 @@ run_others w (e ∷ es) r x k h free =
 entry_actor : (w : World) (e : Event) (s : Stepped) → step w e ≡ Ok s → is_some (s.world.actor s.entry.event.actor) ≡ true
 entry_actor w e s h = grind (arith, took, is_some, with_actor-same)
 
--- what `revert` asks for holds if an entry's step may be undone, and what is left is the run of the
--- later steps
+-- the requirements of `revert` hold for undoing the step of x: its actor is there, its old content
+-- may be put back, and the world after that is well-formed
 pub record CanUndo (now : World) (x : Entry) : Type 0 where
   pub actor_there : is_some (now.actor x.event.actor) ≡ true
   pub place_there : CanPutBack now.at x.place x.old_content
@@ -108,6 +112,7 @@ can_undo_ran w e s es r formed h k free =
       formed = (removes w e s es r formed h k free).well_formed;
     }
 
+-- a step that was made, and on which no later one depends, can be undone
 pub can_undo : (now : World) (x : Entry) → WasStepped now x → CanUndo now x
 can_undo now x was =
     let free : IsFree was.stepped.entry was.ran.entries = subst (λ (y : Entry). IsFree y was.ran.entries) (sym was.its_entry) was.free in
@@ -115,6 +120,7 @@ can_undo now x was =
     (subst (λ (y : Entry). CanUndo was.ran.world y) was.its_entry
     (can_undo_ran was.start was.event was.stepped was.later was.ran was.well_formed was.goes was.went_on free))
 
+-- undoing such a step takes it out of its run
 pub taken_out : (now : World) (x : Entry) (was : WasStepped now x) → IsTakenOut now (unstep now x) x was
 taken_out now x was =
     let free : IsFree was.stepped.entry was.ran.entries = subst (λ (y : Entry). IsFree y was.ran.entries) (sym was.its_entry) was.free in

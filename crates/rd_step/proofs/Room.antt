@@ -1,4 +1,4 @@
--- The room that a step uses is the room that its undoing gives back.
+-- The room that a step uses is the room that undoing it gives back.
 use Rattle.rd_step.proofs.Prelude.{◌≡◌, ℕ, true, arith, Ok, is_nothing, room_used, World, Event, Stepped, step, makes_segment, room_returned}
 
 -- the room that a step uses is what undoing it gives back

@@ -1,5 +1,4 @@
--- An actor whose record fits goes on, with an answer that fits, to a record that fits: one clause a
--- row of the table.
+-- An actor whose record fits goes on from an answer that fits to a record that fits, row by row.
 use Rattle.rd_step.proofs.Prelude.{◌≡◌, ℕ, Bool, true, nat_lt, refl, arith, Option, None, Ok, le-leb, SLOTS, ArrSlot, Access, Answer, root, Act, Actor, Pc, E1, E2, E3, E4, E8, E11, E12, E13, E14, Q1, Q4, Q5, Q11, Q13, A1, B1, B2, B3, idle, need, need_at, after_take, after_at, after, words_fit_at, Presence, record_fits, index_end, calling, Op}
 use Rattle.rd_actor.specs.declared.actors.Op.TheVariants as op
 use Rattle.rd_step.proofs.Fits.{PartsFit, parts_of, words_of, together, answer_fits, drew_slot}
@@ -12,15 +11,16 @@ use Rattle.rd_actor.specs.declared.actors.Act.TheVariants as act
 idle_fits : (R : ℕ) (there : Presence) → there root ≡ true → PartsFit R there idle
 idle_fits R there h = record { crq = h; new = h; next = h; t = refl; h = refl; idx = le-leb 0 (index_end R) (omega arith) }
 
+-- the idle record fits if the root is there
 pub idle_record : (R : ℕ) (there : Presence) → there root ≡ true → record_fits R there idle ≡ true
 idle_record R there h = together R there idle (idle_fits R there h) refl
 
--- a record that begins a call names what the idle one names
+-- a record that begins a call fits if its words do, since it names only the root
 calling_fits : (R : ℕ) (there : Presence) (pc : Pc) (op : Op) → there root ≡ true → words_fit_at pc (calling pc op) ≡ true
     → record_fits R there (calling pc op) ≡ true
 calling_fits R there pc op h w = grind arith
 
--- the actor's other words stay
+-- moving an actor to a control point that its words fit leaves a record that fits
 moved : (R : ℕ) (there : Presence) (a : Actor) (pc : Pc) → PartsFit R there a → words_fit_at pc (record a { pc = pc }) ≡ true
     → record_fits R there (record a { pc = pc }) ≡ true
 moved R there a pc f w = grind arith
@@ -33,7 +33,7 @@ swapped_out_fits : (R : ℕ) (there : Presence) (a : Actor) (slot : ArrSlot) →
     → record_fits R there (after_at R B2 a (answer.Found (content.Slot slot))).0 ≡ true
 swapped_out_fits R there a slot r f w = grind arith
 
--- whether the position has a slot that an actor which is here drew on the array
+-- whether the array has a slot for the position that the actor drew at A1 or B1
 abbrev drew_at : Pc → Answer → Bool
 drew_at A1 (answer.Found (content.Number u)) = nat_lt u SLOTS
 drew_at B1 (answer.Found (content.Number g)) = nat_lt g SLOTS
@@ -42,7 +42,7 @@ drew_at _ _ = true
 drew_row : (R : ℕ) (a : Actor) (pc : Pc) (x : Access) (answer : Answer) → need_at R pc a ≡ Ok x → drew_slot x answer ≡ true → drew_at pc answer ≡ true
 drew_row R a pc x answer n d = grind arith
 
--- the rows
+-- each row leads to a record that fits
 after_at_fits : (R : ℕ) (there : Presence) (a : Actor) (pc : Pc) (answer : Answer) → there root ≡ true
     → answer_fits R there answer ≡ true → record_fits R there a ≡ true → PartsFit R there a → words_fit_at pc a ≡ true
     → drew_at pc answer ≡ true → record_fits R there (after_at R pc a answer).0 ≡ true
@@ -62,7 +62,7 @@ after_at_fits R there a B1 (answer.Found (content.Number g)) r h whole f w d = g
 after_at_fits R there a B2 (answer.Found (content.Slot slot)) r h whole f w d = swapped_out_fits R there a slot r f w
 after_at_fits R there a pc answer r h whole f w d = grind arith
 
--- an actor whose record fits, and that was not refused, goes on to a record that fits
+-- an actor whose record fits, and whose act is not refused, goes on to a record that fits
 pub after_fits : (R : ℕ) (there : Presence) (a : Actor) (act : Act) (x : Access) (answer : Answer) → there root ≡ true
     → need R a act ≡ Ok x → answer_fits R there answer ≡ true → drew_slot x answer ≡ true → record_fits R there a ≡ true
     → record_fits R there (after R a act answer).0 ≡ true

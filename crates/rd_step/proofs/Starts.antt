@@ -1,13 +1,13 @@
--- The worlds that a session may begin with are well-formed.
+-- The worlds with which a session may begin are well-formed.
 use Rattle.rd_step.proofs.Prelude.{◌≡◌, ◌↔◌, ℕ, suc, ◌<◌, ◌≤◌, Bool, true, false, if◌then◌else◌, nat_lt, inl, inr, refl, sym, ◌∙◌, ap, arith, List, length, get_or, slice_get, All, IsSome, Option, Some, None, is_some, le-leb, lt-ltb, le-ltb, common_steps, cases_lt, cond-true, cond-false, and_from, both_ways, slice_get_past, MOST_ACTORS, Place, is_there, Space, contents, Actor, idle, poised, World, world_of_fields, numbered, Presence, belongs, place_fits, record_fits, actor_fits, is_actor, IsNumbered, AreMade, IsWellFormed, index_end, slice_get-get_or, fresh_space, actors_by, fresh_world, poised_world}
 use Rattle.rd_step.proofs.Rows.{idle_record}
 
--- a list of this many actors, each with the record that its number gives
+-- a list of `count` actors, each with the record that its number gives
 pub list_actors : (xs : List Actor) (each : ℕ → Actor) (count : ℕ) → length xs ≡ count
     → ((n : ℕ) → n < count → slice_get xs n ≡ Some (each (suc n))) → numbered xs ≡ actors_by each count
 list_actors xs each count len all = grind (arith, cond-true, nat_lt, lt-ltb, slice_get_past, cond-false, le-ltb)
 
--- which segments a fresh space has
+-- which segments a fresh space has: the root
 abbrev there_first : ℕ → Presence
 there_first R = is_there (fresh_space R)
 
@@ -36,13 +36,15 @@ starts_well R each count some few fits = grind (arith, common_steps, numbered_by
 poised_fits : (R n : ℕ) → record_fits R (there_first R) (poised n) ≡ true
 poised_fits R n = and_from _ _ (and_from _ _ refl (and_from _ _ refl (le-leb 0 (index_end R) (omega arith)))) refl
 
+-- the fresh world is well-formed
 pub fresh_formed : (R count : ℕ) → 1 ≤ count → count ≤ MOST_ACTORS → IsWellFormed (fresh_world R count)
 fresh_formed R count some few = starts_well R (λ n. idle) count some few (λ n. idle_record R (there_first R) refl)
 
+-- the poised world is well-formed
 pub poised_formed : (R count : ℕ) → 1 ≤ count → count ≤ MOST_ACTORS → IsWellFormed (poised_world R count)
 poised_formed R count some few = starts_well R poised count some few (λ n. poised_fits R n)
 
--- the code's fields make such a world
+-- a fresh space and such a list of actors make that world
 pub fields_make : {R : ℕ} (space : Space R) (xs : List Actor) (each : ℕ → Actor) (count : ℕ) → contents space ≡ fresh_space R → length xs ≡ count
     → ((n : ℕ) → n < count → slice_get xs n ≡ Some (each (suc n)))
     → world_of_fields space xs ≡ record { ring = R; at = fresh_space R; actor = actors_by each count }
@@ -50,12 +52,14 @@ fields_make {R} space xs each count fresh_segment len all = λ i. record { ring 
 
 -- ---- when a world is fresh: the space is, and the actors are idle
 
+-- a list of idle actors is that of a fresh world
 pub idle_actors : (xs : List Actor) → All (λ x. x ≡ idle) xs → numbered xs ≡ actors_by (λ n. idle) (length xs)
 idle_actors xs all = list_actors xs (λ n. idle) (length xs) refl (λ n within. slice_get-get_or xs n idle within ∙ ap Some (all n idle within))
 
 some_idle : (b : Bool) (x : Actor) → Some x ≡ (if b then Some idle else None) → x ≡ idle
 some_idle b x h = grind arith
 
+-- all actors of a fresh world are idle
 pub all_idle : (xs : List Actor) (count : ℕ) → numbered xs ≡ actors_by (λ n. idle) count → All (λ x. x ≡ idle) xs
 all_idle xs count e k d within =
     some_idle (nat_lt k count) (get_or xs k d) (sym (slice_get-get_or xs k d within) ∙ ap (λ (at : ℕ → Option Actor). at (suc k)) e)

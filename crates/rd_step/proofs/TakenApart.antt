@@ -1,19 +1,19 @@
--- The parts that a world is taken apart into.
+-- The parts of a world.
 use Rattle.rd_step.proofs.Prelude.{◌≡◌, ℕ, suc, ◌≤◌, ◌∙◌, sym, ap, subst, List, Vec, length, None, SegmentParts, MOST_CELLS, SegName, Actor, Space, contents, lists, ListOf, contents_of_parts, Parts, World, world_of_fields, numbered, IsWellFormed, world_of_parts, first_flaw, head_name, tail_name, array_words, Global, ArrayParts}
 use Rattle.rd_step.proofs.Accepted.{accepted}
 
--- these segments and actors are those of a space and of a world's actors
+-- these segments and actors describe the space and the actors of a world
 pub record AreTaken {R : ℕ} (segments : Vec (ListOf (SegmentParts R)) Global) (listed : Vec Actor Global) (space : Space R) (actors : List Actor) : Type 0 where
   pub same : contents_of_parts segments.items (head_name space) (tail_name space) (array_words space) ≡ contents space
   pub number : length segments.items ≡ lists space
   pub actors_are : listed.items ≡ actors
   pub small : R ≤ MOST_CELLS
 
--- the parts that a space and actors are taken apart into
+-- the parts that have these segments, actors, names and array
 abbrev pub taken : {R : ℕ} (segments : Vec (ListOf (SegmentParts R)) Global) (listed : Vec Actor Global) (qhead qtail : SegName) (array : ArrayParts) → R ≤ MOST_CELLS → Parts R
 taken segments listed qhead qtail array small = record { actors = listed; segments = segments; qhead = qhead; qtail = qtail; array = array; small = small }
 
--- their world is the one that the space and the actors are
+-- the world of these parts is the world of the space and the actors
 pub world_taken : {R : ℕ} (segments : Vec (ListOf (SegmentParts R)) Global) (listed : Vec Actor Global) (qhead qtail : SegName) (array : ArrayParts)
     (space : Space R) (actors : List Actor) (h : AreTaken segments listed space actors)
     → qhead ≡ head_name space → qtail ≡ tail_name space → array ≡ array_words space
@@ -24,7 +24,7 @@ world_taken {R} segments listed qhead qtail array space actors h eh et ea =
     in
     λ i. record { ring = R; at = at i; actor = numbered (h.actors_are i) }
 
--- so they have no flaw
+-- the parts of a well-formed world have no flaw
 pub taken_unflawed : {R : ℕ} (segments : Vec (ListOf (SegmentParts R)) Global) (listed : Vec Actor Global) (qhead qtail : SegName) (array : ArrayParts)
     (space : Space R) (actors : List Actor) (h : AreTaken segments listed space actors)
     → qhead ≡ head_name space → qtail ≡ tail_name space → array ≡ array_words space

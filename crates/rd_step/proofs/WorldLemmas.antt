@@ -1,4 +1,4 @@
--- The code's world, as the model's.
+-- The code's world and its step, as the model's.
 use Rattle.rd_step.proofs.Prelude.{◌≡◌, ℕ, zero, suc, ◌-◌, ◌<◌, ◌≤◌, true, false, nat_lt, inl, inr, sym, ◌∙◌, ap, subst, arith, List, length, set, slice_get, Option, Some, None, is_some, IsSome, IsTrue, is_ok, IsOk, IfOk, OnErr, Result, Ok, Err, lt-ltb, le-ltb, leb-true, holding, cases_lt, cond-true, cond-false, COUNTER_END, MOST_SEGMENTS, MOST_CELLS, MOST_ACTORS, SegName, Place, Access, Make, Done, Refusal, Contents, is_there, perform, restore, everywhere, HasEffect, Space, contents, room, lists, Actor, OpReply, need, after, World, Event, Entry, with_actor, step, world_of_fields, numbered, makes, makes_segment, IsRefused, Presence, actor_fits, record_fits, maker_fits, is_actor, IsWellFormed, IfOk-at_ok, number_made, Makes, RefusesMaking, making_count, counts, there_below, absent_from, in_list, IsRepresentable, IsLast, access_suits, made_at}
 use Rattle.rd_actor.proofs.Representable.{representable}
 use Rattle.rd_step.specs.declared.worlds.World.{World as CodeWorld}
@@ -14,17 +14,19 @@ use Rattle.rd_cell.specs.declared.operations.Answer.TheVariants as answer
 made_in : {R : ℕ} (space : Space R) (m : ℕ) → making_count space m ≤ MOST_SEGMENTS → number_made (contents space) m ≡ making_count space m
 made_in space m few = counts space.makers.items space.qhead space.qtail space.array m few
 
+-- a segment that the space made is the effect of the model's making
 pub makes_access : {R : ℕ} (old : Space R) (new : Contents) (actor x : ℕ) (name : SegName) (done : Done) → making_count old actor ≤ MOST_SEGMENTS
     → name ≡ record { maker = actor; n = making_count old actor } → Makes name (holding R x) (contents old) new
     → done ≡ record { place = Some (place.Whole name); old = None; answer = answer.Made name; wrote = wrote.Place }
     → HasEffect everywhere (perform R actor (contents old) (Make x)) done (contents old) new
 makes_access {R} old new actor x name done few is m notes = grind (arith, made_in, keeps)
 
--- a making that nothing refuses but memory
+-- a making by an actor below its limit is not refused by the model
 may_make : {R : ℕ} (space : Space R) (actor x : ℕ) → making_count space actor ≤ MOST_SEGMENTS → making_count space actor < MOST_SEGMENTS
     → IsOk (perform R actor (contents space) (Make x))
 may_make {R} space actor x few below = grind (arith, is_ok, cond-true, nat_lt, lt-ltb, made_in)
 
+-- a making that the space refuses is refused as the model or want of room refuses it
 pub refuses_access : {R : ℕ} (space : Space R) (actor x : ℕ) (e : Refusal) → making_count space actor ≤ MOST_SEGMENTS
     → RefusesMaking (making_count space actor) (room space actor) e
     → IsRefused (perform R actor (contents space) (Make x)) true (room space actor) e
@@ -42,27 +44,30 @@ at_count space m n h =
     elim (cases_lt n (making_count space m))
     [ inl lt ↦ absurd (cc (there_below space.makers.items space.qhead space.qtail space.array m n lt, h)) | inr past ↦ past ]
 
+-- the maker of a last segment has made one
 pub last_some : {R : ℕ} (space : Space R) (s : SegName) → IsLast (contents space) s → 0 < making_count space s.maker
 last_some space s h = let k = below_count space s h.here in omega arith
 
+-- removing the maker's last segment is putting back nothing at the whole of it
 pub last_taken : {R : ℕ} (old : Space R) (new : Contents) (s : SegName) → IsLast (contents old) s
     → new ≡ restore (Some (place.Whole (record { maker = s.maker; n = making_count old s.maker - 1 }))) None (contents old)
     → new ≡ restore (Some (place.Whole s)) None (contents old)
 last_taken old new s h gone = grind (arith, below_count, at_count)
 
--- a place with no content to put back is the whole of the segment that was made there
+-- the place of a step that made segment s is the whole of s
 pub made_whole : (p : Place) (s : SegName) → made_at (Some p) None ≡ Some s → p ≡ place.Whole s
 made_whole p s h = grind arith
 
 -- Actors
 
--- the n-th actor's record in a list of actors
+-- writing at index n - 1 replaces the record of actor n
 pub set_record : (xs : List Actor) (n m : ℕ) (a : Actor) → m ≡ n → IsSome (numbered xs n) → numbered (set xs (m - 1) a) ≡ with_actor n a (numbered xs)
 set_record xs zero m a e h = cc
 set_record xs (suc n) m a e h =
     let p : m - 1 ≡ n = omega arith in
     ap (λ (k : ℕ). numbered (set xs k a)) p ∙ numbered-set xs n a (let l : suc n - 1 < length xs = numbered-within xs (suc n) h in omega arith)
 
+-- an index is below the list's length exactly if an actor is there
 pub actor_within : (xs : List Actor) (len : ℕ) → len ≡ length xs → (n : ℕ) → (IsSome (slice_get xs n) → n < len) × (n < len → IsSome (slice_get xs n))
 actor_within xs len e n = (
   (λ h. let l : suc n - 1 < length xs = numbered-within xs (suc n) h in omega arith),
@@ -72,6 +77,7 @@ actor_within xs len e n = (
 too_many : (xs : List Actor) → ((n : ℕ) → is_some (numbered xs n) ≡ true → n ≤ MOST_ACTORS) → MOST_ACTORS < length xs → ⊥
 too_many xs most many = let bad : suc MOST_ACTORS ≤ MOST_ACTORS = most (suc MOST_ACTORS) (in_list xs MOST_ACTORS many) in absurd (omega arith)
 
+-- a well-formed world has at most 16 actors
 pub few_actors : (R : ℕ) (space : Space R) (xs : List Actor) → IsWellFormed (world_of_fields space xs) → length xs ≤ MOST_ACTORS
 few_actors R space xs formed = grind (arith, too_many)
 
@@ -95,7 +101,7 @@ few_made space xs n formed =
 access_suited : (R : ℕ) (there : Presence) (x : Access) → access_fits R there x ≡ true → access_suits x ≡ true
 access_suited R there x h = grind arith
 
--- what the need of an actor that is there says of its access
+-- the operation for which an actor that is there asks suits its place
 need_suits : (R : ℕ) (space : Space R) (xs : List Actor) (e : Event) (a : Actor) (x : Access) → IsWellFormed (world_of_fields space xs)
     → numbered xs e.actor ≡ Some a → need R a e.act ≡ Ok x → access_suits x ≡ true
 need_suits R space xs e a x formed has needs =
@@ -103,8 +109,8 @@ need_suits R space xs e a x formed has needs =
     let fits : record_fits R there a ≡ true = subst (λ (o : Option Actor). actor_fits R there o ≡ true) has (formed.actors e.actor) in
     access_suited R there x (IfOk-at_ok (λ (y : Access). access_fits R there y ≡ true) needs (need_fits R there a e.act fits))
 
--- what an actor of a well-formed world asks for is representable: its head position has room for
--- the ring's size behind it, and its words fit its place
+-- the numbers in the access for which an actor of a well-formed world asks fit the program's words:
+-- its h plus R is below 2^64, and its words fit its control point
 representable_here : (R : ℕ) (space : Space R) (xs : List Actor) (e : Event) (a : Actor) → IsWellFormed (world_of_fields space xs) → R ≤ MOST_CELLS
     → numbered xs e.actor ≡ Some a → IsRepresentable R a e.act
 representable_here R space xs e a formed small has =
@@ -113,12 +119,12 @@ representable_here R space xs e a formed small has =
     let h = leb-true a.h COUNTER_END (parts_of R there a fits).h in
     representable R a e.act (omega arith) (words_of R there a fits)
 
--- what an actor asks for is what the code's table says
+-- the model's actor asks for the access that the code's table gives
 pub needs_by : {R : ℕ} (self : CodeWorld R) (e : Event) (a : Actor) (r : Result Access Refusal) → numbered self.actors.items e.actor ≡ Some a
     → (IsRepresentable R a e.act → r ≡ need R a e.act) → need R a e.act ≡ r
 needs_by {R} self e a r has by = sym (by (representable_here R self.space self.actors.items e a self.well_formed self.small has))
 
--- an actor's access may be performed
+-- an actor's access meets the requirements of `perform`
 pub may_perform : {R : ℕ} (self : CodeWorld R) (e : Event) (a : Actor) (x : Access) → numbered self.actors.items e.actor ≡ Some a → need R a e.act ≡ Ok x
     → (R ≤ MOST_CELLS) × ((e.actor < lists self.space) × ((making_count self.space e.actor ≤ MOST_SEGMENTS) × IsTrue (access_suits x)))
 may_perform {R} self e a x has needs = (
@@ -129,18 +135,19 @@ may_perform {R} self e a x has needs = (
   ),
 )
 
--- whether an actor's event makes a segment, by its access
+-- an event makes a segment exactly if its actor's access does
 pub makes_by : (w : World) (e : Event) (a : Actor) (x : Access) → w.actor e.actor ≡ Some a → need w.ring a e.act ≡ Ok x
     → makes_segment w e ≡ makes x
 makes_by w e a x has needs = grind arith
 
+-- if an actor's access is refused, so is its step, for the same cause
 pub step_refuses : (R : ℕ) (space : Space R) (xs : List Actor) (e : Event) (a : Actor) (x : Access) (refusal : Refusal)
     → numbered xs e.actor ≡ Some a → need R a e.act ≡ Ok x
     → IsRefused (perform R e.actor (contents space) x) (makes x) (room space e.actor) refusal
     → IsRefused (step (world_of_fields space xs) e) (makes_segment (world_of_fields space xs) e) (room space e.actor) refusal
 step_refuses R space xs e a x refusal has needs h = grind arith
 
--- the step that the code makes is the model's
+-- the step that the code makes is the model's step
 pub step_goes : (R : ℕ) (old new : Space R) (xs ys : List Actor) (e : Event) (a : Actor) (x : Access) (done : Done) (next : Actor × Option OpReply)
     → numbered xs e.actor ≡ Some a → need R a e.act ≡ Ok x → HasEffect everywhere (perform R e.actor (contents old) x) done (contents old) (contents new)
     → next ≡ after R a e.act done.answer → numbered ys ≡ with_actor e.actor next.0 (numbered xs)
@@ -159,6 +166,6 @@ still_well_formed R old new xs ys e (Ok entry) formed ok same = keeps (world_of_
 still_well_formed R old new xs ys e (Err refusal) formed ok same =
     subst (λ (w : World). IsWellFormed w) (λ i. record { ring = R; at = sym same.0 i; actor = numbered (sym same.1 i) }) formed
 
--- a world whose space has the same contents is the same
+-- spaces with the same contents make the same world
 pub same_world : {R : ℕ} (old new : Space R) (xs : List Actor) → contents new ≡ contents old → world_of_fields new xs ≡ world_of_fields old xs
 same_world {R} old new xs same = λ i. record { ring = R; at = same i; actor = numbered xs }

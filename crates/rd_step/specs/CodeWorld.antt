@@ -6,15 +6,15 @@ use Rattle.rd_step.specs.declared.worlds.World.{World as CodeWorld}
 use Rattle.rd_step.specs.World.{World}
 use Rattle.rd_step.specs.CodeWorldFields.{world_of_fields}
 
--- the world of the model that the code's world is: the size of the rings, the content of each
--- place, and the record of each actor
+-- the model's world for which the code's world stands: the size of its rings, the content of each
+-- place and the record of each actor
 abbrev pub model : {R : ℕ} → CodeWorld R → World
 model w = world_of_fields w.space w.actors.items
 
--- how many more segments an actor can make without memory being asked for
+-- the number of further segments that an actor can make without asking for memory
 abbrev pub room : {R : ℕ} → CodeWorld R → ℕ → ℕ
 room w m = space_room w.space m
 
--- the room of all makers: the actors, by their numbers, and maker 0
+-- the room of all makers: maker 0, and the actors by their numbers
 abbrev pub makers_room : {R : ℕ} → CodeWorld R → MakersRoom
 makers_room w = room_of_space w.space

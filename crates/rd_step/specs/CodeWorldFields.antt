@@ -8,11 +8,11 @@ use Rattle.rd_segments.specs.Space.{contents}
 use Rattle.rd_step.specs.Lists.{numbered}
 use Rattle.rd_step.specs.World.{World}
 
--- the world of the model that a space and a list of actors make
+-- the model's world with a space's contents and these actors, numbered from 1
 abbrev pub world_of_fields : {R : ℕ} → Space R → List Actor → World
 world_of_fields {R} space actors = record { ring = R; at = contents space; actor = numbered actors }
 
--- whether the operation of this access, if it has one, suits its place
+-- whether the operation of this access suits its place; true without an operation
 abbrev pub access_suits : Access → Bool
 access_suits (At p op) = suits p op
 access_suits _ = true

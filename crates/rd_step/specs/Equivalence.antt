@@ -7,8 +7,8 @@ use Rattle.rd_step.specs.Step.{Stepped, step}
 use Rattle.rd_step.specs.Run.{Ran, run}
 use Rattle.rd_step.specs.Dependence.{IsFree}
 
--- the events run from w, e steps after them, and the entry that e leaves there depends on none of
--- theirs
+-- e is independent of the events before it: they run from w, e steps after them, and e's entry
+-- depends on none of their entries
 pub record IsIndependentOf (w : World) (e : Event) (earlier : List Event) : Type 0 where
   pub ran : Ran
   pub runs : run w earlier ≡ Ok ran
@@ -16,8 +16,8 @@ pub record IsIndependentOf (w : World) (e : Event) (earlier : List Event) : Type
   pub goes : step ran.world e ≡ Ok stepped
   pub free : IsFree stepped.entry ran.entries
 
--- the list may begin with e: e steps from w and is in the list, where its entry depends on no
--- earlier one; and `Rest` holds of the world after e and the list without it
+-- the list may begin with e: e steps from w, and it is in the list, at a position where its entry
+-- depends on no earlier one. `Rest` holds of the world after e and the list without e
 pub record MayBeginWith (w : World) (e : Event) (events : List Event) (Rest : World → List Event → Type 0) : Type 0 where
   pub earlier : List Event
   pub later : List Event
@@ -27,14 +27,14 @@ pub record MayBeginWith (w : World) (e : Event) (events : List Event) (Rest : Wo
   pub goes : step w e ≡ Ok stepped
   pub rest : Rest stepped.world (earlier ++ later)
 
--- two lists of events that run from w are causally equivalent: both are empty, or the second may
--- begin with the first event of the first, and without that event the rests are equivalent in the
--- world after it
+-- two lists of events are causally equivalent in w: both are empty, or the second may begin with
+-- the first event of the first, and the lists without this event are equivalent in the world after
+-- it
 abbrev pub IsEquivalent : World → List Event → List Event → Type 0
 IsEquivalent w [] fs = fs ≡ []
 IsEquivalent w (e ∷ es) fs = MayBeginWith w e fs (λ v rest. IsEquivalent v es rest)
 
--- two runs reach one world, and their entries are the same in some order
+-- two runs reach the same world, and have the same entries in some order
 pub record ReachesTheSame (r q : Ran) : Type 0 where
   pub same_world : q.world ≡ r.world
   pub same_entries : IsPermutation r.entries q.entries

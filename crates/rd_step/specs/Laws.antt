@@ -11,8 +11,8 @@ use Rattle.rd_step.specs.Dependence.{IsFree}
 use Rattle.rd_step.specs.WellFormed.{IsWellFormed}
 use Rattle.rd_cell.specs.declared.refusal.Refusal.TheVariants as refusal
 
--- the steps of e and f commute: where e leads from w to v and then f to u, f may go first, each
--- leaves the same entry, and the two lead to the world of u
+-- the steps of e and f commute. One order is e from w to v, then f to u; in the other, f goes
+-- first, each step leaves the same entry, and the last world is the same
 pub record CommutingSquare (w : World) (e f : Event) (v u : Stepped) : Type 0 where
   pub first : Stepped
   pub goes_first : step w f ≡ Ok first
@@ -22,16 +22,16 @@ pub record CommutingSquare (w : World) (e f : Event) (v u : Stepped) : Type 0 wh
   pub entry_unchanged : second.entry ≡ v.entry
   pub same_world : second.world ≡ u.world
 
--- the step of e can be taken out of a run: where e leads from w to s, the events from there to r,
--- and none of them depends on e, the events alone leave the same entries, they lead to the world of
--- r with the old words of e's entry put back, and e may go last, with the same entry
+-- e's step, from w to s, can be taken out of its run, which goes on with the events es to r.
+-- Without it, these events leave the same entries and lead to r's world with the old words of e's
+-- entry put back, which is well-formed. From there e may go last, with the same entry
 pub record IsRemovable (w : World) (e : Event) (s : Stepped) (es : List Event) (r : Ran) : Type 0 where
   pub rest : run w es ≡ Ok (record { world = unstep r.world s.entry; entries = r.entries })
   pub again : step (unstep r.world s.entry) e ≡ Ok (record { world = r.world; entry = s.entry })
   pub well_formed : IsWellFormed (unstep r.world s.entry)
 
--- the entry x is that of a step in a run that reached this world, and no later step that remains of
--- that run depends on it
+-- x is the entry of a step in a run that reached the world `now`. The step of `event` in the world
+-- `start` left x, and the `later` events, whose entries don't depend on x, led on to `now`
 pub record WasStepped (now : World) (x : Entry) : Type 0 where
   pub start : World
   pub well_formed : IsWellFormed start
@@ -45,14 +45,14 @@ pub record WasStepped (now : World) (x : Entry) : Type 0 where
   pub here : ran.world ≡ now
   pub free : IsFree x ran.entries
 
--- the step of x was taken out: the later steps alone lead from the start to the world left, with
--- their entries, and the step may go last there
+-- the step of x was taken out: without it, the later events lead from its start to the world
+-- `left`, with the same entries. From there its event leads back to `now`, with the entry x
 pub record IsTakenOut (now left : World) (x : Entry) (was : WasStepped now x) : Type 0 where
   pub rest : run was.start was.later ≡ Ok (record { world = left; entries = was.ran.entries })
   pub again : step left was.event ≡ Ok (record { world = now; entry = x })
 
--- the refusals that a step in a well-formed world may meet; that there is no place, or no content
--- of the right kind, is not among them
+-- the refusals that a step in a well-formed world may meet; `NoSuchPlace`, for a missing place or a
+-- content of another kind, is not among them
 abbrev pub IsStepRefusal : Refusal → Type 0
 IsStepRefusal refusal.NoActor = Unit {0}
 IsStepRefusal refusal.NotIdle = Unit {0}
@@ -64,19 +64,18 @@ IsStepRefusal refusal.ArrayEnd = Unit {0}
 IsStepRefusal refusal.SegmentsEnd = Unit {0}
 IsStepRefusal _ = ⊥
 
--- the place is there, and has a content on which the operation has an effect or is refused only at
--- a counter's end
+-- the place is there, and the operation suits its content: no `NoSuchPlace` refuses it
 pub record SuitsContent (at : Contents) (p : Place) (op : Operation) : Type 0 where
   pub content : Content
   pub found : operand at p ≡ Some content
   pub suits : effect op content ≡ Err refusal.NoSuchPlace → ⊥
 
--- the actor of the event is at another control point after its step
+-- the event's actor is at different control points in the two worlds
 abbrev pub MovesOn : Event → World → World → Type 0
 MovesOn e old new = (a b : Actor) → old.actor e.actor ≡ Some a → new.actor e.actor ≡ Some b → a.pc ≡ b.pc → ⊥
 
--- nothing changed except the places that the entry's step wrote, which its place covers, and the
--- event's actor
+-- only the places that the entry's step wrote changed, all of them covered by the step's place, and
+-- the record of the event's actor; no place changed if the step only read
 pub record ChangesOnly (e : Event) (x : Entry) (old new : World) : Type 0 where
   pub ring : new.ring ≡ old.ring
   pub outside : (q : Place) → some_covers (written x.place x.wrote) q ≡ false → new.at q ≡ old.at q
@@ -84,7 +83,8 @@ pub record ChangesOnly (e : Event) (x : Entry) (old new : World) : Type 0 where
   pub reading : is_nothing x.wrote ≡ true → new.at ≡ old.at
   pub others : (n : ℕ) → (n ≡ e.actor → ⊥) → new.actor n ≡ old.actor n
 
--- the entry's old words are the words of its actor and the content of its place in this world
+-- the entry's old words are the record of its actor and the content of its place in the world
+-- `before`
 pub record KeepsOldWords (before : World) (x : Entry) : Type 0 where
   pub actor : before.actor x.event.actor ≡ Some x.old_actor
   pub content : (p : Place) → x.place ≡ Some p → operand before.at p ≡ x.old_content

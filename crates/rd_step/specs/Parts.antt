@@ -1,4 +1,4 @@
--- A world, as it is put together from parts, and the first of its flaws.
+-- A world that is put together from parts, and the first flaw of such parts.
 use Rattle.std.specs.Prelude.{◌≡◌, ℕ, suc, Bool, not, ◌==◌, ◌&&◌, nat_le, if◌then◌else◌, length, Option, Some, None, is_some}
 use Rattle.std.specs.List.{list_all}
 use Rattle.rd_ring.specs.Prelude.{MOST_SEGMENTS, SLOTS, MOST_ACTORS}
@@ -17,16 +17,16 @@ use Rattle.rd_step.specs.declared.flaws.Unassembled.TheVariants as unassembled
 use Rattle.rd_step.specs.Lists.{numbered}
 use Rattle.rd_step.specs.WellFormed.{Presence, index_end, next_fits, names_fit, numbers_within}
 
--- the world of the model that these parts describe
+-- the model's world that these parts describe
 abbrev pub world_of_parts : {R : ℕ} → Parts R → World
 world_of_parts {R} p = record { ring = R; at = contents_of_parts p.segments.items p.qhead p.qtail p.array; actor = numbered p.actors.items }
 
--- for each name, whether the parts have a segment of that name
+-- for each name, whether the parts have a segment with it
 abbrev pub has : {R : ℕ} → Parts R → Presence
 has p s = is_some (by_name p.segments.items s)
 
 -- condition 1: there are 1 to 16 actors, and a list of segments for each maker from 0 to their
--- number; that of maker 0 has one segment, the root, and each other at most 65,535
+-- number. Maker 0's list has one segment, the root, and each other list at most 65,535
 abbrev pub makers_fit : {R : ℕ} → Parts R → Bool
 makers_fit p =
     nat_le 1 (length p.actors.items) && nat_le (length p.actors.items) MOST_ACTORS
@@ -37,11 +37,11 @@ makers_fit p =
 abbrev pub place_names_fit : {R : ℕ} → Parts R → Bool
 place_names_fit p = has p p.qhead && has p p.qtail && each_segment (λ s. next_fits (has p) s.next) p.segments.items
 
--- condition 3: the segments that each actor's words name are there
+-- condition 3: each actor's words name segments that are there
 abbrev pub actor_names_fit : {R : ℕ} → Parts R → Bool
 actor_names_fit p = list_all (names_fit (has p)) p.actors.items
 
--- condition 5: each index of a segment's cells is at most `end`
+-- condition 5: the index of each of a segment's cells is at most `end`
 abbrev pub indexes_fit : {R : ℕ} → ℕ → SegmentParts R → Bool
 indexes_fit end s = list_all (λ c. nat_le c.idx end) s.cells
 
@@ -49,8 +49,8 @@ indexes_fit end s = list_all (λ c. nat_le c.idx end) s.cells
 abbrev pub array_fits : ArrayParts → Bool
 array_fits a = nat_le a.head SLOTS && nat_le a.tail SLOTS
 
--- the first condition of a well-formed world that these parts fail, in this order; none if they
--- fail none
+-- the first condition of a well-formed world that these parts fail, in the order of the conditions;
+-- none if they meet all
 abbrev pub first_flaw : {R : ℕ} → Parts R → Option Flaw
 first_flaw {R} p =
     if not (makers_fit p) then Some Makers
@@ -75,7 +75,7 @@ flaw_number ActorNumbers = 7
 flaw_number ActorWords = 8
 
 -- why no world is put together from these parts: they have this flaw and none before it, or they
--- have none and memory was refused
+-- have no flaw and memory was refused
 abbrev pub Refuses : {R : ℕ} → Parts R → Unassembled → Type 0
 Refuses p (unassembled.Flaw flaw) = first_flaw p ≡ Some flaw
 Refuses p unassembled.NoMemory = first_flaw p ≡ None

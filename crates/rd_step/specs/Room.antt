@@ -1,4 +1,4 @@
--- Which steps make a segment, and so use their actor's room, and how they are refused.
+-- Which steps make a segment, and so use their actor's room, and how steps are refused.
 use Rattle.std.specs.Result.{result_unwrap_or}
 use Rattle.std.specs.Prelude.{◌≡◌, ◌⊎◌, ℕ, ok_or, Bool, true, false, IsTrue, IsOk, Result, Err}
 use Rattle.rd_ring.specs.Prelude.{Access, Make, Refusal, and_then, result_map}
@@ -13,20 +13,19 @@ abbrev pub makes : Access → Bool
 makes (Make x) = true
 makes _ = false
 
--- the access that the event's actor asks for, or why it may not
+-- the access for which the event's actor asks, or the refusal if it has none
 abbrev pub access_of : World → Event → Result Access Refusal
 access_of w e = and_then (ok_or (w.actor e.actor) refusal.NoActor) (λ a. need w.ring a e.act)
 
--- whether the event is a step that makes a segment; not if it is refused
+-- whether the event's access makes a segment; false if the event is refused its access
 abbrev pub makes_segment : World → Event → Bool
 makes_segment w e = result_unwrap_or (result_map makes (access_of w e)) false
 
--- a step with this outcome makes a segment and is refused by nothing else, but its actor has no
--- room
+-- a step that the model doesn't refuse makes a segment, but its actor has no room
 abbrev pub FindsNoRoom : {X : Type 0} → Result X Refusal → Bool → ℕ → Type 0
 FindsNoRoom does makes room = IsOk does × IsTrue makes × (room ≡ 0)
 
--- a step may be refused so: the model refuses it with the same refusal, or it makes a segment, its
--- actor has no room, and memory was refused
+-- how a step may be refused: with the model's refusal, or with `NoMemory` if it makes a segment for
+-- which its actor has no room
 abbrev pub IsRefused : {X : Type 0} → Result X Refusal → Bool → ℕ → Refusal → Type 0
 IsRefused does makes room cause = (does ≡ Err cause) ⊎ ((cause ≡ refusal.NoMemory) × FindsNoRoom does makes room)

@@ -11,12 +11,12 @@ pub record Ran : Type 0 where
   pub world : World
   pub entries : List Entry
 
--- a run with this step before it
+-- the run that makes the step of this entry first, and then goes on as r
 abbrev pub preceded_by : Entry → Ran → Ran
 preceded_by x r = record { world = r.world; entries = x ∷ r.entries }
 
--- the run of a list of events from this world, one step after another from the front, or the first
--- refusal
+-- the run of a list of events from this world, one step after another; the first refusal if a step
+-- is refused
 abbrev pub run : World → List Event → Result Ran Refusal
 run w [] = Ok (record { world = w; entries = [] })
 run w (e ∷ es) = and_then (step w e) (λ s. result_map (preceded_by s.entry) (run s.world es))
@@ -29,6 +29,6 @@ events entries = map (λ x. x.event) entries
 abbrev pub run_entries : Result Ran Refusal → Result (List Entry) Refusal
 run_entries r = result_map (λ ran. ran.entries) r
 
--- the entries are those that the run of their events from this world leaves
+-- running the events of these entries from this world leaves just these entries
 abbrev pub IsRunFrom : World → List Entry → Type 0
 IsRunFrom w entries = run_entries (run w (events entries)) ≡ Ok entries

@@ -5,7 +5,7 @@ use Rattle.rd_actor.specs.Actors.{idle, poised}
 use Rattle.rd_segments.specs.SpaceFields.{fresh_space}
 use Rattle.rd_step.specs.World.{World}
 
--- this many actors, numbered from 1, each with the record that `each` gives for its number
+-- `count` actors, numbered from 1, each with the record that `each` gives for its number
 abbrev pub actors_by : (ℕ → Actor) → ℕ → ℕ → Option Actor
 actors_by each count zero = None
 actors_by each count (suc n) = if nat_lt n count then Some (each (suc n)) else None

@@ -11,17 +11,17 @@ use Rattle.rd_step.specs.declared.entries.Entry.{Entry}
 use Rattle.rd_cell.specs.declared.places.Place.TheVariants as place
 use Rattle.rd_cell.specs.declared.refusal.Refusal.TheVariants as refusal
 
--- what a step leaves: the world after it, and its entry
+-- what a step leaves: the world after it, and the entry that the journal keeps of it
 pub record Stepped : Type 0 where
   pub world : World
   pub entry : Entry
 
--- the actors, where the actor of this number has this record now
+-- the actors with this record for the actor of this number; all others keep theirs
 abbrev pub with_actor : ℕ → Actor → (ℕ → Option Actor) → ℕ → Option Actor
 with_actor n a actors m = if m == n then Some a else actors m
 
--- the outcome of a step whose actor had this record, whose access did this, and whose actor goes on
--- with this record and reply
+-- the outcome of a step: the event's actor had the record a, its access did `did`, and it goes on
+-- with the record and the reply in `next`
 abbrev pub step_outcome : World → Event → Actor → Performed → Actor × Option OpReply → Stepped
 step_outcome w e a did next = record {
   world = record { ring = w.ring; at = contents_after did w.at; actor = with_actor e.actor next.0 w.actor };
@@ -29,7 +29,7 @@ step_outcome w e a did next = record {
 }
 
 -- the step of an event in a world: the event's actor asks for its one access, which is done at its
--- one place, and the actor goes on with the answer. All other places and actors stay
+-- one place, and goes on with the answer. All other places and actors stay
 abbrev pub step : World → Event → Result Stepped Refusal
 step w e =
     and_then (ok_or (w.actor e.actor) refusal.NoActor) (λ a.
@@ -37,24 +37,26 @@ step w e =
     and_then (perform w.ring e.actor w.at access) (λ did.
     Ok (step_outcome w e a did (after w.ring a e.act did.answer)))))
 
--- the segment is there, an actor made it, and it is the last one that this actor made
+-- the segment is there, an actor made it, and that actor's next segment is not there
 pub record IsLast (at : Contents) (s : SegName) : Type 0 where
   pub here : is_there at s ≡ true
   pub made : 1 ≤ s.maker
   pub last : is_there at (record { maker = s.maker; n = s.n + 1 }) ≡ false
 
--- this old content may be put back: none where there is no place, a content that the place can hold
--- where the place is there, and none at the whole of a segment that is its maker's last one
+-- this old content may be put back: without a place, none; at a place that is there, a content that
+-- it can hold; at the whole of its maker's last segment, none, which removes the segment
 abbrev pub CanPutBack : Contents → Option Place → Option Content → Type 0
 CanPutBack at None None = Unit {0}
 CanPutBack at (Some p) (Some c) = IsTrue (is_some (operand at p)) × IsTrue (can_hold p c)
 CanPutBack at (Some (place.Whole s)) None = IsLast at s
 CanPutBack at _ _ = ⊥
 
--- the world with this record given to the actor, and this content, or none, put back at the place
+-- the world with this record given back to the actor, and this content, or none, put back at the
+-- place
 abbrev pub revert : World → ℕ → Actor → Option Place → Option Content → World
 revert w n a o was = record { ring = w.ring; at = restore o was w.at; actor = with_actor n a w.actor }
 
--- the world with the old words of an entry put back: those of its actor and of its place
+-- the world with an entry's old words put back: the old record of its actor and the old content of
+-- its place
 abbrev pub unstep : World → Entry → World
 unstep w x = revert w x.event.actor x.old_actor x.place x.old_content

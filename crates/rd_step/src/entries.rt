@@ -1,4 +1,4 @@
-//! The event, one step of one actor, and the entry, from which the journal undoes it.
+//! The event, one step of one actor, and the entry that the journal keeps of it and undoes it from.
 
 ghost use Rattle.std.specs.Prelude.{◌≡◌};
 ghost use Rattle.rd_cell.specs.Places.{written};
@@ -7,37 +7,38 @@ ghost use Rattle.rd_step.specs.Touched.{made, made_at};
 use rd_actor::{Act, Actor, OpReply};
 use rd_cell::{Answer, Content, Place, SegName, Wrote, written};
 
-/// One atomic step of one actor: what is scheduled.
+/// An actor's number with an act: what a schedule lists.
 #[derive(Clone, Copy, Debug, PartialEq, Eq)]
 pub struct Event {
     /// The actor's number, from 1.
     pub actor: u8,
-    /// What the actor is to do.
+    /// What the actor does.
     pub act: Act,
 }
 
-/// What the journal keeps of one step, with the words from before it.
+/// What the journal keeps of one step, with the old record of its actor and the old content of its
+/// place.
 #[derive(Clone, Copy, Debug, PartialEq, Eq)]
 pub struct Entry {
     /// The event.
     pub event: Event,
-    /// The place of its access, or none.
+    /// The place of the step's access; none without an access.
     pub place: Option<Place>,
-    /// What the access wrote of its place.
+    /// Which part of its place the access wrote.
     pub wrote: Wrote,
-    /// What the access answered.
+    /// The answer of the access.
     pub answer: Answer,
-    /// What the actor's call replied, if the step ended it.
+    /// The reply of the actor's call, if the step ended the call.
     pub reply: Option<OpReply>,
-    /// The actor's words before the step.
+    /// The actor's record before the step.
     pub old_actor: Actor,
-    /// The content of the place before the step; none for a making, or if there is no place.
+    /// The content of the place before the step; none for a making or without a place.
     pub old_content: Option<Content>,
 }
 
 impl Entry {
     /// Returns the place that names what the step wrote, or none if it only read or had no place.
-    /// What the step touched is what its own place names.
+    /// The step touched what its own place names.
     pub fn written(&self) -> Option<Place>
         ensures { result ≡ written self.now.place self.now.wrote }
     {
@@ -52,8 +53,8 @@ impl Entry {
     }
 }
 
-/// Returns the segment that a step made if its place and that place's old content are these; none
-/// if it made none.
+/// Returns the segment that a step with this place and this old content made; none if it made none.
+/// Only a making has the whole of a segment as its place, and no old content.
 pub(crate) fn made_at(place: Option<Place>, old_content: Option<Content>) -> Option<SegName>
     ensures { result ≡ made_at place old_content }
 {

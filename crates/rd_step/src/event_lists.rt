@@ -1,20 +1,20 @@
-//! Lists of events, and how many of their events two of them have in common at their beginning.
+//! Lists of events, and the length of the beginning that two of them have in common.
 
 ghost use Rattle.std.specs.Prelude.{◌≡◌, ◌≤◌, List, Some, length, take, slice_get};
 ghost use Rattle.rd_step.specs.declared.entries.Event.{Event as Happening};
 
 use super::entries::{Entry, Event};
 
-/// A list of events, or of entries that have them.
+/// A list of events: a slice of events, or of entries, whose events it lists.
 pub trait EventList {
     // The events, in their order.
     ghost listed: { Self → List Happening };
 
-    /// Returns the number of events.
+    /// Returns the number of events in the list.
     fn count(&self) -> usize
         ensures { result ≡ length (listed self.now) };
 
-    /// Returns the event at this position, from 0, if there is one.
+    /// Returns the event at this position, counted from 0, or none if the position is past the end.
     fn event(&self, position: usize) -> Option<Event>
         ensures { result ≡ slice_get (listed self.now) position };
 }
@@ -45,9 +45,9 @@ impl EventList for &[Entry] {
     }
 }
 
-/// Returns how many events two lists have in common at their beginning, up to the first that
-/// differs or to the end of the shorter list. It takes no memory, and time that grows with the
-/// answer.
+/// Returns the number of events that two lists have in common at their beginning, up to the first
+/// that differs or to the end of the shorter list. This takes no memory, and time in proportion to
+/// the result.
 #[tactic(auto, using(std::proofs::lemmas::Option::slice_get_cases, std::proofs::lemmas::Grind::common_steps))]
 pub fn common_beginning<A: EventList, B: EventList>(a: &A, b: &B) -> usize
     ensures in_first { result ≤ length (A.listed a.now) }

@@ -1,5 +1,4 @@
-//! What a step and its undoing do to the fields of a world: an access, an actor's words, and what
-//! is put back.
+//! What a step and its undoing do to the two fields of a world, the space and the actors.
 
 ghost use Rattle.std.specs.Prelude.{◌≡◌, ◌≢◌, ◌+◌, ◌<◌, ◌≤◌, ◌↔◌, ℕ, true, Some, None, Ok, Err, IsSome, IsTrue, IfOk, IfErr, OnErr, length};
 ghost use Rattle.rd_ring.specs.Prelude.{MOST_CELLS, MOST_SEGMENTS, Make, perform, restore, everywhere, HasEffect};
@@ -17,7 +16,8 @@ use rd_actor::Actor;
 use rd_cell::{Access, Answer, Content, Done, Place, Refusal, Wrote};
 use rd_segments::Space;
 
-/// Puts back the words of one actor and the content of one place, if one is named.
+/// Puts back an old record of one actor and, if a place is named, its old content. Without an old
+/// content, the place is the whole of a segment, which is removed.
 pub fn revert_fields<const R: usize>(
     space: &mut Space<R>,
     actors: &mut Vec<Actor>,
@@ -39,8 +39,8 @@ pub fn revert_fields<const R: usize>(
     set_actor(actors, actor, words);
 }
 
-/// Puts the old content back at a place, if one is named, or takes away the segment that the step
-/// made.
+/// Puts the old content back at a place, if one is named. Without an old content, it removes the
+/// segment that the step made.
 fn put_back<const R: usize>(space: &mut Space<R>, place: Option<Place>, content: Option<Content>)
     requires can { CanPutBack (contents space.old) place content }
     requires small { R ≤ MOST_CELLS }
@@ -55,7 +55,7 @@ fn put_back<const R: usize>(space: &mut Space<R>, place: Option<Place>, content:
     }
 }
 
-/// Takes away the segment whose making wrote this place. It is the last one of its maker.
+/// Removes the segment whose making wrote this place, which is the last one of its maker.
 fn take_away<const R: usize>(space: &mut Space<R>, place: Place)
     requires can { CanPutBack (contents space.old) (Some place) None }
     requires small { R ≤ MOST_CELLS }
@@ -68,7 +68,8 @@ fn take_away<const R: usize>(space: &mut Space<R>, place: Place)
     }
 }
 
-/// Returns the record of the actor of this number, from 1, or none if there is no such actor.
+/// Returns the record of the actor of this number, counted from 1, or none if there is no such
+/// actor.
 pub fn actor_in(actors: &Vec<Actor>, number: u8) -> Option<Actor>
     ensures { result ≡ numbered actors.now.items number }
 {
@@ -78,7 +79,7 @@ pub fn actor_in(actors: &Vec<Actor>, number: u8) -> Option<Actor>
     actors.get(usize::from(number) - 1).copied()
 }
 
-/// Gives the actor of this number another record.
+/// Replaces the record of the actor of this number, which must be there.
 pub fn set_actor(actors: &mut Vec<Actor>, number: u8, words: Actor)
     requires { IsSome (numbered actors.old.items number) }
     ensures done { numbered actors.new.items ≡ with_actor number words (numbered actors.old.items) }
@@ -87,7 +88,9 @@ pub fn set_actor(actors: &mut Vec<Actor>, number: u8, words: Actor)
     actors[usize::from(number) - 1] = words;
 }
 
-/// Does an access of this actor, and returns what it did; refused as the step is that makes it.
+/// Does an access of this actor, and returns what it found, answered and wrote. Fails with the
+/// refusal of the operation or of the making, and with `NoMemory` if a making has no room and
+/// memory is refused; no place changes then.
 pub fn perform<const R: usize>(
     space: &mut Space<R>,
     actor: u8,
@@ -113,7 +116,8 @@ pub fn perform<const R: usize>(
     }
 }
 
-/// Returns what a step without an access did: nothing.
+/// Returns what a step without an access records: no place, no content, the answer `Nothing`, and
+/// nothing written.
 fn nothing_done() -> Done
     ensures { result ≡ record {
       place = None;
@@ -130,8 +134,8 @@ fn nothing_done() -> Done
     }
 }
 
-/// Makes the actor's next segment, which holds this value, and returns what that did; refused as
-/// `Space::make` is.
+/// Makes the actor's next segment, which holds this value, and returns what the step records of it.
+/// Fails as `Space::make` does, with `SegmentsEnd` or `NoMemory`; no place changes then.
 fn make<const R: usize>(space: &mut Space<R>, actor: u8, value: u64) -> Result<Done, Refusal>
     requires small { R ≤ MOST_CELLS }
     requires maker_there { actor < lists space.old }
@@ -154,8 +158,8 @@ fn make<const R: usize>(space: &mut Space<R>, actor: u8, value: u64) -> Result<D
     })
 }
 
-/// Whether each of these actors is idle, because it made no step or all of its calls are over or
-/// undone.
+/// Whether all of these actors are idle, as they are before their first step and after their last
+/// call is over or undone.
 pub fn are_idle(actors: &[Actor]) -> bool
     ensures { IsTrue result ↔ All (λ actor. actor ≡ idle) actors.now }
 {

@@ -1,5 +1,5 @@
-//! Why parts make no world: the eight conditions of a well-formed world, in the order in which they
-//! are tried.
+//! Why parts make no world: the eight conditions of a well-formed world, in the order in which the
+//! code tests them.
 
 ghost use Rattle.std.specs.Prelude.{◌≡◌, ◌≤◌, nat_le, length};
 ghost use Rattle.std.specs.List.{list_all};
@@ -17,11 +17,11 @@ use rd_cell::limits::{COUNTER_END, MOST_ACTORS, MOST_SEGMENTS, SLOTS};
 use rd_ring::SegmentParts;
 use rd_segments::ArrayParts;
 
-/// The first condition of a well-formed world that parts fail, by its number 1 to 8.
+/// The first condition of a well-formed world that parts fail, with its number, 1 to 8.
 #[derive(Clone, Copy, Debug, PartialEq, Eq)]
 pub enum Flaw {
-    /// 1: there are not 1 to 16 actors, or there is not a list of segments for each maker from 0 to
-    /// their number, or maker 0 has not just one segment, or another maker has more than 65,535.
+    /// 1: there aren't 1 to 16 actors, there isn't a list of segments for each maker from 0 to
+    /// their number, maker 0 has not just one segment, or another maker has more than 65,535.
     Makers,
     /// 2: one of the queue's ends, or a next, names a segment that is not there.
     PlaceNames,
@@ -59,7 +59,7 @@ impl Flaw {
     }
 }
 
-/// Why no world was put together from parts.
+/// Why parts were not made into a world.
 #[derive(Clone, Copy, Debug, PartialEq, Eq)]
 pub enum Unassembled {
     /// The parts make no well-formed world.
@@ -68,7 +68,7 @@ pub enum Unassembled {
     NoMemory,
 }
 
-/// Returns the first flaw of these parts; none if they make a well-formed world.
+/// Returns the first flaw of these parts, or none if they make a well-formed world.
 pub(crate) fn first_flaw<const R: usize>(parts: &Parts<R>) -> Option<Flaw>
     requires { R ≤ MOST_CELLS }
     ensures { result ≡ first_flaw parts.now }
@@ -95,8 +95,8 @@ pub(crate) fn first_flaw<const R: usize>(parts: &Parts<R>) -> Option<Flaw>
     }
 }
 
-/// Whether there are 1 to 16 actors, and for each maker a list with an allowed number of segments:
-/// one for maker 0, at most 65,535 for any other.
+/// Whether there are 1 to 16 actors, and a list for each maker from 0 to their number: maker 0 with
+/// one segment, each other maker with at most 65,535.
 fn makers_fit<const R: usize>(parts: &Parts<R>) -> bool
     requires { R ≤ MOST_CELLS }
     ensures { result ≡ makers_fit parts.now }
@@ -109,7 +109,7 @@ fn makers_fit<const R: usize>(parts: &Parts<R>) -> bool
         && lists_fit(&parts.segments)
 }
 
-/// Whether each list has at most as many segments as a maker may make.
+/// Whether each maker's list has at most 65,535 segments.
 fn lists_fit<const R: usize>(makers: &[Vec<SegmentParts<R>>]) -> bool
     requires { R ≤ MOST_CELLS }
     ensures { result ≡ list_all (λ list. nat_le (length list.items) MOST_SEGMENTS) makers.now }
@@ -154,7 +154,7 @@ fn all_nexts_fit<const R: usize>(parts: &Parts<R>) -> bool
     )
 }
 
-/// Whether there is a segment of this name.
+/// Whether the parts have a segment of this name.
 fn has<const R: usize>(parts: &Parts<R>, name: SegName) -> bool
     ensures { result ≡ has parts.now name }
 {
@@ -164,7 +164,7 @@ fn has<const R: usize>(parts: &Parts<R>, name: SegName) -> bool
     }
 }
 
-/// Whether the segments that the actors' words name are there.
+/// Whether the parts have the segments that each actor's words name.
 fn actor_names_fit<const R: usize>(parts: &Parts<R>) -> bool
     requires { R ≤ MOST_CELLS }
     ensures { result ≡ actor_names_fit parts.now }
@@ -176,7 +176,7 @@ fn actor_names_fit<const R: usize>(parts: &Parts<R>) -> bool
     )
 }
 
-/// Whether each segment's counters are at most 2^62.
+/// Whether both counters of each segment are at most 2^62.
 fn all_counters_fit<const R: usize>(parts: &Parts<R>) -> bool
     requires { R ≤ MOST_CELLS }
     ensures { result ≡ each_segment counters_fit parts.now.segments.items }
@@ -212,7 +212,7 @@ fn all_indexes_fit<const R: usize>(parts: &Parts<R>, end: u64) -> bool
     )
 }
 
-/// Whether the array's counters are at most 64.
+/// Whether both counters of the array are at most 64.
 fn array_fits(array: &ArrayParts) -> bool
     ensures { result ≡ array_fits array.now }
 {

@@ -1,8 +1,8 @@
 //! The simulated machine: the world, and the plain step of one actor.
 //!
-//! `specs/` has the model that the whole debugger is proved against: the step of a world, the run
-//! of a list of events, dependence and removal. `World` keeps vectors and arrays, and its contracts
-//! show it as the model's map. The laws of the model are contracts of the functions in `laws`.
+//! `specs/` has the model for which the whole debugger is proved: the step of a world, the run of a
+//! list of events, dependence and removal. `World` keeps vectors and arrays, and its contracts show
+//! it as the model's map. The laws of the model are contracts of the functions in `laws`.
 #![tactic(auto)]
 
 mod entries;

@@ -1,4 +1,4 @@
-//! The world: the space and the actors, and the step.
+//! The world, which is the space and the actors, and its step.
 
 ghost use Rattle.std.specs.Prelude.{◌≡◌, ◌≢◌, ◌+◌, ◌<◌, ◌≤◌, ◌↔◌, ℕ, suc, None, Ok, Err, IsSome, IsTrue, IfOk, IfErr, OnOk, OnErr, length};
 ghost use Rattle.rd_ring.specs.Prelude.{MOST_CELLS, MOST_ACTORS, content_at};
@@ -31,8 +31,8 @@ pub struct World<const R: usize> {
     ghost well_formed: { IsWellFormed (world_of_fields space actors.items) },
 }
 
-/// Written out and not derived, so that a proof of a function in which a world ends has one step
-/// for that, and not one for each list inside.
+/// This is written out instead of derived, to keep proofs short: where a world ends, a proof needs
+/// one step, and not one for each list inside.
 impl<const R: usize> Drop for World<R> {
     fn drop(self) {
         let World {
@@ -45,7 +45,8 @@ impl<const R: usize> Drop for World<R> {
 impl<const R: usize> World<R> {
     ghost use Rattle.rd_step.specs.CodeWorld.{model, room, makers_room};
 
-    /// Returns the fresh world: the root alone is there, fresh, and this many actors are idle.
+    /// Returns the fresh world: the root is the only segment and is fresh, and this many actors are
+    /// idle.
     ///
     /// # Errors
     ///
@@ -69,15 +70,15 @@ impl<const R: usize> World<R> {
         })
     }
 
-    /// Whether the world is the fresh one for its number of actors.
+    /// Whether the world is the fresh world for its number of actors.
     pub fn is_fresh(&self) -> bool
         ensures { IsTrue result ↔ ((count : ℕ) × (model self.now ≡ fresh_world R count)) }
     {
         self.space.is_fresh() && are_idle(&self.actors)
     }
 
-    /// Returns the poised world: the fresh one, except that each actor a is about to draw a
-    /// position for the value a on the root.
+    /// Returns the poised world: the fresh one, except that each actor a is in an enqueue of the
+    /// value a, about to draw a position on the root.
     ///
     /// # Errors
     ///
@@ -101,12 +102,12 @@ impl<const R: usize> World<R> {
         })
     }
 
-    /// Returns the world of these parts.
+    /// Returns the world that these parts make.
     ///
     /// # Errors
     ///
-    /// `Flaw` exactly if the parts make no well-formed world, with the first condition that they
-    /// fail; else `NoMemory` if memory was refused.
+    /// `Flaw`, with the first condition that the parts fail, exactly if they make no well-formed
+    /// world; else `NoMemory` if memory was refused.
     pub fn assemble(alloc: Global, parts: Parts<R>) -> Result<World<R>, Unassembled>
         requires positive { 1 ≤ R }
         requires small { R ≤ MOST_CELLS }
@@ -132,7 +133,7 @@ impl<const R: usize> World<R> {
         }
     }
 
-    /// Returns the parts of the world, from which `assemble` puts it together again.
+    /// Returns the parts of the world; `assemble` makes an equal world from them.
     ///
     /// # Errors
     ///
@@ -153,8 +154,8 @@ impl<const R: usize> World<R> {
         })
     }
 
-    /// Returns a copy of this world: the same content at each place, and the same words of each
-    /// actor.
+    /// Returns a copy of this world: each place has the same content, and each actor the same
+    /// record.
     ///
     /// # Errors
     ///
@@ -171,15 +172,16 @@ impl<const R: usize> World<R> {
         }
     }
 
-    /// Returns the content at a place, or none if the place is not there. The whole of a segment
-    /// that is there has `Whole`.
+    /// Returns the content at a place, or none if the place is not there. For a cell, this is its
+    /// two halves together; for the whole of a segment that is there, it is `Whole`.
     pub fn content(&self, place: Place) -> Option<Content>
         ensures { result ≡ content_at (model self.now).at place }
     {
         self.space.content(place)
     }
 
-    /// Returns the words of the actor of this number, or none if there is no such actor.
+    /// Returns the record of the actor of this number, counted from 1, or none if there is no such
+    /// actor.
     pub fn actor(&self, number: u8) -> Option<Actor>
         ensures { result ≡ (model self.now).actor number }
     {
@@ -234,9 +236,9 @@ impl<const R: usize> World<R> {
         })
     }
 
-    /// Makes the step of an entry again, where it is known that the step leaves just this entry.
-    /// Its access is done again if it wrote anything, and its actor goes on with the answer that
-    /// the entry keeps. No entry is written. A making isn't refused, since its maker must have
+    /// Makes the step of an entry again, in a world where this step leaves just this entry. The
+    /// actor goes on with the answer that the entry keeps, and the access is done again only if it
+    /// wrote something. This writes no entry and can't fail, since the maker of a segment must have
     /// room.
     pub fn step_again(&mut self, entry: &Entry)
         requires goes { (after : Model) × (step (model self.old) entry.now.event
@@ -263,8 +265,8 @@ impl<const R: usize> World<R> {
         }
     }
 
-    /// Sets the words of one actor and the content of one place, if one is named, and changes
-    /// nothing else.
+    /// Puts back an old record of one actor and, if a place is named, its old content. Without an
+    /// old content, it removes the segment that was made there. Nothing else changes.
     pub fn revert(
         &mut self,
         actor: u8,
@@ -289,13 +291,12 @@ impl<const R: usize> World<R> {
         );
     }
 
-    /// Gives an actor room for this many more segments, whose making is then not refused for
-    /// memory. A making uses the room of one, taking a segment away gives it back, and no other
-    /// call lessens it.
+    /// Gives an actor room for this many more segments; making them then needs no memory. A making
+    /// uses room for one segment, undoing it gives this back, and no other call lessens the room.
     ///
     /// # Errors
     ///
-    /// `NoMemory` if memory was refused. The world does not change.
+    /// `NoMemory` if memory was refused. The world does not change in either case.
     pub fn make_room(&mut self, actor: u8, more: usize) -> Result<(), Refusal>
         requires { IsSome ((model self.old).actor actor) }
         ensures err { IfErr result (λ e. e ≡ Refusal.NoMemory) }
