@@ -1,7 +1,7 @@
-//! Undoing one step, even if others were made after it.
+//! Undoing one step, even if later steps remain.
 //!
-//! A step is undone from the words that its entry keeps. Nothing is replayed, and no other step is
-//! looked at.
+//! A step is undone from the old words that its entry keeps. Nothing is replayed, and no other step
+//! is looked at.
 #![tactic(auto)]
 
 mod inverse;

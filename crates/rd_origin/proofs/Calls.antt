@@ -1,5 +1,5 @@
--- Along a run an actor that makes no other call is in its call or idle, and a cell into which
--- nothing is put has its value or none.
+-- Along a run, an actor that begins no other call stays in its call or becomes idle, and a cell
+-- into which nothing is put keeps its value or loses it.
 use Rattle.rd_origin.proofs.Prelude.{◌≡◌, ℕ, Bool, true, false, ◌==◌, ◌&&◌, inl, inr, sym, ◌∙◌, ap, subst, eqb-true, List, [], ◌∷◌, Option, Some, None, Ok, cond_both, and_parts, cond-true, Place, World, Stepped, step, Ran, run, Op, Event, Entry, took, events, is_call, puts_into, calls_by, Actor, after, beginning}
 use Rattle.rd_step.proofs.Equivalence.{as_ran-same}
 use Rattle.rd_origin.proofs.Split.{NonePasses}
@@ -17,7 +17,7 @@ still-trans : (o p r : Option Op) → IsStill o p → IsStill p r → IsStill o 
 still-trans o p r h (inl same) = elim h [ inl e ↦ inl (same ∙ e) | inr e ↦ inr (same ∙ e) ]
 still-trans o p r h (inr none) = inr none
 
--- a call begins itself
+-- a step that begins a call leaves its actor in that call
 pub begun : (w : World) (e : Event) (s : Stepped) (n : ℕ) → step w e ≡ Ok s → calls_by n s.entry ≡ true
     → IsIn (called s.entry.event.act) (s.world.actor n)
 begun w e s n goes h =
@@ -28,7 +28,7 @@ begun w e s n goes h =
     subst (IsIn (called e.act)) (sym (cond-true (n == e.actor) (Some (after w.ring t.a e.act t.did.answer).0) (w.actor n) parts.0))
     (inl (after_call w.ring t.a e.act t.did.answer parts.1))) h
 
--- a step that is no call by the actor leaves it there
+-- a step in which the actor begins no call leaves it in its call, or idle
 call_stays : (w : World) (e : Event) (s : Stepped) (n : ℕ) (o : Option Op) → step w e ≡ Ok s → calls_by n s.entry ≡ false
     → IsIn o (w.actor n) → IsIn o (s.world.actor n)
 call_stays w e s n o goes h was =
@@ -43,7 +43,7 @@ call_stays w e s n o goes h was =
     still-trans o t.a.op next.op (subst (IsIn o) its was) (after_still w.ring t.a e.act t.did.answer no_call))
     (λ other. was)) h
 
--- what each step keeps that fails a test, a run of such steps keeps
+-- what every step that fails the test keeps, a run of such steps keeps
 pub stays_along : (P : World → Type 0) (test : Entry → Bool)
     → ((w : World) (e : Event) (s : Stepped) → step w e ≡ Ok s → test s.entry ≡ false → P w → P s.world) → (w v : World) (xs : List Entry)
     → run w (events xs) ≡ Ok (record { world = v; entries = xs }) → NonePasses test xs → P w → P v
@@ -53,12 +53,12 @@ stays_along P test stays w v (x ∷ xs) h none was =
     let first = beginning w x xs v h in
     stays_along P test stays first.after v xs first.rest none.1 (stays w x.event (record { world = first.after; entry = x }) first.goes none.0 was)
 
--- an actor that makes no other call stays in its call
+-- along a run in which an actor begins no other call, it stays in its call, or is idle
 pub call_stays_along : (n : ℕ) (o : Option Op) (w v : World) (xs : List Entry) → run w (events xs) ≡ Ok (record { world = v; entries = xs })
     → NonePasses (calls_by n) xs → IsIn o (w.actor n) → IsIn o (v.actor n)
 call_stays_along n o = stays_along (λ u. IsIn o (u.actor n)) (calls_by n) (λ w e s goes h was. call_stays w e s n o goes h was)
 
--- and a cell into which nothing is put keeps its value
+-- along a run that puts nothing into a cell, the cell has its value, or none
 pub value_stays_along : (q : Place) (u : ℕ) (w v : World) (xs : List Entry) → run w (events xs) ≡ Ok (record { world = v; entries = xs })
     → NonePasses (puts_into q) xs → HoldsOnly u w.at q → HoldsOnly u v.at q
 value_stays_along q u = stays_along (λ v. HoldsOnly u v.at q) (puts_into q) (λ w e s goes h was. value_stays w e s q u goes h was)

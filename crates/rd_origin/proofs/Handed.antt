@@ -1,4 +1,4 @@
--- What is taken is the argument of the call whose put it was.
+-- A taken value is the argument of the call in which it was put.
 use Rattle.rd_origin.proofs.Prelude.{◌≡◌, ℕ, suc, ◌-◌, true, sym, ◌∙◌, ap, subst, append_assoc, List, ◌∷◌, ◌++◌, length, take, option_and_then, Some, Ok, arith, Place, Contents, World, Stepped, Ran, run, IsWellFormed, numbered, value_to_put, Event, Entry, events, puts_into, calls_by, argument, middle, last_position, call_of, origin_in, run_keeps, run_events}
 use Rattle.rd_step.proofs.Keeps.{keeps}
 use Rattle.rd_origin.specs.Laws.{IsHandedOver}
@@ -10,9 +10,9 @@ use Rattle.rd_origin.proofs.Takes.{taken_held}
 use Rattle.rd_origin.proofs.Calls.{IsIn, begun, call_stays_along, value_stays_along}
 use Rattle.rd_actor.specs.declared.actors.OpReply.TheVariants as op_reply
 
--- What an origin says of the entries
+-- The entries that an origin names
 
--- call and put of the taken value are both named
+-- the origin of the value taken at k names both its call, at c, and its put, at p
 record Named (xs : List Entry) (c p k : ℕ) : Type 0 where
   pub taken : Entry
   pub there : numbered xs k ≡ Some taken
@@ -28,7 +28,7 @@ named_at xs c p k h = grind arith
 
 -- The entries taken apart at call, put and take
 
--- an element after the beginning has the number after its length
+-- the element that follows the first j - 1 elements has the number j
 seam_number : (xs before behind : List Entry) (x : Entry) (j : ℕ) → xs ≡ before ++ x ∷ behind → suc (length before) ≡ j → numbered xs j ≡ Some x
 seam_number xs before behind x j whole e = grind (arith, at_seam)
 
@@ -40,7 +40,8 @@ same_value v u at q h k = grind arith
 
 -- The value
 
--- in a run through a call, a put in it and a take of what was put, the value is the argument
+-- in a run through a call, a put in this call and a take of what was put, the value taken is the
+-- call's argument
 argument_taken : (w v : World) (before between behind later : List Entry) (call put_there taken : Entry) (cell : Place) (value : ℕ) → IsWellFormed w
     → (let xs = before ++ call ∷ (between ++ put_there ∷ (behind ++ taken ∷ later)) in run w (events xs) ≡ Ok (record { world = v; entries = xs }))
     → calls_by put_there.event.actor call ≡ true → NonePasses (calls_by put_there.event.actor) between → puts_into cell put_there ≡ true
@@ -60,6 +61,7 @@ argument_taken w v before between behind later call put_there taken cell value f
     let found = taken_held three.before taken.event (record { world = three.after; entry = taken }) cell value three.goes replies place in
     argued call.event.act p.a.op p.puts (subst (IsIn (called call.event.act)) p.has in_call) ∙ same_value (value_to_put p.a.op) value three.before.at cell holds found
 
+-- the value of an origin with a put and a call is the call's argument
 pub handed_over : (w : World) (es : List Event) (ran : Ran) (c p k : ℕ) → IsWellFormed w → run w es ≡ Ok ran
     → origin_in ran.entries k ≡ Ok (record { call = Some c; put = Some p; take = k }) → IsHandedOver ran.entries c k
 handed_over w es ran c p k formed goes h =

@@ -1,10 +1,11 @@
--- A put leaves the value of the enqueue that its actor is in, or none.
+-- After a put, the cell has the value of the enqueue that its actor is in, or none.
 use Rattle.rd_origin.proofs.Prelude.{◌≡◌, ℕ, true, sym, ◌∙◌, ap, subst, Option, Some, Ok, IfOk, arith, IfOk-at_ok, Place, Access, Contents, Performed, perform, need, World, Stepped, step, IsWellFormed, Pc, value_to_put, Event, took, puts_into, is_there, Actor, Act, after, words_fit_at, record_fits, actor_fits}
 use Rattle.rd_step.proofs.Fits.{words_of}
 use Rattle.rd_origin.proofs.Ops.{puts_values}
 use Rattle.rd_origin.proofs.Values.{HoldsOnly, LeavesOnly}
 use Rattle.rd_origin.proofs.Steps.{IsPutter, puts_by, same_puts, AtNone}
 
+-- if the access is a put into the cell, the value in the cell afterwards, if it has one, is v
 abbrev PutsOnly : ℕ → Contents → Pc → Place → Performed → Type 0
 PutsOnly v at pc q did = puts_by pc q did ≡ true → LeavesOnly v at q did
 
@@ -18,7 +19,7 @@ act_puts R n at q a act k = grind arith
 putter_op : (pc : Pc) (a : Actor) → IsPutter pc → words_fit_at pc a ≡ true → puts_values a.op ≡ true
 putter_op pc a h k = grind arith
 
--- a put into the cell: its actor is in an enqueue, and the cell has the enqueue's value afterwards,
+-- a put into the cell: its actor is in an enqueue, and afterwards the cell has the enqueue's value,
 -- or none
 pub record Put (w : World) (e : Event) (s : Stepped) (q : Place) : Type 0 where
   pub a : Actor
@@ -26,6 +27,7 @@ pub record Put (w : World) (e : Event) (s : Stepped) (q : Place) : Type 0 where
   pub puts : puts_values a.op ≡ true
   pub holds : HoldsOnly (value_to_put a.op) s.world.at q
 
+-- every step that puts a value into a cell is such a put
 pub put : (w : World) (e : Event) (s : Stepped) (q : Place) → IsWellFormed w → step w e ≡ Ok s → puts_into q s.entry ≡ true → Put w e s q
 put w e s q formed goes h =
     let t = took w e s goes in

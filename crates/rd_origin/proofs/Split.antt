@@ -1,12 +1,12 @@
 -- A list taken apart at a position, and at the last position that passes a test.
 use Rattle.rd_origin.proofs.Prelude.{numbered, sym, subst, ◌<◌, ◌≡◌, ℕ, zero, suc, ◌-◌, Bool, true, false, refl, ap, ◌∙◌, List, [], ◌∷◌, ◌++◌, length, take, drop, slice_get, Option, Some, None, arith, last_position, one_further, IsGreatest, common_steps}
 
--- the element after the beginning
+-- the element after the first part of a list has the number after that part's length
 pub at_seam : {X : Type 0} (xs ys : List X) (x : X) → numbered (xs ++ x ∷ ys) (suc (length xs)) ≡ Some x
 at_seam {X} [] ys x = refl
 at_seam {X} (y ∷ xs) ys x = at_seam xs ys x
 
--- the beginning
+-- taking as many elements as the first part of a list has gives the first part
 pub before_seam : {X : Type 0} (xs ys : List X) → take (suc (length xs) - 1) (xs ++ ys) ≡ xs
 before_seam {X} xs ys = grind (arith, common_steps)
 
@@ -20,18 +20,19 @@ apart_by {X} [] i x h = cc
 apart_by {X} (y ∷ ys) zero x h = let same : y ≡ x = cc in ap (λ (z : X). z ∷ ys) same
 apart_by {X} (y ∷ ys) (suc i) x h = ap (λ (zs : List X). y ∷ zs) (apart_by ys i x h)
 
+-- a list can be taken apart at every element
 pub apart : {X : Type 0} (xs : List X) (k : ℕ) (x : X) → numbered xs k ≡ Some x → ApartAt xs k x
 apart {X} xs zero x h = cc
 apart {X} xs (suc i) x h =
     let e : i ≡ suc i - 1 = omega arith in
     record { behind = drop (suc i) xs; whole = apart_by xs i x h ∙ ap (λ (n : ℕ). take n xs ++ x ∷ drop (suc i) xs) e }
 
--- no element passes
+-- no element of the list passes the test
 abbrev pub NonePasses : {X : Type 0} → (X → Bool) → List X → Type 0
 NonePasses test [] = Unit {0}
 NonePasses test (x ∷ xs) = (test x ≡ false) × NonePasses test xs
 
--- a list taken apart at the last element that passes
+-- a list taken apart at its last element that passes the test
 pub record ApartAtLast {X : Type 0} (test : X → Bool) (xs : List X) (j : ℕ) : Type 0 where
   pub before : List X
   pub element : X
@@ -44,6 +45,7 @@ pub record ApartAtLast {X : Type 0} (test : X → Bool) (xs : List X) (j : ℕ) 
 some_behind : (b : Bool) (n : Option ℕ) → one_further b n ≡ None → (b ≡ false) × (n ≡ None)
 some_behind b n h = grind arith
 
+-- if there is no last position, no element passes
 pub none_passes : {X : Type 0} (test : X → Bool) (xs : List X) → last_position test xs ≡ None → NonePasses test xs
 none_passes {X} test [] h = tt
 none_passes {X} test (x ∷ xs) h =
@@ -72,6 +74,7 @@ apart_on : {X : Type 0} (test : X → Bool) (x : X) (xs : List X) (j : ℕ) (o :
 apart_on {X} test x xs j None is rest h = apart_first test x xs j (test x) refl is h
 apart_on {X} test x xs j (Some n) is rest h = let e : suc n ≡ j = cc in apart_later test x xs n j e (rest n is)
 
+-- a list can be taken apart at its last position
 pub apart_at_last : {X : Type 0} (test : X → Bool) (xs : List X) (j : ℕ) → last_position test xs ≡ Some j → ApartAtLast test xs j
 apart_at_last {X} test [] j h = cc
 apart_at_last {X} test (x ∷ xs) j h = apart_on test x xs j (last_position test xs) refl (λ n k. apart_at_last test xs n k) h
@@ -94,6 +97,7 @@ none_numbered : {X : Type 0} (test : X → Bool) (before behind : List X) (x y :
     → numbered (before ++ x ∷ behind) i ≡ Some y → test y ≡ false
 none_numbered {X} test before behind x y i h below k = grind (arith, none_behind)
 
+-- the last position is the greatest
 pub is_greatest : {X : Type 0} (test : X → Bool) (xs : List X) (j : ℕ) → last_position test xs ≡ Some j → IsGreatest test xs j
 is_greatest {X} test xs j h =
     let a = apart_at_last test xs j h in
@@ -108,6 +112,7 @@ is_greatest {X} test xs j h =
           (ap (λ (l : List X). numbered l i) (sym a.whole) ∙ k);
     }
 
+-- if there is no last position, the test fails at every position
 pub has_none : {X : Type 0} (test : X → Bool) (xs : List X) → last_position test xs ≡ None → (i : ℕ) (y : X) → numbered xs i ≡ Some y → test y ≡ false
 has_none {X} test xs h zero y k = cc
 has_none {X} test xs h (suc i) y k = none_at test xs i y (none_passes test xs h) k

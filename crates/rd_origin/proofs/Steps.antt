@@ -1,35 +1,37 @@
--- A step that is no put into a cell leaves the value there, or none.
+-- After a step that puts nothing into a cell, the cell has its value or none.
 use Rattle.rd_origin.proofs.Prelude.{◌≡◌, ◌⊎◌, ℕ, Bool, false, not, ◌&&◌, sym, ◌∙◌, subst, Option, Result, Ok, IfOk, arith, IfOk-at_ok, Place, Access, Refusal, Contents, is_nothing, Performed, perform, OpReply, need, World, Stepped, step, no_access, Pc, E8, E12, A2, need_at, Event, took, is_first_cell, puts_into, Actor, Act, after, need_call, need_choice, is_at, puts_at, step_outcome}
 use Rattle.rd_origin.proofs.Values.{HoldsOnly, LeavesOnly, AccessKeeps, kept_access}
 use Rattle.rd_actor.specs.declared.actors.Act.TheVariants as act
 
 -- The rows that put
 
--- the actor is where it may put a value
+-- this is a control point at which an actor may put a value
 abbrev pub IsPutter : Pc → Type 0
 IsPutter pc = (pc ≡ E8) ⊎ (pc ≡ A2) ⊎ (pc ≡ E12)
 
--- each other row keeps the values that it finds
+-- every other row has an access that writes no value, or only the one that it found
 row_kind : (R : ℕ) (pc : Pc) (a : Actor) → IfOk (need_at R pc a) AccessKeeps ⊎ IsPutter pc
 row_kind R pc a = grind arith
 
--- whether what an access did from this control point put a value into the cell
+-- whether an access made at this control point put a value into the cell
 abbrev pub puts_by : Pc → Place → Performed → Bool
 puts_by E8 cell did = not (is_nothing did.wrote) && is_at did.place cell
 puts_by A2 cell did = is_at did.place cell
 puts_by E12 cell did = is_first_cell did.place cell
 puts_by _ cell did = false
 
+-- a step's entry is a put exactly if its access was one
 pub same_puts : (w : World) (e : Event) (a : Actor) (did : Performed) (next : Actor × Option OpReply) (cell : Place) (pc : Pc)
     → puts_at pc cell (step_outcome w e a did next).entry ≡ puts_by pc cell did
 same_puts w e a did next cell pc = grind arith
 
--- What is no put leaves the value
+-- An access that is no put leaves the value
 
--- unless it is a put, an access leaves this value or none
+-- if the access is no put into the cell, the cell has this value or none afterwards
 abbrev LeavesUnless : ℕ → Contents → Pc → Place → Performed → Type 0
 LeavesUnless v at pc q did = puts_by pc q did ≡ false → LeavesOnly v at q did
 
+-- if the row's access is no put into the cell, the cell has this value or none afterwards
 abbrev RowLeaves : ℕ → ℕ → ℕ → Contents → Place → Actor → Pc → Type 0
 RowLeaves v R n at q a pc = IfOk (need_at R pc a) (λ x. IfOk (perform R n at x) (LeavesUnless v at pc q))
 
@@ -46,13 +48,15 @@ put_row_leaves v R n at q a pc h k = grind arith
 row_leaves : (v R n : ℕ) (at : Contents) (q : Place) (a : Actor) (pc : Pc) → HoldsOnly v at q → RowLeaves v R n at q a pc
 row_leaves v R n at q a pc h = grind (arith, row_kind, unless_row, put_row_leaves)
 
--- a call and a choice access no place
+-- P holds of what the access does, if neither the access nor asking for it is refused
 abbrev pub AtNone : ℕ → ℕ → Contents → (Performed → Type 0) → Result Access Refusal → Type 0
 AtNone R n at P r = IfOk r (λ x. IfOk (perform R n at x) P)
 
+-- what holds of no access holds of the access of a call
 pub call_at_none : (R n : ℕ) (at : Contents) (P : Performed → Type 0) → P no_access → (pc : Pc) → AtNone R n at P (need_call pc)
 call_at_none R n at P h pc = grind arith
 
+-- what holds of no access holds of the access of a choice
 pub choice_at_none : (R n : ℕ) (at : Contents) (P : Performed → Type 0) → P no_access → (pc : Pc) → AtNone R n at P (need_choice pc)
 choice_at_none R n at P h pc = grind arith
 
@@ -61,7 +65,7 @@ act_leaves v R n at q a act.Go h = row_leaves v R n at q a a.pc h
 act_leaves v R n at q a (act.Starve b) h = choice_at_none R n at (LeavesUnless v at a.pc q) (λ e. h) a.pc
 act_leaves v R n at q a x h = call_at_none R n at (LeavesUnless v at a.pc q) (λ e. h) a.pc
 
--- a step that puts nothing into the cell leaves the value there, or none
+-- after a step that puts nothing into the cell, the cell has its value or none
 pub value_stays : (w : World) (e : Event) (s : Stepped) (q : Place) (v : ℕ) → step w e ≡ Ok s → puts_into q s.entry ≡ false
     → HoldsOnly v w.at q → HoldsOnly v s.world.at q
 value_stays w e s q v goes other h =

@@ -1,4 +1,4 @@
--- The value in a cell: no step but a put gives the cell another one.
+-- The value in a cell or slot: only a put gives it another one.
 use Rattle.rd_origin.proofs.Prelude.{◌≡◌, ◌⊎◌, ℕ, Bool, true, false, inl, inr, refl, sym, subst, Option, Some, None, IfSome, Result, Ok, Err, IfOk, arith, SegName, Place, Content, Access, Refusal, Contents, is_of, operand, Performed, perform, Cas2, Swap, share, after_write, after_write_at, holding, effect_at, operate, result_map, cases_Bool, Operation, covers, Effect, effect, wrote_by, contents_after, is_cell_at, after_write-outside, after_write-inside, operand-covered, some_covers, written}
 use Rattle.rd_cell.specs.declared.access.Access.TheVariants.{NoPlace, At, Make}
 use Rattle.rd_cell.proofs.EffectLemmas.{not_written}
@@ -19,19 +19,19 @@ held_at at (place.Cell s i) = held (at (place.Val s i))
 held_at at (place.ArrCell i) = held (at (place.ArrCell i))
 held_at at _ = None
 
--- a content has this value or none
+-- the value of this content, if it has one, is v
 abbrev pub HasOnly : ℕ → Option Content → Type 0
 HasOnly v o = (held o ≡ Some v) ⊎ (held o ≡ None)
 
--- a cell or a slot has this value or none
+-- the value in this cell or slot, if it has one, is v
 abbrev pub HoldsOnly : ℕ → Contents → Place → Type 0
 HoldsOnly v at q = (held_at at q ≡ Some v) ⊎ (held_at at q ≡ None)
 
--- after an access it has this value or none
+-- after the access, the value in this cell or slot, if it has one, is v
 abbrev pub LeavesOnly : ℕ → Contents → Place → Performed → Type 0
 LeavesOnly v at q did = HoldsOnly v (contents_after did at) q
 
--- an operation that writes no value but the one that it found
+-- the operation writes no value, or only the one that it found
 abbrev pub KeepsValue : Operation → Type 0
 KeepsValue (Cas2 old new) = (new.val ≡ old.val) ⊎ (new.val ≡ None)
 KeepsValue (Swap (slot.Value v)) = ⊥
@@ -39,6 +39,7 @@ KeepsValue _ = Unit {0}
 
 -- What it writes holds no other value
 
+-- what the effect writes, if anything, has the value v or none
 abbrev WritesOnly : ℕ → Effect → Type 0
 WritesOnly v f = IfSome f.writes (λ d. HasOnly v (Some d))
 
@@ -56,15 +57,15 @@ is_value_place _ = false
 not_cell : (r : Place) → is_value_place r ≡ true → is_cell_at r ≡ true → ⊥
 not_cell r h e = grind arith
 
--- what a place gets of a content has no value but that one's
+-- a place's share of a content has no other value than the content
 share_has : (v : ℕ) (p : Place) (d : Content) (r : Place) → HasOnly v (Some d) → HasOnly v (share p (Some d) r)
 share_has v p d r h = grind arith
 
--- and the content has none but the one that such a place got
+-- a content has no other value than its share at a value half or a slot
 share_had : (v : ℕ) (p : Place) (c : Content) (r : Place) → is_value_place r ≡ true → covers p r ≡ true → HasOnly v (share p (Some c) r) → HasOnly v (Some c)
 share_had v p c r k e h = grind arith
 
--- whatever an operation does, a place that can't have a value has none
+-- a place that has no content has no value, whatever an operation did
 always_none : (v : ℕ) (r : Result Performed Refusal) → IfOk r (λ did. HasOnly v None)
 always_none v r = grind arith
 
@@ -86,7 +87,7 @@ kept_effect : (v : ℕ) (p : Place) (c : Content) (at : Contents) (r : Place) (x
 kept_effect v p c at r (Err refusal) w h = tt
 kept_effect v p c at r (Ok f) w h = after_effect v p c at r f w h
 
--- what is not covered has what it had
+-- a place that an operation's place doesn't cover keeps its value
 outside_effect : (v : ℕ) (p : Place) (c : Content) (at : Contents) (r : Place) (x : Result Effect Refusal) → covers p r ≡ false → HasOnly v (at r)
     → IfOk (result_map (effect_at p c) x) (λ did. HasOnly v (contents_after did at r))
 outside_effect v p c at r x e h = grind (arith, after_write-outside, not_written)
@@ -114,11 +115,12 @@ pub made_leaves : (v R x : ℕ) (s : SegName) (at : Contents) (q : Place) → (i
     → HoldsOnly v (after_write (place.Whole s) (holding R x) at) q
 made_leaves v R x s at q inside h = grind arith
 
--- an access that writes no value but the one that it found
+-- the access writes no value, or only the one that it found
 abbrev pub AccessKeeps : Access → Type 0
 AccessKeeps NoPlace = Unit {0}
 AccessKeeps (At p op) = KeepsValue op
 AccessKeeps (Make x) = ⊥
 
+-- such an access leaves the cell with its value or none
 pub kept_access : (v R n : ℕ) (at : Contents) (q : Place) (x : Access) → AccessKeeps x → HoldsOnly v at q → IfOk (perform R n at x) (LeavesOnly v at q)
 kept_access v R n at q x k h = grind (arith, kept_operate)

@@ -19,24 +19,23 @@ abbrev pub takes_value : Option OpReply → Bool
 takes_value (Some (op_reply.Value v)) = true
 takes_value _ = false
 
--- whether an act is a call
+-- whether an act begins a call
 abbrev pub is_call : Act → Bool
 is_call act.Go = false
 is_call (act.Starve b) = false
 is_call _ = true
 
--- whether the place of an access, if it has one, is this cell
+-- whether an access has a place, and it is this cell
 abbrev pub is_at : Option Place → Place → Bool
 is_at touched cell = option_map_or (λ p. place_eq p cell) touched false
 
--- whether the place is the whole of a segment, and the cell is cell 0 of that segment
+-- whether the place is the whole of a segment, whose cell 0 is this cell
 abbrev pub is_first_cell : Option Place → Place → Bool
 is_first_cell (Some (place.Whole s)) (place.Cell t i) = name_eq s t && (i == 0)
 is_first_cell _ _ = false
 
--- whether a step from this control point put a value into the cell: at E8 a compare-and-swap there
--- that won, at A2 a swap there, and at E12 the making of the segment that has the cell as its cell
--- 0
+-- whether a step from this control point put a value into the cell: by a CAS2 there that won (E8),
+-- by a swap there (A2), or by making the segment whose cell 0 it is (E12)
 abbrev pub puts_at : Pc → Place → Entry → Bool
 puts_at E8 cell x = not (is_nothing x.wrote) && is_at x.place cell
 puts_at A2 cell x = is_at x.place cell
@@ -47,30 +46,30 @@ puts_at _ cell x = false
 abbrev pub puts_into : Place → Entry → Bool
 puts_into cell x = puts_at x.old_actor.pc cell x
 
--- whether the step is a call by this actor
+-- whether this actor begins a call in the step
 abbrev pub calls_by : ℕ → Entry → Bool
 calls_by actor x = (actor == x.event.actor) && is_call x.event.act
 
--- the position of the last put into the cell before position k; none if there is no such put, or no
--- cell
+-- the position of the last put into this cell before position k; none if there is no such put, or
+-- if no cell is given
 abbrev pub put_of : List Entry → ℕ → Option Place → Option ℕ
 put_of entries k taken = option_and_then (λ cell. last_position (puts_into cell) (take (k - 1) entries)) taken
 
--- the position of the call in which the put at this position was made: the last one before it by the
--- actor of that step; none if there is no such position, step or call
+-- the position of the call in which the put at this position was made: the last call before it that
+-- the put's actor began; none if there is no such call, or no put
 abbrev pub call_of : List Entry → Option ℕ → Option ℕ
 call_of entries put =
     option_and_then (λ j. option_and_then (λ x. last_position (calls_by x.event.actor) (take (j - 1) entries)) (numbered entries j)) put
 
--- the origin of the value taken at position k, from 1, among these steps (the number of that step,
--- of its put and of its call), or why there is none
+-- the origin of the value that the step at position k, counted from 1, took: the positions of its
+-- call, its put and its take. `NoSuchStep` if there is no step at k; `NotATake` if it took no value
 abbrev pub origin_in : List Entry → ℕ → Result Origin Refusal
 origin_in entries k =
     and_then (ok_or (numbered entries k) (refusal.NoSuchStep (length entries))) (λ x.
     let put = put_of entries k x.place in
     if takes_value x.reply then Ok (record { call = call_of entries put; put = put; take = k }) else Err refusal.NotATake)
 
--- the argument of an act that calls an enqueue, on either queue; none for any other act
+-- the argument of an act that begins an enqueue, on either queue; none for any other act
 abbrev pub argument : Act → Option ℕ
 argument (act.Enq x) = Some x
 argument (act.AEnq x) = Some x

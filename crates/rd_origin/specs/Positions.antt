@@ -10,6 +10,6 @@ pub record IsGreatest {X : Type 0} (test : X → Bool) (xs : List X) (j : ℕ) :
   pub passes : test element ≡ true
   pub last : (i : ℕ) (y : X) → j < i → numbered xs i ≡ Some y → test y ≡ false
 
--- no position has an element that passes the test
+-- no element of the list passes the test
 abbrev pub HasNone : {X : Type 0} → (X → Bool) → List X → Type 0
 HasNone {X} test xs = (i : ℕ) (y : X) → numbered xs i ≡ Some y → test y ≡ false

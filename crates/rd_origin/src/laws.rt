@@ -1,4 +1,4 @@
-//! The laws of origins, for every run: each is the contract of a function that does nothing.
+//! The laws of origins, for every run. Each law is the contract of a function that does nothing.
 
 ghost use Rattle.std.specs.Prelude.{◌≡◌, ℕ, Bool, List, None, Some, Ok};
 ghost use Rattle.rd_step.specs.declared.entries.Event.{Event};
@@ -8,8 +8,8 @@ ghost use Rattle.rd_origin.specs.Positions.{last_position, IsGreatest, HasNone};
 ghost use Rattle.rd_origin.specs.Origins.{origin_in};
 ghost use Rattle.rd_origin.specs.Laws.{IsHandedOver};
 
-/// What is taken is what was put: in a run from any well-formed start, if both the call and the put
-/// of a taken value were made in the run, the value is the argument of the call.
+/// The value that a take hands out is the argument of its origin's call. This holds in a run from
+/// any well-formed start, if both the call and the put were made in the run.
 pub fn what_is_taken_is_the_calls_argument()
     ensures { (w : World) (es : List Event) (ran : Ran) (c p k : ℕ) → IsWellFormed w
         → run w es ≡ Ok ran
@@ -17,8 +17,8 @@ pub fn what_is_taken_is_the_calls_argument()
         → IsHandedOver ran.entries c k }
 {}
 
-/// The last position at which a test passes, by which put, call and writer are defined, is the
-/// greatest one; if there is none, the test passes nowhere.
+/// `last_position`, which defines put, call and last writer, gives the greatest position at which a
+/// test passes. If it gives none, the test passes nowhere.
 pub fn the_last_position_is_the_greatest()
     ensures some { (test : SomeEntry → Bool) (entries : List SomeEntry) (j : ℕ)
         → last_position test entries ≡ Some j → IsGreatest test entries j }

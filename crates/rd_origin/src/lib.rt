@@ -22,13 +22,14 @@ use rd_cell::{Place, Refusal};
 use rd_journal::{EntryList, Session};
 use searches::{calls_by, last_below, puts_into, step_of};
 
-/// Returns the origin of the value that the live step of this number, from 1, took: the last step
-/// before it that put a value into the same cell, and the call in which this put was made.
+/// Returns the origin of the value that the live step of this number, counted from 1, took. The put
+/// is the last step before it that put a value into the same cell or slot, and the call is the one
+/// in which this put was made; each is none if there is no such live step.
 ///
-/// A put is a compare-and-swap that won a cell for an enqueue, a swap by an enqueue on the array,
-/// or the making of a segment, which puts into its first cell. Marking a cell unsafe leaves its
-/// value, and is no put. It takes no memory, and makes one pass over the earlier steps at most,
-/// from the back.
+/// A put is a compare-and-swap by an enqueue that won a cell, a swap by an enqueue on the array, or
+/// the making of a segment, which puts its value into cell 0. Marking a cell unsafe leaves its
+/// value, and is no put. The search takes no memory, and makes at most one pass over the earlier
+/// steps, from the back.
 ///
 /// # Errors
 ///
@@ -51,15 +52,15 @@ pub fn origin<const R: usize>(session: &Session<R>, k: u64) -> Result<Origin, Re
     })
 }
 
-/// Whether a reply hands out a value, so that its step is a take.
+/// Whether a reply hands out a value. A step with such a reply is a take.
 fn takes_value(reply: Option<OpReply>) -> bool
     ensures { result ≡ takes_value reply }
 {
     matches!(reply, Some(OpReply::Value(_)))
 }
 
-/// Returns the number of the last step before step `k` that put a value into the cell; none if
-/// there is no such step, or no cell.
+/// Returns the number of the last step before step `k` that put a value into this cell or slot;
+/// none if no step did, or if no cell is given.
 fn last_put(steps: &EntryList, k: u64, cell: Option<Place>) -> Option<u64>
     ensures { result ≡ put_of steps.now k cell }
 {
@@ -67,8 +68,8 @@ fn last_put(steps: &EntryList, k: u64, cell: Option<Place>) -> Option<u64>
     last_below(steps, k, |step| puts_into(cell, step))
 }
 
-/// Returns the number of the last call before the step of this number by that step's actor; none if
-/// there is no such call or step.
+/// Returns the number of the last step before the step of this number in which the same actor began
+/// a call; none if there is no such call, no such step, or no number.
 fn last_call(steps: &EntryList, number: Option<u64>) -> Option<u64>
     ensures { result ≡ call_of steps.now number }
 {
@@ -78,7 +79,7 @@ fn last_call(steps: &EntryList, number: Option<u64>) -> Option<u64>
 }
 
 /// Returns the number of the last live step that wrote this place, or one of the places that it
-/// names; none if no live step did. It takes no memory, and asks the session's index once.
+/// names; none if no live step did. This takes no memory, and asks the session's index once.
 ///
 /// # Errors
 ///

@@ -1,5 +1,4 @@
-//! The search by which an origin is found: back from a step to the last one before it that passes a
-//! test.
+//! The search for an origin: it goes back from a step to the last earlier one that passes a test.
 
 ghost use Rattle.std.specs.Prelude.{◌≡◌, ◌-◌, Bool, take, Some, None, MatchOption};
 ghost use Rattle.std.specs.Fn.{FnReturnsAt};
@@ -13,8 +12,8 @@ use rd_cell::Place;
 use rd_journal::EntryList;
 use rd_step::Entry;
 
-/// Returns the greatest number, below this one, of a step that passes the test; none if there is no
-/// such step.
+/// Returns the greatest number below this one whose step passes the test; none if no such step
+/// does.
 pub(crate) fn last_below<F: Fn(&Entry) -> bool>(
     steps: &EntryList,
     below: u64,
@@ -36,7 +35,7 @@ pub(crate) fn last_below<F: Fn(&Entry) -> bool>(
     None
 }
 
-/// Returns the step of this number, from 1, if there is one.
+/// Returns the entry of the step of this number, counted from 1, or none if there is no such step.
 pub(crate) fn step_of<'a>(steps: &EntryList<'a>, number: u64) -> Option<&'a Entry>
     ensures { MatchOption result (numbered steps.now number ≡ None)
         (λ step. numbered steps.now number ≡ Some step.now) }
@@ -59,7 +58,7 @@ pub(crate) fn puts_into(cell: Place, step: &Entry) -> bool
     }
 }
 
-/// Whether the place of an access, if it has one, is this cell.
+/// Whether an access has a place, and it is this cell.
 fn is_at(place: Option<Place>, cell: Place) -> bool
     ensures { result ≡ is_at place cell }
 {
@@ -69,7 +68,7 @@ fn is_at(place: Option<Place>, cell: Place) -> bool
     }
 }
 
-/// Whether the place is the whole of a segment, and the cell is cell 0 of that segment.
+/// Whether the place is the whole of a segment, whose cell 0 is this cell.
 fn is_first_cell(place: Option<Place>, cell: Place) -> bool
     ensures { result ≡ is_first_cell place cell }
 {
@@ -79,14 +78,14 @@ fn is_first_cell(place: Option<Place>, cell: Place) -> bool
     }
 }
 
-/// Whether the step is a call by this actor.
+/// Whether this actor begins a call in the step.
 pub(crate) fn calls_by(actor: u8, step: &Entry) -> bool
     ensures { result ≡ calls_by actor step.now }
 {
     actor == step.event.actor && is_call(step.event.act)
 }
 
-/// Whether an act is a call.
+/// Whether an act begins a call.
 fn is_call(act: Act) -> bool
     ensures { result ≡ is_call act }
 {
