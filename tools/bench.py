@@ -1,0 +1,9 @@
+#!/usr/bin/env python3
+"""Runs a measurement by its name; without one it lists them."""
+
+import sys
+
+from lcrq_tools.named import main
+
+if __name__ == "__main__":
+    sys.exit(main("bench"))

@@ -1,0 +1,291 @@
+"""Compares each block of lines and replies in README.md, docs/MANUAL.md and docs/RECIPES.md with the
+file of it that the gate compares with the program.
+
+    python3 tools/check.py pages
+
+And it looks up what docs/PROVED.md and the READMEs of the crates name in backticks: functions,
+clauses, definitions, types and files. A name that is not in the tree, or not in the file that is
+named for it, is a fault too. So is a number on docs/PROVED.md or docs/ARCHITECTURE.md that is not
+what `tools/definitions.py` gives: how many definitions and lines a guarantee reaches, and in which
+files. Such a fault names the right number.
+
+The gate's programs see the files of their own folders alone. So the session of the README and the
+examples of the manual are in `examples/`, each a script beside its report, and the program
+`lessons` compares what the one is answered with the other. This compares the pages with these
+files. A view, and the line of a trace, are in the stored output of `rehearsals`, and the scripts of
+a view are in `examples/` too, byte for byte. A block that shows a reply and is none of these is a
+fault, and so is a line of the pseudo-code of docs/MODEL.md that `model.py` can't read. Each
+block and each such script prints one line; the status is 1 if any of them differs. Only Python's
+standard library is used.
+"""
+
+import collections
+import json
+import re
+
+from lcrq_tools import manual, model
+from lcrq_tools.look import contracts, definitions
+from lcrq_tools.program import CRATES, TOP
+
+EXAMPLES = TOP / "crates" / "lessons" / "data"
+REHEARSALS = TOP / "crates" / "rehearsals"
+BLOCK = re.compile(r"^( *)```(\w+)\n(.*?)^ *```$", re.MULTILINE | re.DOTALL)
+REPLY = re.compile(rf"(?:{'|'.join(sorted(manual.REPLIES))}|viewer|history)\b.*")
+OUTPUT = "  output|"  # before each line of standard output in the stored output of `rehearsals`
+
+# The pages, and of each the examples in their order: a name, and that of the one whose lines the
+# page leaves out before it.
+PAGES = {
+    "README.md": [("session", None)],
+    "docs/MANUAL.md": [("manual-1", None), ("manual-2", None), ("manual-3", "manual-1"), ("manual-4", None)],
+    "docs/RECIPES.md": [("poised", None)],
+}
+
+# The scripts of `rehearsals` that the manual names, for whoever types its commands in `examples/`.
+COPIED = ["questions.script", "question.script"]
+
+
+def tried(check, *given):
+    """What a check finds wrong, or nothing; a file that it can't read is wrong too."""
+    try:
+        return check(*given)
+    except (OSError, ValueError) as fault:
+        return str(fault)
+
+
+def blocks_of(page):
+    """The blocks of a page, each its kind and its lines, without what a list puts before them."""
+    for found in BLOCK.finditer(page):
+        yield found[2], [line.removeprefix(found[1]) for line in found[3].splitlines()]
+
+
+def rows_of(lines):
+    """The lines and the replies of a block, what is after a reply left out; none if it is no such
+    block."""
+    rows = [re.split(r" {2,}", line)[:2] for line in lines]
+    return rows if all(len(row) == 2 and REPLY.fullmatch(row[1]) for row in rows) else None
+
+
+def example(name):
+    """The lines of an example with the replies of its report."""
+    lines, replies = ((EXAMPLES / f"{name}.{kind}").read_text(encoding="ascii").splitlines() for kind in ("script", "report"))
+    if len(lines) != len(replies):
+        raise ValueError(f"{name}.script has {len(lines)} lines, and {name}.report has {len(replies)}")
+    return [list(row) for row in zip(lines, replies)]
+
+
+def is_example(rows, name, before):
+    """What is wrong with these lines and replies, or nothing, where they are those of an example
+    after those of another."""
+    wanted = example(name)
+    if before:
+        wanted = wanted[len(example(before)):] if wanted[: len(example(before))] == example(before) else None
+    return "" if rows == wanted else f"it is not {name}.script beside {name}.report"
+
+
+def is_rehearsed(lines):
+    """What is wrong with a block of a command line and what it writes, or of a trace alone, or
+    nothing."""
+    stored = (REHEARSALS / "stdout").read_text(encoding="utf-8")
+    head = [lines[0], "  status: 0"] if lines[0].startswith("lcrqdb ") else []
+    wanted = "\n".join(head + [OUTPUT + line for line in lines[len(head[:1]):]]) + "\n"
+    return "" if wanted in stored else "it is not in the stored output of rehearsals"
+
+
+def value_of(text):
+    """A text of JSON in one spelling: in Python itself, 1 equals 1.0 and true. None of any other text."""
+    try:
+        return json.dumps(json.loads(text), sort_keys=True)
+    except ValueError:
+        return None
+
+
+def is_a_trace(lines):
+    """What is wrong with a trace that is written by hand, or nothing, where it is one of the traces
+    of the examples, which the gate loads."""
+    traces = [value_of(path.read_text(encoding="ascii", errors="replace")) for path in EXAMPLES.glob("*.trace")]
+    return "" if value_of("\n".join(lines)) in filter(None, traces) else "no example has this trace"
+
+
+def is_copied(name):
+    """What is wrong with a script of `rehearsals` among the examples, or nothing."""
+    copy, source = EXAMPLES / name, REHEARSALS / "data" / name
+    return "" if copy.read_bytes() == source.read_bytes() else f"it is not {source.relative_to(TOP)}"
+
+
+def is_read(page):
+    """What of the pseudo-code can't be read, or nothing."""
+    model.read(page.read_text(encoding="utf-8"))
+    return ""
+
+
+def checks_of(name, examples):
+    """The checks of a page, each a name and what is wrong, or nothing."""
+    left = list(examples)
+    for kind, lines in blocks_of((TOP / name).read_text(encoding="utf-8")):
+        if kind == "sh":
+            continue
+        rows = rows_of(lines)
+        if rows and left:
+            example_name, before = left.pop(0)
+            yield f"{name}: {example_name}", tried(is_example, rows, example_name, before)
+        elif rows:
+            yield f"{name}: {lines[0]}", "it is none of the examples"
+        elif lines[0].startswith('{"version"'):
+            yield f"{name}: a trace by hand", tried(is_a_trace, lines)
+        elif lines[0].startswith('{"') or any(REPLY.fullmatch(line) for line in lines):
+            yield f"{name}: {lines[0]}", tried(is_rehearsed, lines)
+    for example_name, _ in left:
+        yield f"{name}: {example_name}", "it is not on the page"
+
+
+def all_checks():
+    """The checks of all pages, and of the scripts that they name."""
+    for name, examples in PAGES.items():
+        yield from checks_of(name, examples)
+    for name in COPIED:
+        yield f"examples/{name}", tried(is_copied, name)
+    yield "docs/MODEL.md: the pseudo-code", tried(is_read, model.PAGE)
+
+
+def check_blocks() -> int:
+    """Prints each block and each script of the pages with what is wrong; returns the exit status."""
+    wrong = 0
+    for check, fault in all_checks():
+        wrong += bool(fault)
+        print(f"WRONG {check}: {fault}" if fault else f"ok    {check}")
+    return 1 if wrong else 0
+
+
+# ---- Names ---------------------------------------------------------------------------------------
+
+QUOTED = re.compile(r"`([^`]+)`")
+CITED = re.compile(r"((?:`[^`]+`|[^`()|])+)\(`([\w/]+\.\w+)`\)")  # what a row cites, and of which file
+NAME = re.compile(r"(?:\w+::)*([A-Za-z_]\w+)")
+FILE = re.compile(r"[\w.-]*/[\w./-]*|\w+\.(?:rt|antt|py|md)")
+
+
+def missing_of(line):
+    """What a row cites, as `name`: `label` (`file`), and the file doesn't have."""
+    for cited, file in CITED.findall(line) if line.startswith("|") else []:
+        path = CRATES / file
+        for part in cited.split(";") if path.is_file() else []:
+            names, _, labels = part.partition("`: `")
+            for name in QUOTED.findall(f"{names}`"):
+                there = contracts.labels_of(path, name)
+                if there is None:
+                    yield f"{name} in {file}"
+                else:
+                    yield from (f"{it} of {name}" for it in QUOTED.findall(f"`{labels}") if it not in there)
+
+
+def unknown_in(page, line, names):
+    """The files and the names of a line that are not in the tree."""
+    for word in QUOTED.findall(line):
+        name = NAME.fullmatch(re.sub("<.*>", "", word))
+        if name:
+            is_there = name[1] in names
+        elif FILE.fullmatch(word) and "/" in word:
+            places = [TOP / word, CRATES / word, *page.parent.rglob(word)]
+            is_there = word.strip("/") in names or any(place.exists() for place in places)
+        else:
+            is_there = word in names or not FILE.fullmatch(word)
+        if not is_there:
+            yield word
+
+
+def check_names():
+    """Prints each name on docs/PROVED.md and the READMEs of the crates that is not in the tree, or not
+    in the file that is named for it; returns the exit status."""
+    names = {name for path in CRATES.rglob("*") for name in contracts.names_in(path)}
+    names |= {"ensures", "requires", *re.findall(r"\w+", (TOP / "crates.txt").read_text(encoding="utf-8"))}
+    pages, wrong = [TOP / "docs" / "PROVED.md", *sorted(CRATES.glob("*/README.md"))], 0
+    for page in pages:
+        for number, line in enumerate(page.read_text(encoding="utf-8").splitlines(), 1):
+            for name in [*missing_of(line), *unknown_in(page, line, names)]:
+                print(f"WRONG {page.relative_to(TOP)}:{number}: no {name}")
+                wrong += 1
+    if not wrong:
+        print(f"ok    the names of {len(pages)} pages")
+    return 1 if wrong else 0
+
+
+# ---- Numbers -------------------------------------------------------------------------------------
+
+PROVED = TOP / "docs" / "PROVED.md"
+ARCHITECTURE = TOP / "docs" / "ARCHITECTURE.md"
+# A guarantee: the words for the script; then definitions, lines and lines of comments.
+GUARANTEE = re.compile(r"\| \[.*\| (?:`([^`]*)`|no argument) \| ([\d,]+ \| [\d,]+ \| [\d,]+) \|")
+# A row of what one must read: its files; then lines and lines of comments; then minutes.
+READ = re.compile(r"\| \d+ \| (.*?) \| .* \| ([\d,]+ \| [\d,]+) \| (\d+) \|")
+TOTAL = re.compile(r"([\d,]+) in ([\d,]+) files, with ([\d,]+) lines and ([\d,]+) of comments")
+MINUTES = re.compile(r"(\d+) minutes in all")
+# The clauses that are followed to their last definition, and how many files the page says they take.
+FOLLOWED = ["rd_journal/src/sessions.rt", "undo_at.answer", "undo_at.run"]
+FILES = re.compile(r"the script prints (\d+) files")
+
+
+def in_row(numbers):
+    """Numbers as the cells of a row have them."""
+    return " | ".join(f"{number:,}" for number in numbers)
+
+
+def said_in(pattern, text):
+    """The numbers of a sentence on a page, as the cells of a row."""
+    found = pattern.search(" ".join(text.split()))
+    return " | ".join(found.groups()) if found else "no such sentence"
+
+
+def guarantees():
+    """The rows of the guarantees, each with what the page says, and what the script gives."""
+    text = PROVED.read_text(encoding="utf-8")
+    rows = GUARANTEE.findall(text)
+    yield "rows of guarantees with numbers", str(len(rows)), str(text.count("\n| ["))
+    for words, said in rows:
+        count, _, *lines = definitions.reached_from(words.split() or definitions.HEADLINE).totals()
+        yield words or "the headline", said, in_row([count, *lines])
+
+
+def files_of(cell):
+    """The files that a cell names; one without a folder is in that of the file before it."""
+    found = []
+    for name in QUOTED.findall(cell):
+        found.append(CRATES / name if "/" in name else found[-1].parent / name)
+    return found
+
+
+def only_in(paths, others):
+    """The files that are in the one list and not in the other, or more often."""
+    more = collections.Counter(paths) - collections.Counter(others)
+    return ", ".join(sorted(str(path.relative_to(CRATES)) for path in more.elements())) or "no other file"
+
+
+def reading():
+    """The rows of what one must read to believe the headline, with what they add up to, as above."""
+    text, reached = ARCHITECTURE.read_text(encoding="utf-8"), definitions.reached_from(definitions.HEADLINE)
+    rows = [(files_of(cell), said, int(minutes)) for cell, said, minutes in READ.findall(text)]
+    for number, (files, said, _) in enumerate(rows, 1):
+        counts = [reached.counts(*it) for it in reached.texts if it[0] in files]
+        yield f"row {number} of the files", said, in_row(map(sum, zip(*counts)))
+    named, there = [path for files, _, _ in rows for path in files], {path for path, _ in reached.texts}
+    yield "files of all rows", only_in(named, there), only_in(there, named)
+    yield "the headline's total", said_in(TOTAL, text), in_row(reached.totals())
+    yield "the headline's minutes", said_in(MINUTES, text), str(sum(minutes for _, _, minutes in rows))
+    yield "files of undo_at", said_in(FILES, text), str(definitions.reached_from(FOLLOWED).totals()[1])
+
+
+def check_numbers():
+    """Prints each number of definitions, files and lines on the pages that `definitions.py` doesn't
+    give, with the one that it gives; returns the exit status."""
+    rows = [(PROVED, row) for row in guarantees()] + [(ARCHITECTURE, row) for row in reading()]
+    wrong = [(page, row) for page, row in rows if row[1] != row[2]]
+    for page, (name, said, wanted) in wrong:
+        print(f"WRONG {page.relative_to(TOP)}: {name}: it has {said}, and it should have {wanted}")
+    if not wrong:
+        print(f"ok    {len(rows)} numbers of definitions, files and lines")
+    return 1 if wrong else 0
+
+
+def main() -> int:
+    """Runs all checks of the pages; returns the exit status."""
+    return max(check_blocks(), check_names(), check_numbers())

@@ -1,0 +1,489 @@
+"""Tries the archives that `tools/release.py` makes, as somebody does who has unpacked one.
+
+    python3 tools/check.py release [--program P]
+
+It makes archives with several choices of lessons and answers, and unpacks each in a folder of its
+own. There it runs each command that the README, a page or its block of lines has, in the order of
+the page, in one shell a page: each has to succeed, a pipe in each of its parts, and to write what
+the page shows after it. What a page calls a script of your own is one that is laid there. The
+commands of all pages run in `examples/` of the repository too. Then each link of a page has to lead
+to a place, and each file that a page, the man page or the README names has to be there; none may
+name a folder that the archive doesn't have, or the command of the kit.
+
+Each check prints a line; the status is 1 if one of them fails. It needs pandoc, as tools/release.py
+does. What isn't installed here (man, column, rlwrap, a printer of PDF) is named, and passed over.
+"""
+
+import argparse
+import os
+import re
+import shutil
+import subprocess
+import sys
+import tarfile
+import tempfile
+from dataclasses import dataclass, field
+from html.parser import HTMLParser
+from pathlib import Path
+from typing import Iterator
+
+from lcrq_tools import program
+from lcrq_tools.program import TOP
+from lcrq_tools.release import release_pages
+
+RELEASE = [sys.executable, str(TOP / "tools" / "release.py")]
+SECONDS = 600  # that making an archive, or the commands of a page, may take
+
+# The archives: the options, and whether the commands of its pages are run.
+ARCHIVES = [
+    ([], True),
+    (["--lessons", "5,14,15", "--answers", "apart"], True),
+    (["--lessons", "12", "--answers", "none"], True),
+    (["--lessons", "6", "--answers", "with"], False),
+    (["--answers", "apart"], False),
+    (["--answers", "none"], False),
+]
+
+# A script of one's own for the recipes, over rings of 2: it fills a ring, closes it and goes on.
+OWN = [
+    *("enq 1 7", "go 1 x6", "enq 1 8", "go 1 x6", "enq 1 9", "go 1 x8", "enq 2 5", "go 2 x6"),
+    *("deq 3", "go 3 x5", "undo 5", "show next 0.0"),
+]
+# What stands for a word in capitals.
+STANDS_FOR = {
+    "FILE..": "questions.script question.script",
+    "FILE": "s.trace",
+    "TRACE": "s.trace",
+    "SCRIPT": "s.script",
+    "N": "12",
+    "OUT.svg": "out.svg",
+    "OUT.html": "out.html",
+    "DIR/before.trace": "s.trace",
+}
+PASSED_OVER = ("man", "column", "rlwrap", "make")  # where they aren't installed
+# The logs of a port, for the recipes: one that takes a value out, and one that puts it in.
+LOGS = {
+    "t1.log": "1 1 enq 7|2 1 E1 r0|3 1 E2 none|4 1 E4 open 0|5 1 E5 none|6 1 E6 1 0|7 1 E8 won; enqueued",
+    "t2.log": "8 2 deq|9 2 Q1 r0|10 2 Q2 0|11 2 Q3 7",
+}
+
+PROGRAMS = r"python3|\w+\.py|awk -f|od|tr|tail -c|ls -l"
+COMMAND = re.compile(rf"lcrqdb (?:(?:run|load|view|help) \S.*|--\w+)|(?:{PROGRAMS}) \S.*")
+PATH = re.compile(r"(?<![\w./-])(?:\.{1,2}/)*((?:crates|tools|checks|bench|docs|examples|bin|share)/[\w./*-]*)")
+FILE = re.compile(r"[\w.-]+\.(?:script|trace|report|svg|html|json|py|pdf|awk|md)")
+KIT = re.compile(r"\brt (?:try|run|ci|check|test|must-fail|fmt)\b|\bthe repository\b")
+CRATE = re.compile(r"\brd_\w+")
+SAYS_SO = "is a definition of the repository"  # on a page that names crates
+PLACEHOLDERS = {"NAME.report", "OUT.svg", "OUT.html", "START.trace"}
+PLACEHOLDERS |= {"to.script", "before.trace", "from.trace", "port.trace", "steps.svg", "steps.html"}  # of conform.py
+
+# ---- Pages ---------------------------------------------------------------------------------------
+
+
+@dataclass
+class Page(HTMLParser):
+    """A page of the archive: its code, tables and links in order, its names, and its text."""
+
+    path: Path
+    items: list = field(default_factory=list)  # each its kind and its text, or the rows of a table
+    inside: list = field(default_factory=list)  # the code of a table, which comes after it
+    names: set = field(default_factory=set)
+    links: list = field(default_factory=list)
+    text: str = ""
+
+    def __post_init__(self) -> None:
+        """Reads the page."""
+        super().__init__()
+        self.kind, self.code, self.is_pre, self.rows, self.cell = "", None, False, None, None
+        self.feed(self.path.read_text(encoding="utf-8"))
+
+    def handle_starttag(self, tag: str, attributes: list) -> None:
+        """Begins an element."""
+        given = dict(attributes)
+        self.names |= {given["id"]} if "id" in given else set()
+        self.links += [given["href"]] if "href" in given else []
+        if tag == "pre":
+            self.is_pre, self.kind = True, given.get("data-language", "")
+        elif tag == "code":
+            self.code = ""
+        elif tag == "table":
+            self.rows = []
+        elif tag == "tr":
+            self.rows.append([])
+        elif tag in ("td", "th"):
+            self.cell = ""
+
+    def handle_endtag(self, tag: str) -> None:
+        """Ends an element."""
+        if tag == "code":
+            where = self.items if self.rows is None else self.inside
+            where.append((self.kind if self.is_pre else "code", self.code))
+            self.code = None
+        elif tag == "pre":
+            self.is_pre, self.kind = False, ""
+        elif tag in ("td", "th"):
+            self.rows[-1].append(self.cell)
+            self.cell = None
+        elif tag == "table":
+            self.items += [("table", self.rows), *self.inside]
+            self.rows, self.inside = None, []
+
+    def handle_data(self, data: str) -> None:
+        """Takes text."""
+        self.text += data
+        self.code = None if self.code is None else self.code + data
+        self.cell = None if self.cell is None else self.cell + data
+
+
+# ---- Commands ------------------------------------------------------------------------------------
+
+
+@dataclass(frozen=True)
+class Command:
+    """What a page has to type, and what it shows of what that writes, if it does."""
+
+    kind: str  # sh or python
+    text: str
+    shown: str | None
+
+
+def stands_for(text: str) -> str:
+    """A command with something in the place of each word in capitals."""
+    text = text.replace("lcrqdb run FILE", "lcrqdb run s.script")
+    return " ".join(STANDS_FOR.get(word, word) for word in text.split(" "))
+
+
+def replies_in(rows: list) -> str | None:
+    """The replies of a table of lines and replies, where each is certain."""
+    if rows[0][:2] != ["Line", "Reply"] or any(row[1].startswith("viewer ") for row in rows):
+        return None
+    return "".join(f"{row[1]}\n" for row in rows[1:])
+
+
+def commands_of(page: Page) -> Iterator[Command]:
+    """The commands of a page in order."""
+    for (kind, text), after in zip(page.items, [*page.items[1:], ("", "")]):
+        if kind in ("sh", "python"):
+            yield Command(kind, text, None)
+        elif kind == "code" and COMMAND.fullmatch(text):
+            shown = replies_in(after[1]) if after[0] == "table" and "--trace" not in text else None
+            yield Command("sh", stands_for(text), shown)
+        elif kind == "text" and text.startswith("lcrqdb ") and "[" not in text:
+            first, _, rest = text.partition("\n")
+            yield Command("sh", first, rest + "\n" * (not rest.endswith("\n")))
+
+
+def readme_commands(folder: Path) -> list[Command]:
+    """The commands of the README: its lines that are indented by four."""
+    lines = (folder / "README").read_text(encoding="utf-8").splitlines()
+    return [Command("sh", line.strip(), None) for line in lines if re.match(r" {4}\S", line)]
+
+
+def plain(lines: list[str]) -> list[str]:
+    """Lines with their counts done."""
+    found = (re.fullmatch(r"(.*?)(?: x(\d+))?", line) for line in lines)
+    return [it[1] for it in found for _ in range(int(it[2] or 1))]
+
+
+def lay_own(folder: Path, pages: list[Page], built: str) -> None:
+    """Lays files of one's own beside the examples, for the recipes."""
+    own = plain(OWN)
+    files = {
+        "s.script": own,
+        "mine.script": (folder / "examples" / "session.script").read_text(encoding="ascii").splitlines(),
+        "long.script": [*own, *["len"] * 400],
+        "a.script": own,
+        "b.script": [*own, "len"],
+        "draft": ["# a draft", "", *(f"{line}  # done" for line in OWN)],
+    }
+    for name, lines in files.items():
+        (folder / "examples" / name).write_text("\n".join([*lines, ""]), encoding="ascii")
+    for name, words in {"s.report": ["run", "-", "--ring", "2"], "s.trace": ["run", "-", "--trace"]}.items():
+        script = "\n".join([*(own if name == "s.report" else ["enq 1 7", "go 1"]), ""]).encode()
+        output = program.run([built, *words], script).output
+        (folder / "examples" / name).write_bytes(output if name == "s.report" else output.splitlines()[-1])
+    for name, records in LOGS.items():
+        (folder / "examples" / name).write_text(records.replace("|", "\n") + "\n", encoding="ascii")
+    mine = folder / "examples" / "my-port"
+    mine.write_text("#!/bin/sh\ncat t1.log\n", encoding="ascii")
+    mine.chmod(0o755)
+    for kind, text in (item for page in pages for item in page.items):
+        if kind == "awk":
+            (folder / "examples" / "plain.awk").write_text(text, encoding="ascii")
+
+
+SHELL = """\
+set -E -o pipefail
+trap 'printf "%s\\n" "$BASH_COMMAND" >> "$TRIED/failed"' ERR
+command -v man > /dev/null || man() { :; }
+command -v column > /dev/null || column() { cat; }
+command -v rlwrap > /dev/null || rlwrap() { "$@"; }
+command -v make > /dev/null || make() { :; }
+"""
+EACH = """\
+TRIED={folder}
+. {folder}/command > {folder}/output 2> {folder}/errors < {folder}/input
+echo $? > {folder}/status
+"""
+
+
+def run_commands(folder: Path, commands: list[Command], tried: Path) -> None:
+    """Runs commands in one shell, in the folder of the archive; each has a folder for what it
+    gives."""
+    lines = [SHELL]
+    for number, command in enumerate(commands):
+        own = tried / str(number)
+        own.mkdir(parents=True)
+        text = command.text if command.kind == "sh" else f"python3 - <<'LINES'\n{command.text}\nLINES\n"
+        (own / "command").write_text(f"{text}\n", encoding="utf-8")
+        (own / "input").write_text("len\n", encoding="ascii")
+        lines.append(EACH.format(folder=own))
+    places = dict.fromkeys([str(Path(sys.executable).parent), "/usr/local/bin", "/usr/bin", "/bin"])
+    environment = {"PATH": ":".join(places), "HOME": str(tried), "LANG": "C.UTF-8", "MANPAGER": "cat"}
+    script = "".join(lines).encode()
+    subprocess.run(["bash"], input=script, cwd=folder, env=environment, check=False, timeout=SECONDS)
+
+
+BAD = re.compile(r".*(?:Traceback|command not found|No such file|can't be read|syntax error).*")
+
+
+def fault_of(command: Command, own: Path) -> str:
+    """What is wrong with a command that was run, or nothing."""
+    if not (own / "status").is_file():
+        return "the shell ended before it"
+    errors = (own / "errors").read_text(encoding="utf-8", errors="replace")
+    lines = (own / "failed").read_text(encoding="utf-8").splitlines() if (own / "failed").is_file() else []
+    inside = [line for line in lines if not line.startswith(f". {own}")]
+    last = command.text.splitlines()[-1].strip()
+    is_asked = last.startswith("! ") or "# status 1" in last  # so that status is an answer
+    inside = [line for line in inside if not ("# status 1" in last and line == last.partition("#")[0].strip())]
+    if inside or lines and not is_asked:
+        return f"`{[*inside, command.text][0]}` fails: {' '.join(errors.split())[:200]}"
+    if bad := BAD.search(errors):
+        return bad[0]
+    output = (own / "output").read_text(encoding="utf-8", errors="replace")
+    if command.shown is not None and output != command.shown:
+        pairs = zip(output.splitlines() + [""], command.shown.splitlines() + [""])
+        got, shown = next(((it, other) for it, other in pairs if it != other), ("more or less", "so many lines"))
+        return f"it writes `{got}`, and the page shows `{shown}`"
+    return ""
+
+
+def needs_a_library(command: Command, own: Path) -> bool:
+    """Whether a command says which library it needs, which isn't there."""
+    return (own / "errors").is_file() and "this needs jsonschema" in (own / "errors").read_text(encoding="utf-8")
+
+
+def try_commands(folder: Path, name: str, commands: list[Command]) -> Iterator[tuple[str, str]]:
+    """Runs the commands of a page; gives each with what is wrong, or nothing."""
+    with tempfile.TemporaryDirectory() as tried:
+        run_commands(folder, commands, Path(tried))
+        for number, command in enumerate(commands):
+            own = Path(tried) / str(number)
+            first = command.text.strip().splitlines()[0]
+            if needs_a_library(command, own):
+                yield f"{name}: {first} (not tried: no jsonschema here)", ""
+            else:
+                yield f"{name}: {first}", fault_of(command, own)
+
+
+# ---- Names and links -----------------------------------------------------------------------------
+
+
+def link_fault(page: Page, pages: dict[Path, Page], link: str) -> str:
+    """What is wrong with a link of a page, or nothing."""
+    if "://" in link or link.startswith("data:"):
+        return ""
+    path, _, name = link.partition("#")
+    file = (page.path.parent / path).resolve() if path else page.path
+    if not file.is_file():
+        return f"{link} leads to no file"
+    return f"{link} leads to no heading" if name and file in pages and name not in pages[file].names else ""
+
+
+def is_there(folder: Path, name: str) -> bool:
+    """Whether the archive has a file of this name where one looks for it."""
+    places = [folder, *(folder / it for it in ("examples", "docs", "tools"))]
+    return name in PLACEHOLDERS or any((place / name).exists() for place in places)
+
+
+def name_fault(folder: Path, text: str) -> str:
+    """What a text names and the archive doesn't have, or nothing."""
+    for path in PATH.findall(text):
+        if not any(folder.glob(path.rstrip("./") or path)):
+            return f"{path.rstrip('.')} is not in the archive"
+    for name in FILE.findall(text):
+        if not is_there(folder, name.lstrip(".-")):
+            return f"{name} is not in the archive"
+    text = " ".join(text.split())
+    if kit := KIT.search(text):
+        return "" if SAYS_SO in text and kit[0] == "the repository" else f"it says `{kit[0]}`"
+    crate = CRATE.search(text)
+    return f"it names {crate[0]}, a crate" if crate and SAYS_SO not in text else ""
+
+
+def man_text(folder: Path) -> str:
+    """The text of the man page, without what only sets it."""
+    source = (folder / "share" / "man" / "man1" / "lcrqdb.1").read_text(encoding="utf-8")
+    return re.sub(r"\\f(?:\[\w*\]|.)|\\[&/]", "", source).replace("\\-", "-")
+
+
+def content_fault(folder: Path, choice: release_pages.Choice, pages: dict[str, Page]) -> str:
+    """What is wrong with the lessons and answers of an archive, or nothing."""
+    lessons = {release_pages.LESSONS[number].stem for number in choice.lessons}
+    there = {path.stem for path in release_pages.LESSONS.values() if path.stem in pages["lessons"].names}
+    if there != lessons:
+        return f"lessons.html has {len(there)} lessons, and {len(lessons)} are chosen"
+    html = pages["lessons"].path.read_text(encoding="utf-8")
+    folded = len(re.findall(r"<summary>\s*Answer", html))
+    if folded != (len(lessons) if choice.answers == "with" else 0):
+        return f"lessons.html has {folded} answers"
+    if ("answers" in pages) != (choice.answers == "apart"):
+        return "answers.html is there, or is missing"
+    if choice.answers == "apart" and not lessons <= pages["answers"].names:
+        return "answers.html has not all lessons"
+    examples = [path.name for path in (folder / "examples").iterdir()]
+    others = [name for name in examples if name[:2].isdecimal() and int(name[:2]) not in choice.lessons]
+    if others:
+        return f"{others[0]} is of a lesson that is not chosen"
+    reports = {name.removesuffix(".script") for name in examples if name.endswith(".script")}
+    without = sorted(name for name in reports if not (folder / "examples" / f"{name}.report").is_file())
+    viewed = [name for name in without if not re.search(r"viewers|guide-5|question", name)]
+    return f"{viewed[0]}.script has no report" if viewed else ""
+
+
+# ---- Archives ------------------------------------------------------------------------------------
+
+
+def make(words: list[str], built: str, folder: Path) -> Path:
+    """Makes an archive and unpacks it; returns its folder."""
+    ended = program.run([*RELEASE, *words, "--program", built, "-o", str(folder)], timeout=SECONDS)
+    if ended.status:
+        raise program.Broken(f"release.py {' '.join(words)}: {ended.errors.strip()}")
+    made = folder / next(line for line in ended.output.decode().splitlines() if line.endswith(".tar.gz")).split("/")[-1]
+    with tarfile.open(made) as archive:
+        archive.extractall(folder, filter="data") if hasattr(tarfile, "data_filter") else archive.extractall(folder)
+    return folder / made.name.removesuffix(".tar.gz")
+
+
+def choice_of(words: list[str]) -> release_pages.Choice:
+    """What is chosen by options."""
+    given = dict(zip(words[::2], words[1::2]))
+    numbers = tuple(map(int, given["--lessons"].split(","))) if "--lessons" in given else tuple(release_pages.LESSONS)
+    return release_pages.Choice(numbers, given.get("--answers", "with"))
+
+
+def lay_repository(folder: Path, built: str) -> None:
+    """Lays what the commands of the pages take of the repository into a folder, with the program where
+    a build leaves it."""
+    for name in ("tools", "docs", "crates/lessons/data"):
+        shutil.copytree(TOP / name, folder / name, ignore=shutil.ignore_patterns("__pycache__"))
+    (folder / "examples").symlink_to((TOP / "examples").readlink())
+    out = folder / "crates" / "lcrqdb" / "out"
+    out.mkdir(parents=True)
+    shutil.copy(built, out)
+    (out / Path(built).name).rename(out / "lcrqdb")
+
+
+def check_repository(pages: dict[str, Page], built: str) -> Iterator[tuple[str, str]]:
+    """Runs the commands of the pages in `examples/` of the repository."""
+    first = Command("sh", 'export PATH="$PWD/crates/lcrqdb/out:$PWD/tools:$PATH"; cd examples', None)
+    with tempfile.TemporaryDirectory() as name:
+        folder = Path(name).resolve()
+        lay_repository(folder, built)
+        lay_own(folder, list(pages.values()), built)
+        for stem, page in pages.items():
+            commands = [it for it in commands_of(page) if "export PATH" not in it.text]
+            yield from try_commands(folder, f"repository: {stem}.html", [first, *commands])
+
+
+def check_archive(words: list[str], runs: bool, built: str) -> Iterator[tuple[str, str]]:
+    """The checks of one archive."""
+    about = " ".join(words) or "all"
+    with tempfile.TemporaryDirectory() as name:
+        folder = make(words, built, Path(name).resolve())
+        pages = {path.stem: Page(path) for path in sorted((folder / "docs").glob("*.html"))}
+        by_path = {page.path: page for page in pages.values()}
+        yield f"{about}: lessons, answers and reports", content_fault(folder, choice_of(words), pages)
+        lay_own(folder, list(pages.values()), built)
+        prelude = readme_commands(folder)
+        if runs:
+            yield from try_commands(folder, f"{about}: README", prelude)
+        else:
+            run_commands(folder, prelude, Path(name) / "prelude")
+        here = [Command("sh", 'export PATH="$PWD/bin:$PWD/tools:$PATH"; cd examples', None)]
+        for stem, page in pages.items():
+            commands = [*commands_of(page)]
+            first = [it for it in commands if "export PATH" in it.text] or here
+            commands = [*first, *(it for it in commands if it not in first)]
+            if runs:
+                yield from try_commands(folder, f"{about}: {stem}.html", commands)
+            else:
+                run_commands(folder, commands, Path(name) / f"of-{stem}")
+        if not words:
+            yield from check_repository(pages, built)
+        for stem, page in pages.items():
+            faults = filter(None, (link_fault(page, by_path, link) for link in page.links))
+            yield f"{about}: {stem}.html: {len(page.links)} links", next(faults, "")
+            yield f"{about}: {stem}.html: what it names", name_fault(folder, page.text)
+        yield f"{about}: README: what it names", name_fault(folder, (folder / "README").read_text(encoding="utf-8"))
+        yield f"{about}: the man page: what it names", name_fault(folder, man_text(folder))
+
+
+def is_reproducible(built: str) -> str:
+    """What is wrong with two archives of one choice, or nothing."""
+    words = ["--lessons", "1", "--answers", "none"]
+    with tempfile.TemporaryDirectory() as one, tempfile.TemporaryDirectory() as other:
+        first, second = (make(words, built, Path(it)) for it in (one, other))
+        same = Path(f"{first}.tar.gz").read_bytes() == Path(f"{second}.tar.gz").read_bytes()
+    return "" if same else "two of them have other bytes"
+
+
+def is_printed(built: str) -> str:
+    """What is wrong with an archive that has PDF, or nothing."""
+    with tempfile.TemporaryDirectory() as name:
+        folder = make(["--lessons", "1", "--answers", "apart", "--pdf"], built, Path(name))
+        wanted = [folder / "docs" / f"{page}.pdf" for page in ("guide", "lessons", "answers")]
+        wanted += [Path(f"{folder}-{path.name}") for path in wanted]
+        wrong = [path.name for path in wanted if not path.is_file() or path.read_bytes()[:5] != b"%PDF-"]
+    return f"{wrong[0]} is no PDF" if wrong else ""
+
+
+def refuses(words: list[str], said: str, built: str, **more: object) -> str:
+    """What is wrong where these options have to be refused in one line, or nothing."""
+    with tempfile.TemporaryDirectory() as name:
+        ended = program.run([*RELEASE, *words, "--program", built, "-o", name], **more)
+    last = ended.errors.strip().splitlines()[-1:] or [""]
+    is_right = ended.status and said in last[0] and "Traceback" not in ended.errors
+    return "" if is_right else f"status {ended.status}: {last[0]}"
+
+
+def all_checks(built: str) -> Iterator[tuple[str, str]]:
+    """All checks, each a name and what is wrong, or nothing."""
+    missing = [name for name in PASSED_OVER if not shutil.which(name)]
+    yield f"not installed here, so passed over: {', '.join(missing) or 'nothing'}", ""
+    for words, runs in ARCHIVES:
+        yield from check_archive(words, runs, built)
+    yield "the same choice gives the same bytes", is_reproducible(built)
+    yield "--lessons 99 is refused", refuses(["--lessons", "99"], "no lesson has the number '99'", built)
+    with tempfile.TemporaryDirectory() as name:
+        (Path(name) / "pandoc").symlink_to(shutil.which("pandoc"))
+        alone = {"env": os.environ | {"PATH": name}}
+        yield "--pdf without a printer is refused", refuses(["--pdf"], "neither is there", built, **alone)
+    browsers = ("weasyprint", "chromium", "chromium-browser", "google-chrome")
+    if any(map(shutil.which, browsers)):
+        yield "--pdf", is_printed(built)
+    else:
+        yield "--pdf: no printer of PDF is installed here", ""
+
+
+def main() -> int:
+    """Runs all checks."""
+    parser = argparse.ArgumentParser(description="Tries the archives that tools/release.py makes.")
+    program.add_program(parser)
+    built = str(Path(parser.parse_args().program).resolve())
+    try:
+        return program.print_checks(all_checks(built))
+    except (program.Broken, OSError, subprocess.TimeoutExpired) as fault:
+        print(f"release.py: {fault}", file=sys.stderr)
+        return 1

@@ -1,0 +1,292 @@
+"""Runs the built program itself: its options, exit statuses, standard error, traces, the script of
+each lesson, and the sessions of README and manual.
+
+    python3 tools/check.py statuses [--program P]
+
+The gate can't start the program more than once, with one command line; this does, and compares. The
+status is 1 if anything differs. Only Python's standard library is used.
+"""
+
+import argparse
+import os
+import re
+import tempfile
+from pathlib import Path
+
+from lcrq_tools import manual, program
+
+LESSONS = program.CRATES / "lessons" / "data"
+
+# A name, the words, standard input, the status, and how standard output and standard error begin.
+ROWS = [
+    ("an empty script", ["run", "-"], "", 0, "", ""),
+    ("a last line without its line feed", ["run", "-"], "len", 0, "at 0 0\n", ""),
+    ("two actors", ["run", "-", "--actors", "2"], "deq 3\n", 0, "refused 1 NoActor\n", ""),
+    ("sixteen actors", ["run", "--actors=16", "-"], "deq 16\n", 0, "ok 1\n", ""),
+    ("a ring of two cells", ["run", "--ring", "2", "-"], "show cell 0.0 2\n", 0, "refused 19 NoSuchPlace\n", ""),
+    ("a ring of eight cells", ["run", "--ring", "8", "-"], "show cell 0.0 7\n", 0, "is 1 7 none\n", ""),
+    ("a refused line", ["run", "-"], "hello\n", 0, "refused 22 BadLine\n", ""),
+    ("help", ["--help"], "", 0, "A causal reversible debugger for LCRQ\n", ""),
+    ("the version", ["--version"], "", 0, "lcrqdb ", ""),
+    ("a ring of three cells", ["run", "-", "--ring", "3"], "", 2, "", "error: "),
+    ("no actor", ["run", "-", "--actors", "0"], "", 2, "", "error: "),
+    ("seventeen actors", ["run", "-", "--actors", "17"], "", 2, "", "error: "),
+    ("an option that is not there", ["run", "-", "--foo"], "", 2, "", "error: "),
+    ("no words", [], "", 2, "", "error: "),
+    ("no file", ["run"], "", 2, "", "error: "),
+    ("a file that is not there", ["run", "/nowhere/script"], "", 1, "", "lcrqdb: refused 24 Read\n"),
+    ("a folder for a file", ["run", "/"], "", 1, "", "lcrqdb: refused 24 Read\n"),
+    (
+        "a trace after the report",
+        ["run", "-", "--trace", "--actors", "2"],
+        "deq 1\nmark a\nundo\n",
+        0,
+        'ok 1\nmarked 1\nat 0 1\n{"events":[],"marks":[{"events":[["deq",1]],"name":"a"}],"ring":4,"start":{"fresh":2},"undone":[["deq",1]],"version":2}\n',
+        "",
+    ),
+    ("a trace that is not there", ["load", "/nowhere/trace"], "len\n", 1, "", "lcrqdb: refused 24 Read\n"),
+    ("no trace", ["load"], "", 2, "", "error: "),
+    ("a trace with a ring", ["load", "a", "--ring", "2"], "", 2, "", "error: "),
+    ("--trace and no trace", ["load", "--trace"], "", 2, "", "error: "),
+    ("an option of load that is not there", ["load", "a", "--trace", "--foo"], "", 2, "", "error: "),
+]
+
+# A name, the text of a script and its report. The program reads a file in portions of 4,096 bytes.
+SCRIPTS = [
+    ("a script of a few bytes", "len\n", "at 0 0\n"),
+    ("a script of 120,006 bytes", "len\n" * 30_000 + "hello\n", "at 0 0\n" * 30_000 + "refused 22 BadLine\n"),
+]
+
+# A script of a thousand lines.
+MANY = "len\n" * 1000
+
+# The parts of a world of one actor, which is at the fetch-and-add of its enqueue.
+POISED = (
+    '{"actors":[{"closed":false,"crq":[0,0],"h":0,"idx":0,"new":[0,0],"next":[0,0],"op":["enq",1],"pass":0,"pc":"E4","safe":false,"t":0,"val":null}],'
+    '"array":{"cells":[],"head":0,"tail":0},"qhead":[0,0],"qtail":[0,0],'
+    '"segments":[[{"cells":[[true,0,null],[true,1,null]],"closed":false,"head":0,"next":null,"tail":0}],[]]}'
+)
+
+
+def session(events="[]", marks="[]", start='{"fresh":1}', undone="[]") -> str:
+    """The text of a trace of version 2 over rings of two cells."""
+    return f'{{"events":{events},"marks":{marks},"ring":2,"start":{start},"undone":{undone},"version":2}}\n'
+
+
+# A name, the text of a trace, standard input, the status, standard output and standard error.
+TRACES = [
+    ("a trace", '{"actors":4,"events":[["enq",1,7],["go",1]],"ring":4,"version":1}\n', "len\n", 0, "at 2 0\n", ""),
+    ("a trace in another order", '{"version":1, "ring":2, "events":[], "actors":1}', "deq 2\n", 0, "refused 1 NoActor\n", ""),
+    ("a trace above 2 MB", '{"version":1, "ring":2, "events":[], "actors":1}' + " " * 2_200_000, "len\n", 0, "at 0 0\n", ""),
+    ("half a trace", '{"actors":4,"ev', "len\n", 1, "", "lcrqdb: refused 27 BadTrace\n"),
+    ("a float in a trace", '{"actors":4,"events":[],"ring":4,"version":1.0}', "len\n", 1, "", "lcrqdb: refused 27 BadTrace\n"),
+    (
+        "a refused event",
+        '{"actors":4,"events":[["enq",1,7],["go",1],["starve",1,true]],"ring":4,"version":1}',
+        "len\n",
+        1,
+        "",
+        "lcrqdb: refused 28 TraceStep 3 cause 5 NoChoice\n",
+    ),
+    (
+        "65,536 events",
+        '{"actors":4,"events":[' + ",".join(((['["deq",1]'] + ['["go",1]'] * 11) * 5462)[:65_536]) + '],"ring":4,"version":1}',
+        "len\n",
+        1,
+        "",
+        "lcrqdb: refused 28 TraceStep 65536 cause 9 TooLong\n",
+    ),
+    ("an undone event", session('[["enq",1,7]]', undone='[["go",1]]'), "len\nredo\n", 0, "at 1 1\nat 2 0\n", ""),
+    ("a bookmark", session(marks='[{"events":[["deq",1]],"name":"a"}]'), "len\nmarks\ngoto a\n", 0, "at 0 0\nmarks 1\nat 1 0\n", ""),
+    (
+        "a refused event of a bookmark",
+        session(marks='[{"events":[["go",1]],"name":"a"}]'),
+        "len\n",
+        1,
+        "",
+        "lcrqdb: refused 32 TraceMark 1 1 cause 3 Idle\n",
+    ),
+    ("a refused undone event", session('[["deq",1]]', undone='[["go",1],["deq",1]]'), "", 1, "", "lcrqdb: refused 28 TraceStep 3 cause 2 NotIdle\n"),
+    ("a start of one's own", session(start=POISED), "go 1\nshow tail 0.0\n", 0, "ok 1\nis open 1\n", ""),
+    (
+        "a flaw",
+        session(start=POISED.replace('"head":0,"next":null', '"head":4611686018427387905,"next":null')),
+        "len\n",
+        1,
+        "",
+        "lcrqdb: refused 26 Flaw 4\n",
+    ),
+    ("a start with too many actors", session(start='{"fresh":17}'), "len\n", 1, "", "lcrqdb: refused 27 BadTrace\n"),
+    (
+        "65,536 events of a bookmark",
+        session(marks='[{"events":[' + ",".join(((['["deq",1]'] + ['["go",1]'] * 11) * 5462)[:65_536]) + '],"name":"a"}]'),
+        "len\n",
+        1,
+        "",
+        "lcrqdb: refused 32 TraceMark 1 65536 cause 9 TooLong\n",
+    ),
+]
+
+# The same for `load --trace`.
+MARKS = '[{"events":[["deq",1]],"name":"a"}]'
+UNDONE = session('[["enq",1,7]]', MARKS, undone='[["go",1]]')
+REDONE = session('[["enq",1,7],["go",1]]', MARKS)
+FIRST = '{"actors":1,"events":[],"ring":2,"version":1}'
+OWN, OWN_STEPPED = session(start=POISED), session('[["go",1]]', start=POISED)
+SAVED = [
+    ("a session saved as it was", UNDONE, "", 0, UNDONE, ""),
+    ("a session gone on with and saved", UNDONE, "redo\n", 0, "at 2 0\n" + REDONE, ""),
+    ("a trace of version 1 saved", FIRST, "len\n", 0, "at 0 0\n" + session(), ""),
+    ("a saved start of one's own", OWN, "go 1\n", 0, "ok 1\n" + OWN_STEPPED, ""),
+    ("half a trace is not saved", UNDONE[:40], "len\n", 1, "", "lcrqdb: refused 27 BadTrace\n"),
+]
+
+
+def run(built: str, words: list, given: str = "", **more) -> tuple:
+    """The status, standard output and standard error of a run, as texts."""
+    status, output, errors = program.run([built, *words], given.encode(), **more)
+    return status, (output or b"").decode(), errors
+
+
+def begins(text: str, start: str) -> bool:
+    """Whether the text begins so; an empty beginning stands for an empty text."""
+    return text.startswith(start) if start else text == ""
+
+
+def fault_of(got, wanted, is_good) -> str:
+    """What is wrong with a run, or nothing."""
+    return "" if is_good else f"{got!r}, wanted {wanted!r}"
+
+
+def run_row(built: str, row) -> str:
+    """What is wrong with one row."""
+    _, words, given, *wanted = row
+    got = run(built, words, given)
+    fits = got[0] == wanted[0] and begins(got[1], wanted[1]) and begins(got[2], wanted[2])
+    return fault_of(got, wanted, fits)
+
+
+def run_script(built: str, row) -> str:
+    """What is wrong with the run of one script in a file; standard input has another one."""
+    _, script, report = row
+    with tempfile.NamedTemporaryFile("w", encoding="ascii") as file:
+        file.write(script)
+        file.flush()
+        status, output, errors = run(built, ["run", file.name], "deq 1\n")
+    got = (status, len(output), output[-40:], errors)
+    return fault_of(got, (0, len(report), report[-40:], ""), (status, output, errors) == (0, report, ""))
+
+
+def run_trace(built: str, row, *flags) -> str:
+    """What is wrong with the loading of one trace, with these flags."""
+    _, trace, given, *wanted = row
+    with tempfile.NamedTemporaryFile("w", encoding="ascii") as file:
+        file.write(trace)
+        file.flush()
+        got = run(built, ["load", file.name, *flags], given)
+    return fault_of(got, wanted, list(got) == wanted)
+
+
+def write_fault(built: str, output, words: list[str], given: str) -> str:
+    """What is wrong where standard output takes nothing: status 1 and the text of a failed
+    write."""
+    status, _, errors = run(built, words, given, stdout=output)
+    fits = (status, errors) == (1, "lcrqdb: refused 25 Write\n")
+    return "" if fits else f"status {status}, {errors!r}"
+
+
+def closed_pipe(built: str) -> str:
+    """What is wrong with a pipe that nobody reads."""
+    reading, writing = os.pipe()
+    os.close(reading)
+    try:
+        return write_fault(built, writing, ["run", "-"], MANY)
+    finally:
+        os.close(writing)
+
+
+def full_device(built: str, words: list[str], given: str) -> str:
+    """What is wrong with a full device."""
+    with open("/dev/full", "w", encoding="ascii") as full:
+        return write_fault(built, full, words, given)
+
+
+def table_of(lines: str, replies: list) -> re.Pattern:
+    """What the table of a page looks like: each line of a script beside its reply, and any words."""
+    pairs = zip(lines.splitlines(), replies, strict=True)
+    rows = "".join(re.escape(f"| `{line}` | `{reply}` |") + r"[^|\n]*\|\n" for line, reply in pairs)
+    return re.compile(re.escape("\n| Line | Reply | What happens |\n|---|---|---|\n") + rows + "\n")
+
+
+def has_each_reply(built: str, scripts: list) -> bool:
+    """Whether each line of two viewers has a reply."""
+    status, text, _ = run(built, ["view", *map(str, scripts)])
+    first, second = text.removeprefix("viewer 1\n").split("viewer 2\n")
+    counts = [len(first.splitlines()), len(second.splitlines()) - 1]
+    wanted = [len(script.read_text(encoding="ascii").splitlines()) for script in scripts]
+    return status == 0 and counts == wanted
+
+
+def is_as_report(built: str, script: Path, page: str = "") -> bool:
+    """Whether the replies to a script, over the trace of its name if there is one, are those of its
+    report, or those in a table of this page."""
+    lines, trace = script.read_text(encoding="ascii"), script.with_suffix(".trace")
+    words = ["load", str(trace)] if trace.exists() else ["run", "-"]
+    status, output, _ = run(built, words, lines)
+    if page:
+        return status == 0 and bool(table_of(lines, output.splitlines()).search(page))
+    return (status, output) == (0, script.with_suffix(".report").read_text(encoding="ascii"))
+
+
+def is_as_its_page_says(built: str, page: Path) -> bool:
+    """Whether the replies to a lesson's script are those beside it on its page; of two viewers,
+    whether each line has one."""
+    text = page.read_text(encoding="utf-8")
+    parts = [page.with_name(f"{page.stem}-{part}.script") for part in (1, 2)]
+    if "\nRun by two viewers.\n" in text:
+        return has_each_reply(built, parts)
+    if "\nRun over two starts.\n" in text:
+        return all(is_as_report(built, script, text) for script in parts)
+    if "\nRun over: " in text:
+        words = ["load", str(page.with_suffix(".trace"))]
+    else:
+        words = ["run", "-", "--ring", "2" if "\nRun with: --ring 2\n" in text else "4"]
+    lines = page.with_suffix(".script").read_text(encoding="ascii")
+    status, output, _ = run(built, words, lines)
+    return status == 0 and bool(table_of(lines, output.splitlines()).search(text))
+
+
+def help_fault(built: str) -> str:
+    """Which lines and places the help of `run` leaves out or the manual does not have, or nothing."""
+    _, text, _ = run(built, ["run", "--help"])
+    rows = text.partition("Lines of a script:\n")[2].partition("\n\n")[0].splitlines()
+    listed = {form for row in rows for form in row.split(maxsplit=1)[1].split(", ")}
+    return ", ".join(sorted(listed ^ {*manual.FORMS, *manual.PLACES}))
+
+
+def all_checks(built: str):
+    """The checks, each a name and what is wrong, or nothing."""
+    for row in ROWS:
+        yield row[0], run_row(built, row)
+    for row in SCRIPTS:
+        yield row[0], run_script(built, row)
+    for row in TRACES:
+        yield row[0], run_trace(built, row)
+    for row in SAVED:
+        yield row[0], run_trace(built, row, "--trace")
+    yield "the help has the lines and the places of the manual", help_fault(built)
+    yield "a closed pipe", closed_pipe(built)
+    yield "a full device", full_device(built, ["run", "-"], MANY)
+    saving = ["load", str(LESSONS / "poised.trace"), "--trace"]
+    yield "a full device for a saved session", full_device(built, saving, "")
+    for page in sorted(LESSONS.glob("[0-9]*.md")):
+        yield page.stem, "" if is_as_its_page_says(built, page) else "it is not as its page says"
+    for report in sorted(LESSONS.glob("*.report")):
+        script = report.with_suffix(".script")
+        yield report.stem, "" if is_as_report(built, script) else "it is not as its report"
+
+
+def main() -> int:
+    parser = argparse.ArgumentParser(description=__doc__.splitlines()[0])
+    program.add_program(parser)
+    return program.print_checks(all_checks(parser.parse_args().program))

@@ -1,0 +1,1 @@
+"""Drawings of a run and of the queue at one moment."""

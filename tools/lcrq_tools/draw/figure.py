@@ -1,0 +1,217 @@
+"""What `tools/picture.py` and `tools/moment.py` share: the session that a script leaves, whose
+replies a figure is made from, the elements of SVG, colours and sizes, and the command line.
+
+A figure's text is plain: no script, no font of its own, and a title and a description in words.
+Only Python's standard library is used.
+"""
+
+import argparse
+import sys
+from pathlib import Path
+from xml.sax.saxutils import escape
+
+from lcrq_tools.program import add_program, add_refused, refusals_of, run, world_of
+
+# The colours of Okabe and Ito: of an actor's dots and lines, and darker for its words. Their
+# vermilion is that of `--undo` and `--roll`, and of what is unsafe or closed.
+ACTORS = [
+    ("#0072b2", "#005a8c"),
+    ("#009e73", "#006b4e"),
+    ("#cc79a7", "#8f3c6a"),
+    ("#56b4e9", "#1c6791"),
+    ("#e69f00", "#855c00"),
+    ("#000000", "#000000"),
+]
+ASKED, ASKED_WORDS, SHADE = "#d55e00", "#9c4500", 0.2
+BAND, GROUND, LANE, GREY, DARK = "#f1f1ee", "#ffffff", "#b9b9b4", "#6a6a6a", "#222222"
+
+# Sizes, in pixels.
+MARGIN = 16
+SMALL, PLAIN, HEAD = 10, 11, 12
+
+MOST_ACTORS, MOST_CELLS = 16, 64  # that a world may have
+
+# How wide a letter is, as a part of the size, in a wide font; other letters are as wide as NORMAL.
+WIDTHS = {"ijl.,:;|'! ": 0.34, "frt-()": 0.44, "mwMW→": 0.98, "ABCDEGHNOQRSTUV": 0.75}
+NORMAL, BOLD = 0.64, 1.1
+
+
+class Fault(Exception):
+    """Why there is no picture."""
+
+
+# ---- What the program replies ---------------------------------------------------------------------
+
+
+class Session:
+    """The session that a script leaves: each question is asked of a new run of it."""
+
+    def __init__(self, arguments):
+        self.words, self.script = words_of(arguments), script_of(arguments.script, arguments.lines)
+        self.over = f"{arguments.trace}: " if arguments.trace else ""  # what a fault of the program names
+        cells = [f"show index 0.0 {cell}" for cell in range(MOST_CELLS)]
+        actors = [f"actor {actor}" for actor in range(1, MOST_ACTORS + 1)]
+        asked = ["len", *cells, *actors]
+        replies = self.replies_to(asked)
+        given, about = replies[:-len(asked)], replies[-len(asked):]
+        if len(about) < len(asked) or not about[0].startswith("at "):
+            raise Fault(f"{arguments.program} does not reply as lcrqdb does")
+        self.live, self.undone = (int(word) for word in about[0].split(" ")[1:])
+        self.ring = sum(reply.startswith("is ") for reply in about)
+        self.actors = sum(reply.startswith("actor ") for reply in about)
+        self.refused, has_fault = refusals_of(self.script, given)
+        if has_fault and not arguments.refused:
+            raise Fault(f"{self.refused}; --refused draws it all the same")
+
+    def world(self):
+        """What the world is, in words."""
+        return world_of(self.actors, self.ring)
+
+    def replies_to(self, lines):
+        """The replies to the script and to these lines after it."""
+        given = self.script + "".join(f"{line}\n" for line in lines).encode("ascii")
+        ended = run(self.words, given)
+        if ended.status:
+            raise Fault(self.over + (ended.errors.strip() or f"the program ended with status {ended.status}"))
+        return ended.output.decode("ascii").splitlines()
+
+    def ask(self, lines):
+        """The replies to these lines after the script."""
+        return self.replies_to(lines)[-len(lines):] if lines else []
+
+    def moved_to(self, first):
+        """Lines that undo all steps, and then make those before this one."""
+        moves = [f"forward {self.undone}", f"back {self.live + self.undone}", f"forward {first - 1}"]
+        return [line for line in moves if not line.endswith(" 0")]
+
+
+def words_of(arguments):
+    """The words that start the program."""
+    if arguments.trace is None:
+        options = [("--actors", arguments.actors), ("--ring", arguments.ring)]
+        chosen = [word for option, value in options if value for word in (option, value)]
+        return [arguments.program, "run", *chosen, "-"]
+    if arguments.actors or arguments.ring:
+        raise Fault("a trace has its own actors and rings: --trace comes without --actors and --ring")
+    return [arguments.program, "load", "--", arguments.trace]
+
+
+def script_of(name, count):
+    """The bytes of a script, or of so many first lines, with a line feed after the last one."""
+    try:
+        script = sys.stdin.buffer.read() if name == "-" else Path(name).read_bytes()
+    except OSError as fault:
+        raise Fault(f"{name}: {fault.strerror}") from fault
+    lines = script.removesuffix(b"\n").split(b"\n") if script else []
+    return b"".join(line + b"\n" for line in lines[:count])
+
+
+def segment_of(place):
+    """The segment of a place, or nothing."""
+    words = place.split(" ")
+    return words[1] if "." in words[-1] or len(words) == 3 else ""
+
+
+# ---- Elements of SVG ------------------------------------------------------------------------------
+
+
+def width_of(text, size, bold=False):
+    """How wide a text may be, as a wide font has it."""
+    wide = sum(next((width for letters, width in WIDTHS.items() if letter in letters), NORMAL) for letter in text)
+    return wide * size * (BOLD if bold else 1)
+
+
+def element(name, text=None, **values):
+    """An element of SVG; `_` in a name is `-`, and a value of None is left out."""
+    given = ((key.rstrip("_").replace("_", "-"), it) for key, it in values.items() if it is not None)
+    words = "".join(f' {key}="{escape(number(it), {chr(34): "&quot;"})}"' for key, it in given)
+    return f"<{name}{words}/>" if text is None else f"<{name}{words}>{escape(text)}</{name}>"
+
+
+def number(value):
+    """A value as text: a number with a fraction of one digit at most."""
+    return f"{value:.1f}".removesuffix(".0") if isinstance(value, float) else str(value)
+
+
+def words_at(x, y, text, size, fill, anchor="start", bold=False):
+    """A text at this point."""
+    weight = "bold" if bold else None
+    return element("text", text, x=x, y=y, font_size=size, fill=fill, text_anchor=anchor, font_weight=weight)
+
+
+def colour_of(actor):
+    """The colours of an actor: of its dots, and of its words."""
+    return ACTORS[(actor - 1) % len(ACTORS)]
+
+
+def mixed(colour, ground, part):
+    """The colour that is seen where this part of it is over a ground."""
+    pairs = [(int(colour[at: at + 2], 16), int(ground[at: at + 2], 16)) for at in (1, 3, 5)]
+    return "#" + "".join(f"{round(part * over + (1 - part) * under):02x}" for over, under in pairs)
+
+
+def group(name, lines, opacity=None):
+    """Elements as one, if there are any."""
+    inside = list(lines)
+    given = f' opacity="{opacity}"' if opacity else ""
+    return [f'<g class="{name}"{given}>', *inside, "</g>"] if inside else []
+
+
+def svg(title, about, width, height, lines):
+    """A whole figure on a white ground of its own, with its title and its description."""
+    size = f'width="{width}" height="{height}" viewBox="0 0 {width} {height}"'
+    head = [
+        f'<svg xmlns="http://www.w3.org/2000/svg" {size} role="img" font-family="DejaVu Sans, Verdana, sans-serif">',
+        element("title", title),
+        element("desc", about),
+        element("rect", width=width, height=height, fill=GROUND),
+    ]
+    return "\n".join([*head, *lines, "</svg>"]) + "\n"
+
+
+# ---- The command line -----------------------------------------------------------------------------
+
+
+def number_above_0(text):
+    """A number of the command line, 1 at least."""
+    if not text.isdecimal() or int(text) == 0:
+        raise argparse.ArgumentTypeError(f"{text} is no number from 1 on")
+    return int(text)
+
+
+def parser_of(about, out="OUT.svg"):
+    """The command line, as far as the tools share it."""
+    it = argparse.ArgumentParser(description=about)
+    it.add_argument("script", metavar="SCRIPT", help="the script; - is standard input")
+    it.add_argument("-o", dest="out", metavar=out, default="-", help="the file that is written; - is standard output")
+    it.add_argument("--trace", metavar="FILE", help="the trace over which the script is run")
+    it.add_argument("--actors", metavar="A", help="how many actors the fresh world has")
+    it.add_argument("--ring", metavar="R", help="how many cells its rings have")
+    add_refused(it)
+    add_program(it)
+    return it
+
+
+def script_name(arguments):
+    """What a title calls the script."""
+    return "a script" if arguments.script == "-" else Path(arguments.script).name
+
+
+def write_drawn(tool, arguments, drawn_of):
+    """Writes the text that `drawn_of` makes of a command line, which comes with what to say of the
+    script's refused lines; returns the exit status."""
+    try:
+        drawn, refused = drawn_of(arguments)
+        if arguments.out == "-":
+            sys.stdout.write(drawn)
+        else:
+            Path(arguments.out).write_text(drawn, encoding="utf-8")
+    except Fault as fault:
+        print(f"{tool}: {fault}", file=sys.stderr)
+        return 1
+    except OSError as fault:
+        print(f"{tool}: {fault.filename}: {fault.strerror}", file=sys.stderr)
+        return 1
+    if refused:
+        print(f"{tool}: {refused}", file=sys.stderr)
+    return 0

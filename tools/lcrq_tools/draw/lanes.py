@@ -1,0 +1,238 @@
+"""What a picture of a run is made of, and where it is: `drawing.py` draws it.
+
+A picture is its lanes and its rows. Rows stand in parts, each below headings of its own, so that a
+long picture can be read. Where steps of the run are left out, a break stands between two rows.
+Labels get the room that a wide font needs, so that no two overlap.
+"""
+
+from dataclasses import dataclass, field
+
+from lcrq_tools.draw.figure import HEAD, MARGIN, PLAIN, SMALL, segment_of, width_of
+
+# Sizes, in pixels.
+ROW, DOT, GAP, BREAK = 22, 4.5, 14, 10
+BAND_TOP, LANE_TOP, FIRST_ROW, PART_END = 8, 62, 82, 14
+LEGEND_ROW, MARK = 18, 20
+
+MOST_BELOW = 40  # rows below one heading
+
+
+@dataclass
+class Dot:
+    """What a step did on one lane."""
+
+    lane: str
+    kind: str  # wrote, read or lost
+    text: str
+
+
+def dot_of(access: str, answer: str, lane: str, before: str, after: str) -> Dot:
+    """What a step did on one lane of its place, by its record and the contents before and after it."""
+    if answer == "lost":
+        return Dot(lane, "lost", before)
+    if access == "wrote" or access == "wrote index" and lane.startswith("index "):
+        counts = before and lane.split(" ")[0] in ("head", "tail", "ahead", "atail", "acell")
+        return Dot(lane, "wrote", f"{before} → {after}" if counts else after)
+    return Dot(lane, "read", before)
+
+
+@dataclass
+class Row:
+    """A step: `name` is its number or `undone`, `point` its control point or its call."""
+
+    name: str
+    number: int  # in the run, with the undone steps counted on
+    actor: int
+    point: str
+    begins: bool  # a call
+    place: str
+    access: str
+    answer: str
+    reply: str
+    dots: list[Dot] = field(default_factory=list)
+    goes: bool = False  # taken by the rollback that is asked for
+    is_free: bool = False  # could be undone alone now
+
+
+@dataclass
+class Call:
+    """A call of an actor, by the numbers of its first and its last step."""
+
+    actor: int
+    begin: int  # 0 if it began before the first step that may be drawn
+    end: int | None  # none if it has no reply
+
+
+@dataclass
+class Picture:
+    """What is to be drawn."""
+
+    title: str
+    lanes: list[str]
+    rows: list[Row]
+    start: dict[str, str]  # what is on a lane before the first row, where that is shown
+    first: int  # the numbers of the steps among which the rows were chosen
+    last: int
+    start_name: str = ""
+    chosen: str = ""  # which steps are drawn, in words; nothing if all are
+    apart: set[str] = field(default_factory=set)  # the segments that were never linked
+    calls: list[Call] = field(default_factory=list)
+    bar: tuple[str, int, int] | None = None  # a lane, and the rows from which to which it is marked
+    frame: int | None = None  # the row that may go alone
+    hidden: int = 0  # how many steps the rollback takes that have no row
+    asked: str = ""
+    shows_free: bool = False
+
+
+# ---- Lanes ---------------------------------------------------------------------------------------
+
+
+def actor_lane(actor: int) -> str:
+    """The name of an actor's lane."""
+    return f"actor {actor}"
+
+
+def order_of(lane: str, chain: list[str]) -> tuple:
+    """Where a lane is: actors, the queue's ends, the segments in this order, the array."""
+    kind, *rest = lane.split(" ")
+    if kind == "actor":
+        return (0, int(rest[0]))
+    if kind in ("qhead", "qtail"):
+        return (1, kind)
+    if kind in ("ahead", "atail", "acell"):
+        return (3, len(rest), int(rest[0]) if rest else 0, kind)
+    column = {"head": 0, "tail": 1, "value": 2, "index": 2, "next": 3}[kind]
+    return (2, chain.index(rest[0]), column, int(rest[1]) if rest[1:] else 0, kind == "index")
+
+
+def name_of(lane: str) -> str:
+    """What is above a lane."""
+    kind = lane.split(" ")[0]
+    if kind == "acell":
+        return f"slot {lane.split(' ')[1]}"
+    return {"index": "safe idx", "ahead": "head", "atail": "tail"}.get(kind, kind)
+
+
+def band_of(lane: str) -> str:
+    """The name of the band in which a lane is: that of a segment, `queue`, `array`, or none."""
+    kind = lane.split(" ")[0]
+    if kind in ("qhead", "qtail"):
+        return "queue"
+    return "" if kind == "actor" else segment_of(lane) or "array"
+
+
+# ---- Where everything is --------------------------------------------------------------------------
+
+
+@dataclass
+class Part:
+    """Rows below one heading."""
+
+    down: int  # how far its headings are below those of the first part
+    bottom: int = 0
+
+    def lane_ends(self) -> tuple[int, int]:
+        """From where to where its lanes are."""
+        return self.down + LANE_TOP, self.bottom - 4
+
+
+class Layout:
+    """Where the lanes, the bands and the rows of a picture are."""
+
+    def __init__(self, picture: Picture, words: float, legend: list[str]) -> None:
+        self.picture = picture
+        names = [picture.start_name, *(row.name for row in picture.rows)]
+        self.numbers = MARGIN + max(width_of(name, SMALL, True) for name in names)
+        self.lanes, self.bands, at = {}, [], self.numbers + 8
+        for band in dict.fromkeys(band_of(lane) for lane in picture.lanes):
+            at = self.put_band(band, at + (GAP if band else 0))
+        self.right = round(at)
+        self.width = round(max(at + MARGIN, 420.0, words + 2 * MARGIN))
+        self.rows, self.breaks, self.parts = [], [], [Part(0)]
+        self.put_rows()
+        self.bottom = self.parts[-1].bottom
+        self.words = self.bottom + 22
+        self.legend = self.put_legend(self.words + (20 if words else -4), legend)
+        self.height = self.legend[-1][1] + 16
+
+    def put_band(self, band: str, left: float) -> float:
+        """Puts the lanes of a band, from here on; returns where it ends."""
+        at = left
+        for lane in self.picture.lanes:
+            if band_of(lane) == band:
+                before, after = self.room_of(lane)
+                self.lanes[lane] = round(at + before)
+                at = self.lanes[lane] + after + GAP / 2
+        if not band:
+            return at
+        right = max(at, left + width_of(self.heading_of(band), HEAD, True) + 2 * GAP)
+        self.bands.append((band, round(left), round(right)))
+        return right
+
+    def heading_of(self, band: str) -> str:
+        """What is above a band."""
+        apart = ", never linked" if band in self.picture.apart else ""
+        return f"segment {band}{apart}" if "." in band else band
+
+    def room_of(self, lane: str) -> tuple[float, float]:
+        """How much room a lane wants at its left and its right, for its words."""
+        half = width_of(name_of(lane), SMALL) / 2 + 2
+        starts = [self.picture.start[lane]] if self.picture.start_name else []
+        if not lane.startswith("actor "):
+            texts = [dot.text for row in self.picture.rows for dot in row.dots if dot.lane == lane]
+            widest = max((width_of(text, SMALL, True) for text in [*texts, *starts]), default=0)
+            return max(half, 12), max(half, widest + 10)
+        rows = [row for row in self.picture.rows if actor_lane(row.actor) == lane]
+        half = width_of(lane, HEAD, True) / 2 + 2
+        points = [*(row.point for row in rows), *starts]
+        return (
+            max([half, *(width_of(point, PLAIN) + 16 for point in points)]),
+            max([half, *(width_of(row.reply, PLAIN, True) + 14 for row in rows)]),
+        )
+
+    def put_rows(self) -> None:
+        """Puts the rows below each other, with headings again after some, and the breaks."""
+        y, number = FIRST_ROW - ROW + (ROW if self.picture.start_name else 0), self.picture.first - 1
+        for at, row in enumerate(self.picture.rows):
+            if at and at % MOST_BELOW == 0:
+                self.parts[-1].bottom = y + PART_END
+                self.parts.append(Part(y + PART_END - BAND_TOP + 4))
+                y = self.parts[-1].down + FIRST_ROW - ROW
+            if row.number > number + 1:
+                y = self.put_break(y)
+            y, number = y + ROW, row.number
+            self.rows.append(y)
+        if number < self.picture.last:
+            y = self.put_break(y)
+        self.parts[-1].bottom = y + PART_END
+
+    def put_break(self, y: int) -> int:
+        """Puts a break below the row that is here; returns how far down what follows it is."""
+        self.breaks.append(y + (ROW + BREAK) // 2)
+        return y + BREAK
+
+    def put_legend(self, y: int, texts: list[str]) -> list[tuple[int, int]]:
+        """Where each mark of the legend is, whose texts these are: in lines that fit."""
+        places, x = [], MARGIN
+        for text in texts:
+            width = MARK + 4 + width_of(text, SMALL)
+            if x > MARGIN and x + width > self.width - MARGIN:
+                x, y = MARGIN, y + LEGEND_ROW
+            places.append((round(x), y))
+            x += width + GAP
+        return places
+
+    def side_of(self, number: int, side: int) -> tuple[int, bool]:
+        """How far down the upper (-1) or the lower (1) end of what reaches as far as this step is,
+        and whether the step has a row: else it ends at the break where the step is left out."""
+        at = next((at for at, row in enumerate(self.picture.rows) if row.number >= number), len(self.rows))
+        if at < len(self.rows) and self.picture.rows[at].number == number:
+            return self.rows[at] + side * (ROW // 2 - 2), True
+        above = [it for it in self.breaks if at == 0 or it > self.rows[at - 1]]
+        return above[0], False
+
+    def clipped(self, top: int, bottom: int) -> list[tuple[int, int]]:
+        """The stretches of a lane from here to there, without the headings between parts."""
+        ends = [part.lane_ends() for part in self.parts]
+        cut = [(max(top, upper), min(bottom, lower)) for upper, lower in ends]
+        return [(upper, lower) for upper, lower in cut if upper < lower]

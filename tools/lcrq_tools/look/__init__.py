@@ -1,0 +1,1 @@
+"""What reads the repository itself: contracts, definitions, counts of lines, the gate's times."""

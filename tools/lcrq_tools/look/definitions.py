@@ -1,0 +1,321 @@
+"""Which definitions and types a contract reaches: what its reader has to believe.
+
+    python3 tools/definitions.py [--text] [FILE FUNCTION[.LABEL]..]..
+
+FILE is a source file, named from `crates/`, and each FUNCTION one of its functions: with a LABEL
+its clause of this label (`Book::obey.answer`), else all that it ensures. What a function requires
+goes with each of its clauses. A type in place of a FUNCTION means what each of its values keeps, as
+`World.well_formed`. Without a FILE it is the clause that carries the headline over a list of
+commands, from which the record `Headline` is reached.
+
+The words of a clause are followed through `ghost use` into `specs/`, from there through the imports
+of each definition, and from types of the code into `src/`. The type of a field is followed only if
+something that is reached names the field. Ghost fields are left out, since the checker proves them.
+Names are found by their words, so a few definitions too many may be listed.
+
+Standard output gets a Markdown table from the contract down: a row a file, in the order in which
+the files are reached, with the lines of what is listed that are neither blank nor a comment alone,
+and those of the comments above and inside it. The rows after the total are the kit's files with the
+names that are taken from them, operators left out; of a type also the fields that are named. What
+these names reach in turn is not listed. With `--text` standard output gets the definitions
+themselves, in this order. Only Python's standard library is used.
+"""
+
+import argparse
+import collections
+import functools
+import re
+import signal
+import sys
+from pathlib import Path
+
+from lcrq_tools.look.contracts import (
+    GHOST_FIELD, Clause, Function, blocks_of, code_of, crate_of, functions_of, imports_of, lines_of, parts_of,
+    without_ghosts,
+)
+from lcrq_tools.look.kit import fields_of, place_of, shown
+from lcrq_tools.look.lines import COMMENT, crate_names
+from lcrq_tools.program import CRATES, print_head, print_row
+
+# The clause that carries the headline, as on a command line: this is the one place that names it.
+HEADLINE = ["rd_marks/src/books/obeying.rt", "apply_all.headline"]
+WORD = re.compile(r"(?<![.\w])[A-Za-z_]\w*")
+TYPE_NAME = re.compile(r"\b[A-Z]\w*")
+NAMED_FIELD = re.compile(r"\.(\w+)|[{;]\s(\w+) = ")
+FROM_CRATE = re.compile(r"^use (\w+)::([^;]*);", re.MULTILINE)
+
+
+class Unknown(Exception):
+    """What is asked for is not there."""
+
+
+# ---- What a name means ---------------------------------------------------------------------------
+
+
+@functools.cache
+def types():
+    """The source files that have a type of each name."""
+    found = {}
+    for crate in crate_names():
+        for path in sorted((CRATES / crate / "src").rglob("*.rt")):
+            for name in blocks_of(path):
+                found.setdefault(name, []).append(path)
+    return found
+
+
+@functools.cache
+def crates_of_names(path):
+    """The crates from which a source file imports each name."""
+    found = {}
+    for crate, names in FROM_CRATE.findall("\n".join(lines_of(path))):
+        for name in re.findall(r"\w+", names):
+            found.setdefault(name, []).append(crate)
+    return found
+
+
+def type_named(name, path):
+    """The type of this name that a source file means: its own, its crate's, or an imported one."""
+    files, crates = types().get(name, []), crates_of_names(path).get(name, [])
+    own = [it for it in files if it == path]
+    of_crate = [it for it in files if crate_of(it) == crate_of(path)]
+    of_others = [it for it in files if crate_of(it) in crates]
+    of_kit = [crate for crate in crates if name[0].isupper() and is_of_kit(crate)]
+    found = [(it, name) for it in own + of_crate + of_others] + [(None, (crate, name)) for crate in of_kit]
+    return next(iter(found), None)
+
+
+def is_of_kit(crate):
+    """Whether the first word of an import names a crate of the kit."""
+    return crate not in ("crate", "self", "super") and not (CRATES / crate).is_dir()
+
+
+def declared(crate, names):
+    """The type or the constant of the code that a module of declared names has."""
+    for end in range(len(names), 0, -1):
+        path = CRATES / crate / "src" / Path(*names[:end]).with_suffix(".rt")
+        if path.is_file():
+            return next(((path, name) for name in names[end:] if name in blocks_of(path)), None)
+    return None
+
+
+def imported(module, name):
+    """What an imported name stands for: a file and a name there, or no file, with the module and
+    the name there, where it is the kit's."""
+    root, crate, *names = module.split(".")
+    if root != "Rattle" or not (CRATES / crate).is_dir():
+        return None, (module, name or names[-1])
+    if names[1] == "declared":
+        return declared(crate, [*names[2:], name or ""])
+    path = CRATES / crate / "specs" / Path(*names[1:]).with_suffix(".antt")
+    return meant(name, path) if path.is_file() else None
+
+
+def meant(name, path):
+    """The definition or type that a word means in a file, if it means one."""
+    if path.suffix == ".antt" and name in blocks_of(path):
+        return path, name
+    if name in imports_of(path):
+        return imported(*imports_of(path)[name])
+    return type_named(name, path) if path.suffix == ".rt" else None
+
+
+# ---- What is reached -----------------------------------------------------------------------------
+
+
+def functions_named(path, name):
+    """The functions of a source file that a name means, as `obey` or `Book::obey`."""
+    owner, _, short = name.rpartition("::")
+    found = [it for it in functions_of(path) if it.name == short and owner in ("", it.owner)]
+    if not found:
+        raise Unknown(f"no function {name} in {path.relative_to(CRATES)}")
+    return found
+
+
+def kept_by(path, name):
+    """A type as a function that ensures what each value of the type keeps."""
+    text = blocks_of(path)[name]
+    head = next(line for line in text.splitlines() if not line.startswith(COMMENT[path.suffix]))
+    fields = [Clause("ensures", it[1], it[0].rstrip(",\n")) for it in GHOST_FIELD.finditer(text)]
+    return Function(None, name, True, head.rstrip("{ "), tuple(fields))
+
+
+def clauses_of(path, name, label):
+    """What the functions of this name require, and what they ensure, by this label if there is one;
+    each clause with its function. What a type keeps stands for what it ensures."""
+    functions = [kept_by(path, name)] if name in blocks_of(path) else functions_named(path, name)
+    found = [(function, clause) for function in functions for clause in function.clauses]
+    ensured = [clause for _, clause in found if clause.kind == "ensures"]
+    wanted = [clause for clause in ensured if label in ("", clause.label)]
+    if not ensured:
+        raise Unknown(f"{name} ensures nothing")
+    if not wanted:
+        labels = ", ".join(clause.label or "a clause without a label" for clause in ensured)
+        raise Unknown(f"no clause {label} of {name}, which ensures {labels}")
+    return [(function, clause) for function, clause in found if clause in wanted or clause.kind == "requires"]
+
+
+class Reached:
+    """What contracts reach, in the order in which it is reached, breadth first."""
+
+    def __init__(self):
+        self.clauses = {}  # by files, names of functions and functions
+        self.texts = {}  # those of definitions and types, by their files and names
+        self.taken = set()  # the names from the kit, each after the module that it is imported from
+        self.waiting = collections.deque()  # files, and texts there whose words are to be followed
+        self.unread = []  # fields that nothing has named so far, each its file, its name and its type
+        self.read = set()  # the names of the others
+
+    def add_clauses(self, path, asked):
+        """Adds the clauses of a function that are asked for."""
+        name, _, label = asked.partition(".")
+        for function, clause in clauses_of(path, name, label):
+            clauses = self.clauses.setdefault((path, name, function), [])
+            clauses += [clause] if clause not in clauses else []
+            self.waiting.append((path, clause.text.partition("{")[2]))
+
+    def add(self, path, name):
+        """Adds a definition or a type of a file."""
+        self.texts[path, name] = text = without_ghosts(blocks_of(path)[name])
+        head, fields = parts_of(code_of(text, path.suffix))
+        self.waiting.append((path, head))
+        self.unread += [(path, *field) for field in fields]
+
+    def follow(self):
+        """Follows all words, those of a field once something names it."""
+        while self.waiting:
+            path, text = self.waiting.popleft()
+            for word in dict.fromkeys(WORD.findall(text)):
+                self.follow_word(path, word)
+            self.read |= {name or key for name, key in NAMED_FIELD.findall(text)}
+            self.waiting.extend((at, type_) for at, name, type_ in self.unread if name in self.read)
+            self.unread = [it for it in self.unread if it[1] not in self.read]
+
+    def follow_word(self, path, word):
+        """Adds what a word means in a file, if it means anything that isn't there yet."""
+        found = meant(word, path)
+        if found and found[0] is None:
+            self.taken.add(found[1])
+        elif found and found not in self.texts:
+            self.add(*found)
+
+    def counts(self, path, name):
+        """How many lines of code and of comments a definition or a type has."""
+        text = self.texts[path, name]
+        code = len(code_of(text, path.suffix).splitlines())
+        return code, sum(bool(line.strip()) for line in text.splitlines()) - code
+
+    def totals(self):
+        """How many definitions and types there are, in how many files, with how many lines of code
+        and of comments."""
+        counts = [self.counts(*it) for it in self.texts]
+        files = {path for path, _ in self.texts}
+        return len(counts), len(files), sum(code for code, _ in counts), sum(comments for _, comments in counts)
+
+    def from_kit(self):
+        """The kit's files with the names that are taken from them, each with the name that it is
+        given here, if it is another one, and with those fields of a type that something names."""
+        files = {}
+        for module, name in sorted(self.taken):
+            place = place_of(module, name)
+            names = files.setdefault(place.file, {})
+            names[place.name if place.name == name else f"{place.name} as {name}"] = ""
+            there, fields = fields_of(place)
+            if self.read.intersection(fields):
+                named = ", ".join(f".{field}" for field in fields if field in self.read)
+                files.setdefault(there.file, {})[there.name] = f" ({named})"
+        for file, names in files.items():
+            yield shown(file), [name + fields for name, fields in sorted(names.items())]
+
+
+def asked_for(words):
+    """The files of a command line, each with the names after it."""
+    asked = []
+    for word in words:
+        if word.endswith(".rt") or not asked:
+            asked.append((word.removeprefix("crates/"), []))
+        else:
+            asked[-1][1].append(word)
+    return asked
+
+
+def reached_from(words):
+    """What the clauses reach that a command line asks for."""
+    reached = Reached()
+    for file, names in asked_for(words):
+        path = CRATES / file
+        if not (path.is_file() and path.suffix == ".rt"):
+            raise Unknown(f"no source file {file} in crates/")
+        if not names:
+            raise Unknown(f"which function of {file}?")
+        for name in names:
+            reached.add_clauses(path, name)
+    for path, _, function in reached.clauses:
+        types = TYPE_NAME.findall(f"{function.signature} {function.owner}")
+        reached.waiting.append((path, " ".join(types)))
+    reached.follow()
+    return reached
+
+
+# ---- What is printed -----------------------------------------------------------------------------
+
+
+def by_file(named):
+    """Names as lists, by their files."""
+    files = {}
+    for path, name in named:
+        files.setdefault(path.relative_to(CRATES), []).append(name)
+    return files.items()
+
+
+def clause_names(reached):
+    """The files and the names of the clauses."""
+    for (path, name, _), clauses in reached.clauses.items():
+        labels = [clause.label for clause in clauses if clause.kind == "ensures"]
+        yield from ((path, f"{name}.{label}" if label else name) for label in labels)
+
+
+def print_table(reached):
+    """Prints the clauses, and then what is reached, a row a file."""
+    print_head("File", "Lines", "Comments", "What is read there")
+    for path, names in by_file(clause_names(reached)):
+        print_row(path, "", "", ", ".join(names))
+    for path, names in by_file(reached.texts):
+        code, comments = map(sum, zip(*(reached.counts(CRATES / path, name) for name in names)))
+        print_row(path, f"{code:,}", f"{comments:,}", ", ".join(names))
+    definitions, files, code, comments = reached.totals()
+    print_row("all", f"{code:,}", f"{comments:,}", f"{definitions} definitions and types in {files} files")
+    for file, names in sorted(reached.from_kit()):
+        print_row(f"kit: {file}", "", "", ", ".join(names))
+
+
+def print_texts(reached):
+    """Prints the clauses, definitions and types themselves, each with its file."""
+    contracts = [
+        (path, "\n".join([function.signature, *(clause.text for clause in clauses)]))
+        for (path, _, function), clauses in reached.clauses.items()
+    ]
+    last = None
+    for path, text in [*contracts, *((path, text) for (path, _), text in reached.texts.items())]:
+        if path != last:
+            print(f"==== {path.relative_to(CRATES)}\n")
+        print(f"{text}\n")
+        last = path
+    print("==== the kit\n")
+    for file, names in sorted(reached.from_kit()):
+        print(f"{file}: {', '.join(names)}")
+
+
+def main():
+    parser = argparse.ArgumentParser(description="Which definitions and types a contract reaches.")
+    parser.add_argument("--text", action="store_true", help="print the definitions themselves")
+    words = "a source file, from crates/, and functions of it, with or without a label; else the headline's"
+    parser.add_argument("words", nargs="*", metavar="FILE FUNCTION[.LABEL]", help=words)
+    given = parser.parse_args()
+    signal.signal(signal.SIGPIPE, signal.SIG_DFL)  # who reads the output may stop
+    try:
+        reached = reached_from(given.words or HEADLINE)
+    except Unknown as fault:
+        print(f"definitions.py: {fault}", file=sys.stderr)
+        return 2
+    (print_texts if given.text else print_table)(reached)
+    return 0

@@ -1,0 +1,132 @@
+"""Where the processor minutes of a gate go: proofs, proofs of tests and must-fail edits, crate by
+crate.
+
+    python3 tools/gate.py --watch TIMES
+    python3 tools/gate.py TIMES.. [--run NUMBER]..
+
+With --watch it looks five times a second at the checker's processes on this machine, and appends a
+line to TIMES for each that has ended: processor seconds, seconds, most memory in KiB, the folder
+that it was called in, and its words, with tabs between. It goes on until it is stopped. Start it
+before `rt ci`.
+
+Otherwise it prints a table for each TIMES. With --run, calls count only if their folder names this
+process number of an `rt ci`, so that checks by hand at the same time don't. The unit is one proof
+of rd_step alone. Only Python's standard library is used.
+"""
+
+import argparse
+import os
+import re
+import time
+from collections import defaultdict
+
+from lcrq_tools.program import print_head, print_row
+
+UNIT = ("rd_step", "proofs")
+KINDS = ("proofs", "tests", "edits")
+LOOK_EVERY = 0.2
+
+
+# ---- Watching ------------------------------------------------------------------------------------
+
+
+def text_of(path):
+    """The bytes of a file of /proc; none if the process has gone."""
+    try:
+        with open(path, "rb") as file:
+            return file.read()
+    except OSError:
+        return b""
+
+
+def look():
+    """The checker's processes: processor seconds, most memory, folder and words, by number and
+    start."""
+    found, tick = {}, os.sysconf("SC_CLK_TCK")
+    for number in filter(str.isdigit, os.listdir("/proc")):
+        stat = text_of(f"/proc/{number}/stat")
+        if b"(rattle)" not in stat:
+            continue
+        fields = stat[stat.rindex(b")") + 2:].split()
+        words = text_of(f"/proc/{number}/cmdline").decode(errors="replace")
+        peak = re.search(rb"VmHWM:\s+(\d+)", text_of(f"/proc/{number}/status"))
+        try:
+            folder = os.readlink(f"/proc/{number}/cwd")
+        except OSError:
+            folder = ""
+        # its own time, and that of the processes that it started and that have ended
+        seconds = sum(map(int, fields[11:15])) / tick
+        found[number, fields[19]] = [seconds, int(peak[1]) if peak else 0, folder, re.sub(r"[\0\t\n]", " ", words)]
+    return found
+
+
+def watch(path):
+    """Appends what each process took when it has ended."""
+    seen, began = {}, {}
+    with open(path, "a", encoding="utf-8", buffering=1) as times:
+        while True:
+            now = look()
+            for key in [key for key in seen if key not in now]:
+                seconds, peak, folder, words = seen.pop(key)
+                times.write(f"{seconds:.2f}\t{time.time() - began.pop(key):.2f}\t{peak}\t{folder}\t{words}\n")
+            for key in now:
+                began.setdefault(key, time.time())
+            # a process that is ending has no memory, folder or words any more: what was seen before
+            # stays
+            seen |= {key: one for key, one in now.items() if one[3] or key not in seen}
+            time.sleep(LOOK_EVERY)
+
+
+# ---- The table -----------------------------------------------------------------------------------
+
+
+def kind_of(folder, words):
+    """Returns the crate and what a call of the checker was for; none for what checks no crate."""
+    crate = re.search(r"--crate-name (\w+)", words)
+    if not crate:
+        return None
+    if "rt-edit" in folder:
+        return crate[1], "edits"
+    # the tests of rd_x are the crate rd_x_tests
+    name, tests = re.fullmatch(r"(\w+?)(_tests)?", crate[1]).groups()
+    return name, "tests" if tests or " --test " in f"{words} " else "proofs"
+
+
+def times_of(path, runs):
+    """Returns the processor seconds by crate and kind."""
+    times = defaultdict(float)
+    with open(path, encoding="utf-8") as lines:
+        for line in lines:
+            seconds, _, _, folder, words = line.rstrip("\n").split("\t", 4)
+            kind = kind_of(folder, words)
+            if kind and (not runs or any(f"-{run}-" in folder for run in runs)):
+                times[kind] += float(seconds)
+    return times
+
+
+def show(times):
+    """Prints the table of one gate."""
+    unit, total = times[UNIT] or 1.0, sum(times.values())
+    print_head("Crate", "Proofs", "Tests", "Edits", "Share")
+    for crate in sorted({crate for crate, _ in times}, key=lambda it: -sum(times[it, kind] for kind in KINDS)):
+        parts = [times[crate, kind] / unit for kind in KINDS]
+        print_row(crate, *(f"{part:.1f}" for part in parts), f"{sum(parts) * unit / total:.0%}")
+    sums = [sum(seconds for (_, kind), seconds in times.items() if kind == which) for which in KINDS]
+    print_row("all", *(f"{part / unit:.1f}" for part in sums), f"{total / unit:.0f} units")
+    print(f"\n{total / 60:.0f} processor minutes; the unit is {unit / 60:.2f} of them.")
+
+
+def main():
+    parser = argparse.ArgumentParser(description="Where the processor minutes of a gate go.")
+    parser.add_argument("times", nargs="+", help="the files of times; with --watch the one to append to")
+    parser.add_argument("--watch", action="store_true", help="watch the checker's processes until stopped")
+    parser.add_argument("--run", action="append", default=[], help="count only calls of this `rt ci`, by its process number")
+    given = parser.parse_args()
+    try:
+        if given.watch:
+            watch(given.times[0])
+        for path in given.times:
+            show(times_of(path, given.run))
+    except OSError as fault:
+        raise SystemExit(f"gate.py: {fault.filename}: {fault.strerror}") from fault
+    return 0

@@ -1,0 +1,85 @@
+"""How many lines of code, definitions, proofs and tests each crate has.
+
+    python3 tools/lines.py
+
+It prints a Markdown table, a row a crate in the order of crates.txt. Code is what `src/` has but
+tests, contracts included; definitions are `specs/`, proofs are `proofs/`; tests are `src/tests.rt`,
+`src/tests/` and the proofs of these, in the crate or in the one with `_tests` after its name, and
+all that the crates of several crates' tests and `test_kit` have. Which definitions a contract reaches is said by
+`definitions.py`.
+
+A line counts if it is neither blank nor a comment alone. Only Python's standard library is used.
+"""
+
+import argparse
+from pathlib import Path
+
+from lcrq_tools.program import CRATES, TOP, print_head, print_row
+
+KINDS = ("code", "definitions", "proofs", "tests")
+TESTS = "_tests"  # after the name of a crate: that of the crate of its tests
+KIT = "test_kit"  # the crate of what the crates of tests share
+COMMENT = {".rt": "//", ".antt": "--"}
+
+
+def counts_as_line(line, suffix):
+    """Whether a line of a file with this suffix counts."""
+    return bool(line.strip()) and not line.strip().startswith(COMMENT[suffix])
+
+
+def lines_in(path):
+    """How many lines of a file count."""
+    return sum(counts_as_line(line, path.suffix) for line in path.read_text(encoding="utf-8").splitlines())
+
+
+def kind_of(parts):
+    """The kind of the file that is in its crate under these names; none if it isn't counted."""
+    if parts[0] not in ("src", "specs", "proofs"):
+        return None
+    if parts[0] != "specs" and len(parts) > 1 and Path(parts[1]).stem == "tests":
+        return "tests"
+    return {"src": "code", "specs": "definitions", "proofs": "proofs"}[parts[0]]
+
+
+def counts_of(crate):
+    """The lines of a crate by their kind."""
+    counts = dict.fromkeys(KINDS, 0)
+    for path in sorted(crate.rglob("*")):
+        kind = kind_of(path.relative_to(crate).parts)
+        if kind and (crate.name.endswith(TESTS) or crate.name == KIT):
+            kind = "tests"
+        if kind and path.suffix in COMMENT:
+            counts[kind] += lines_in(path)
+    return counts
+
+
+def crate_names():
+    """The names of all crates, lowest first."""
+    rows = (TOP / "crates.txt").read_text(encoding="utf-8").splitlines()
+    return [row.split(":")[0].split()[0] for row in rows if row.strip()]
+
+
+def print_counts(name, counts):
+    """Prints a row of the table."""
+    print_row(name, *(f"{counts[kind]:,}" for kind in KINDS), f"{sum(counts.values()):,}")
+
+
+def print_crates():
+    """Prints the table of all crates."""
+    total = dict.fromkeys(KINDS, 0)
+    print_head("Crate", "Code", "Definitions", "Proofs", "Tests", "All")
+    names = crate_names()
+    for name in names:
+        if name.endswith(TESTS) and name.removesuffix(TESTS) in names:
+            continue
+        counts, tests = counts_of(CRATES / name), counts_of(CRATES / (name + TESTS))
+        counts["tests"] += tests["tests"]
+        print_counts(name, counts)
+        total = {kind: total[kind] + counts[kind] for kind in KINDS}
+    print_counts("all", total)
+
+
+def main():
+    argparse.ArgumentParser(description="Lines by crate and kind.").parse_args()
+    print_crates()
+    return 0

@@ -1,0 +1,196 @@
+"""Makes a run a page: one HTML file on which a reader goes along the run, line by line.
+
+    python3 tools/page.py SCRIPT -o OUT.html [--lines A:B] [--actors A] [--ring R] [--trace FILE]
+        [--refused] [--program P]
+
+SCRIPT is run by the built program, over the fresh world, or with `--trace` over that trace; `-` is
+standard input, and without `-o`, or with `-o -`, the page goes to standard output. The file needs
+nothing else: no network and no program.
+
+Of each line the page shows the reply, why it is refused if it is, the queue with the place that each
+actor's next step would touch, the steps as lanes with a border between live and undone ones, and
+the pseudo-code of docs/MODEL.md with the actors at their lines. The right and the left arrow go a
+line on and back, Home and End to the ends; a slider and a click on a line do too. `#line=14` in the
+address leads to a moment. `copy` gives the command that shows the same by the program. Printed it
+is a handout: lines with replies, and the queue at each bookmark, or at the end.
+
+A page takes 400 lines at most: `--lines A:B` makes one of the lines A to B of a longer script. A script
+of viewers has no page: a view's report doesn't give the order of its history.
+
+Where a line is refused that makes a step or is no command, as when a `--ring` is forgotten, nothing
+is made and the status is 1, unless `--refused` is given.
+
+Each fact is a reply of the program to a line of a script: this is a client of its text interface.
+The same input gives the same bytes. Only Python's standard library is used.
+"""
+
+import argparse
+import json
+import shlex
+from html import escape
+from pathlib import Path
+from string import Template
+
+from lcrq_tools import model
+from lcrq_tools.draw.figure import ACTORS, Fault, parser_of, script_name, write_drawn
+from lcrq_tools.page import page_lanes, page_moments, page_parts
+from lcrq_tools.page.run_rows import Rows, filled_rows
+from lcrq_tools.page.run_states import Asked, State, states_of
+
+MOST_LINES, MOST_ROWS = 400, 800
+PARTS = Path(__file__).resolve().parent
+
+
+# ---- Which rows are shown -------------------------------------------------------------------------
+
+
+def above_of(states: list[State], rows: Rows) -> int:
+    """How many steps stand above the first row: none of a short run. Those are live at all moments,
+    and come before all others."""
+    if not states[0].line and len(rows.made) <= MOST_LINES:
+        return 0
+    lists = [it.rows[: it.live] for it in states]
+    return next((at for at, them in enumerate(zip(*lists)) if len({*them}) > 1), min(map(len, lists)))
+
+
+def shown_rows(states: list[State], rows: Rows, above: int) -> list[int]:
+    """The rows that are shown."""
+    left_out = {*states[0].rows[:above]}
+    shown = [row for row in range(len(rows.made)) if row not in left_out]
+    if len(shown) > MOST_ROWS:
+        raise Fault(f"these lines make or move {len(shown)} steps, and a page takes {MOST_ROWS}: --lines A:B cuts them")
+    return shown
+
+
+def stand_of(reply: str) -> str:
+    """Where an actor is, or what is at a place, by the reply; nothing for one that is in no call."""
+    if reply.startswith("actor Idle "):
+        return ""
+    if reply.startswith("actor "):
+        return reply.partition(" crq ")[0].removeprefix("actor ")
+    return reply.removeprefix("is ") if reply.startswith("is ") else ""
+
+
+def start_of(asked: Asked, lanes: list[str], above: int) -> dict[str, str]:
+    """What is on each lane before the first row that is shown."""
+    session = asked.at(asked.first)
+    moves = session.moved_to(above + 1)
+    lines = [lane if lane.startswith("actor ") else f"show {lane}" for lane in lanes]
+    return dict(zip(lanes, map(stand_of, session.ask([*moves, *lines])[len(moves):])))
+
+
+# ---- The page -------------------------------------------------------------------------------------
+
+
+def command_of(arguments: argparse.Namespace) -> list[str]:
+    """The command that shows a moment by the program, in front of the number of its line and behind it."""
+    name = "s.script" if arguments.script == "-" else Path(arguments.script).name
+    if arguments.trace:
+        words = ["lcrqdb", "load", Path(arguments.trace).name]
+    else:
+        options = [("--actors", arguments.actors), ("--ring", arguments.ring)]
+        words = ["lcrqdb", "run", *(word for option, value in options if value for word in (option, value)), "-"]
+    return ["head -n ", f" {shlex.quote(name)} | {shlex.join(words)}"]
+
+
+def handout_of(states: list[State]) -> list[tuple[int, str]]:
+    """The moments that a handout shows: those of bookmarks, or the last one."""
+    marked = [at for at, it in enumerate(states) if it.reply.startswith("marked ")]
+    about = lambda it: f"After line {it.line}, {it.text}: {it.reply}" if it.line else "Before the first line"
+    return [(at, about(states[at])) for at in marked or [len(states) - 1]]
+
+
+def data_of(fields: dict, moments: list[dict]) -> str:
+    """The page's data as JSON, a moment a line."""
+    compact = {"separators": (",", ":"), "ensure_ascii": True}
+    lines = ",\n".join(json.dumps(it, **compact) for it in moments)
+    text = json.dumps(fields, **compact).removesuffix("}") + f',"moments":[\n{lines}\n]}}'
+    return text.replace("<", "\\u003c")
+
+
+def asked_of(arguments: argparse.Namespace) -> Asked:
+    """The run that a page is asked for."""
+    first, last = arguments.part or (1, None)
+    asked = Asked(argparse.Namespace(**vars(arguments) | {"lines": last}), first - 1)
+    if last and last > len(asked.lines):
+        raise Fault(f"the script has {len(asked.lines)} lines: --lines names some of them")
+    return asked
+
+
+def page_of(arguments: argparse.Namespace) -> tuple[str, str]:
+    """The page that is asked for, and what to say of refused lines."""
+    asked = asked_of(arguments)
+    count = len(asked.lines) - asked.first
+    if count > MOST_LINES:
+        raise Fault(f"{count} lines are too many for a page: --lines A:B takes {MOST_LINES} of them, as 1:{MOST_LINES}")
+    states = states_of(asked)
+    return made_of(arguments, asked, states, Rows(states)), asked.session.refused
+
+
+def made_of(arguments: argparse.Namespace, asked: Asked, states: list[State], rows: Rows) -> str:
+    """The page of these moments."""
+    text = model.PAGE.read_text(encoding="utf-8")
+    code, (steps, _) = model.lines_of(text), model.read(text)
+    whys, chips = page_moments.whys_of(states), [page_moments.chips_of(it, code, steps) for it in states]
+    sentences = page_moments.sentences_of(states, whys)
+    above = above_of(states, rows)
+    drawn, lanes = filled_rows(asked, states, rows, shown_rows(states, rows, above))
+    name = f"after {above}" if above else "start" if arguments.trace else ""
+    most = max(len(it.rows) for it in states) - above
+    figure = page_lanes.Lanes(drawn, lanes, start_of(asked, lanes, above) if name else {}, name, most)
+    fields = {
+        "first": states[0].line, "above": above, "colours": len(ACTORS), "height": page_lanes.LINE,
+        "border": page_lanes.BORDER, "command": command_of(arguments), "handout": handout_of(states),
+        "rows": figure.dots(),
+    }
+    moments = page_moments.differences_of(page_moments.whole_states(states, chips, sentences))
+    return filled(
+        title=escape(f"{script_name(arguments)}, {asked.session.world()}"),
+        style="\n".join([page_parts.colours(), page_parts.room(states, chips), text_in("page.css")]),
+        script=text_in("page.js"),
+        data=data_of(fields, moments),
+        first=states[0].line, last=states[-1].line,
+        lines="\n".join(map(page_parts.line_item, states, whys)),
+        longest=page_parts.sizers(sentences),
+        command=escape(str(states[-1].line).join(command_of(arguments))),
+        queue=page_parts.queue(states, asked.session.ring),
+        chips=page_parts.chips(chips, code), beside=page_parts.beside(chips),
+        idle=page_parts.idle(chips),
+        lanes=f"{figure.heads()}\n{figure.body()}", drawn=figure.drawn(),
+        code=page_parts.pseudo_code(chips, code),
+    )
+
+
+def text_in(name: str) -> str:
+    """The text of a file beside the template."""
+    return (PARTS / name).read_text(encoding="utf-8")
+
+
+def filled(**parts: object) -> str:
+    """The template with these parts."""
+    return Template(text_in("page.html")).substitute(parts)
+
+
+# ---- The command line -----------------------------------------------------------------------------
+
+
+def part_of(text: str) -> tuple[int, int]:
+    """The first and the last line of a part of a script."""
+    ends = text.split(":")
+    if len(ends) != 2 or not all(it.isdecimal() for it in ends) or not 1 <= int(ends[0]) <= int(ends[1]):
+        raise argparse.ArgumentTypeError(f"{text} is not A:B, two numbers of lines")
+    return int(ends[0]), int(ends[1])
+
+
+def parser() -> argparse.ArgumentParser:
+    """The command line."""
+    about = "Makes a run a page. A script of viewers has none: a view's report doesn't give the order of its history."
+    it = parser_of(about, "OUT.html")
+    it.usage = "page.py SCRIPT [-o OUT.html] [--lines A:B] [--actors A] [--ring R] [--trace FILE] [--program P]"
+    it.add_argument("--lines", dest="part", metavar="A:B", type=part_of, help="the lines A to B in place of all")
+    return it
+
+
+def main(words: list[str] | None = None) -> int:
+    """Writes the page that a command line asks for; returns the exit status."""
+    return write_drawn("page.py", parser().parse_args(words), page_of)

@@ -1,0 +1,288 @@
+"""The parts of a page of a run as HTML: `tools/page.py` puts them together.
+
+What changes from line to line is filled in by `page.js`. Whatever changes its size has
+a hidden copy of its largest text beside it, so that the page keeps its size along the whole run.
+"""
+
+from html import escape
+
+from lcrq_tools import model
+from lcrq_tools.draw.figure import ACTORS, BAND, DARK, GREY, GROUND, LANE, width_of
+from lcrq_tools.page.run_states import State, touched_by
+
+PINS, DISC = 2, 1.35  # discs beside each other, and the room of one, in the page's letters
+SHORT = 6  # digits of a value that is written large
+CELL = 3.8  # how wide a cell may be for pins to stand beside its texts, in the page's letters
+MOST_BESIDE = 5  # chips, on a wide screen
+HALVES, VALUED = ("label", "value", "index"), ("cell", "acell")  # texts of a cell, and places with a value
+
+# The page's own colours: by day, and in the dark. Letters have a contrast of 4.5 at least.
+COLOURS = {
+    "text": ("#222222", "#ececec"), "soft": ("#595959", "#b6b9be"), "ground": ("#ffffff", "#17191c"),
+    "band": ("#f1f1ee", "#25282d"), "line": ("#b9b9b4", "#565b63"), "mark": ("#fff0b8", "#4b4017"),
+    "warned": ("#fbe3d2", "#50301a"), "depends": ("#d7ebf9", "#1d4259"), "asked": ("#9c4500", "#ff9f5c"),
+    "focus": ("#0059b3", "#7cc0ff"),
+}
+# Of an actor's lines, letters and ground in the dark, by the order of `figure.ACTORS`.
+IN_THE_DARK = [
+    ("#3f8cff", "#8fbcff", "#1a3560"), ("#21b48a", "#4fd6ad", "#123f33"), ("#cc79a7", "#eda9cd", "#47293a"),
+    ("#5cc8f0", "#9fe2fa", "#154554"), ("#e69f00", "#f2bb45", "#4a370b"), ("#d0d0d0", "#e4e4e4", "#3b3b3b"),
+]
+TINTS = ["#cce3f0", "#ccece3", "#f5e4ed", "#ddf0fb", "#faecca", "#d9d9d9"]  # of an actor's ground by day
+ACTORS_BY_DAY = [(*colours_of_actor, tint) for colours_of_actor, tint in zip(ACTORS, TINTS)]
+
+
+def variables(names: dict[str, str]) -> str:
+    """Values of CSS by their names."""
+    return " ".join(f"--{name}: {value};" for name, value in names.items())
+
+
+def colours() -> str:
+    """The colours as CSS: those of the page, those of actors, and those of drawings, which have their
+    own by day."""
+    day = [f":root {{ {variables({name: it[0] for name, it in COLOURS.items()})} }}"]
+    night = [f":root {{ {variables({name: it[1] for name, it in COLOURS.items()})} }}"]
+    drawn = {DARK: "text", GREY: "soft", BAND: "band", GROUND: "ground", LANE: "line"}
+    names = {DARK: "text", GREY: "soft"}
+    others = []
+    keys = ("colour", "dark", "tint")
+    for at, (by_day, in_the_dark) in enumerate(zip(ACTORS_BY_DAY, IN_THE_DARK), 1):
+        colour, dark, _ = by_day
+        day.append(f".a{at} {{ {variables(dict(zip(keys, by_day)))} }}")
+        night.append(f".a{at} {{ {variables(dict(zip(keys, in_the_dark)))} }}")
+        for kind in ("fill", "stroke"):
+            others.append(f'.lanes .a{at} [{kind}="{colour}"] {{ {kind}: var(--colour); }}')
+        others.append(f'.lanes .a{at} text[fill="{dark}"] {{ fill: var(--dark); }}')
+    for colour, name in (drawn | names).items():
+        others += [f'.lanes [{kind}="{colour}"] {{ {kind}: var(--{name}); }}' for kind in ("fill", "stroke")]
+    dark = "@media screen and (prefers-color-scheme: dark) {\n" + "\n".join(night) + "\n}"
+    return "\n".join([*day, *others, dark])
+
+
+def stack(kind: str, texts: list[str]) -> str:
+    """A text that changes, in room for the longest one."""
+    longest = sorted({*texts}, key=lambda text: (len(text), text))[-3:]
+    sizer = "".join(f'<span class="sizer" aria-hidden="true">{escape(text)}</span>' for text in longest)
+    return f'<span class="stack {kind}">{sizer}<span class="text"></span></span>'
+
+
+def sizers(sentences: list[str]) -> str:
+    """Room for the longest sentences. One that is hardly shorter may take more lines."""
+    longest = max(map(len, sentences))
+    kept = sorted({it for it in sentences if len(it) * 10 >= longest * 8}, key=lambda it: (len(it), it))[-12:]
+    return "".join(f'<p class="sizer" aria-hidden="true">{escape(it)}</p>' for it in kept)
+
+
+def actor_class(actor: int) -> str:
+    """The class of an actor's colours."""
+    return f"a{(actor - 1) % len(ACTORS) + 1}"
+
+
+# What room the pins of a place have: of each kind of place, where they are.
+WHERE = {
+    "qhead": "qhead", "qtail": "qtail", "head": "below", "tail": "above", "next": "content", "cell": "label",
+    "value": "value", "index": "index", "ahead": "below", "atail": "above", "acell": "value", "whole": "whole",
+}
+
+
+def most_at(lists: list[list[str]]) -> dict[str, int]:
+    """How often each text is in one of these lists at most."""
+    most: dict[str, int] = {}
+    for texts in lists:
+        most |= {text: max(most.get(text, 0), texts.count(text)) for text in {*texts}}
+    return most
+
+
+def pins_at(them: list[dict[int, dict | None]]) -> dict[str, int]:
+    """How many pins a place of each kind has at most, and a line of the pseudo-code."""
+    abouts = [[about for about in it.values() if about] for it in them]
+    needs: dict[str, int] = {}
+    for place, count in most_at([[about["place"] for about in it if about["place"]] for it in abouts]).items():
+        kind = WHERE[place.split(" ")[0]]
+        needs[kind] = max(needs.get(kind, 0), count)
+    for count in most_at([[about["point"] for about in it] for it in abouts]).values():
+        needs["point"] = max(needs.get("point", 0), count)
+    return needs
+
+
+def room(states: list[State], them: list[dict[int, dict | None]]) -> str:
+    """How much room texts and pins need at most, as CSS. What never stands there has none."""
+    widths, rules = widths_of(states), []
+    for kind, count in sorted(pins_at(them).items()):
+        wide, high = DISC * min(PINS, count), DISC * -(-count // PINS)
+        rules.append(f".p-{kind} {{ width: {wide:.2f}rem; min-height: {high:.2f}rem; }}")
+        if kind in ("above", "below"):  # their pins stand in the room of other cells
+            rules.append(f".place.{kind} {{ min-height: {high + 0.1:.2f}rem; }}")
+        elif kind in widths and widths[kind] + wide > max(CELL, *(widths[it] for it in HALVES)):
+            rules.append(f".place.{kind} {{ flex-direction: column; align-items: flex-start; }}")
+    cells = {content for it in states for name, content in it.places.items() if name.startswith("cell ")}
+    if not any(content.startswith("0 ") for content in cells):
+        rules.append(".warning { display: none; }")
+    sizes = {f"{kind}-room": f"{width:.2f}rem" for kind, width in widths.items()}
+    sizes |= {"value-size": f"{value_size(states)}rem"}
+    return "\n".join([f":root {{ {variables(sizes)} }}", *rules])
+
+
+def values_of(states: list[State]) -> set[str]:
+    """The values that are in a cell or in a slot."""
+    contents = {content for it in states for name, content in it.places.items() if name.split(" ")[0] in VALUED}
+    return {content.split(" ")[-1] for content in contents} - {"none", "empty"}
+
+
+def value_size(states: list[State]) -> float:
+    """The size of letters of values."""
+    return 1.25 if max(map(len, values_of(states)), default=0) <= SHORT else 0.85
+
+
+def widths_of(states: list[State]) -> dict[str, float]:
+    """How wide the longest text of each kind is."""
+    contents = {(name.split(" ")[0], content) for it in states for name, content in it.places.items()}
+    numbers = {content.split(" ")[-1] for kind, content in contents if kind in ("head", "tail", "ahead", "atail")}
+    cells = {name.split(" ")[-1] for it in states for name in it.places if name.startswith("cell ")}
+    indexes = {content.split(" ")[1] for kind, content in contents if kind == "cell"}
+    size = value_size(states)
+    widths = {
+        "marker": [width_of(f"head {it} →", 0.9, True) for it in numbers],
+        "label": [width_of(f"cell {it}", 0.85) for it in cells],
+        "value": [1.5, *(width_of(it, size, True) for it in values_of(states))],
+        "index": [width_of(f"idx {it}", 0.85) for it in indexes],
+        "next": [width_of(content, 0.9, True) for kind, content in contents if kind in ("next", "qhead", "qtail")],
+    }
+    return {kind: max(them, default=0.0) for kind, them in widths.items()}
+
+
+# ---- Lines ----------------------------------------------------------------------------------------
+
+
+def line_item(it: State, why: str) -> str:
+    """A line with its reply, and why it is refused."""
+    if not it.line:
+        words = '<span class="no">0</span><span class="words">before the first line</span>'
+        return f'<li class="start"><button type="button" tabindex="-1">{words}</button></li>'
+    kind = ' class="refused"' if it.reply.startswith("refused ") else ""
+    more = f'<p class="why">{escape(why)}</p>' if why else ""
+    words = f'<span class="no">{it.line}</span><code>{escape(it.text)}</code><code>{escape(it.reply)}</code>'
+    return f'<li{kind}><button type="button" tabindex="-1">{words}</button>{more}</li>'
+
+
+# ---- The queue ------------------------------------------------------------------------------------
+
+
+def place(kind: str) -> str:
+    """Where a place is shown, with room for pins."""
+    return f'<div class="place {kind}"><span class="text"></span><span class="pins p-{kind}"></span></div>'
+
+
+def column(kinds: list[str], label: str = "", slot: str = "") -> str:
+    """A cell, a slot or a next, with what stands above and below it."""
+    inside = "".join(map(place, kinds))
+    warning = '<div class="warning"></div>' if "index" in kinds else ""
+    named = f'<div class="caption">{label}</div>' if label else ""
+    data = f' data-slot="{slot}"' if slot else ""
+    name = "column next" if "content" in kinds else "column"
+    box = f'<div class="box">{named}{inside}{warning}</div>'
+    return f'<div class="{name}"{data}>{place("above")}{box}{place("below")}</div>'
+
+
+def order_of(states: list[State]) -> list[str]:
+    """The segments of all moments as one order, with `gap` where some are left out: that of the links at
+    the end, and those that are never linked last. One whose place in the order changes is there twice."""
+    order: list[str] = []
+    for it in reversed(states):
+        at = 0
+        for name in ("gap" if isinstance(name, int) else name for name in it.linked):
+            if name not in order[at:]:
+                order.insert(at, name)
+            at = order.index(name, at) + 1
+    apart = dict.fromkeys(name for it in states for name in it.apart)
+    return [*order, *(name for name in apart if name not in order)]
+
+
+def segment(name: str, states: list[State], ring: int) -> str:
+    """Room for a segment, and in its head for what ever stands there."""
+    ends = "".join(place(end) for end in ("qhead", "qtail") if any(it.places.get(end) == name for it in states))
+    apart = '<span class="never">not linked so far</span>' if any(name in it.apart for it in states) else ""
+    more = f'<div class="ends">{apart}{ends}</div>' if apart or ends else ""
+    head = f'<b class="name">segment {name}</b><span class="closed"></span>{more}'
+    cells = "".join(column(list(HALVES)) for _ in range(ring))
+    columns = f'<div class="columns">{cells}{column(["content"], "next")}</div>'
+    inside = f'<div class="segment-head">{head}</div>{columns}<span class="pins p-whole"></span>'
+    return f'<div class="segment" data-name="{name}">{inside}</div>'
+
+
+def slots_of(states: list[State]) -> list[int]:
+    """The slots of the array that are shown: those that are used, and to which a counter leads; none
+    where no one uses it."""
+    names = {name for it in states for name in it.places if name.startswith("acell ")}
+    counters = {int(it.places[name]) for it in states for name in ("ahead", "atail")}
+    used = {int(name.split(" ")[1]) for name in names} | (counters if names or counters != {0} else set())
+    aims = {place for it in states for place in touched_by(it)} & {"ahead", "atail"}
+    used |= counters if aims else set()
+    return [*range(min(used), max(used) + 1)] if used else []
+
+
+def queue(states: list[State], ring: int) -> str:
+    """Room for all that the queue is in these moments: each segment has its own."""
+    gap = '<div class="left-out" data-name="gap"></div>'
+    segments = [gap if name == "gap" else segment(name, states, ring) for name in order_of(states)]
+    parts = [f'<div class="segments">{"".join(segments)}</div>']
+    slots = slots_of(states)
+    if slots:
+        columns = "".join(column(["value"], f"slot {slot}" if slot < 64 else "end", str(slot)) for slot in slots)
+        parts.append(f'<div class="array"><h3>the array</h3><div class="columns">{columns}</div></div>')
+    return "\n".join(parts)
+
+
+# ---- Actors ---------------------------------------------------------------------------------------
+
+
+def seen_of(chips: list[dict[int, dict | None]], actor: int) -> list[dict]:
+    """What an actor is about to do, wherever it is in a call."""
+    return [it[actor] for it in chips if it[actor]]
+
+
+def chips(them: list[dict[int, dict | None]], page: dict[str, dict[str, list[str]]]) -> str:
+    """Room for what the actors are about to do in these moments."""
+    seen = {actor: seen_of(them, actor) for actor in them[0]}
+    return "\n".join(chip(actor, abouts, page) for actor, abouts in seen.items() if abouts)
+
+
+def beside(them: list[dict[int, dict | None]]) -> int:
+    """How many chips stand beside each other where there is room for some, with rows of one length."""
+    count = max(1, sum(bool(seen_of(them, actor)) for actor in them[0]))
+    return -(-count // -(-count // MOST_BESIDE))
+
+
+def idle(them: list[dict[int, dict | None]]) -> str:
+    """Who is in no call at any of these moments, in words."""
+    names = [str(actor) for actor in them[0] if not seen_of(them, actor)]
+    return f" In no call: actor{'s' if len(names) > 1 else ''} {', '.join(names)}." if names else ""
+
+
+def chip(actor: int, seen: list[dict[str, str]], page: dict[str, dict[str, list[str]]]) -> str:
+    """Room for what an actor is about to do in these moments."""
+    points = {it["point"]: page[it["call"].split(" ")[0]][it["point"]] for it in seen}
+    codes = "".join(
+        f'<div class="point" data-point="{name}"><b>{name}</b><code>{escape(chr(10).join(lines))}</code></div>'
+        for name, lines in points.items()
+    )
+    call, words, note = (stack(key, [*(it[key] for it in seen), "in no call"]) for key in ("call", "words", "note"))
+    head = f'<div class="chip-head"><span class="disc">{actor}</span><b>actor {actor}</b>{call}</div>'
+    kind = f'class="chip {actor_class(actor)}" data-actor="{actor}"'
+    return f'<li {kind}>{head}<div class="stack">{codes}</div><div class="chip-foot">{note}{words}</div></li>'
+
+
+def pseudo_code(them: list[dict[int, dict | None]], page: dict[str, dict[str, list[str]]]) -> str:
+    """The pseudo-code of the calls in which an actor is, with room for the actors at each line."""
+    used = {about["call"].split(" ")[0] for it in them for about in it.values() if about}
+    heads = {word: head for head, word in model.CALLS.items()}
+    calls = [call for call in heads if call in used]
+    parts = []
+    for call in calls:
+        steps = "".join(
+            f'<div class="step" data-point="{name}"><b>{name}</b><code>{escape(chr(10).join(lines))}</code>'
+            f'<span class="pins p-point"></span><span class="who"></span></div>'
+            for name, lines in page[call].items()
+        )
+        parts.append(f"<div><h3>{escape(heads[call])}</h3>{steps}</div>")
+    return "\n".join(parts)

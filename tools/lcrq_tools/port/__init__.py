@@ -1,0 +1,1 @@
+"""The log of a port of LCRQ beside the model."""

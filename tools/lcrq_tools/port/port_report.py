@@ -1,0 +1,239 @@
+"""What is said of a difference between a port and the model, and the files about it: both sides in
+the words of docs/MODEL.md, who wrote the places in question and who touched them since, a script, a
+start, a picture and a page. `conform.py` is the tool that uses this. Only Python's standard library
+is used.
+"""
+
+import subprocess
+import sys
+from collections.abc import Iterable, Iterator
+from pathlib import Path
+
+from lcrq_tools import model
+from lcrq_tools.draw import picture
+from lcrq_tools.draw.figure import segment_of
+from lcrq_tools.port.port_compare import NEEDS_CHOICE, Comparison, Difference, point_of, words_of
+from lcrq_tools.program import TOP
+
+ROWS = 25  # steps of the picture
+PAGE_LINES = 100  # of the script, on the page
+TOUCHES = 8  # steps that are named, of those that touched a place
+ENDS = {"qhead": "QHead", "qtail": "QTail", "ahead": "ArrHead", "atail": "ArrTail"}
+
+# ---- Words ---------------------------------------------------------------------------------------
+
+
+def phrase_of(place: str, content: str) -> str:
+    """What is at a place, in a sentence."""
+    kind, _, rest = place.partition(" ")
+    segment, _, cell = rest.partition(" ")
+    words = content.split(" ")
+    match kind:
+        case "index" | "cell":
+            value = f" and {'no value' if words[2] == 'none' else f'the value {words[2]}'}" if words[2:] else ""
+            safe = "safe" if words[0] == "1" else "unsafe"
+            return f"cell {cell} of {segment} is {safe} with index {words[1]}{value}"
+        case "value":
+            return f"cell {cell} of {segment} has {'no value' if content == 'none' else f'the value {content}'}"
+        case "head" | "tail" | "next":
+            return f"{kind.capitalize()} of {segment} is {content}"
+        case "acell":
+            return f"slot {rest} of the array is {content}"
+    return f"{ENDS.get(place, place)} is {content}"
+
+
+def said_of(found: Difference) -> str:
+    """Both sides of a difference."""
+    port, ours, at = found.port, found.model, found.point
+    where = "in no call" if at == "Idle" else f"at {at}"
+    match found.kind:
+        case "line" if ours.startswith(NEEDS_CHOICE):
+            side = f"at {port}" if port else "past the choice"
+            return f"the port is {side}, the model {where}, with starve to choose"
+        case "line":
+            return f"the port is {f'at {port}' if port else 'in its call'}, the model {where}"
+        case "call":
+            return f"the port begins the call {port}, the model is {where} of another one"
+        case "reply" if found.record.kind == "reply" and not ours:
+            where = "in no call" if point_of(found.state) == "Idle" else f"at {point_of(found.state)}"
+            return f"the port's call replied {port} after {at}, the model is {where}"
+        case "reply":
+            return f"at {at} the port replied {port}, the model {ours or 'goes on'}"
+        case "place":
+            return f"at {at} the port accessed {port}, the model {ours}"
+        case "access":
+            return f"at {at} the port {port}, the model {ours}"
+        case "answer":
+            return f"at {at} the port {'' if port in ('won', 'lost') else 'found '}{port}, the model {ours}"
+        case "words":
+            return f"after {at} the port has {port}, the model {ours}"
+    return f"the model, at {at}, can't make this step: {ours}"
+
+
+class About:
+    """A difference, with what the program and the steps before it say about it."""
+
+    def __init__(self, comparison: Comparison, found: Difference):
+        self.replay, self.found = comparison.replay, found
+        last = comparison.steps_of.get(found.record.actor, 0)
+        self.last = last if last <= len(self.replay.entries) else 0
+        entries = self.replay.entries
+        self.last_point, self.last_entry = entries[self.last - 1] if self.last else ("", "")
+        page = model.PAGE.read_text(encoding="utf-8")
+        self.lines = {label: text for column in model.lines_of(page).values() for label, text in column.items()}
+
+    def places(self) -> list[str]:
+        """The places in question: that of the actor's last step, and that of the model's next."""
+        found = [self.last_entry.split("; ")[0], *self.found.entry[:1]]
+        return [place for place in dict.fromkeys(found) if place not in ("", "-")]
+
+    def show(self, place: str) -> str:
+        """What is at a place before the step; nothing if there is no such place."""
+        reply = self.replay.ask([f"show {place}"])[0]
+        return reply.removeprefix("is ") if reply.startswith("is ") else ""
+
+    def facts(self) -> Iterator[str]:
+        """What the actor saw last, what is at the place of the model's step, and the position."""
+        if self.found.record.kind == "reply":
+            return
+        place, access, answer = ["-", "", "", *self.last_entry.split("; ")[:3]][-3:]
+        if self.found.kind == "line" and access == "read" and answer not in ("won", "lost"):
+            yield phrase_of(place, answer)
+        for place in self.found.entry[:1]:
+            content = self.show(place)
+            if content and content != "exists":
+                yield phrase_of(place, content)
+        words = words_of(self.found.state)
+        if self.found.point != "Idle":
+            yield f"position {words['t' if self.found.state.split(' ')[2].endswith('enq') else 'h']}"
+
+    def headline(self) -> str:
+        """The difference in one line."""
+        facts = list(dict.fromkeys(self.facts()))
+        told = ", ".join(it for it in facts if not any(other != it and other.startswith(it) for other in facts))
+        return f"step {self.found.step}: {said_of(self.found)}{f': {told}' if told else ''}"
+
+    def step_text(self, number: int) -> str:
+        """A step by its number in the log, its control point, its line and what it did."""
+        point, entry = self.replay.entries[number - 1]
+        place, access, answer, reply = entry.split("; ")
+        first = number - self.replay.before - 1
+        by = self.replay.lines[first] if first >= 0 else "a step before the start"
+        did = f"{place}; {access}; {answer}" + ("" if reply == "-" else f"; {reply}")
+        return f"step {number}, `{by}` at {point}: {did}"
+
+    def code(self, label: str) -> Iterator[str]:
+        """The lines of the pseudo-code of a control point."""
+        for at, text in enumerate(self.lines.get(label, [])):
+            yield f"         {label if not at else '':5}{text}"
+
+    def touched(self, place: str) -> Iterator[str]:
+        """Who wrote a place last, and who touched it since."""
+        word, _, number = self.replay.ask([f"writer {place}"])[0].partition(" ")
+        own = int(number) - self.replay.first if word == "writer" and number.isdecimal() else 0
+        writer = self.replay.before + own if own > 0 else 0
+        yield f"{place} was written by {self.step_text(writer) if writer else 'no step of this run'}"
+        entries = self.replay.entries
+        later = range((writer or self.replay.before) + 1, len(entries) + 1)
+        since = [at for at in later if overlap(entries[at - 1][1], place)]
+        if since:
+            more = f"{len(since) - TOUCHES} more, then " if len(since) > TOUCHES else ""
+            yield f"  and touched since by {more}" + "; ".join(self.step_text(at) for at in since[-TOUCHES:])
+
+    def text(self) -> Iterator[str]:
+        """All lines that are said of the difference."""
+        found, record = self.found, self.found.record
+        yield self.headline()
+        yield f"  port   {record.where}: `{record.text}`"
+        if self.last:
+            yield f"  before {self.step_text(self.last)}"
+            yield from self.code(self.last_point)
+        if found.entry:
+            yield f"  model  at {found.point}: {'; '.join(found.entry)}"
+        yield from self.code(found.point) if found.point != self.last_point else ()
+        yield f"  words  {found.state}"
+        for place in self.places():
+            yield from (f"  {line}" for line in self.touched(place))
+
+    # ---- Files
+
+    def script(self) -> list[str]:
+        """The lines to there, with that of the model's step where it can make one."""
+        made = [self.found.record.line()] if self.found.entry else []
+        return [*self.replay.lines, *made][: self.found.step - self.replay.before]
+
+    def start(self) -> str:
+        """The start before the step, which is made already where only its reply differs."""
+        made = min(max(0, self.replay.count() - self.found.step + 1), len(self.replay.lines))
+        self.replay.ask([f"back {made}"])
+        start = self.replay.start()
+        self.replay.ask([f"forward {made}"])
+        return start
+
+    def options(self, folder: Path) -> list[str]:
+        """The options of the tools for the script, whose start is written beside it where it is one of
+        the tool's own."""
+        words = self.replay.options
+        if words[0] == "run":
+            return words[2:]
+        start = words[-1]
+        if self.replay.before:
+            (folder / "from.trace").write_bytes(Path(start).read_bytes())
+            start = str(folder / "from.trace")
+        return ["--trace", start]
+
+    def write(self, folder: Path) -> Iterator[str]:
+        """Writes the files about the difference; returns a line for each."""
+        folder.mkdir(parents=True, exist_ok=True)
+        script, lines = folder / "to.script", self.script()
+        script.write_text("".join(f"{line}\n" for line in lines), encoding="ascii")
+        yield f"{script}: the {len(lines)} steps to there" + ("" if not self.replay.before else " from from.trace on")
+        start = folder / "before.trace"
+        start.write_text(self.start(), encoding="ascii")
+        yield f"{start}: the start before the step"
+        options = [str(script), *self.options(folder), "--program", self.replay.program]
+        yield self.drawn("picture.py", options, self.windows(self.replay.first + len(lines)), folder / "steps.svg")
+        if (TOP / "tools" / "page.py").exists():
+            part = ["--lines", f"{max(1, len(lines) - PAGE_LINES + 1)}:{len(lines)}"]
+            yield self.drawn("page.py", options, [part], folder / "steps.html")
+
+    def windows(self, count: int) -> Iterator[list[str]]:
+        """The options that choose the rows of the picture of so many steps: the last ones at the places in
+        question and of the actor, where the picture can choose such rows, and else the last ones."""
+        if "--places" in picture.parser().format_help():
+            yield self.chosen_rows(count)
+        yield ["--from", str(max(1, count - ROWS + 1)), "--to", str(max(1, count))]
+
+    def chosen_rows(self, count: int) -> list[str]:
+        """The options for the last steps at the places in question and of the actor."""
+        actor, entries = self.found.record.actor, self.replay.entries[self.replay.before :]
+        chosen = [
+            at
+            for at, (line, entry) in enumerate(zip(self.replay.lines, entries), 1)
+            if line.split(" ")[1] == str(actor) or any(overlap(entry[1], place) for place in self.places())
+        ]
+        first = self.replay.first + (chosen[-ROWS:] or [1])[0]
+        places = ["--places", ",".join(self.places())] if self.places() else []
+        return ["--from", str(first), "--to", str(max(1, count)), "--actor", str(actor), *places]
+
+    def drawn(self, tool: str, options: list[str], parts: Iterable[list[str]], output: Path) -> str:
+        """Draws the run by a tool of this folder, the first of these parts that it can draw; returns what
+        to say of it."""
+        said = ""
+        for part in parts:
+            command = [sys.executable, str(TOP / "tools" / tool), *options, *part, "-o", str(output)]
+            ended = subprocess.run(command, capture_output=True, text=True, check=False)
+            if not ended.returncode:
+                return f"{output}: the last steps"
+            said = ended.stderr.strip()
+        return f"no {output.name}: {said}"
+
+
+def overlap(entry: str, place: str) -> bool:
+    """Whether a step with this entry touched one of the places that a place names."""
+    touched = entry.partition("; ")[0]
+    if "-" == touched:
+        return False
+    if "whole" in (touched.split(" ")[0], place.split(" ")[0]):
+        return segment_of(touched) == segment_of(place)
+    return bool(set(picture.lanes_of(touched, ())) & set(picture.lanes_of(place, ())))

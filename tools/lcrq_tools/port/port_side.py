@@ -1,0 +1,215 @@
+"""Takes the port's side of a difference, so that a comparison goes on behind it: the world before
+the step is frozen, one of its words is changed, and the run goes on over that start.
+
+Which change will do is tried through the program: a start has to load, and the step over it has to
+do what the port did. `conform.py --go-on` uses this. Only Python's standard library is used.
+"""
+
+import copy
+import itertools
+import json
+from collections.abc import Iterator
+from dataclasses import dataclass
+
+from lcrq_tools import program
+from lcrq_tools.port.port_compare import Comparison, Difference, words_of
+from lcrq_tools.start import freeze
+from lcrq_tools.start.flaws import IDLE
+
+MOST_WORDS = 2  # that are changed beside the control point
+
+
+@dataclass
+class Change:
+    """A start that may take the port's side, and what to put back when the step is made."""
+
+    said: str
+    start: dict
+    restored: tuple[str, str] | None = None  # a place, and its content
+
+
+# ---- Changes -------------------------------------------------------------------------------------
+
+
+def put(start: dict, place: str, content: str) -> None:
+    """Changes what is at a place."""
+    kind, *rest = place.split(" ")
+    words = content.split(" ")
+    if kind in ("qhead", "qtail"):
+        start[kind] = freeze.name_of(content)
+    elif kind in ("ahead", "atail"):
+        start["array"][{"ahead": "head", "atail": "tail"}[kind]] = int(content)
+    elif kind == "acell":
+        others = [slot for slot in start["array"]["cells"] if slot[0] != int(rest[0])]
+        start["array"]["cells"] = sorted(others + [freeze.slot_of(int(rest[0]), content)] * (content != "empty"))
+    else:
+        put_into(segment_at(start, rest[0]), kind, [*map(int, rest[1:])], words)
+
+
+def segment_at(start: dict, name: str) -> dict:
+    """A segment of a start."""
+    maker, number = freeze.name_of(name)
+    return start["segments"][maker][number]
+
+
+def put_into(segment: dict, kind: str, cell: list[int], words: list[str]) -> None:
+    """Changes what is at a place of a segment."""
+    match kind:
+        case "head":
+            segment["head"] = int(words[0])
+        case "tail":
+            segment["closed"] = words[-2] == "closed"
+            segment["tail"] = int(words[-1]) if words[-1].isdecimal() else segment["tail"]
+        case "next":
+            segment["next"] = freeze.or_null(words[0], freeze.name_of)
+        case "value":
+            segment["cells"][cell[0]][2] = freeze.value_of(words[0])
+        case "index":
+            segment["cells"][cell[0]][:2] = [freeze.bit_of(words[0]), int(words[1])]
+        case "cell":
+            segment["cells"][cell[0]] = freeze.cell_of(" ".join(words))
+
+
+def one_word(actor: dict) -> list[tuple[str, object]]:
+    """Words that may keep an actor from being at another control point, with other values."""
+    bits = [(word, value) for word in ("safe", "closed") for value in (False, True)]
+    numbers = [("idx", actor["t"]), ("idx", actor["h"]), ("idx", max(0, actor["h"] - 1)), ("h", actor["t"] + 1)]
+    return [("val", None), ("val", 0), *bits, *numbers, ("pass", 0), ("pass", 1), ("pass", 2)]
+
+
+class Side:
+    """Takes the port's side of one difference."""
+
+    def __init__(self, comparison: Comparison, found: Difference):
+        self.comparison, self.found, self.replay = comparison, found, comparison.replay
+        self.actor = found.record.actor
+        self.world = json.loads(self.replay.start())
+
+    def take(self) -> str:
+        """Takes it; returns what was changed, or nothing if no change will do."""
+        if self.found.record.kind == "reply":
+            return self.take_reply()
+        if self.found.kind == "words":
+            return self.take_words()
+        for change in self.changes():
+            told = self.tried(change)
+            if told:
+                return self.go_on(change, told)
+        return ""
+
+    def changes(self) -> Iterator[Change]:
+        """The changes that are tried, the smallest first."""
+        record = self.found.record
+        if self.found.kind == "call":
+            yield self.with_actor(IDLE, "the actor is in no call")
+        elif record.label and self.found.kind == "line":
+            yield from self.at_point(record.label)
+        elif self.found.kind in ("place", "access", "line") and not record.label:
+            for label in sorted({point for point, _ in self.replay.entries if point != "Idle"}):
+                yield from self.at_point(label, 0)
+        if self.found.entry:
+            yield from self.contents(self.found.entry[0])
+
+    def with_actor(self, record: dict, said: str) -> Change:
+        """The world with another record of the actor."""
+        changed = copy.deepcopy(self.world)
+        changed["start"]["actors"][self.actor - 1] = record
+        return Change(said, changed)
+
+    def at_point(self, label: str, most: int = MOST_WORDS) -> Iterator[Change]:
+        """The actor at another control point, with other words where these don't fit it."""
+        actor = self.world["start"]["actors"][self.actor - 1]
+        if actor["pc"] == "Idle" and self.actor in self.comparison.states_before:
+            actor = freeze.actor_of(self.comparison.states_before[self.actor])
+        for count in range(most + 1):
+            for words in itertools.combinations(one_word(actor), count):
+                others = [f"{word} {json.dumps(value)}" for word, value in words]
+                yield self.with_actor(actor | dict(words) | {"pc": label}, ", ".join([f"pc {label}", *others]))
+
+    def contents(self, place: str) -> Iterator[Change]:
+        """Other contents of the place of the step: what the port found there, what its
+        compare-and-swap expects, and what it does not expect."""
+        before = self.replay.ask([f"show {place}"])[0].removeprefix("is ")
+        for content in self.contents_of(place, before):
+            changed = copy.deepcopy(self.world)
+            try:
+                put(changed["start"], place, content)
+            except (ValueError, LookupError, TypeError):
+                continue
+            lost = self.found.port == "lost" or self.found.kind == "access" and self.found.port == "read"
+            yield Change(f"{place} is {content}", changed, (place, before) if lost else None)
+
+    def contents_of(self, place: str, before: str) -> Iterator[str]:
+        """The contents that are tried at a place."""
+        words, kind = words_of(self.found.state), place.split(" ")[0]
+        answer = self.comparison.names.meant(self.found.record.answer)
+        if answer and answer not in ("won", "lost"):
+            yield answer
+        makers = enumerate(self.world["start"]["segments"])
+        names = [f"{maker}.{number}" for maker, made in makers for number in range(len(made))]
+        if kind in ("qhead", "qtail", "next"):
+            yield from dict.fromkeys([words["crq"], "none", words["next"], words["new"], *names])
+        elif kind == "tail":
+            yield from (f"open {words['t']}", f"closed {before.split(' ')[-1]}")
+        elif kind == "cell":
+            safe, index, value = before.split(" ")
+            yield from (f"{words['safe']} {words['idx']} {words['val']}", f"{words['safe']} {words['idx']} none")
+            yield f"{safe} {int(index) + 1} {value}"
+
+    # ---- Trials
+
+    def tried(self, change: Change) -> list[str]:
+        """What the record's lines are answered over a changed start, where that takes the port's side of
+        this difference; else nothing."""
+        record, file = self.found.record, self.replay.folder / "tried.trace"
+        file.write_text(json.dumps(change.start), encoding="ascii")
+        step = ["step 1"] if record.kind == "step" else []
+        lines = [f"actor {self.actor}", record.line(), *step, f"actor {self.actor}"]
+        script = "".join(f"{line}\n" for line in lines).encode("ascii")
+        ended = program.run([self.replay.program, "load", "--", str(file)], script)
+        told = ended.output.decode("ascii").splitlines()
+        if ended.status or not told[1].startswith("ok "):
+            return []
+        if record.kind == "call" or record.label and self.found.kind == "line":
+            return told[1:]
+        found = self.comparison.compare_entry(record, told[2].split("; ")[2:], told[3])
+        return told[1:] if not found or found.kind in ("reply", "words") else []
+
+    def go_on(self, change: Change, told: list[str]) -> str:
+        """Goes on over a changed start. What the step only had to find is put back behind it."""
+        self.replay.open_start(json.dumps(change.start))
+        if change.restored:
+            self.make_step()
+            world = json.loads(self.replay.start())
+            put(world["start"], *change.restored)
+            self.replay.open_start(json.dumps(world))
+        return change.said
+
+    def make_step(self) -> None:
+        """Makes the step of the record, as the model makes it."""
+        record = self.found.record
+        told = self.replay.ask([record.line(), f"step {self.replay.live() + 1}", f"actor {self.actor}"])
+        point = self.replay.states[self.actor - 1].split(" ", 2)[1]
+        self.comparison.note(record, point, told[1].split("; ")[2:], told[2])
+        self.comparison.at += 1
+
+    def take_words(self) -> str:
+        """Lets the actor have the port's word after the step."""
+        self.make_step()
+        world = json.loads(self.replay.start())
+        word, _, value = self.found.port.partition(" ")
+        try:
+            world["start"]["actors"][self.actor - 1][word] = freeze.WORDS[word](value)
+        except ValueError:
+            return ""
+        self.replay.open_start(json.dumps(world))
+        return self.found.port
+
+    def take_reply(self) -> str:
+        """Lets the call be over, as the port has it."""
+        self.comparison.at += 1
+        if self.found.state.split(" ", 2)[1] == "Idle":
+            return "nothing: both calls are over"
+        change = self.with_actor(IDLE, "the actor is in no call")
+        self.replay.open_start(json.dumps(change.start))
+        return change.said

@@ -1,0 +1,1 @@
+"""The archive that is handed out, and the unproved program."""

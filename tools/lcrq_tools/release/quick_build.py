@@ -1,0 +1,91 @@
+"""Builds the program without any proof, in one to three minutes, and keeps it.
+
+    python3 tools/quick_build.py [-o FILE]
+
+FILE is crates/lcrqdb/out/lcrqdb if left out, where the other scripts look for the program, and
+where `rt run` puts the proved one in its place. A program that is there and was not built so stays.
+
+`rt try` builds a program in a folder of its own, runs it and removes it. So it is given a named
+pipe as the script: the program waits there while its file is copied, and then gets an empty script.
+What is built is not proved. It has the checks of memory that `rt try` puts in (AddressSanitizer),
+and so is larger and slower than the proved program. The status is 1, with the reason in one line,
+if nothing is built.
+"""
+
+import argparse
+import os
+import shutil
+import subprocess
+import sys
+import tempfile
+import time
+from pathlib import Path
+
+from lcrq_tools.program import BUILT, CRATES, ELF, is_unproved
+
+LOOK_EVERY = 0.2  # seconds between two looks at the pipe
+
+
+class Fault(Exception):
+    """Why nothing is built."""
+
+
+def opened(pipe: Path, build: subprocess.Popen) -> int:
+    """The pipe, open for writing, once a program reads it."""
+    while build.poll() is None:
+        try:
+            return os.open(pipe, os.O_WRONLY | os.O_NONBLOCK)
+        except OSError:  # nobody reads it yet
+            time.sleep(LOOK_EVERY)
+    said = build.stderr.read().decode(errors="replace").strip()
+    raise Fault(f"`rt try` ended before the program ran: {said.splitlines()[-1] if said else build.returncode}")
+
+
+def program_in(folder: Path) -> Path:
+    """The one program that lies below a folder."""
+    files = [path for path in folder.rglob("*") if path.is_file() and os.access(path, os.X_OK)]
+    found = [path for path in files if path.read_bytes().startswith(ELF)]
+    if len(found) != 1:
+        raise Fault(f"{len(found)} programs are where `rt try` builds, so this kit builds in another way")
+    return found[0]
+
+
+def build_into(out: Path) -> None:
+    """Has the program built, and copies it while it runs."""
+    with tempfile.TemporaryDirectory(prefix="lcrqdb-") as name:
+        pipe = Path(name) / "script"
+        os.mkfifo(pipe)
+        more = {"stdin": subprocess.DEVNULL, "stdout": subprocess.DEVNULL, "stderr": subprocess.PIPE}
+        # a session of its own, so that Control-C reaches it once, by `terminate`, and it clears up
+        more |= {"cwd": CRATES / "lcrqdb", "env": os.environ | {"TMPDIR": name}, "start_new_session": True}
+        with subprocess.Popen(["rt", "try", "--", "run", str(pipe)], **more) as build:
+            try:
+                end = opened(pipe, build)
+                out.parent.mkdir(parents=True, exist_ok=True)
+                shutil.copyfile(program_in(Path(name)), out)
+                out.chmod(0o755)
+                os.close(end)  # an empty script, so the program ends, and then `rt try`
+                build.communicate()
+            finally:
+                build.terminate()  # nothing, if it has ended
+
+
+def main() -> int:
+    """Builds the program where that takes the place of no other one."""
+    parser = argparse.ArgumentParser(description="Builds the program without any proof, and keeps it.")
+    parser.add_argument("-o", dest="out", type=Path, default=BUILT, metavar="FILE", help=f"where it goes ({BUILT})")
+    out = parser.parse_args().out
+    begin = time.monotonic()
+    try:
+        if out.exists() and not is_unproved(out.read_bytes()):
+            raise Fault("a file that was not built so is there; -o names another place")
+        print("building without any proof, which takes one to three minutes", file=sys.stderr)
+        build_into(out)
+    except (Fault, OSError, KeyboardInterrupt) as fault:
+        name, what = out, str(fault) or "stopped"
+        if isinstance(fault, OSError):
+            name, what = fault.filename, fault.strerror
+        print(f"quick_build.py: {name}: {what}", file=sys.stderr)
+        return 1
+    print(f"{out}: not proved, built in {time.monotonic() - begin:.0f} s")
+    return 0

@@ -1,0 +1,364 @@
+"""Makes the archive that is handed out: lcrqdb-VERSION-x86_64.tar.gz, with VERSION from
+`lcrqdb --version`.
+
+    python3 tools/release.py [-o FOLDER] [--lessons 5,14,15] [--answers with|apart|none] [--pdf] [--program P]
+
+In it are the program, its man page made of docs/MANUAL.md, a page of HTML each for manual, recipes,
+model, guide and lessons with their pictures in them, the examples with a report of each script that
+one run has, and a page of the run where tools/page.py is there, the scripts that the pages name
+with what they import, the JSON Schema of traces, and a README. `release_pages.py` makes the
+pages.
+
+`--lessons` leaves all other lessons out, and their examples. `--answers` has the answers to the
+exercises with them, apart on a page of their own, docs/answers.html, or not at all. `--pdf` also
+prints guide, lessons and answers, and the pages of runs of chosen lessons, into the archive and
+beside it; that takes Chromium or weasyprint.
+
+The same commit, program and choice give the same bytes, those of a PDF left out: names are sorted,
+and the time of each file is that of the last commit. It needs pandoc (Debian's package pandoc). The
+status is 1, with the reason in one line, where that, the program or a picture is missing.
+"""
+
+import argparse
+import gzip
+import io
+import os
+import re
+import shutil
+import sys
+import tarfile
+import tempfile
+from dataclasses import dataclass
+from pathlib import Path
+
+from lcrq_tools import program
+from lcrq_tools.program import TOP
+from lcrq_tools.release.release_pages import (
+    DOCS, EXAMPLES, HANDED_OUT, LESSONS, PORT, SCHEMA, Choice, Part, is_chosen, man_page, page_of,
+)
+
+TOOLS = TOP / "tools"
+PRINTED = ("guide", "lessons", "answers")  # the pages that are made as PDF
+BROWSERS = ("chromium", "chromium-browser", "google-chrome")
+
+# What a page says of how a script is run.
+VIEWED = re.compile(r"lcrqdb view ((?:[\w.-]+\.script ?)+)")
+LOADED = re.compile(r"lcrqdb load ([\w.-]+)\.trace < ([\w.-]+)\.script")
+WITH = re.compile(r"^Run with: (.*)$", re.MULTILINE)
+
+README = """\
+lcrqdb {version}: a causal reversible debugger for LCRQ
+
+{contents}
+
+Nothing has to be installed to run it. In this folder:
+
+    export PATH="$PWD/bin:$PWD/tools:$PATH"
+    man lcrqdb
+    cd examples
+    lcrqdb run session.script | paste session.script -
+    lcrqdb run session.script | diff session.report -
+
+The last line prints nothing: the replies are as they should be. The scripts of tools/ need Python
+3.11 and nothing else; schema.py also needs its library jsonschema. They draw a run of yours, in any
+folder:
+
+    cp session.script mine.script
+    picture.py mine.script -o mine.svg
+"""
+A_PAGE = "    page.py mine.script -o mine.html\n"
+
+# ---- Runs of the examples ------------------------------------------------------------------------
+
+
+@dataclass(frozen=True)
+class Run:
+    """How a script of the examples is run: over this trace, or else with these options."""
+
+    script: Path
+    trace: str | None
+    options: tuple[str, ...]
+
+
+def texts_of(choice: Choice) -> dict[Path, str]:
+    """The pages that say how scripts are run, with their texts."""
+    sources = [path for sources in choice.pages().values() for path in sources]
+    return {path: path.read_text(encoding="utf-8") for path in sources}
+
+
+def runs_of(choice: Choice) -> list[Run]:
+    """The chosen scripts that are run one at a time, as their pages say."""
+    texts = texts_of(choice)
+    whole = "\n".join(texts.values())
+    viewed = {name for names in VIEWED.findall(whole) for name in names.split()}
+    over = {f"{script}.script": trace for trace, script in LOADED.findall(whole)}
+    runs = []
+    for script in sorted(EXAMPLES.glob("*.script")):
+        if script.name in viewed or not is_chosen(script, choice):
+            continue
+        own = script.stem if script.with_suffix(".trace").is_file() else None
+        page = next((text for path, text in texts.items() if script.name.startswith(f"{path.stem}.")), "")
+        options = WITH.search(page)
+        runs.append(Run(script, over.get(script.name, own), tuple(options[1].split()) if options else ()))
+    return runs
+
+
+def trace_of(built: str, name: str) -> bytes:
+    """The trace of this name: an example, or that of the run of the script of this name."""
+    path = EXAMPLES / f"{name}.trace"
+    if path.is_file():
+        return path.read_bytes()
+    return output_of([built, "run", "--trace", str(EXAMPLES / f"{name}.script")]).splitlines(keepends=True)[-1]
+
+
+def output_of(words: list[str], given: bytes = b"") -> bytes:
+    """What a command writes, which has to succeed."""
+    ended = program.run(words, given)
+    if ended.status:
+        raise SystemExit(f"`{' '.join(words)}` ended with status {ended.status}: {ended.errors.strip()}")
+    return ended.output
+
+
+def report_of(built: str, run: Run, folder: Path) -> bytes:
+    """The report of a run: as it is stored, or else as the program writes it."""
+    stored = run.script.with_suffix(".report")
+    if stored.is_file():
+        return stored.read_bytes()
+    if not run.trace:
+        return output_of([built, "run", *run.options, str(run.script)])
+    return output_of([built, "load", str(folder / f"{run.trace}.trace")], run.script.read_bytes())
+
+
+def run_page_of(built: str, run: Run, folder: Path) -> bytes:
+    """The page of a run. A script of a page may have refused lines."""
+    out = folder / "page.html"
+    over = ["--trace", str(folder / f"{run.trace}.trace")] if run.trace else list(run.options)
+    words = [sys.executable, str(TOOLS / "page.py"), str(run.script), *over, "--refused"]
+    output_of([*words, "--program", built, "-o", str(out)])
+    return out.read_bytes()
+
+
+def examples_of(built: str, choice: Choice) -> dict[str, bytes]:
+    """The chosen files of the examples, with what is made of the scripts, by their names."""
+    paths = [path for path in EXAMPLES.iterdir() if path.suffix in HANDED_OUT]
+    paths += [path for path in PORT.iterdir() if path.is_file()]
+    files = {str(path.relative_to(EXAMPLES)): path.read_bytes() for path in paths if is_chosen(path, choice)}
+    with tempfile.TemporaryDirectory() as name:
+        folder = Path(name)
+        for run in runs_of(choice):
+            if run.trace:
+                (folder / f"{run.trace}.trace").write_bytes(trace_of(built, run.trace))
+            files[f"{run.script.stem}.report"] = report_of(built, run, folder)
+            if (TOOLS / "page.py").is_file():
+                files[f"{run.script.stem}.html"] = run_page_of(built, run, folder)
+    return files
+
+
+# ---- Scripts that the pages name -----------------------------------------------------------------
+
+NAMED = re.compile(r"(?<![\w/.-])(tools/)?(\w+\.py)\b")
+IMPORTED = re.compile(r"^ *from (lcrq_tools[\w.]*) import (?:\(([^)]*)\)|(.*))", re.MULTILINE)
+READ = re.compile(r'"docs" / "(\w+\.md)"')
+
+
+def named_in(text: str) -> set[Path]:
+    """The scripts of tools/ that a text names; a name without a folder may be that of another file."""
+    found = {(folder, TOOLS / name) for folder, name in NAMED.findall(text)}
+    return {path for folder, path in found if folder or path.is_file()}
+
+
+def needed_by(path: Path) -> list[Path]:
+    """The files that a script of tools/ takes: the modules that it imports, each with what makes its
+    folder a package, and the other files of a module's name."""
+    beside = [] if path.parent == TOOLS else [*path.parent.glob(f"{path.stem}.*"), path.parent / "__init__.py"]
+    for package, *names in IMPORTED.findall(path.read_text(encoding="utf-8")):
+        module = TOOLS.joinpath(*package.split("."))
+        within = [module / f"{name}.py" for name in re.findall(r"\w+", " ".join(names))]
+        beside += [module.with_suffix(".py"), module / "__init__.py", *within]
+    return sorted(it for it in beside if it.is_file())
+
+
+def scripts_of(texts: list[str]) -> dict[str, bytes]:
+    """The scripts that these texts name, with the files that they take, by their paths."""
+    left = [path for text in texts for path in named_in(text)]
+    found: dict[str, bytes] = {}
+    while left:
+        path = left.pop()
+        name = str(path.relative_to(TOP))
+        if name in found:
+            continue
+        if not path.is_file():
+            raise SystemExit(f"a page names {name}, which is not there")
+        found[name] = path.read_bytes()
+        left += needed_by(path) if path.suffix == ".py" else []
+    return found
+
+
+def pages_read_by(scripts: dict[str, bytes], choice: Choice) -> dict[str, bytes]:
+    """The pages of the repository that scripts read, as text that leads to the pages of the archive."""
+    names = {name for script in scripts.values() for name in READ.findall(script.decode())}
+    return {f"docs/{name}": Part(choice, "", DOCS / name).text().encode() for name in sorted(names)}
+
+
+# ---- PDF -----------------------------------------------------------------------------------------
+
+
+def printer() -> list[str]:
+    """The words that print a page, before the PDF and the page."""
+    browser = next(filter(None, map(shutil.which, BROWSERS)), None)
+    if not browser and shutil.which("weasyprint"):
+        return ["weasyprint"]
+    if not browser:
+        raise SystemExit("a PDF takes Chromium or weasyprint (packages of Debian, too): neither is there")
+    sandbox = ["--no-sandbox"] if os.geteuid() == 0 else []
+    return [browser, "--headless", "--disable-gpu", *sandbox, "--no-pdf-header-footer"]
+
+
+def pdf_of(page: bytes) -> bytes:
+    """A page as PDF, with all that is folded unfolded."""
+    words = printer()
+    with tempfile.TemporaryDirectory() as folder:
+        html, out = Path(folder) / "page.html", Path(folder) / "page.pdf"
+        html.write_bytes(page.replace(b"<details>", b"<details open>"))
+        given = [str(html), str(out)] if words[0] == "weasyprint" else [f"--print-to-pdf={out}", html.as_uri()]
+        output_of([*words, *given])
+        if not out.is_file():
+            raise SystemExit(f"{words[0]} has printed no PDF")
+        return out.read_bytes()
+
+
+def printed_of(files: dict[str, bytes], choice: Choice) -> list[str]:
+    """The pages that are printed: those for readers, and where lessons are chosen those of their runs,
+    which a script draws, and so a browser alone."""
+    pages = [f"docs/{page}.html" for page in PRINTED if page in choice.pages()]
+    is_drawn = not choice.is_all and printer()[0] != "weasyprint"
+    return pages + [name for name in sorted(files) if is_drawn and re.match(r"examples/\d.*\.html", name)]
+
+
+# ---- The archive ---------------------------------------------------------------------------------
+
+
+def version_of(built: str) -> str:
+    """The version that the program says."""
+    ended = program.run([built, "--version"])
+    name, _, version = ended.output.decode(errors="replace").strip().partition(" ")
+    if ended.status or name != "lcrqdb" or not version:
+        raise SystemExit(f"{built} is not lcrqdb: --version writes {ended.output[:40]!r}")
+    return version
+
+
+def last_commit() -> int:
+    """When the last commit was made, in seconds; 0 where that isn't known."""
+    try:
+        ended = program.run(["git", "-C", str(TOP), "log", "-1", "--format=%ct"])
+        return int(ended.output)
+    except (OSError, ValueError):
+        return 0
+
+
+def readme(version: str, choice: Choice, files: dict[str, bytes]) -> str:
+    """The README of an archive with these files."""
+    numbers = "" if choice.is_all else " " + ", ".join(map(str, choice.lessons))
+    has_pages = "tools/page.py" in files
+    pages = [data.decode() for path, data in files.items() if path.endswith(".html")]
+    scripts = ", ".join(sorted({path.name for page in pages for path in named_in(page)}))
+    rows = {
+        "bin/lcrqdb": "the program, for Linux on x86-64; it needs the C library alone",
+        "docs/guide.html": "from a whiteboard to the step to blame, in 30 minutes: begin here",
+        "docs/lessons.html": f"lessons{numbers} on concurrent queues, for teachers",
+        "docs/answers.html": "the answers to their exercises",
+        "docs/manual.html": "every line and every reply; share/man/ has it as a man page",
+        "docs/recipes.html": "commands to print, draw and compare runs, and to write a start",
+        "docs/model.html": "the queue and the simulated machine",
+        "docs/*.pdf": "guide, lessons and answers to print; a PDF has other bytes each time that it is made",
+        "docs/*.md": "what the scripts read of manual and model",
+        "docs/trace.schema.json": "a JSON Schema of traces, for an editor and for schema.py",
+        "examples/*": "the scripts and traces of these pages, with their pictures; each script that",
+        "tools/*": f"scripts that draw a run, and more: {scripts}",
+    }
+    more = {"examples/*": f"runs alone has its report{' and a page of its run' if has_pages else ''}"}
+    has = [row for row in rows if any(Path(name).match(row) for name in files)]
+    lines = [line for row in has for line in ((row.removesuffix("*"), rows[row]), ("", more.get(row)))]
+    contents = "\n".join(f"{row if row else '':<26}{about}" for row, about in lines if about)
+    return README.format(version=version, contents=contents) + (A_PAGE if has_pages else "")
+
+
+def files_of(built: str, version: str, seconds: int, choice: Choice, with_pdf: bool) -> dict[str, bytes]:
+    """The files of the archive by their names."""
+    examples = examples_of(built, choice)
+    run_pages = sorted(name for name in examples if name.endswith(".html"))
+    files = {f"docs/{page}.html": page_of(page, version, choice, run_pages) for page in choice.pages()}
+    scripts = scripts_of([*(page.decode() for page in files.values()), README, A_PAGE if run_pages else ""])
+    files |= scripts | pages_read_by(scripts, choice)
+    files |= {f"examples/{name}": data for name, data in examples.items()}
+    if with_pdf:
+        files |= {f"{name.removesuffix('html')}pdf": pdf_of(files[name]) for name in printed_of(files, choice)}
+    files["share/man/man1/lcrqdb.1"] = man_page(version, seconds, choice)
+    files |= {"bin/lcrqdb": Path(built).read_bytes(), f"docs/{SCHEMA.name}": SCHEMA.read_bytes()}
+    return files | {"README": readme(version, choice, files).encode()}
+
+
+def archive_of(files: dict[str, bytes], folder: str, seconds: int) -> bytes:
+    """The archive of these files, in this folder of it."""
+    packed = io.BytesIO()
+    with tarfile.open(fileobj=packed, mode="w", format=tarfile.USTAR_FORMAT) as archive:
+        for name, data in sorted(files.items()):
+            entry = tarfile.TarInfo(f"{folder}/{name}")
+            entry.size, entry.mtime = len(data), seconds
+            entry.mode = 0o755 if name.startswith("bin/") or data.startswith(b"#!") else 0o644
+            archive.addfile(entry, io.BytesIO(data))
+    return gzip.compress(packed.getvalue(), mtime=seconds)
+
+
+# ---- The command line ----------------------------------------------------------------------------
+
+
+def lessons_in(text: str) -> tuple[int, ...]:
+    """The lessons of the command line, by their numbers."""
+    words = text.split(",")
+    if wrong := [word for word in words if not (word.isdecimal() and int(word) in LESSONS)]:
+        raise argparse.ArgumentTypeError(f"no lesson has the number {wrong[0]!r}; they are 1 to {max(LESSONS)}")
+    return tuple(sorted(set(map(int, words))))
+
+
+def read_options() -> argparse.Namespace:
+    """The command line."""
+    parser = argparse.ArgumentParser(description="Makes the archive that is handed out.")
+    parser.add_argument("-o", dest="folder", default=".", metavar="FOLDER", help="where it goes (this folder)")
+    chosen = {"type": lessons_in, "default": tuple(LESSONS), "metavar": "N,N..", "help": "these lessons alone"}
+    parser.add_argument("--lessons", **chosen)
+    about = "where the answers to exercises are: with them (so if left out), apart on a page, or nowhere"
+    parser.add_argument("--answers", choices=("with", "apart", "none"), default="with", help=about)
+    parser.add_argument("--pdf", action="store_true", help="print guide, lessons and answers, too")
+    program.add_program(parser)
+    return parser.parse_args()
+
+
+def write(given: argparse.Namespace, version: str, files: dict[str, bytes], seconds: int) -> None:
+    """Writes the archive, and beside it what is printed; prints the path of each."""
+    choice, folder = Choice(given.lessons, given.answers), f"lcrqdb-{version}-x86_64"
+    if not choice.is_all:
+        folder += "-lessons-" + "-".join(map(str, choice.lessons))
+    made = {f"{folder}.tar.gz": archive_of(files, folder, seconds)}
+    made |= {f"{folder}-{Path(name).name}": data for name, data in files.items() if name.endswith(".pdf")}
+    for name, data in made.items():
+        (Path(given.folder) / name).write_bytes(data)
+        print(Path(given.folder) / name)
+
+
+def main() -> int:
+    """Makes the archive that the command line asks for."""
+    given = read_options()
+    if not shutil.which("pandoc"):
+        raise SystemExit("the pages are made by pandoc: install Debian's package pandoc")
+    if given.pdf:
+        printer()
+    version, seconds = version_of(given.program), last_commit()
+    try:
+        files = files_of(given.program, version, seconds, Choice(given.lessons, given.answers), given.pdf)
+        if program.is_unproved(files["bin/lcrqdb"]):
+            print(f"{given.program} is not proved: this archive is to try out", file=sys.stderr)
+        write(given, version, files, seconds)
+    except OSError as fault:
+        raise SystemExit(f"{fault.filename}: {fault.strerror}") from fault
+    return 0

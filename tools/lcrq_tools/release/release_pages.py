@@ -1,0 +1,435 @@
+"""The pages of the archive that `tools/release.py` makes, by pandoc, of the pages of the repository.
+
+A page of the archive names what is in the archive. So a page of the repository may have passages
+with two readings, the first as it is read there, the second in a comment:
+
+    <!-- repository -->`examples/` at the top of the repository<!-- archive: `examples/` -->
+    <!-- all lessons -->Fifteen lessons<!-- chosen lessons: Lessons -->
+
+The second of the first pair is what the archive has, that of the second pair only where lessons are
+chosen. A mark without its other ends the making in one line. So does one that begins a line of
+text, which Markdown would take for HTML, and a comment in a line of text that has an empty line in
+it. A link to a page of the archive leads there, any other one becomes text.
+"""
+
+import base64
+import functools
+import json
+import mimetypes
+import re
+import tempfile
+import time
+from dataclasses import dataclass
+from pathlib import Path
+from typing import Any, Callable
+
+from lcrq_tools import program
+from lcrq_tools.program import TOP
+
+DOCS, EXAMPLES = TOP / "docs", program.CRATES / "lessons" / "data"
+SCHEMA = DOCS / "trace.schema.json"
+LESSONS = {int(path.name[:2]): path for path in sorted(EXAMPLES.glob("[0-9]*.md"))}  # by number
+SHORT = 30  # letters of code in a line of text that a page does not part
+HANDED_OUT = (".script", ".trace", ".report", ".svg")  # of the examples
+PORT = EXAMPLES / "port"  # the worked port, which the manual names
+MARKS = {"repository": "archive", "all lessons": "chosen lessons"}
+ANSWER = "<details><summary>Answer</summary>"  # how the answer to an exercise begins
+
+TEMPLATE = """\
+<!DOCTYPE html>
+<html lang="en">
+<head>
+<meta charset="utf-8">
+<meta name="viewport" content="width=device-width, initial-scale=1">
+<title>$pagetitle$</title>
+<style>
+body { max-width: 66rem; margin: 0 auto; padding: 1rem; font: 1rem/1.5 sans-serif; }
+body { color: #111; background: #fff; }
+h1, h2, h3 { line-height: 1.2; margin: 2rem 0 0.5rem; }
+pre, table { overflow-x: auto; }
+pre { padding: 0.5rem; background: #f3f3f3; line-height: 1.3; }
+code { font-family: monospace; font-size: 0.85rem; }
+code.short { white-space: nowrap; }
+table { display: block; border-collapse: collapse; margin: 1rem 0; }
+th, td { border: 1px solid #bbb; padding: 0.2rem 0.5rem; text-align: left; vertical-align: top; }
+img { max-width: 100%; }
+details { margin: 1rem 0; }
+@media print {
+  body { padding: 0; font-size: 0.75rem; }
+  code { font-size: 0.55rem; }
+  pre { white-space: pre-wrap; }
+  h1, h2, h3 { break-after: avoid; }
+  tr, img { break-inside: avoid; }
+  nav, #contents { display: none; }
+}
+</style>
+</head>
+<body>
+<nav>NAV</nav>
+<details id="contents"><summary>Contents</summary>
+$toc$
+</details>
+$body$
+</body>
+</html>
+"""
+
+# ---- What is chosen ------------------------------------------------------------------------------
+
+
+@dataclass(frozen=True)
+class Choice:
+    """The lessons of an archive, by their numbers, and where the answers to their exercises are."""
+
+    lessons: tuple[int, ...]
+    answers: str  # "with" each exercise, "apart" on a page of their own, or "none"
+
+    @property
+    def is_all(self) -> bool:
+        """Whether all lessons are chosen."""
+        return len(self.lessons) == len(LESSONS)
+
+    def pages(self) -> dict[str, list[Path]]:
+        """The pages of the archive, each with its sources."""
+        lessons = [LESSONS[number] for number in self.lessons]
+        pages = {
+            "manual": [DOCS / "MANUAL.md"],
+            "recipes": [DOCS / "RECIPES.md"],
+            "model": [DOCS / "MODEL.md"],
+            "guide": [EXAMPLES / "guide.md"],
+            "lessons": [EXAMPLES / "README.md", *lessons],
+        }
+        return pages | ({"answers": lessons} if self.answers == "apart" else {})
+
+
+def read_for(choice: Choice, source: Path) -> str:
+    """The text of a page of the repository with what the archive has in the place of its marks."""
+    try:
+        text = source.read_text(encoding="utf-8")
+    except OSError as fault:
+        raise SystemExit(f"{source} can't be read: {fault.strerror}") from fault
+    names = "|".join([*MARKS, *MARKS.values()])
+    if begins := re.search(rf"^ *(?:<!-- (?:{names})\b.*?)?-->.*\S", text, re.MULTILINE):
+        raise SystemExit(f"{source}: a mark begins this line of text: {begins[0]}")
+    if parted := re.search(rf"\S.*<!-- (?:{names}):(?:(?!-->).|\n(?!\n))*\n\n", text):
+        raise SystemExit(f"{source}: a mark in a line of text has an empty line in it: {parted[0].splitlines()[0]}")
+    for first, second in MARKS.items():
+        taken = 1 if first == "all lessons" and choice.is_all else 2
+        pair = re.compile(rf"<!-- {first} -->((?:(?!<!-- {first} ).)*?)<!-- {second}:\s?(.*?)\s?-->", re.DOTALL)
+        text = pair.sub(lambda found, taken=taken: found[taken], text)
+    if left := re.search(rf"<!-- ({names})\b", text):
+        raise SystemExit(f"{source}: the mark {left[0]} --> has no other")
+    return text
+
+
+# ---- Documents -----------------------------------------------------------------------------------
+
+
+def pandoc(words: list[str], given: bytes) -> bytes:
+    """What pandoc writes."""
+    ended = program.run(["pandoc", *words], given)
+    if ended.status:
+        raise SystemExit(f"pandoc {' '.join(words)}: {ended.errors.strip()}")
+    return ended.output
+
+
+def changed(value: Any, change: Callable[[dict], Any]) -> Any:
+    """A part of a document with what `change` makes of each of its elements, inner ones first."""
+    if type(value) is list:
+        return [changed(it, change) for it in value]
+    if type(value) is not dict:
+        return value
+    inside = {key: changed(it, change) for key, it in value.items()}
+    return change(inside) if "t" in inside else inside
+
+
+def text_in(value: Any) -> str:
+    """The text of a part of a document."""
+    if type(value) is list:
+        return "".join(map(text_in, value))
+    if type(value) is not dict:
+        return ""
+    kind, inside = value["t"], value.get("c")
+    if kind in ("Space", "SoftBreak", "LineBreak"):
+        return " "
+    if kind in ("Str", "Code"):
+        return inside if kind == "Str" else inside[1]
+    return text_in(inside)
+
+
+def links_in(value: Any) -> list[str]:
+    """Where the links of a part of a document lead."""
+    if type(value) is list:
+        return [url for it in value for url in links_in(it)]
+    if type(value) is not dict:
+        return []
+    if value.get("t") == "Link":
+        return [value["c"][2][0]]
+    return links_in(value.get("c"))
+
+
+def span(inlines: list) -> dict:
+    """Inlines as one element."""
+    return {"t": "Span", "c": [["", [], []], inlines]}
+
+
+def words(text: str) -> list[dict]:
+    """A text as inlines."""
+    return [{"t": "Str", "c": text}]
+
+
+def header(level: int, name: str, inlines: list) -> dict:
+    """A heading."""
+    return {"t": "Header", "c": [level, [name, [], []], inlines]}
+
+
+# ---- A page of the repository in a page of the archive -------------------------------------------
+
+
+@dataclass(frozen=True)
+class Part:
+    """A page of the repository as a part of a page of the archive."""
+
+    choice: Choice
+    page: str
+    source: Path
+
+    def document(self) -> dict:
+        """It as pandoc reads it: its elements, each a dict with its type `t` and what it has, `c`."""
+        return json.loads(pandoc(["-f", "gfm", "-t", "json"], read_for(self.choice, self.source).encode()))
+
+    def text(self) -> str:
+        """It as text, with links that lead to the pages of the archive."""
+
+        def led(found: re.Match) -> str:
+            """A link in the text, where it leads in the archive."""
+            target = self.target_of(found[3])
+            return f"{found[1]}[{found[2]}]({target})" if target else found[2]
+
+        return LINK.sub(led, read_for(self.choice, self.source))
+
+    def page_of(self, file: Path) -> str | None:
+        """The page of the archive that has a file of the repository; of a lesson the one with it whole."""
+        pages = self.choice.pages().items()
+        return next((page for page, sources in pages if file in sources and page != "answers"), None)
+
+    def is_first(self, file: Path) -> bool:
+        """Whether a file is the first of its page, on which the others follow below its heading."""
+        page = self.page_of(file)
+        return page is not None and self.choice.pages()[page][0] == file
+
+    def anchor(self, file: Path, fragment: str) -> str:
+        """The name that a heading of a file has on its page; of the file's own, with no fragment."""
+        return "-".join(filter(None, ("" if self.is_first(file) else file.stem, fragment)))
+
+    def file_of(self, url: str) -> Path:
+        """The file to which a link leads."""
+        path = url.partition("#")[0]
+        return (self.source.parent / path).resolve() if path else self.source
+
+    def target_of(self, url: str) -> str | None:
+        """Where a link leads in the archive; none if nowhere."""
+        if "://" in url:
+            return url
+        file, fragment = self.file_of(url), url.partition("#")[2]
+        leads_to = self.page_of(file)
+        if leads_to:
+            page = "" if leads_to == self.page else f"{leads_to}.html"
+            name = self.anchor(file, fragment)
+            return f"{page}#{name}" if name or not page else page
+        if file == SCHEMA:
+            return SCHEMA.name
+        is_example = file.parent == PORT or file.parent == EXAMPLES and file.suffix in HANDED_OUT
+        name = file.relative_to(EXAMPLES) if is_example and is_chosen(file, self.choice) else None
+        return f"../examples/{name}" if name else None
+
+    def text_of(self, link: dict) -> list:
+        """The text of a link. Where that is the name of a page of the repository, it is the name of
+        the page in the archive."""
+        _, inlines, (url, _) = link["c"]
+        page = self.page_of(self.file_of(url))
+        return words(f"{page}.html") if text_in(inlines).endswith(".md") and page else inlines
+
+    def linked(self, link: dict) -> dict:
+        """A link as it is on a page of the archive."""
+        attributes, _, (url, title) = link["c"]
+        target, text = self.target_of(url), self.text_of(link)
+        return {"t": "Link", "c": [attributes, text, [target, title]]} if target else span(text)
+
+    def named(self, link: dict) -> dict:
+        """A link as it is in the man page: its text, and after it the name of the page to which it
+        leads."""
+        page = (self.target_of(link["c"][2][0]) or "").partition("#")[0]
+        text = self.text_of(link)
+        return span(text if text_in(text) == page or not page else [*text, *words(f" ({page})")])
+
+    def with_picture(self, image: dict) -> dict:
+        """An image with its picture in it."""
+        attributes, inlines, (url, title) = image["c"]
+        try:
+            data = base64.b64encode((self.source.parent / url).read_bytes()).decode()
+        except OSError as fault:
+            raise SystemExit(f"{self.source}: its picture {url} can't be read: {fault.strerror}") from fault
+        inside = f"data:{mimetypes.guess_type(url)[0]};base64,{data}"
+        return {"t": "Image", "c": [attributes, inlines, [inside, title]]}
+
+    def with_chosen(self, table: dict) -> dict:
+        """A table without the rows that lead to lessons that are not chosen."""
+        *others, bodies, foot = table["c"]
+        left_out = {path for number, path in LESSONS.items() if number not in self.choice.lessons}
+        kept = [
+            [*body[:3], [row for row in body[3] if not left_out.intersection(map(self.file_of, links_in(row)))]]
+            for body in bodies
+        ]
+        return {"t": "Table", "c": [*others, kept, foot]}
+
+    def for_page(self, element: dict) -> dict:
+        """An element as its page has it. Lessons are below the heading of their page, a browser
+        finds the widths of columns itself, code has no colours, and a short one no end of a line in
+        it."""
+        kind, inside = element["t"], element.get("c")
+        if kind == "Link":
+            return self.linked(element)
+        if kind == "Image":
+            return self.with_picture(element)
+        if kind == "Header":
+            level, (name, *attributes), inlines = inside
+            is_first = self.is_first(self.source)
+            name = self.anchor(self.source, name if level > 1 or is_first else "")
+            return {"t": kind, "c": [level if is_first else level + 1, [name, *attributes], inlines]}
+        if kind == "ColWidth":
+            return {"t": "ColWidthDefault"}
+        if kind == "Code":
+            return {"t": kind, "c": [["", ["short"] if len(inside[1]) <= SHORT else [], []], inside[1]]}
+        if kind == "CodeBlock":
+            return {"t": kind, "c": [["", [], [["language", *inside[0][1]]] if inside[0][1] else []], inside[1]]}
+        return element
+
+    def blocks(self) -> list[dict]:
+        """Its blocks on the page of the archive."""
+        blocks = self.document()["blocks"]
+        if self.source == EXAMPLES / "README.md":
+            blocks = [self.with_chosen(it) if it["t"] == "Table" else it for it in blocks]
+        blocks = changed(blocks, self.for_page)
+        is_lesson = self.source in LESSONS.values()
+        if self.page == "answers":
+            return answers_in(blocks)
+        return without_answers(blocks) if is_lesson and self.choice.answers != "with" else blocks
+
+
+LINK = re.compile(r"(!?)\[([^][]*)\]\(([^()\s]+)\)")
+
+
+def is_chosen(path: Path, choice: Choice) -> bool:
+    """Whether a file of the examples goes with the chosen lessons: it has a lesson's number, or no
+    lesson names it, or a chosen one does."""
+    if path.parent == PORT:
+        return True
+    if path.name[:2].isdecimal():
+        return int(path.name[:2]) in choice.lessons
+    name = re.compile(rf"(?<![\w-]){re.escape(path.stem)}\.(?:script|svg|trace)\b")
+    those = {number for number, page in LESSONS.items() if name.search(page.read_text(encoding="utf-8"))}
+    return not those or bool(those.intersection(choice.lessons))
+
+
+# ---- Answers -------------------------------------------------------------------------------------
+
+
+def bounds_of_answer(blocks: list[dict]) -> tuple[int, int]:
+    """Where the folded answer of a lesson begins and ends."""
+    html = [it["c"][1].strip() if it["t"] == "RawBlock" else "" for it in blocks]
+    if html.count(ANSWER) != 1:
+        raise SystemExit(f"{text_in(blocks[0])}: it has {html.count(ANSWER)} folded answers")
+    begin = html.index(ANSWER)
+    return begin, html.index("</details>", begin)
+
+
+def without_answers(blocks: list[dict]) -> list[dict]:
+    """A lesson without the answer to its exercise."""
+    begin, end = bounds_of_answer(blocks)
+    return blocks[:begin] + blocks[end + 1:]
+
+
+def answers_in(blocks: list[dict]) -> list[dict]:
+    """A lesson's exercise and its answer, under the lesson's heading."""
+    begin, end = bounds_of_answer(blocks)
+    exercise = max(at for at, it in enumerate(blocks[:begin]) if it["t"] == "Header") + 1
+    answer = {"t": "Para", "c": [{"t": "Strong", "c": words("Answer")}]}
+    return [blocks[0], *blocks[exercise:begin], answer, *blocks[begin + 1: end]]
+
+
+# ---- Pages ---------------------------------------------------------------------------------------
+
+
+def page_of(page: str, version: str, choice: Choice, run_pages: list[str]) -> bytes:
+    """A page of HTML. After the heading of a lesson come links to the pages of its runs."""
+    whole, blocks = Part(choice, page, choice.pages()[page][0]).document(), []
+    if page == "answers":
+        blocks.append(header(1, "answers", words("Answers to the exercises")))
+    for source in choice.pages()[page]:
+        part = Part(choice, page, source).blocks()
+        runs = [name for name in run_pages if source in LESSONS.values() and name.startswith(source.stem)]
+        links = [{"t": "Link", "c": [["", [], []], words(name), [f"../examples/{name}", ""]]} for name in runs]
+        told = [{"t": "Para", "c": [*words("Step by step: "), *joined(links)]}] if runs and page == "lessons" else []
+        blocks += [part[0], *told, *part[1:]]
+    shown = [name for name in choice.pages() if name in (page, "manual", "recipes", "model", "guide", "lessons")]
+    names = (name if name == page else f'<a href="{name}.html">{name}</a>' for name in shown)
+    with tempfile.NamedTemporaryFile("w", suffix=".html", encoding="utf-8") as template:
+        template.write(TEMPLATE.replace("NAV", " · ".join(names)))
+        template.flush()
+        options = ["-f", "json", "-t", "html5", "--standalone", f"--template={template.name}"]
+        options += ["--toc", "--toc-depth=2", "-M", f"pagetitle=lcrqdb {version}: {page}"]
+        return pandoc(options, json.dumps(whole | {"blocks": blocks}).encode())
+
+
+def joined(links: list[dict]) -> list[dict]:
+    """Links as one line of text."""
+    return [it for link in links for it in (*words(", "), link)][1:]
+
+
+# ---- The man page --------------------------------------------------------------------------------
+
+COLUMNS = 70  # that pandoc gives a table of a man page
+BETWEEN = 3  # of these between two of its columns
+# no word parted and no line spread, for many are commands to type
+AS_WRITTEN = {"t": "RawBlock", "c": ["man", ".nh\n.ad l"]}
+
+
+def widths_of(table: dict) -> list[float]:
+    """How wide the columns of a table are to be: as wide as their widest cell, and where that is
+    too much, the wide ones equal."""
+    head, bodies = table["c"][3], table["c"][4]
+    rows = [*head[1], *(row for body in bodies for row in body[3])]
+    widest = [max(len(text_in(cell[4])) for cell in column) for column in zip(*(row[1] for row in rows))]
+    left, widths = COLUMNS - BETWEEN * (len(widest) - 1), {}
+    for count, at in enumerate(sorted(range(len(widest)), key=lambda at: widest[at])):
+        widths[at] = min(widest[at], left // (len(widest) - count))
+        left -= widths[at]
+    return [widths[at] / COLUMNS for at in range(len(widest))]
+
+
+def for_man(element: dict, part: Part) -> dict:
+    """An element of the manual as its man page has it: without links and pictures, and with its
+    parts as sections."""
+    kind, inside = element["t"], element.get("c")
+    if kind == "Link":
+        return part.named(element)
+    if kind == "Image":
+        return span(inside[1])
+    if kind == "Header":
+        return {"t": kind, "c": [inside[0] - 1, *inside[1:]]}
+    if kind == "Table":
+        columns = zip(inside[2], widths_of(element))
+        widths = [[align, {"t": "ColWidth", "c": width}] for (align, _), width in columns]
+        return {"t": kind, "c": [*inside[:2], widths, *inside[3:]]}
+    return element
+
+
+def man_page(version: str, seconds: int, choice: Choice) -> bytes:
+    """The manual as a man page."""
+    part = Part(choice, "manual", choice.pages()["manual"][0])
+    whole = part.document()
+    blocks = [AS_WRITTEN, *changed(whole["blocks"][1:], functools.partial(for_man, part=part))]
+    options = ["-f", "json", "-t", "man", "--standalone", "-M", "title=LCRQDB", "-M", "section=1"]
+    options += ["-M", f"footer=lcrqdb {version}", "-M", time.strftime("date=%Y-%m-%d", time.gmtime(seconds))]
+    return pandoc(options, json.dumps(whole | {"blocks": blocks}).encode())

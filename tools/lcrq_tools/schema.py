@@ -1,0 +1,76 @@
+"""Checks traces against docs/trace.schema.json, the JSON Schema of versions 1 and 2.
+
+    python3 tools/schema.py FILE..
+
+For each file it prints where the first value is that the schema refuses, and why; `$` is the whole
+trace. The status is 1 if there is one, or if a file can't be read. It needs the library
+`jsonschema`: python3-jsonschema of Debian, or jsonschema of pip. Without it the status is 2.
+"""
+
+import argparse
+import functools
+import json
+import re
+import sys
+from pathlib import Path
+
+try:
+    from jsonschema import Draft7Validator, ValidationError, validators
+except ModuleNotFoundError:
+    print("this needs jsonschema: python3-jsonschema of Debian, or jsonschema of pip", file=sys.stderr)
+    sys.exit(2)
+
+from lcrq_tools.program import TOP
+
+SCHEMA = TOP / "docs" / "trace.schema.json"
+MOST_SHOWN = 160  # letters of what is wrong, which may show a whole list
+
+
+def has_pattern(_validator, pattern, value, _schema):
+    """The keyword `pattern`, whose `$` is the end of the text, also where a line feed is last: that
+    of Python's `re` is before it, too."""
+    if isinstance(value, str) and not re.search(pattern.replace("$", r"\Z"), value):
+        yield ValidationError(f"{value!r} does not match {pattern!r}")
+
+
+Validator = validators.extend(Draft7Validator, {"pattern": has_pattern})
+
+
+@functools.cache
+def validator():
+    """What checks values against the schema of traces."""
+    return Validator(json.loads(SCHEMA.read_text(encoding="utf-8")))
+
+
+def shortened(text):
+    """A text without its middle, where it is long."""
+    half = MOST_SHOWN // 2
+    return text if len(text) <= MOST_SHOWN else f"{text[:half]} .. {text[-half:]}"
+
+
+def fault_of(value):
+    """The first thing that the schema of traces finds wrong with a value, or nothing."""
+    fault = next(validator().iter_errors(value), None)
+    if not fault:
+        return ""
+    meant = f": {fault.schema['description']}" if fault.validator == "anyOf" else ""
+    return f"{fault.json_path}: {shortened(fault.message)}{meant}"
+
+
+def fault_in(name):
+    """What is wrong with the file of this name, or nothing."""
+    try:
+        return fault_of(json.loads(Path(name).read_text(encoding="utf-8")))
+    except OSError as fault:
+        return f"can't be read: {fault.strerror}"
+    except (ValueError, RecursionError) as fault:
+        return f"no JSON: {fault}"
+
+
+def main():
+    parser = argparse.ArgumentParser(description="Checks traces against their JSON Schema.")
+    parser.add_argument("files", nargs="+", metavar="FILE", help="a trace")
+    faults = [(name, fault_in(name)) for name in parser.parse_args().files]
+    for name, fault in faults:
+        print(f"{name}: {fault or 'no fault'}")
+    return 1 if any(fault for _, fault in faults) else 0

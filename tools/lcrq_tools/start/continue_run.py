@@ -1,0 +1,132 @@
+"""Goes on from a trace at random, until all actors are idle, and takes what is in the queue then.
+
+    python3 tools/continue_run.py TRACE [--runs N] [--seed S] [-o OUT.script] [--program P]
+
+Of N continuations (100), each of its own seed from S (1) on, each lets a random actor that is in a
+call make its next step, a random choice at E10 included, until no actor is in a call. Then actor 1
+dequeues until the queue is empty. All values that were in a cell or in the call of an enqueue at the
+beginning should have been taken then, each once. What became of them is printed, one line for all
+continuations that came to the same, with the first seed that did; -o writes the lines of the first
+continuation as a script. What becomes of the array queue is not looked at.
+
+The status is 1, with the reason in one line, if the trace can't be loaded or the script can't be
+written; 0 whatever became of the values. Only Python's standard library is used.
+"""
+
+import argparse
+import collections
+import itertools
+import random
+from collections.abc import Iterator
+from pathlib import Path
+
+from lcrq_tools import program
+from lcrq_tools.program import Broken, Driven
+
+MOST_STEPS = 20_000  # of a continuation
+
+
+class Continuation:
+    """A run over a trace that goes on at random."""
+
+    def __init__(self, given: argparse.Namespace, seed: int):
+        self.chance, self.lines, self.taken = random.Random(seed), [], collections.Counter()
+        with Driven([given.program, "load", "--", given.trace]) as driven:
+            self.driven = driven
+            self.there = collections.Counter(self.values())
+            self.go_on()
+            while self.take():
+                pass
+
+    def ask(self, line: str) -> str:
+        """The reply to a line."""
+        return self.driven.ask(line)[0]
+
+    def all_of(self, line: str, first: int = 0) -> Iterator[str]:
+        """The replies to a line with this number and each one after it, up to one that is refused."""
+        replies = (self.ask(line.format(number)) for number in itertools.count(first))
+        return itertools.takewhile(lambda reply: not reply.startswith("refused "), replies)
+
+    def values(self) -> Iterator[str]:
+        """The values in cells and in the calls of enqueues."""
+        actors = [reply.split(" ") for reply in self.all_of("actor {}", 1)]
+        self.actors = range(1, len(actors) + 1)
+        yield from (words[3] for words in actors if words[2] == "enq")
+        for maker in range(len(actors) + 1):
+            for number, _ in enumerate(self.all_of(f"show whole {maker}.{{}}")):
+                cells = self.all_of(f"show value {maker}.{number} {{}}")
+                yield from (it.removeprefix("is ") for it in cells if it != "is none")
+
+    def make(self, line: str) -> str:
+        """Makes a step; returns what its call replied, `-` where it goes on, or nothing if it is refused."""
+        reply = self.ask(line)
+        if not reply.startswith("ok "):
+            return ""
+        self.lines.append(line)
+        if len(self.lines) > MOST_STEPS:
+            raise Broken(f"no end after {MOST_STEPS} steps")
+        words = reply.split(" ")[2:]
+        if words[:1] == ["value"]:
+            self.taken[words[1]] += 1
+        return " ".join(words) or "-"
+
+    def step(self, actor: int) -> str:
+        """Lets an actor make its next step; returns what its call replied, or `-`."""
+        return self.make(f"go {actor}") or self.make(f"starve {actor} {self.chance.choice(['yes', 'no'])}")
+
+    def go_on(self) -> None:
+        """Goes on until no actor is in a call."""
+        able = [actor for actor in self.actors if not self.ask(f"actor {actor}").startswith("actor Idle ")]
+        while able:
+            actor = self.chance.choice(able)
+            reply = self.step(actor)
+            if not reply:
+                raise Broken(f"actor {actor} can't go on: {self.ask(f'go {actor}')}")
+            if reply != "-":
+                able.remove(actor)
+
+    def take(self) -> bool:
+        """Lets actor 1 dequeue; returns whether it took a value."""
+        reply = self.make("deq 1")
+        while reply == "-":
+            reply = self.step(1)
+        return reply.startswith("value ")
+
+    def outcome(self) -> str:
+        """What became of the values."""
+        lost, again = self.there - self.taken, self.taken - self.there
+        rows = (lost, "never taken"), (again, "taken too often")
+        said = [f"{', '.join(sorted(it.elements(), key=int))} {what}" for it, what in rows if it]
+        count = self.there.total()
+        return "; ".join(said) or f"all taken, each once: {count} value{'' if count == 1 else 's'}"
+
+
+def go_on(given: argparse.Namespace) -> None:
+    """Makes the continuations, and prints what became of the values."""
+    outcomes: dict[str, list[int]] = {}
+    for seed in range(given.seed, given.seed + given.runs):
+        it = Continuation(given, seed)
+        if seed == given.seed and given.output:
+            given.output.write_text("".join(f"{line}\n" for line in it.lines), encoding="ascii")
+        outcomes.setdefault(it.outcome(), []).append(seed)
+    for outcome, seeds in sorted(outcomes.items(), key=lambda row: -len(row[1])):
+        print(f"{len(seeds)} of {given.runs} continuations, the first of seed {seeds[0]}: {outcome}")
+
+
+def main() -> int:
+    parser = argparse.ArgumentParser(description="Goes on from a trace at random until all actors are idle.")
+    parser.add_argument("trace", metavar="TRACE", help="the trace from which it goes on")
+    parser.add_argument("--runs", type=int, default=100, metavar="N", help="how many continuations (100)")
+    parser.add_argument("--seed", type=int, default=1, metavar="S", help="the seed of the first one (1)")
+    output = "where the lines of the first one go"
+    parser.add_argument("-o", dest="output", type=Path, metavar="OUT.script", help=output)
+    program.add_program(parser)
+    given = parser.parse_args()
+    try:
+        ended = program.run([given.program, "load", "--", given.trace])
+        if ended.status:
+            raise Broken(ended.errors.strip())
+        go_on(given)
+    except (Broken, OSError) as fault:
+        raise SystemExit(f"{given.trace}: {fault}") from fault
+    return 0

@@ -1,0 +1,262 @@
+"""A start out of a run: writes the world at a script's end as a start of one's own, a trace over
+which `lcrqdb load` runs other scripts.
+
+    python3 tools/freeze.py SCRIPT -o START.trace [--actors A] [--ring R] [--refused] [--program P]
+    python3 tools/freeze.py SCRIPT -o START.trace --trace TRACE [--refused] [--program P]
+    python3 tools/freeze.py --check TRACE [--program P]
+
+The script runs over a fresh world of A actors and rings of R cells, 4 each if left out, or over a
+trace. `-` is standard input for SCRIPT, and standard output for START.trace. At the script's end
+all actors and places are asked for, by `actor` and `show`, so each part of the start is a reply of
+the program. Steps, undone steps and bookmarks are left out: over the start, steps count from 1, and
+what was there before has no writer and no origin.
+
+Standard error says how many actors and cells the start has, and how many lines of the script are
+refused. The status is 1, with the reason in one line, if a file can't be read or written, if the
+program does not run the script, or if a line is refused that makes a step or is no command, unless
+`--refused` is given. `--check` says instead whether the program takes the start of a trace: of a
+`Flaw N` it names the first part and the condition, which it finds by trying parts through the
+program (`flaws.py`), with status 1. Only Python's standard library is needed; where `jsonschema` is there too, the
+start is checked against docs/trace.schema.json.
+"""
+
+import argparse
+import importlib.util
+import itertools
+import json
+import subprocess
+import sys
+from pathlib import Path
+
+from lcrq_tools import program
+from lcrq_tools.program import Broken, Driven
+from lcrq_tools.start import flaws
+
+START = """{{
+  "version": 2,
+  "ring": {ring},
+  "start": {{
+    "actors": [
+      {actors}
+    ],
+    "segments": [
+      {segments}
+    ],
+    "qhead": {qhead},
+    "qtail": {qtail},
+    "array": {array}
+  }},
+  "events": [],
+  "undone": [],
+  "marks": []
+}}
+"""
+
+# ---- What a reply shows, as a trace has it -------------------------------------------------------
+
+
+def or_null(word, value_of):
+    """What a word stands for, where it may be `none`."""
+    return None if word == "none" else value_of(word)
+
+
+def name_of(word):
+    """The name of a segment."""
+    return [int(number) for number in word.split(".")]
+
+
+def value_of(word):
+    """A value, or that there is none."""
+    return or_null(word, int)
+
+
+def bit_of(word):
+    """A bit."""
+    return word == "1"
+
+
+WORDS = dict.fromkeys(("crq", "new", "next"), name_of) | dict.fromkeys(("t", "h", "idx", "pass"), int)
+WORDS |= {"closed": bit_of, "safe": bit_of, "val": value_of}
+
+
+def actor_of(reply):
+    """The actor of a reply to `actor A`."""
+    words = reply.split(" ")
+    first = words.index("crq")
+    call = None if words[2] == "none" else [words[2], *map(int, words[3:first])]
+    named = zip(words[first::2], words[first + 1::2])
+    return {"pc": words[1], "op": call} | {key: WORDS[key](word) for key, word in named}
+
+
+def cell_of(content):
+    """A cell of a ring."""
+    safe, index, value = content.split(" ")
+    return [bit_of(safe), int(index), value_of(value)]
+
+
+def slot_of(at, content):
+    """A slot of the array that is not empty."""
+    return [at, "top" if content == "top" else int(content.removeprefix("value "))]
+
+
+# ---- The world, as it is asked for ---------------------------------------------------------------
+
+
+class Asked:
+    """A world at which a run of the program is."""
+
+    def __init__(self, driven):
+        self.driven = driven
+
+    def show(self, place):
+        """What is at a place."""
+        return self.driven.ask(f"show {place}")[0].removeprefix("is ")
+
+    def all_of(self, line, first=0):
+        """The replies to a line with this number and each one after it, up to one that is
+        refused."""
+        replies = (self.driven.ask(line.format(number))[0] for number in itertools.count(first))
+        taken = itertools.takewhile(lambda reply: not reply.startswith("refused "), replies)
+        return [reply.removeprefix("is ") for reply in taken]
+
+    def segment(self, name):
+        """The segment of this name."""
+        state, tail = self.show(f"tail {name}").split(" ")
+        cells = [cell_of(content) for content in self.all_of(f"show cell {name} {{}}")]
+        counters = {"head": int(self.show(f"head {name}")), "tail": int(tail), "closed": state == "closed"}
+        return counters | {"next": or_null(self.show(f"next {name}"), name_of), "cells": cells}
+
+    def made_by(self, maker):
+        """The segments that a maker made."""
+        count = len(self.all_of(f"show whole {maker}.{{}}"))
+        return [self.segment(f"{maker}.{number}") for number in range(count)]
+
+    def array(self):
+        """The array."""
+        slots = enumerate(self.all_of("show acell {}"))
+        filled = [slot_of(at, content) for at, content in slots if content != "empty"]
+        return {"head": int(self.show("ahead")), "tail": int(self.show("atail")), "cells": filled}
+
+    def start(self):
+        """The whole world as the text of a trace that begins there."""
+        actors = [actor_of(reply) for reply in self.all_of("actor {}", 1)]
+        made = [self.made_by(maker) for maker in range(len(actors) + 1)]
+        ends = {end: name_of(self.show(end)) for end in ("qhead", "qtail")}
+        return text_of(len(made[0][0]["cells"]), actors, made, ends | {"array": self.array()})
+
+
+def text_of(ring, actors, made, others):
+    """The text of a trace that begins with these parts: an actor and a segment a line."""
+    lists = ["[" + (",\n" + " " * 7).join(map(json.dumps, segments)) + "]" for segments in made]
+    rows = {"actors": map(json.dumps, actors), "segments": lists}
+    rows = {key: (",\n" + " " * 6).join(lines) for key, lines in rows.items()}
+    return START.format(ring=ring, **rows, **{key: json.dumps(part) for key, part in others.items()})
+
+
+# ---- Runs ----------------------------------------------------------------------------------------
+
+
+def read(name):
+    """The bytes of a file, or of standard input."""
+    try:
+        return sys.stdin.buffer.read() if name == "-" else Path(name).read_bytes()
+    except OSError as fault:
+        raise SystemExit(f"{name} can't be read: {fault.strerror}") from fault
+
+
+def write(name, text):
+    """Writes a text into a file, or to standard output."""
+    try:
+        if name == "-":
+            sys.stdout.write(text)
+        else:
+            Path(name).write_text(text, encoding="ascii")
+    except OSError as fault:
+        raise SystemExit(f"{name} can't be written: {fault.strerror}") from fault
+
+
+def look_for_refusals(given, words, script):
+    """Runs a script, and says how many of its lines are refused; a refused event ends it."""
+    ended = program.run(words, script)
+    if ended.status:
+        raise SystemExit(f"`{' '.join(words)}` ended with status {ended.status}: {ended.errors.strip()}")
+    replies = ended.output.decode().splitlines()
+    said, has_fault = program.refusals_of(script, replies)
+    if has_fault and not given.refused:
+        raise SystemExit(f"{said}; --refused writes the start all the same")
+    if said:
+        print(said, file=sys.stderr)
+
+
+def start_after(words, script):
+    """The world at the end of a script, as the text of a start."""
+    lines = script.decode("latin-1").split("\n")
+    with Driven(words) as driven:
+        for line in lines if lines[-1] else lines[:-1]:
+            driven.ask(line)
+        return Asked(driven).start()
+
+
+def schema_fault(text):
+    """What the schema of traces refuses in a text; nothing where the library for it is missing."""
+    if not importlib.util.find_spec("jsonschema"):
+        return ""
+    from lcrq_tools import schema
+
+    return schema.fault_of(json.loads(text))
+
+
+def read_options():
+    """The command line."""
+    parser = argparse.ArgumentParser(description="Writes the world at a script's end as a start.")
+    parser.add_argument("script", metavar="SCRIPT", nargs="?", help="the script; - is standard input")
+    output = {"metavar": "START.trace", "help": "the file to write; - is standard output"}
+    parser.add_argument("-o", dest="output", **output)
+    parser.add_argument("--check", metavar="TRACE", help="say which part of a trace's start has a flaw")
+    parser.add_argument("--trace", help="the trace over which the script runs")
+    parser.add_argument("--actors", type=int, choices=range(1, 17), metavar="A", help="1 to 16 actors (4)")
+    parser.add_argument("--ring", type=int, choices=(2, 4, 8), help="cells of a ring (4)")
+    program.add_refused(parser)
+    program.add_program(parser)
+    given = parser.parse_args()
+    if given.trace and (given.actors or given.ring):
+        parser.error("a trace has its own actors and ring")
+    if not given.check and not (given.script and given.output):
+        parser.error("SCRIPT and -o START.trace are wanted, or --check TRACE")
+    return given
+
+
+def check(given):
+    """Says what is wrong with the start of a trace; returns the exit status."""
+    try:
+        trace = json.loads(read(given.check))
+        parts = trace["start"] if isinstance(trace, dict) and "actors" in trace.get("start", {}) else None
+    except ValueError:
+        parts = None
+    ended = program.run([given.program, "load", "--", given.check])
+    said = ended.errors.strip().removeprefix("lcrqdb: ")
+    if parts and "refused 26 " in said:
+        said = flaws.flaw_in(given.program, trace)
+    print(f"{given.check}: {said or 'no flaw'}", file=sys.stderr if said else sys.stdout)
+    return 1 if said else 0
+
+
+def main():
+    given = read_options()
+    if given.check:
+        return check(given)
+    script = read(given.script)
+    options = ["--actors", str(given.actors or 4), "--ring", str(given.ring or 4)]
+    words = [given.program, *(["load", given.trace] if given.trace else ["run", "-", *options])]
+    try:
+        look_for_refusals(given, words, script)
+        start = start_after(words, script)
+    except (Broken, OSError, subprocess.TimeoutExpired) as fault:
+        raise SystemExit(f"the script can't be run: {fault}") from fault
+    if fault := schema_fault(start):
+        raise SystemExit(f"the schema of traces refuses this start: {fault}")
+    write(given.output, start)
+    trace = json.loads(start)
+    world = program.world_of(len(trace["start"]["actors"]), trace["ring"])
+    print(f"a start with {world}", file=sys.stderr)
+    return 0
