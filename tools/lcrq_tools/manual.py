@@ -11,9 +11,10 @@ from lcrq_tools.program import TOP
 PAGE = (TOP / "docs" / "MANUAL.md").read_text(encoding="utf-8")
 
 
-def quoted_in(head, column):
+def quoted_in(head: str, column: int) -> list[str]:
     """What is quoted in this column of each table whose head begins so."""
-    quoted, is_inside = [], False
+    quoted: list[str] = []
+    is_inside = False
     for row in PAGE.splitlines():
         is_inside = row.startswith(head) or is_inside and row.startswith("|")
         if is_inside:
@@ -25,12 +26,13 @@ def quoted_in(head, column):
 
 FORMS = quoted_in("| Line | Meaning |", 1)
 PLACES = quoted_in("| PLACE | Is |", 1)
-REPLIES = {re.match("[a-z]*", reply)[0] for reply in quoted_in("| After | Reply |", 2)} - {""}
+REPLIES = {word for reply in quoted_in("| After | Reply |", 2) for word in re.findall("^[a-z]+", reply)}
 
 
 def refusals() -> dict[str, str]:
     """Why a line is refused and what to do, by the number of the refusal."""
-    rows, is_inside = {}, False
+    rows: dict[str, str] = {}
+    is_inside = False
     for row in PAGE.splitlines():
         is_inside = row.startswith("| No | Name | Data | When |") or is_inside and row.startswith("|")
         cells = [cell.strip().replace("`", "") for cell in row.split("|")]

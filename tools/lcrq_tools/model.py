@@ -39,7 +39,8 @@ def heads_of(line: str) -> list[tuple[int, str]]:
 
 def block_of(page: str) -> list[str]:
     """The lines of the one block that begins with two heads."""
-    blocks = [it.splitlines() for it in re.findall(r"^```text\n(.*?)^```$", page, re.MULTILINE | re.DOTALL)]
+    texts: list[str] = re.findall(r"^```text\n(.*?)^```$", page, re.MULTILINE | re.DOTALL)
+    blocks = [it.splitlines() for it in texts]
     found = [lines for lines in blocks if lines and heads_of(lines[0])]
     if len(found) != 1:
         raise Unreadable(f"{len(found)} blocks begin with the heads of two calls")
@@ -48,7 +49,8 @@ def block_of(page: str) -> list[str]:
 
 def columns_of(page: str) -> dict[str, list[str]]:
     """The lines under each head."""
-    columns, heads = {}, []
+    columns: dict[str, list[str]] = {}
+    heads: list[tuple[int, str]] = []
     for line in block_of(page):
         begins = heads_of(line)
         if begins:
@@ -70,9 +72,10 @@ def columns_of(page: str) -> dict[str, list[str]]:
 def lines_of(page: str) -> dict[str, dict[str, list[str]]]:
     """For each call, by its word in a script, the lines of each of its control points, without the
     label. A line that goes on with the one before it is indented."""
-    calls, known = {}, set()
+    calls: dict[str, dict[str, list[str]]] = {}
+    known: set[str] = set()
     for head, rows in columns_of(page).items():
-        lines = calls[CALLS[head]] = {}
+        lines = calls.setdefault(CALLS[head], {})
         for row in rows:
             label, text = row[:MARGIN].strip(), row[MARGIN:]
             if label:
@@ -113,7 +116,8 @@ FORMS = {
     "cas2": rf"CAS2 (?P<place>{CELL}) from \((?P<old>{BIT}, {NUMBER}, (?:val|none))\)"
     rf" to \((?P<new>(?:true|false), {SUM}, (?:x|val|none)|{BIT}, {SUM}, (?:x|val|none))\)",
     "close": rf"close (?P<place>{TAIL})",
-    "make": rf"(?P<word>{NAME}) := a new segment that holds (?P<place>x in cell (?P<at>[0-9]+) and has tail (?P<tail>[0-9]+))",
+    "make": rf"(?P<word>{NAME}) := a new segment that holds"
+    r" (?P<place>x in cell (?P<at>[0-9]+) and has tail (?P<tail>[0-9]+))",
     "swap": rf"swap (?P<what>x|top) into (?P<place>ArrCell\({NUMBER}\))",
     "set": r"pass := (?P<number>[0-9]+)",
     "take": rf"(?P<word>{NAME}) := it",
@@ -142,7 +146,7 @@ class Sentence:
 
     text: str
     form: str
-    parts: dict
+    parts: dict[str, str]
 
     def accesses(self) -> int:
         """How many accesses it makes."""
@@ -174,12 +178,15 @@ class Outcome:
         return 0
 
 
+Part = Sentence | Branch | Outcome
+
+
 @dataclass
 class Step:
     """What the lines of a control point say."""
 
     label: str
-    body: list
+    body: list[Part]
     after: str | None  # the control point at which the text goes on
 
     def has_choice(self) -> bool:
@@ -188,7 +195,7 @@ class Step:
         return isinstance(first, Branch) and first.conditions[0].form == "chosen"
 
 
-def sentence_of(text: str, forms: dict) -> Sentence:
+def sentence_of(text: str, forms: dict[str, str]) -> Sentence:
     """The sentence of a text, by one of these forms."""
     for name, form in forms.items():
         found = re.fullmatch(form, text)
@@ -200,7 +207,7 @@ def sentence_of(text: str, forms: dict) -> Sentence:
 def joined(lines: list[str]) -> list[str]:
     """The lines of a control point, each with what goes on under it. An outcome of a CAS begins
     anew."""
-    whole = []
+    whole: list[str] = []
     for line in lines:
         if whole and line.startswith(" ") and not line.strip().startswith(("won:", "lost:")):
             whole[-1] += f" {line.strip()}"
@@ -215,12 +222,12 @@ def branch_of(text: str) -> Branch:
     return Branch([sentence_of(it, CONDITIONS) for it in conditions.split(" or ")], sentence_of(then, FORMS))
 
 
-def body_of(lines: list[str]) -> list:
+def body_of(lines: list[str]) -> list[Part]:
     """The sentences of a control point. In its line an `if` is followed by its `else` alone, and an
     outcome of a CAS by the other one."""
-    body = []
+    body: list[Part] = []
     for line in lines:
-        before = None
+        before: Part | None = None
         for part in line.split("; "):
             word, _, rest = part.partition(" ")
             if word == "else" and isinstance(before, Branch) and not before.other:
@@ -245,8 +252,10 @@ def check_step(step: Step, labels: list[str]) -> None:
     if any(isinstance(it, Sentence) and it.form in ("go", "answer") for it in step.body[:-1]):
         raise Unreadable(f"{step.label} goes on after it has led away")
     for it in step.body:
-        ends = [it] if isinstance(it, Sentence) else [it.then, getattr(it, "other", None)]
-        for end in filter(None, ends):
+        ends = [it] if isinstance(it, Sentence) else [it.then]
+        if isinstance(it, Branch) and it.other:
+            ends.append(it.other)
+        for end in ends:
             if not isinstance(it, Sentence) and end.accesses():
                 raise Unreadable(f"an access under a condition: `{end.text}`")
             for label in (end.parts.get("to"), end.parts.get("then")):
@@ -257,7 +266,8 @@ def check_step(step: Step, labels: list[str]) -> None:
 def read(page: str) -> tuple[dict[str, Step], dict[str, str]]:
     """What the page says: the step of each control point, and the first control point of each call.
     Labels are those of the table, in its order. `that cell` is the last one that the column names."""
-    steps, firsts = {}, {}
+    steps: dict[str, Step] = {}
+    firsts: dict[str, str] = {}
     for call, column in lines_of(page).items():
         cell, labels = None, [*column]
         firsts[call] = labels[0]

@@ -4,7 +4,7 @@
 a time. `try_program` has a throw-away program built beside a copy of some crates and run.
 """
 
-import collections
+import argparse
 import os
 import re
 import select
@@ -13,7 +13,9 @@ import statistics
 import subprocess
 import tempfile
 import time
+from collections.abc import Callable, Iterable, Mapping, Sequence
 from pathlib import Path
+from typing import IO, NamedTuple, Self
 
 TOP = Path(__file__).resolve().parent.parent.parent
 CRATES = TOP / "crates"
@@ -30,8 +32,24 @@ ELF = b"\x7fELF"  # how a program begins
 MAKES_A_STEP = re.compile(rb"(a?enq|a?deq|go|starve) ")
 NO_COMMAND = ("refused 22 ", "refused 23 ")
 
-Ended = collections.namedtuple("Ended", "status output errors")
-Watched = collections.namedtuple("Watched", "seconds peak_kib status output errors is_in_time")
+
+class Ended(NamedTuple):
+    """What a run gave."""
+
+    status: int
+    output: bytes
+    errors: str
+
+
+class Watched(NamedTuple):
+    """What a run gave, what it took, and whether it ended in time."""
+
+    seconds: float
+    peak_kib: int
+    status: int
+    output: bytes
+    errors: str
+    is_in_time: bool
 
 
 class Broken(Exception):
@@ -43,7 +61,7 @@ def is_unproved(data: bytes) -> bool:
     return data.startswith(ELF) and b"AddressSanitizer" in data
 
 
-def required(path, command):
+def required(path: str, command: str) -> str:
     """Where a program is that this path names. Where there is none the script ends in one line,
     with the command that builds it."""
     found = shutil.which(path)
@@ -52,26 +70,33 @@ def required(path, command):
     return found
 
 
-def add_program(parser):
+def add_program(parser: argparse.ArgumentParser) -> None:
     """Adds the option that names the built program, which has to be there."""
-    built = BUILT if BUILT.is_file() else shutil.which("lcrqdb") or BUILT
-    option = {"default": str(built), "help": "the program (the built one; else lcrqdb on the PATH)"}
-    parser.add_argument("--program", type=lambda path: required(path, BUILDS), **option)
+    built = str(BUILT) if BUILT.is_file() else shutil.which("lcrqdb") or str(BUILT)
+    about = "the program (the built one; else lcrqdb on the PATH)"
+    parser.add_argument("--program", type=lambda path: required(path, BUILDS), default=built, help=about)
 
 
 # ---- Runs ----------------------------------------------------------------------------------------
 
 
-def run(words, given=b"", **more):
+def run(
+    words: Sequence[str | bytes],
+    given: bytes = b"",
+    stdout: int | IO[bytes] = subprocess.PIPE,
+    timeout: float = SECONDS,
+    env: Mapping[str, str] | None = None,
+    preexec_fn: Callable[[], None] | None = None,
+) -> Ended:
     """What a run gives: its status, its output as bytes, and its standard error as text."""
-    more = {"stdout": subprocess.PIPE, "stderr": subprocess.PIPE, "timeout": SECONDS} | more
-    if "stdin" not in more:
-        more["input"] = given
-    ended = subprocess.run(words, check=False, **more)
-    return Ended(ended.returncode, ended.stdout, (ended.stderr or b"").decode(errors="replace"))
+    ended = subprocess.run(
+        words, input=given, stdout=stdout, stderr=subprocess.PIPE, timeout=timeout, env=env, preexec_fn=preexec_fn,
+        check=False,
+    )
+    return Ended(ended.returncode, ended.stdout, ended.stderr.decode(errors="replace"))
 
 
-def refusals_of(script, replies):
+def refusals_of(script: bytes, replies: Sequence[str]) -> tuple[str, bool]:
     """What to say of the refused lines of a script, nothing if there is none; and whether one of
     them makes a step or is no command, so that the run is hardly the one that is meant. A refused
     `undo` or `roll` is a question that was answered."""
@@ -89,18 +114,18 @@ def refusals_of(script, replies):
     return f"{len(refused)} of {len(lines)} lines are refused, the first is line {at}: {reply}{returns}", has_fault
 
 
-def world_of(actors, ring):
+def world_of(actors: int, ring: int) -> str:
     """How many actors a world has, and cells its rings, in words."""
     return f"{actors} actor{'' if actors == 1 else 's'}, rings of {ring} cells (R = {ring})"
 
 
-def add_refused(parser):
+def add_refused(parser: argparse.ArgumentParser) -> None:
     """Adds the option that takes a script although lines are refused that make a step."""
     about = "go on although a line that makes a step, or one that is no command, is refused"
     parser.add_argument("--refused", action="store_true", help=about)
 
 
-def peak_of(process):
+def peak_of(process: int) -> int:
     """The most KiB that a running process has held so far; 0 if it has gone."""
     try:
         with open(f"/proc/{process}/status", encoding="utf-8") as status:
@@ -109,10 +134,12 @@ def peak_of(process):
         return 0
 
 
-def read_all(child, seconds, rest, look_every):
+def read_all(child: subprocess.Popen[bytes], seconds: float, rest: float, look_every: float) -> tuple[bytes, int, bool]:
     """All that a process writes, its peak, and whether it ended in time. The reader rests after
     each read."""
-    pipe, chunks, peak, looked = child.stdout.fileno(), [], 0, 0.0
+    assert child.stdout  # a pipe
+    chunks: list[bytes] = []
+    pipe, peak, looked = child.stdout.fileno(), 0, 0.0
     end = time.perf_counter() + seconds
     while True:
         now = time.perf_counter()
@@ -130,7 +157,7 @@ def read_all(child, seconds, rest, look_every):
             time.sleep(rest)
 
 
-def look_on(child, seconds):
+def look_on(child: subprocess.Popen[bytes], seconds: float) -> tuple[int, bool]:
     """The peak of a process whose output goes elsewhere, and whether it ended in time."""
     peak, end = 0, time.perf_counter() + seconds
     while time.perf_counter() < end:
@@ -144,14 +171,19 @@ def look_on(child, seconds):
 
 
 def watch(
-    words, given=subprocess.DEVNULL, rest=0.0, seconds=SECONDS, keeps=True, look_every=LOOK_EVERY
-):
+    words: Sequence[str],
+    given: int | IO[bytes] = subprocess.DEVNULL,
+    rest: float = 0.0,
+    seconds: float = SECONDS,
+    keeps: bool = True,
+    look_every: float = LOOK_EVERY,
+) -> Watched:
     """A run, with its time from start to end and the most memory that it was seen to hold. Its
     replies go through a pipe, or, where they aren't kept, into /dev/null."""
-    output = subprocess.PIPE if keeps else subprocess.DEVNULL
+    stdout = subprocess.PIPE if keeps else subprocess.DEVNULL
     with tempfile.TemporaryFile() as errors:
         begin = time.perf_counter()
-        with subprocess.Popen(words, stdin=given, stdout=output, stderr=errors) as child:
+        with subprocess.Popen(words, stdin=given, stdout=stdout, stderr=errors) as child:
             if keeps:
                 output, peak, is_in_time = read_all(child, seconds, rest, look_every)
             else:
@@ -165,7 +197,7 @@ def watch(
     return Watched(took, peak, status, output, text, is_in_time)
 
 
-def processor_ticks():
+def processor_ticks() -> tuple[int, int]:
     """How long the processors have worked, and how long their host gave them to others when they
     had work; zeros if it isn't known."""
     try:
@@ -176,7 +208,7 @@ def processor_ticks():
     return user + nice + system + irq + softirq, steal
 
 
-def stolen_since(ticks):
+def stolen_since(ticks: tuple[int, int]) -> float:
     """Of the time with work since these ticks, the share that the host gave to others."""
     worked, stolen = (after - before for after, before in zip(processor_ticks(), ticks))
     return stolen / (worked + stolen) if stolen else 0.0
@@ -189,45 +221,47 @@ class Driven:
     """A run of the program, to be asked a line at a time: each line is written, and its one reply
     is waited for before the next is written."""
 
-    def __init__(self, words, seconds=SECONDS):
+    def __init__(self, words: Sequence[str], seconds: float = SECONDS) -> None:
         self.seconds = seconds
         self.child = subprocess.Popen(words, stdin=subprocess.PIPE, stdout=subprocess.PIPE)
+        assert self.child.stdin and self.child.stdout  # pipes
+        self.stdin, self.stdout = self.child.stdin, self.child.stdout
         # the clock of the child's processor time, by the number that clock_getcpuclockid(3) gives
         self.clock = (~self.child.pid << 3) | 2
 
-    def __enter__(self):
+    def __enter__(self) -> Self:
         return self
 
-    def __exit__(self, *_):
+    def __exit__(self, *_: object) -> None:
         self.child.kill()  # nothing, if it has ended
         self.child.wait()
-        self.child.stdin.close()
-        self.child.stdout.close()
+        self.stdin.close()
+        self.stdout.close()
 
-    def end(self):
+    def end(self) -> int:
         """The exit status, with no more lines."""
-        self.child.stdin.close()
+        self.stdin.close()
         try:
             return self.child.wait(self.seconds)
         except subprocess.TimeoutExpired as fault:
             raise Broken(f"the program did not end in {self.seconds} s") from fault
 
-    def ask(self, line):
+    def ask(self, line: str) -> tuple[str, float, float]:
         """The reply to a line, whose letters are its bytes, and how many milliseconds it took from
         end to end, and of the program's processor time."""
         text = line.encode("latin-1") + b"\n"
         try:
             worked, begin = time.clock_gettime_ns(self.clock), time.perf_counter_ns()
-            os.write(self.child.stdin.fileno(), text)
+            os.write(self.stdin.fileno(), text)
             reply = self.reply(line)
             end = time.perf_counter_ns()
             return reply, (end - begin) / 1e6, (time.clock_gettime_ns(self.clock) - worked) / 1e6
         except OSError as fault:
             raise Broken(f"the program ended at `{line}`: {fault}") from fault
 
-    def reply(self, line):
+    def reply(self, line: str) -> str:
         """The next line that the program writes."""
-        reply, pipe = b"", self.child.stdout.fileno()
+        reply, pipe = b"", self.stdout.fileno()
         while not reply.endswith(b"\n"):
             if not select.select([pipe], [], [], self.seconds)[0]:
                 raise Broken(f"`{line}` took more than {self.seconds} s")
@@ -241,7 +275,7 @@ class Driven:
 # ---- Throw-away programs -------------------------------------------------------------------------
 
 
-def lay_out(folder, source, uses, below):
+def lay_out(folder: Path, source: str, uses: Sequence[str], below: Sequence[str]) -> Path:
     """Writes the repository of a program beside the crates below it; returns its folder."""
     for name in below:
         ignored = shutil.ignore_patterns("out", "must-fail")
@@ -256,7 +290,9 @@ def lay_out(folder, source, uses, below):
     return program
 
 
-def try_program(source, uses, below, *options):
+def try_program(
+    source: str, uses: Sequence[str], below: Sequence[str], *options: str
+) -> subprocess.CompletedProcess[str]:
     """What `rt try` says of a program of this source, which is built unproved."""
     with tempfile.TemporaryDirectory() as folder:
         program = lay_out(Path(folder), source, uses, below)
@@ -267,27 +303,27 @@ def try_program(source, uses, below, *options):
 # ---- Tables --------------------------------------------------------------------------------------
 
 
-def row_of(*cells):
+def row_of(*cells: object) -> str:
     """A row of a Markdown table."""
     return "".join(f"| {cell} " for cell in cells) + "|"
 
 
-def print_head(*names):
+def print_head(*names: str) -> None:
     """Prints the head of a table."""
     print(row_of(*names) + "\n" + "|---" * len(names) + "|", flush=True)
 
 
-def print_row(*cells):
+def print_row(*cells: object) -> None:
     """Prints a row of a table."""
     print(row_of(*cells), flush=True)
 
 
-def spread_of(values):
+def spread_of(values: Sequence[float]) -> tuple[float, float, float]:
     """The median, the least and the greatest."""
     return statistics.median(values), min(values), max(values)
 
 
-def print_checks(checks):
+def print_checks(checks: Iterable[tuple[str, str]]) -> int:
     """Prints each check, a name and what is wrong or nothing; returns the exit status."""
     count, wrong = 0, 0
     for name, fault in checks:

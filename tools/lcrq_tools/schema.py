@@ -12,6 +12,7 @@ import functools
 import json
 import re
 import sys
+from collections.abc import Iterator
 from pathlib import Path
 
 try:
@@ -26,7 +27,7 @@ SCHEMA = TOP / "docs" / "trace.schema.json"
 MOST_SHOWN = 160  # letters of what is wrong, which may show a whole list
 
 
-def has_pattern(_validator, pattern, value, _schema):
+def has_pattern(_validator: object, pattern: str, value: object, _schema: object) -> Iterator[ValidationError]:
     """The keyword `pattern`, whose `$` is the end of the text, also where a line feed is last: that
     of Python's `re` is before it, too."""
     if isinstance(value, str) and not re.search(pattern.replace("$", r"\Z"), value):
@@ -37,18 +38,19 @@ Validator = validators.extend(Draft7Validator, {"pattern": has_pattern})
 
 
 @functools.cache
-def validator():
+def validator() -> Draft7Validator:
     """What checks values against the schema of traces."""
-    return Validator(json.loads(SCHEMA.read_text(encoding="utf-8")))
+    checker: Draft7Validator = Validator(json.loads(SCHEMA.read_text(encoding="utf-8")))
+    return checker
 
 
-def shortened(text):
+def shortened(text: str) -> str:
     """A text without its middle, where it is long."""
     half = MOST_SHOWN // 2
     return text if len(text) <= MOST_SHOWN else f"{text[:half]} .. {text[-half:]}"
 
 
-def fault_of(value):
+def fault_of(value: object) -> str:
     """The first thing that the schema of traces finds wrong with a value, or nothing."""
     fault = next(validator().iter_errors(value), None)
     if not fault:
@@ -57,7 +59,7 @@ def fault_of(value):
     return f"{fault.json_path}: {shortened(fault.message)}{meant}"
 
 
-def fault_in(name):
+def fault_in(name: str) -> str:
     """What is wrong with the file of this name, or nothing."""
     try:
         return fault_of(json.loads(Path(name).read_text(encoding="utf-8")))
@@ -67,7 +69,8 @@ def fault_in(name):
         return f"no JSON: {fault}"
 
 
-def main():
+def main() -> int:
+    """Checks the files of the command line; returns the exit status."""
     parser = argparse.ArgumentParser(description="Checks traces against their JSON Schema.")
     parser.add_argument("files", nargs="+", metavar="FILE", help="a trace")
     faults = [(name, fault_in(name)) for name in parser.parse_args().files]

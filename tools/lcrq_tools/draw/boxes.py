@@ -8,9 +8,16 @@ where there are many. Its line runs down the column, along the lanes under its r
 chip below: so no line crosses a label.
 """
 
+from collections.abc import Container, Sequence
 from dataclasses import dataclass, field
+from typing import TYPE_CHECKING, NamedTuple
 
 from lcrq_tools.draw.figure import DARK, GREY, HEAD, MARGIN, PLAIN, SMALL, colour_of, width_of
+
+if TYPE_CHECKING:
+    from moment import Chip, Moment, Segment
+
+Column = tuple[int, int, bool]  # the `id` of a strip, a column of it, and whether its pins are at an end of the queue
 
 # Sizes, in pixels.
 BIG, LONG = 16, 6  # of a value, and how many digits have that size
@@ -26,13 +33,29 @@ WIDEST, MOST_SLOTS = 1180, 12
 PINNED = {"above": -COUNTER / 2, "cell": CELL / 2, "value": LABEL + VALUE / 2, "index": LABEL + VALUE + 14}
 
 
+class Shown(NamedTuple):
+    """A place with its text."""
+
+    place: str
+    text: str
+    is_unsafe: bool = False  # of the index half of a cell
+
+
+class Counter(NamedTuple):
+    """A place that stands above or below a column."""
+
+    column: int
+    place: str
+    text: str
+
+
 @dataclass
 class Box:
-    """A cell or a slot: its label, and its parts, each a place with its text."""
+    """A cell or a slot: its label, and its parts."""
 
     label: str
-    value: tuple  # the place and the text
-    index: tuple = ()  # of a cell: the place, its text, and whether it is unsafe
+    value: Shown
+    index: Shown | None = None  # of a cell
 
 
 @dataclass
@@ -40,16 +63,16 @@ class Strip:
     """A segment, or a part of the array."""
 
     heading: str
-    boxes: list
-    above: tuple = ()  # of the tail counter: the column, the place and the text
-    below: tuple = ()  # of the head counter
+    boxes: list[Box]
+    above: Counter | None = None  # the tail counter
+    below: Counter | None = None  # the head counter
     closed: str = ""  # `open` or `closed`, which is beside the tail counter
-    next: tuple = ()  # the place and the text
-    pills: list = field(default_factory=list)  # of the queue's ends: the column, the place, the text
+    next: Shown | None = None
+    pills: list[Counter] = field(default_factory=list)  # the queue's ends
     place: str = ""
     is_linked: bool = True
     leads_on: bool = False  # whether the strip that follows is its next
-    spots: dict = field(default_factory=dict)  # the column and the level of each place
+    spots: dict[str, tuple[int, str]] = field(default_factory=dict)  # the column and the level of each place
     left: float = 0.0
     top: float = 0.0  # of its frame
     row: int = 0
@@ -58,14 +81,15 @@ class Strip:
 # ---- Strips ---------------------------------------------------------------------------------------
 
 
-def cell_box(name, at, content):
+def cell_box(name: str, at: int, content: str) -> Box:
     """The box of a cell, by the reply `SAFE IDX VALUE`."""
     safe, index, value = content.split(" ")
     shown = "" if value == "none" else value
-    return Box(f"cell {at}", (f"value {name} {at}", shown), (f"index {name} {at}", f"idx {index}", safe == "0"))
+    half = Shown(f"index {name} {at}", f"idx {index}", safe == "0")
+    return Box(f"cell {at}", Shown(f"value {name} {at}", shown), half)
 
 
-def segment_strip(segment, moment):
+def segment_strip(segment: "Segment", moment: "Moment") -> Strip:
     """The strip of a segment."""
     name, ring = segment.name, len(segment.cells)
     closed, tail = segment.tail.split(" ")
@@ -74,14 +98,14 @@ def segment_strip(segment, moment):
     for at in range(ring):
         spots |= {f"{kind} {name} {at}": (at, kind) for kind in ("cell", "value", "index")}
     ends = (("qhead", "QHead", 0, moment.qhead), ("qtail", "QTail", ring, moment.qtail))
-    pills = [(column, place, f"{word} {end}") for place, word, column, end in ends if end == name]
+    pills = [Counter(column, place, f"{word} {end}") for place, word, column, end in ends if end == name]
     return Strip(
         heading=f"segment {name}",
         boxes=[cell_box(name, at, content) for at, content in enumerate(segment.cells)],
-        above=(above, f"tail {name}", f"tail {tail} ▾"),
-        below=(below, f"head {name}", f"head {segment.head} ▴"),
+        above=Counter(above, f"tail {name}", f"tail {tail} ▾"),
+        below=Counter(below, f"head {name}", f"head {segment.head} ▴"),
         closed=closed,
-        next=(f"next {name}", segment.next),
+        next=Shown(f"next {name}", segment.next),
         pills=pills,
         place=f"whole {name}",
         is_linked=segment.is_linked,
@@ -89,9 +113,10 @@ def segment_strip(segment, moment):
     )
 
 
-def kept(segments, near):
+def kept(segments: Sequence["Segment"], near: Container[str]) -> list["Segment | int"]:
     """The linked segments, where those of a long list that nobody is near are counted."""
-    items, names = [], [segment.name for segment in segments]
+    items: list["Segment | int"] = []
+    names = [segment.name for segment in segments]
     is_kept = [len(names) <= 6 or at < 1 or at >= len(names) - 1 or name in near for at, name in enumerate(names)]
     for segment, keep in zip(segments, is_kept):
         if keep:
@@ -103,7 +128,7 @@ def kept(segments, near):
     return items
 
 
-def array_strips(moment):
+def array_strips(moment: "Moment") -> list[Strip]:
     """The strips of the array, if it was touched or somebody is about to touch it."""
     array = moment.array
     head, tail = int(array["ahead"]), int(array["atail"])
@@ -117,29 +142,29 @@ def array_strips(moment):
     return [array_strip(part, head, tail, array, at == 0) for at, part in enumerate(parts)]
 
 
-def array_strip(columns, head, tail, array, is_first):
+def array_strip(columns: Sequence[int], head: int, tail: int, array: dict[str, str], is_first: bool) -> Strip:
     """The strip of some slots, and of the counters that stand there. Behind the last slot is the end."""
     strip = Strip("array" if is_first else "array, on", [])
     for at, slot in enumerate(columns):
         content = array.get(f"acell {slot}", "end").removeprefix("value ")
         label = f"slot {slot}" if slot < 64 else ""
-        strip.boxes.append(Box(label, (f"acell {slot}", "" if content == "empty" else content)))
+        strip.boxes.append(Box(label, Shown(f"acell {slot}", "" if content == "empty" else content)))
         strip.spots[f"acell {slot}"] = (at, "cell")
         if slot == tail:
-            strip.above, strip.spots["atail"] = (at, "atail", f"tail {tail} ▾"), (at, "above")
+            strip.above, strip.spots["atail"] = Counter(at, "atail", f"tail {tail} ▾"), (at, "above")
         if slot == head:
-            strip.below, strip.spots["ahead"] = (at, "ahead", f"head {head} ▴"), (at, "below")
+            strip.below, strip.spots["ahead"] = Counter(at, "ahead", f"head {head} ▴"), (at, "below")
     return strip
 
 
-def strips_of(moment):
+def strips_of(moment: "Moment") -> tuple[list[Strip | int], list[Strip], list[Strip]]:
     """The strips in their rows: linked segments, those apart, the array. A number stands for so many
     segments that are left out."""
     linked = kept([it for it in moment.segments if it.is_linked], moment.near)
-    items = [it if isinstance(it, int) else segment_strip(it, moment) for it in linked]
+    items: list[Strip | int] = [it if isinstance(it, int) else segment_strip(it, moment) for it in linked]
     for one, other in zip(items, items[1:]):
         if isinstance(one, Strip) and isinstance(other, Strip):
-            one.leads_on = one.next[1] == other.place.removeprefix("whole ")
+            one.leads_on = one.next is not None and one.next.text == other.place.removeprefix("whole ")
     apart = [segment_strip(it, moment) for it in moment.segments if not it.is_linked]
     return items, apart, array_strips(moment)
 
@@ -147,7 +172,7 @@ def strips_of(moment):
 # ---- Where everything is --------------------------------------------------------------------------
 
 
-def value_size(text):
+def value_size(text: str) -> int:
     """How large a value is written."""
     return BIG if len(text) <= LONG else PLAIN
 
@@ -155,7 +180,7 @@ def value_size(text):
 class Layout:
     """Where the strips, the pins, the lines and the chips of a moment are."""
 
-    def __init__(self, moment, said):
+    def __init__(self, moment: "Moment", said: str) -> None:
         self.moment, self.said = moment, said
         linked, apart, array = strips_of(moment)
         self.strips = [it for it in [*linked, *apart, *array] if isinstance(it, Strip)]
@@ -163,35 +188,37 @@ class Layout:
         self.spots = {place: strip for strip in self.strips for place in strip.spots}
         self.led = [chip for chip in moment.chips if chip.place in self.spots]
         self.pin_columns()
-        self.rows = [*self.wrapped(linked), *self.wrapped(apart), *([it] for it in array)]
+        self.rows: list[Sequence[Strip | int]] = [*self.wrapped(linked), *self.wrapped(apart), *([it] for it in array)]
         self.place_rows()
         self.place_chips()
         self.width = round(self.right + MARGIN)
         self.height = round(self.bottom)
 
-    def measure(self):
+    def measure(self) -> None:
         """How wide a box is, and the column of the next ones."""
         boxes = [box for strip in self.strips for box in strip.boxes]
-        texts = [(text, SMALL, False) for box in boxes for text in (box.label, *box.index[1:2])]
-        texts += [(box.value[1], value_size(box.value[1]), True) for box in boxes]
-        texts += [(it[2], PLAIN, True) for strip in self.strips for it in (strip.above, strip.below) if it]
+        texts = [(box.label, SMALL, False) for box in boxes]
+        texts += [(box.index.text, SMALL, False) for box in boxes if box.index]
+        texts += [(box.value.text, value_size(box.value.text), True) for box in boxes]
+        texts += [(it.text, PLAIN, True) for strip in self.strips for it in (strip.above, strip.below) if it]
         self.box = max([62.0, *(width_of(*it) + 10 for it in texts)])
-        ends = [(it[2], PLAIN, True) for strip in self.strips for it in strip.pills]
-        ends += [(text, PLAIN, True) for strip in self.strips for text in strip.next[1:] if text]
+        ends = [(it.text, PLAIN, True) for strip in self.strips for it in strip.pills]
+        ends += [(strip.next.text, PLAIN, True) for strip in self.strips if strip.next and strip.next.text]
         self.next = max([54.0, *(width_of(*it) + 14 for it in ends)])
 
-    def strip_width(self, strip):
+    def strip_width(self, strip: Strip) -> float:
         """How wide a strip is."""
         cells = len(strip.boxes) * (self.gap + self.box)
         return cells + (self.gap + self.next if strip.next else 0) + 10
 
-    def item_width(self, item):
+    def item_width(self, item: Strip | int) -> float:
         """How wide a strip is, or the words for those that are left out."""
         return self.strip_width(item) if isinstance(item, Strip) else width_of(f"{item} segments", HEAD, True)
 
-    def wrapped(self, items):
+    def wrapped(self, items: Sequence[Strip | int]) -> list[list[Strip | int]]:
         """Items in rows that are not too wide."""
-        rows, wide = [], 0.0
+        rows: list[list[Strip | int]] = []
+        wide = 0.0
         for item in items:
             width = self.item_width(item) + LINK
             if not rows or wide + width > WIDEST:
@@ -201,9 +228,9 @@ class Layout:
             wide += width
         return rows
 
-    def pin_columns(self):
+    def pin_columns(self) -> None:
         """Which actors have a pin in which column, from above; and how high boxes are for that."""
-        self.columns = {}
+        self.columns: dict[Column, list[tuple[int, int, str]]] = {}
         order = ["pill", "above", "value", "cell", "index", "below"]
         for chip in self.led:
             strip = self.spots[chip.place]
@@ -222,21 +249,21 @@ class Layout:
         self.cell = max(CELL, APART * cells - 2 * COUNTER)
         self.pill = max(PILL, APART * pills)
 
-    def is_low(self, beside):
+    def is_low(self, beside: int) -> bool:
         """Whether few rows of so many pins are enough, or one for each level."""
         rows = [self.pin_rows(key, beside) for key in self.columns]
         return all(len(them) <= max(FEW_BELOW, len({level for level, _ in them})) for them in rows)
 
-    def pin_rows(self, key, beside):
+    def pin_rows(self, key: Column, beside: int) -> list[tuple[str, list[int]]]:
         """The pins of a column in rows of so many: the level of each row, and its actors."""
-        rows = []
+        rows: list[tuple[str, list[int]]] = []
         for _, actor, level in self.columns[key]:
             if not rows or rows[-1][0] != level or len(rows[-1][1]) == beside:
                 rows.append((level, []))
             rows[-1][1].append(actor)
         return rows
 
-    def place_rows(self):
+    def place_rows(self) -> None:
         """Puts the strips, row below row, and notes where the lanes under each row begin."""
         for at, row in enumerate(self.rows):
             for strip in (it for it in row if isinstance(it, Strip)):
@@ -244,7 +271,10 @@ class Layout:
         upper = [chip for chip in self.led if self.spots[chip.place].row < len(self.rows) - 1]
         self.channel = MARGIN + 2.0
         self.left = MARGIN + (8.0 + LANES * len(upper) if upper else 0)
-        self.right, y, self.lanes, self.gone, self.apart = 0.0, 52.0, [], [], None
+        self.lanes: list[float] = []
+        self.gone: list[tuple[float, float, str]] = []
+        self.apart: float | None = None
+        self.right, y = 0.0, 52.0
         for at, row in enumerate(self.rows):
             is_apart = any(isinstance(it, Strip) and not it.is_linked for it in row)
             if is_apart:
@@ -267,15 +297,15 @@ class Layout:
             y += 16 + LANES * len(lines)
         self.under = y + (4 if self.moment.chips else -18)
 
-    def box_left(self, strip, column):
+    def box_left(self, strip: Strip, column: int) -> float:
         """Where a column's box begins; its pins are at the left of it."""
         return strip.left + column * (self.gap + self.box) + self.gap
 
-    def cells_top(self, strip):
+    def cells_top(self, strip: Strip) -> float:
         """Where the boxes of a strip begin."""
         return strip.top + HEADING + COUNTER
 
-    def pin_at(self, chip):
+    def pin_at(self, chip: "Chip") -> tuple[float, float]:
         """Where the pin of an actor is."""
         strip = self.spots[chip.place]
         column, level = strip.spots[chip.place]
@@ -287,7 +317,8 @@ class Layout:
             return x, strip.top - 14 - self.pill + max(PILL / 2, 9) + APART * at
         top = self.cells_top(strip)
         levels = PINNED | {"below": self.cell + COUNTER / 2}
-        wanted, last = [], top - COUNTER - APART
+        wanted: list[float] = []
+        last = top - COUNTER - APART
         for it, _ in rows:
             last = max(last + APART, top + levels[it])
             wanted.append(last)
@@ -297,10 +328,10 @@ class Layout:
 
     # -- Chips --
 
-    def chip_lines(self, chip):
+    def chip_lines(self, chip: "Chip") -> list[tuple[str, str, float, str]]:
         """The lines of a chip under its head: label, text, how far that is moved in, and its colour."""
         dark = colour_of(chip.actor)[1]
-        lines = []
+        lines: list[tuple[str, str, float, str]] = []
         for at, line in enumerate(chip.lines):
             text = line.lstrip(" ")
             lines.append((chip.point if at == 0 else "", text, 4.0 * (len(line) - len(text)), GREY if at else DARK))
@@ -309,7 +340,7 @@ class Layout:
         lines.append(("", f"touches {chip.place}" if chip.place else chip.note, 0.0, dark))
         return lines
 
-    def place_chips(self):
+    def place_chips(self) -> None:
         """Puts the chips in columns under the lanes."""
         chips = self.moment.chips
         lines = [line for chip in chips for line in self.chip_lines(chip)]
@@ -318,7 +349,8 @@ class Layout:
         self.chip = max([150.0, *words, *heads])
         wide = max(self.right - self.left, 880.0)
         columns = max(1, int((wide + 4) // (self.chip + 24)))
-        self.chips, y, tallest = {}, self.under, 0.0
+        self.chips: dict[int, tuple[float, float, float, int]] = {}
+        y, tallest = self.under, 0.0
         for at, chip in enumerate(chips):
             if at and at % columns == 0:
                 y, tallest = y + tallest + 12, 0.0
@@ -332,11 +364,11 @@ class Layout:
         captions = width_of(self.caption(), HEAD, True), width_of(self.said, PLAIN)
         self.right = max(self.right, MARGIN + max(captions), 520.0)
 
-    def caption(self):
+    def caption(self) -> str:
         """The line above the figure."""
         return f"{self.moment.caption}; {self.moment.world}"
 
-    def idle(self):
+    def idle(self) -> str:
         """Who is in no call, in words."""
         idle = [str(actor) for actor in self.moment.idle]
         return f"In no call: actor{'s' if len(idle) > 1 else ''} {', '.join(idle)}" if idle else ""

@@ -106,8 +106,9 @@ def ends_of(layout: Layout, call: Call) -> tuple[tuple[int, bool], tuple[int, bo
     """From where to where a call is, and whether it begins and ends there."""
     picture = layout.picture
     begin = layout.side_of(call.begin, -1) if call.begin else (layout.parts[0].lane_ends()[0], False)
-    is_open = call.end is None or call.end > picture.last
-    return begin, (layout.parts[-1].lane_ends()[1], False) if is_open else layout.side_of(call.end, 1)
+    if call.end is None or call.end > picture.last:
+        return begin, (layout.parts[-1].lane_ends()[1], False)
+    return begin, layout.side_of(call.end, 1)
 
 
 def call_lines(layout: Layout, undone: bool) -> Iterator[str]:

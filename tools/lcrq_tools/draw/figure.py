@@ -7,6 +7,7 @@ Only Python's standard library is used.
 
 import argparse
 import sys
+from collections.abc import Callable, Iterable, Sequence
 from pathlib import Path
 from xml.sax.saxutils import escape
 
@@ -46,28 +47,30 @@ class Fault(Exception):
 class Session:
     """The session that a script leaves: each question is asked of a new run of it."""
 
-    def __init__(self, arguments):
+    def __init__(self, arguments: argparse.Namespace) -> None:
         self.words, self.script = words_of(arguments), script_of(arguments.script, arguments.lines)
-        self.over = f"{arguments.trace}: " if arguments.trace else ""  # what a fault of the program names
+        trace: str | None = arguments.trace
+        takes_refused: bool = arguments.refused
+        self.over = f"{trace}: " if trace else ""  # what a fault of the program names
         cells = [f"show index 0.0 {cell}" for cell in range(MOST_CELLS)]
         actors = [f"actor {actor}" for actor in range(1, MOST_ACTORS + 1)]
         asked = ["len", *cells, *actors]
         replies = self.replies_to(asked)
         given, about = replies[:-len(asked)], replies[-len(asked):]
         if len(about) < len(asked) or not about[0].startswith("at "):
-            raise Fault(f"{arguments.program} does not reply as lcrqdb does")
+            raise Fault(f"{self.words[0]} does not reply as lcrqdb does")
         self.live, self.undone = (int(word) for word in about[0].split(" ")[1:])
         self.ring = sum(reply.startswith("is ") for reply in about)
         self.actors = sum(reply.startswith("actor ") for reply in about)
         self.refused, has_fault = refusals_of(self.script, given)
-        if has_fault and not arguments.refused:
+        if has_fault and not takes_refused:
             raise Fault(f"{self.refused}; --refused draws it all the same")
 
-    def world(self):
+    def world(self) -> str:
         """What the world is, in words."""
         return world_of(self.actors, self.ring)
 
-    def replies_to(self, lines):
+    def replies_to(self, lines: Sequence[str]) -> list[str]:
         """The replies to the script and to these lines after it."""
         given = self.script + "".join(f"{line}\n" for line in lines).encode("ascii")
         ended = run(self.words, given)
@@ -75,28 +78,32 @@ class Session:
             raise Fault(self.over + (ended.errors.strip() or f"the program ended with status {ended.status}"))
         return ended.output.decode("ascii").splitlines()
 
-    def ask(self, lines):
+    def ask(self, lines: Sequence[str]) -> list[str]:
         """The replies to these lines after the script."""
         return self.replies_to(lines)[-len(lines):] if lines else []
 
-    def moved_to(self, first):
+    def moved_to(self, first: int) -> list[str]:
         """Lines that undo all steps, and then make those before this one."""
         moves = [f"forward {self.undone}", f"back {self.live + self.undone}", f"forward {first - 1}"]
         return [line for line in moves if not line.endswith(" 0")]
 
 
-def words_of(arguments):
+def words_of(arguments: argparse.Namespace) -> list[str]:
     """The words that start the program."""
-    if arguments.trace is None:
-        options = [("--actors", arguments.actors), ("--ring", arguments.ring)]
+    program: str = arguments.program
+    trace: str | None = arguments.trace
+    actors: str | None = arguments.actors
+    ring: str | None = arguments.ring
+    if trace is None:
+        options = [("--actors", actors), ("--ring", ring)]
         chosen = [word for option, value in options if value for word in (option, value)]
-        return [arguments.program, "run", *chosen, "-"]
-    if arguments.actors or arguments.ring:
+        return [program, "run", *chosen, "-"]
+    if actors or ring:
         raise Fault("a trace has its own actors and rings: --trace comes without --actors and --ring")
-    return [arguments.program, "load", "--", arguments.trace]
+    return [program, "load", "--", trace]
 
 
-def script_of(name, count):
+def script_of(name: str, count: int | None) -> bytes:
     """The bytes of a script, or of so many first lines, with a line feed after the last one."""
     try:
         script = sys.stdin.buffer.read() if name == "-" else Path(name).read_bytes()
@@ -106,7 +113,7 @@ def script_of(name, count):
     return b"".join(line + b"\n" for line in lines[:count])
 
 
-def segment_of(place):
+def segment_of(place: str) -> str:
     """The segment of a place, or nothing."""
     words = place.split(" ")
     return words[1] if "." in words[-1] or len(words) == 3 else ""
@@ -115,49 +122,49 @@ def segment_of(place):
 # ---- Elements of SVG ------------------------------------------------------------------------------
 
 
-def width_of(text, size, bold=False):
+def width_of(text: str, size: float, bold: bool = False) -> float:
     """How wide a text may be, as a wide font has it."""
     wide = sum(next((width for letters, width in WIDTHS.items() if letter in letters), NORMAL) for letter in text)
     return wide * size * (BOLD if bold else 1)
 
 
-def element(name, text=None, **values):
+def element(name: str, text: str | None = None, /, **values: object) -> str:
     """An element of SVG; `_` in a name is `-`, and a value of None is left out."""
     given = ((key.rstrip("_").replace("_", "-"), it) for key, it in values.items() if it is not None)
     words = "".join(f' {key}="{escape(number(it), {chr(34): "&quot;"})}"' for key, it in given)
     return f"<{name}{words}/>" if text is None else f"<{name}{words}>{escape(text)}</{name}>"
 
 
-def number(value):
+def number(value: object) -> str:
     """A value as text: a number with a fraction of one digit at most."""
     return f"{value:.1f}".removesuffix(".0") if isinstance(value, float) else str(value)
 
 
-def words_at(x, y, text, size, fill, anchor="start", bold=False):
+def words_at(x: float, y: float, text: str, size: float, fill: str, anchor: str = "start", bold: bool = False) -> str:
     """A text at this point."""
     weight = "bold" if bold else None
     return element("text", text, x=x, y=y, font_size=size, fill=fill, text_anchor=anchor, font_weight=weight)
 
 
-def colour_of(actor):
+def colour_of(actor: int) -> tuple[str, str]:
     """The colours of an actor: of its dots, and of its words."""
     return ACTORS[(actor - 1) % len(ACTORS)]
 
 
-def mixed(colour, ground, part):
+def mixed(colour: str, ground: str, part: float) -> str:
     """The colour that is seen where this part of it is over a ground."""
     pairs = [(int(colour[at: at + 2], 16), int(ground[at: at + 2], 16)) for at in (1, 3, 5)]
     return "#" + "".join(f"{round(part * over + (1 - part) * under):02x}" for over, under in pairs)
 
 
-def group(name, lines, opacity=None):
+def group(name: str, lines: Iterable[str], opacity: float | None = None) -> list[str]:
     """Elements as one, if there are any."""
     inside = list(lines)
     given = f' opacity="{opacity}"' if opacity else ""
     return [f'<g class="{name}"{given}>', *inside, "</g>"] if inside else []
 
 
-def svg(title, about, width, height, lines):
+def svg(title: str, about: str, width: float, height: float, lines: Iterable[str]) -> str:
     """A whole figure on a white ground of its own, with its title and its description."""
     size = f'width="{width}" height="{height}" viewBox="0 0 {width} {height}"'
     head = [
@@ -172,14 +179,14 @@ def svg(title, about, width, height, lines):
 # ---- The command line -----------------------------------------------------------------------------
 
 
-def number_above_0(text):
+def number_above_0(text: str) -> int:
     """A number of the command line, 1 at least."""
     if not text.isdecimal() or int(text) == 0:
         raise argparse.ArgumentTypeError(f"{text} is no number from 1 on")
     return int(text)
 
 
-def parser_of(about, out="OUT.svg"):
+def parser_of(about: str, out: str = "OUT.svg") -> argparse.ArgumentParser:
     """The command line, as far as the tools share it."""
     it = argparse.ArgumentParser(description=about)
     it.add_argument("script", metavar="SCRIPT", help="the script; - is standard input")
@@ -192,20 +199,24 @@ def parser_of(about, out="OUT.svg"):
     return it
 
 
-def script_name(arguments):
+def script_name(arguments: argparse.Namespace) -> str:
     """What a title calls the script."""
-    return "a script" if arguments.script == "-" else Path(arguments.script).name
+    script: str = arguments.script
+    return "a script" if script == "-" else Path(script).name
 
 
-def write_drawn(tool, arguments, drawn_of):
+def write_drawn(
+    tool: str, arguments: argparse.Namespace, drawn_of: Callable[[argparse.Namespace], tuple[str, str]]
+) -> int:
     """Writes the text that `drawn_of` makes of a command line, which comes with what to say of the
     script's refused lines; returns the exit status."""
+    out: str = arguments.out
     try:
         drawn, refused = drawn_of(arguments)
-        if arguments.out == "-":
+        if out == "-":
             sys.stdout.write(drawn)
         else:
-            Path(arguments.out).write_text(drawn, encoding="utf-8")
+            Path(out).write_text(drawn, encoding="utf-8")
     except Fault as fault:
         print(f"{tool}: {fault}", file=sys.stderr)
         return 1

@@ -92,7 +92,7 @@ def actor_lane(actor: int) -> str:
     return f"actor {actor}"
 
 
-def order_of(lane: str, chain: list[str]) -> tuple:
+def order_of(lane: str, chain: list[str]) -> tuple[int | str, ...]:
     """Where a lane is: actors, the queue's ends, the segments in this order, the array."""
     kind, *rest = lane.split(" ")
     if kind == "actor":
@@ -143,12 +143,16 @@ class Layout:
         self.picture = picture
         names = [picture.start_name, *(row.name for row in picture.rows)]
         self.numbers = MARGIN + max(width_of(name, SMALL, True) for name in names)
-        self.lanes, self.bands, at = {}, [], self.numbers + 8
+        self.lanes: dict[str, int] = {}
+        self.bands: list[tuple[str, int, int]] = []
+        at = self.numbers + 8
         for band in dict.fromkeys(band_of(lane) for lane in picture.lanes):
             at = self.put_band(band, at + (GAP if band else 0))
         self.right = round(at)
         self.width = round(max(at + MARGIN, 420.0, words + 2 * MARGIN))
-        self.rows, self.breaks, self.parts = [], [], [Part(0)]
+        self.rows: list[int] = []
+        self.breaks: list[int] = []
+        self.parts = [Part(0)]
         self.put_rows()
         self.bottom = self.parts[-1].bottom
         self.words = self.bottom + 22
@@ -213,7 +217,8 @@ class Layout:
 
     def put_legend(self, y: int, texts: list[str]) -> list[tuple[int, int]]:
         """Where each mark of the legend is, whose texts these are: in lines that fit."""
-        places, x = [], MARGIN
+        places: list[tuple[int, int]] = []
+        x: float = MARGIN
         for text in texts:
             width = MARK + 4 + width_of(text, SMALL)
             if x > MARGIN and x + width > self.width - MARGIN:

@@ -24,7 +24,9 @@ Which place a next step would touch is asked by making it and undoing it again. 
 the same bytes. Only Python's standard library is used.
 """
 
+import argparse
 import re
+from collections.abc import Iterable, Iterator, Sequence
 from dataclasses import dataclass, field
 
 from lcrq_tools import model
@@ -35,6 +37,8 @@ SLOTS = 64
 AT_ONCE = 16  # of how many segments of a maker one run asks
 WORDS = ("crq", "new", "next", "t", "h", "closed", "val", "safe", "idx", "pass")
 
+Code = dict[str, dict[str, list[str]]]  # the lines of each control point, by the calls
+
 
 @dataclass
 class Segment:
@@ -44,7 +48,7 @@ class Segment:
     head: str
     tail: str  # with `open` or `closed` in front
     next: str
-    cells: list
+    cells: list[str]
     is_linked: bool = True
 
 
@@ -55,8 +59,8 @@ class Chip:
     actor: int
     call: str
     point: str
-    lines: list  # of the pseudo-code
-    words: list  # those that these lines read, each with its name
+    lines: list[str]  # of the pseudo-code
+    words: list[str]  # those that these lines read, each with its name
     place: str  # which the next step would touch; nothing if there is none
     note: str = ""  # why there is none
 
@@ -69,7 +73,7 @@ class Step:
     actor: int
     point: str
     record: str
-    places: list  # that it wrote
+    places: list[str]  # that it wrote
 
 
 @dataclass
@@ -81,43 +85,43 @@ class Moment:
     world: str  # how many actors, and the rings' size
     qhead: str
     qtail: str
-    segments: list  # linked ones first, in the order of their links
-    array: dict  # the replies about its counters and slots, by their places
-    chips: list
-    idle: list  # the actors that are in no call
+    segments: list[Segment]  # linked ones first, in the order of their links
+    array: dict[str, str]  # the replies about its counters and slots, by their places
+    chips: list[Chip]
+    idle: list[int]  # the actors that are in no call
     last: Step | None
-    near: set = field(default_factory=set)  # the segments that are never left out
+    near: set[str] = field(default_factory=set)  # the segments that are never left out
 
 
 # ---- Memory ---------------------------------------------------------------------------------------
 
 
-def content_of(session, places):
+def content_of(session: Session, places: Sequence[str]) -> dict[str, str]:
     """What is at each of these places, as far as it is there."""
     replies = session.ask([f"show {place}" for place in places])
     there = zip(places, replies)
     return {place: reply.removeprefix("is ") for place, reply in there if reply.startswith("is ")}
 
 
-def names_of(session, actors):
+def names_of(session: Session, actors: Iterable[int]) -> list[str]:
     """The names of all segments: the root, and those that each actor has made."""
     names = ["0.0"]
     for maker in actors:
-        first, found = 0, True
-        while found:
+        first, has_more = 0, True
+        while has_more:
             tried = [f"whole {maker}.{number}" for number in range(first, first + AT_ONCE)]
             found = content_of(session, tried)
             names += [place.removeprefix("whole ") for place in found]
-            first += AT_ONCE
+            first, has_more = first + AT_ONCE, bool(found)
     return names
 
 
-def in_order(names, nexts, ends):
+def in_order(names: Sequence[str], nexts: dict[str, str], ends: Sequence[str]) -> tuple[list[str], list[str]]:
     """The names of linked segments in the order of their links, and then the other ones."""
     named = set(nexts.values())
     begins = [name for name in names if name == "0.0" or name in ends or nexts[name] != "none"]
     firsts = [name for name in begins if name not in named]
-    linked = []
+    linked: list[str] = []
     for name in [*firsts, *ends, *(name for name in names if name in named)]:
         while name in nexts and name not in linked:
             linked.append(name)
@@ -125,7 +129,7 @@ def in_order(names, nexts, ends):
     return linked, [name for name in names if name not in linked]
 
 
-def segments_of(session, names, ring, ends):
+def segments_of(session: Session, names: Sequence[str], ring: int, ends: Sequence[str]) -> list[Segment]:
     """All segments, the linked ones first."""
     places = [f"{kind} {name}" for name in names for kind in ("head", "tail", "next")]
     places += [f"cell {name} {cell}" for name in names for cell in range(ring)]
@@ -134,7 +138,9 @@ def segments_of(session, names, ring, ends):
     return [
         Segment(
             name,
-            *(content[f"{kind} {name}"] for kind in ("head", "tail", "next")),
+            content[f"head {name}"],
+            content[f"tail {name}"],
+            content[f"next {name}"],
             [content[f"cell {name} {cell}"] for cell in range(ring)],
             name in linked,
         )
@@ -145,18 +151,21 @@ def segments_of(session, names, ring, ends):
 # ---- Actors ---------------------------------------------------------------------------------------
 
 
-def sentences(parts):
+def sentences(parts: Iterable[model.Part | None]) -> Iterator[model.Sentence]:
     """The sentences of a row, its conditions first in each."""
     for it in parts:
         if isinstance(it, model.Sentence):
             yield it
+        elif isinstance(it, model.Branch):
+            yield from sentences([*it.conditions, it.then, it.other])
         elif it:
-            yield from sentences([*getattr(it, "conditions", []), it.then, getattr(it, "other", None)])
+            yield it.then
 
 
-def read_words(step):
+def read_words(step: model.Step) -> list[str]:
     """The words of an actor that a row reads, and not those that it sets first."""
-    reads, sets = set(), set()
+    reads: set[str] = set()
+    sets: set[str] = set()
     for sentence in sentences(step.body):
         is_condition = sentence.form in model.CONDITIONS
         for key, part in sentence.parts.items():
@@ -165,18 +174,18 @@ def read_words(step):
     return [word for word in WORDS if word in reads - sets]
 
 
-def next_steps(session, actors):
+def next_steps(session: Session, actors: Sequence[int]) -> dict[int, tuple[str, str]]:
     """The reply to the next step of each actor, and the record of that step where it was made."""
     number = session.live + 1
     replies = session.ask([line for actor in actors for line in (f"go {actor}", f"step {number}", f"undo {number}")])
     return {actor: (replies[3 * at], replies[3 * at + 1]) for at, actor in enumerate(actors)}
 
 
-def chip_of(actor, reply, tried, page, steps):
+def chip_of(actor: int, reply: str, tried: tuple[str, str], page: Code, steps: dict[str, model.Step]) -> Chip:
     """The chip of an actor by the replies about it."""
-    about, _, words = reply.partition(" crq ")
+    about, _, rest = reply.partition(" crq ")
     _, point, call = about.split(" ", 2)
-    pairs = f"crq {words}".split(" ")
+    pairs = f"crq {rest}".split(" ")
     values = dict(zip(pairs[::2], pairs[1::2]))
     lines = page[call.split(" ")[0]][point]
     words = [f"{word} {values[word]}" for word in read_words(steps[point])]
@@ -189,13 +198,13 @@ def chip_of(actor, reply, tried, page, steps):
     return Chip(actor, call, point, lines, words, place, note)
 
 
-def actors_of(session):
+def actors_of(session: Session) -> dict[int, str]:
     """The reply about each actor of the world."""
     replies = session.ask([f"actor {actor}" for actor in range(1, session.actors + 1)])
     return dict(enumerate(replies, 1))
 
 
-def chips_of(session, replies):
+def chips_of(session: Session, replies: dict[int, str]) -> list[Chip]:
     """The chips of the actors that are in a call."""
     busy = [actor for actor, reply in replies.items() if not reply.startswith("actor Idle ")]
     text = model.PAGE.read_text(encoding="utf-8")
@@ -207,7 +216,7 @@ def chips_of(session, replies):
 # ---- The last step --------------------------------------------------------------------------------
 
 
-def written(place, access):
+def written(place: str, access: str) -> list[str]:
     """The places that a step wrote, by its record. A cell has two halves."""
     kind, _, rest = place.partition(" ")
     if access == "wrote index":
@@ -217,7 +226,7 @@ def written(place, access):
     return [f"value {rest}", f"index {rest}"] if kind == "cell" else [place]
 
 
-def last_of(session):
+def last_of(session: Session) -> Step | None:
     """The last live step, if there is one."""
     if not session.live:
         return None
@@ -228,7 +237,7 @@ def last_of(session):
     return Step(session.live, actor, point, record, written(place, access))
 
 
-def sentence_of(step):
+def sentence_of(step: Step) -> str:
     """A step in words."""
     _, event, place, access, answer, reply = step.record.split("; ")
     begins = f"step {step.number}: actor {step.actor}"
@@ -242,7 +251,7 @@ def sentence_of(step):
 # ---- The moment -----------------------------------------------------------------------------------
 
 
-def titles_of(arguments, session):
+def titles_of(arguments: argparse.Namespace, session: Session) -> tuple[str, str]:
     """The title of the figure, and the line above it."""
     lines = session.script.splitlines()
     count = len(lines)
@@ -254,11 +263,12 @@ def titles_of(arguments, session):
     return f"The queue of {name}, {where}: {live}", f"{where}: {live}"
 
 
-def moment_of(arguments):
+def moment_of(arguments: argparse.Namespace) -> tuple[Moment, str]:
     """The moment that is asked for, and what to say of refused lines."""
     session = Session(arguments)
     count = len(session.script.splitlines())
-    if arguments.lines and count < arguments.lines:
+    line: int | None = arguments.lines
+    if line and count < line:
         raise Fault(f"the script has {count} lines: --line names one of them")
     replies = actors_of(session)
     ends = content_of(session, ["qhead", "qtail"])
@@ -279,7 +289,7 @@ def moment_of(arguments):
 # ---- The command line -----------------------------------------------------------------------------
 
 
-def parser():
+def parser() -> argparse.ArgumentParser:
     """The command line."""
     it = parser_of("Draws the queue at one moment of a run.")
     about = "the moment after line N, in place of the last one"
@@ -287,12 +297,13 @@ def parser():
     return it
 
 
-def drawn_of(arguments):
+def drawn_of(arguments: argparse.Namespace) -> tuple[str, str]:
     """The moment that is asked for as SVG, and what to say of refused lines."""
     moment, refused = moment_of(arguments)
     said = sentence_of(moment.last) if moment.last else "no step yet"
     return draw(moment, said), refused
 
 
-def main(words=None):
+def main(words: Sequence[str] | None = None) -> int:
+    """Draws the moment that a command line asks for; returns the exit status."""
     return write_drawn("moment.py", parser().parse_args(words), drawn_of)

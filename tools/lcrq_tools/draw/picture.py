@@ -42,6 +42,7 @@ from collections import Counter
 from collections.abc import Collection, Sequence
 from dataclasses import dataclass
 from pathlib import Path
+from typing import TypedDict
 
 from lcrq_tools.draw.drawing import draw
 from lcrq_tools.draw.figure import Fault, Session, number_above_0, parser_of, script_name, segment_of, write_drawn
@@ -125,7 +126,8 @@ class Choice:
 
 def window_of(arguments: argparse.Namespace, count: int) -> tuple[int, int]:
     """The first and the last step between which steps are drawn."""
-    first, last = arguments.first or 1, arguments.last or count
+    first: int = arguments.first or 1
+    last: int = arguments.last or count
     if not count:
         raise Fault("the script leaves no step to draw")
     if not 1 <= first <= last <= count:
@@ -140,7 +142,8 @@ def words_of(texts: list[str] | None) -> list[str]:
 
 def actors_of(arguments: argparse.Namespace, session: Session) -> list[int]:
     """The actors that are chosen, each of which the world has to have."""
-    words = words_of(arguments.of_actors)
+    texts: list[str] | None = arguments.of_actors
+    words = words_of(texts)
     for word in words:
         if word not in map(str, range(1, session.actors + 1)):
             raise Fault(f"--actor {word!a}: the world has the actors 1 to {session.actors}")
@@ -149,7 +152,8 @@ def actors_of(arguments: argparse.Namespace, session: Session) -> list[int]:
 
 def places_of(arguments: argparse.Namespace, session: Session) -> list[str]:
     """The places that are chosen, each of which the program has to show at the end of the run."""
-    words = words_of(arguments.places)
+    texts: list[str] | None = arguments.places
+    words = words_of(texts)
     for word in words:
         if not (word.isascii() and word.isprintable()):
             raise Fault(f"--places {word!a}: no place has such a name")
@@ -223,14 +227,23 @@ class Replies:
     ends: list[str]  # the segments that the queue's two ends name there
 
 
-def trace_of(arguments: argparse.Namespace) -> dict:
+class Start(TypedDict, total=False):
+    """The start of a trace, as far as it is read here; a fresh world has neither."""
+
+    actors: list[object]
+    segments: list[list[object]]  # by their makers
+
+
+def trace_of(arguments: argparse.Namespace) -> Start:
     """The start of the trace over which the script is run; nothing over a fresh world."""
-    if not arguments.trace:
+    name: str | None = arguments.trace
+    if not name:
         return {}
-    return json.loads(Path(arguments.trace).read_text(encoding="utf-8")).get("start", {})
+    trace: dict[str, Start] = json.loads(Path(name).read_text(encoding="utf-8"))
+    return trace.get("start", {})
 
 
-def segments_of(rows: list[Row], start: dict) -> list[str]:
+def segments_of(rows: list[Row], start: Start) -> list[str]:
     """The names of the segments of a run: the root, those of the trace, and those of its steps."""
     given = [f"{maker}.{at}" for maker, made in enumerate(start.get("segments", [])) for at in range(len(made))]
     return list(dict.fromkeys(["0.0", *given, *filter(None, (segment_of(row.place) for row in rows))]))
@@ -368,14 +381,14 @@ def ask_free(session: Session, picture: Picture) -> None:
 # ---- The picture ----------------------------------------------------------------------------------
 
 
-def start_name(first: int, start: dict) -> str:
+def start_name(first: int, start: Start) -> str:
     """The name of the row with what is there before the first step; none over a fresh world."""
     if first > 1:
         return f"after {first - 1}"
     return "start" if "actors" in start else ""
 
 
-def drawn_rows(session: Session, choice: Choice, all_rows: list[Row], rows: list[Row], start: dict) -> Picture:
+def drawn_rows(session: Session, choice: Choice, all_rows: list[Row], rows: list[Row], start: Start) -> Picture:
     """The picture of these rows out of all, with nothing asked of it."""
     name, memory = start_name(choice.first, start), places_drawn(rows, choice)
     replies = ask_along(session, choice.first, rows, memory, segments_of(all_rows, start))
@@ -394,16 +407,18 @@ def drawn_rows(session: Session, choice: Choice, all_rows: list[Row], rows: list
 
 def picture_of(arguments: argparse.Namespace) -> tuple[Picture, str]:
     """The picture that is asked for, and what to say of refused lines."""
+    undo: int | None = arguments.undo
+    roll: int | None = arguments.roll
     session = Session(arguments)
     window = window_of(arguments, session.live + session.undone)
     choice = Choice(*window, places_of(arguments, session), actors_of(arguments, session))
     all_rows = [row_of(at, record, session.live) for at, record in enumerate(records_of(session), 1)]
-    rows = choice.rows_of(all_rows, arguments.undo or arguments.roll)
+    rows = choice.rows_of(all_rows, undo or roll)
     picture = drawn_rows(session, choice, all_rows, rows, trace_of(arguments))
-    if arguments.undo:
-        ask_undo(session, picture, arguments.undo)
-    if arguments.roll:
-        ask_roll(session, picture, arguments.roll, all_rows)
+    if undo:
+        ask_undo(session, picture, undo)
+    if roll:
+        ask_roll(session, picture, roll, all_rows)
     if arguments.free:
         ask_free(session, picture)
     picture.title = title_of(arguments, session, picture)
@@ -413,7 +428,8 @@ def picture_of(arguments: argparse.Namespace) -> tuple[Picture, str]:
 def title_of(arguments: argparse.Namespace, session: Session, picture: Picture) -> str:
     """What the picture shows, in a line."""
     name = script_name(arguments)
-    name += f", to line {arguments.lines}" if arguments.lines else ""
+    lines: int | None = arguments.lines
+    name += f", to line {lines}" if lines else ""
     whole = (picture.first, picture.last) == (1, session.live + session.undone)
     chosen = f"; drawn: {len(picture.rows)} {picture.chosen}" if picture.chosen else ""
     part = "" if whole else f"{'' if chosen else ','} from step {picture.first} to step {picture.last}"

@@ -4,20 +4,25 @@ Each place, chip and pin is a group that names its place, so that a check finds 
 gives the same bytes.
 """
 
+from collections.abc import Iterable, Iterator, Sequence
+from typing import TYPE_CHECKING
 from xml.sax.saxutils import quoteattr
 
 from lcrq_tools.draw.boxes import (
-    COUNTER, FOOT, GAP, HEADING, LABEL, LANES, LINE, LINK, PILL, PIN, VALUE, Layout, value_size,
+    COUNTER, FOOT, GAP, HEADING, LABEL, LANES, LINE, LINK, PILL, PIN, VALUE, Counter, Layout, Shown, Strip, value_size,
 )
 from lcrq_tools.draw.figure import (
     ASKED, ASKED_WORDS, BAND, DARK, GREY, GROUND, HEAD, LANE, MARGIN, PLAIN, SMALL,
     colour_of, element, group, mixed, number, svg, width_of, words_at,
 )
 
+if TYPE_CHECKING:
+    from moment import Chip, Moment
+
 APART = "never linked so far: no segment has one of these as its next"
 
 
-def named(kind, lines, **names):
+def named(kind: str, lines: Iterable[str], **names: object) -> list[str]:
     """A group that names what it shows."""
     given = "".join(f" data-{name}={quoteattr(str(value))}" for name, value in names.items())
     return [f'<g class="{kind}"{given}>', *lines, "</g>"]
@@ -26,15 +31,18 @@ def named(kind, lines, **names):
 class Marks:
     """What the last step wrote, and its colours."""
 
-    def __init__(self, moment):
+    def __init__(self, moment: "Moment") -> None:
         self.places = moment.last.places if moment.last else []
         self.colour, self.dark = colour_of(moment.last.actor) if moment.last else (LANE, DARK)
 
-    def kind(self, place):
+    def kind(self, place: str) -> str:
         """The class of a place's group."""
         return "place written" if place in self.places else "place"
 
-    def frame(self, place, x, y, width, height, plain=None, fill="none", **more):
+    def frame(
+        self, place: str, x: float, y: float, width: float, height: float,
+        plain: str | None = None, fill: str = "none", **more: object,
+    ) -> list[str]:
         """A frame around a place: in the actor's colour where it was written; else as it is given."""
         if place in self.places:
             fill, plain = mixed(self.colour, GROUND, 0.25), self.colour
@@ -44,7 +52,7 @@ class Marks:
         return [element("rect", x=x, y=y, width=width, height=height, fill=fill, stroke=plain, **more)]
 
 
-def segment_lines(layout, strip, marks):
+def segment_lines(layout: Layout, strip: Strip, marks: Marks) -> list[str]:
     """The frame of a strip with its heading and its arrow."""
     width, height = layout.strip_width(strip), HEADING + 2 * COUNTER + layout.cell + FOOT
     dashes = None if strip.is_linked else "6 4"
@@ -59,7 +67,7 @@ def segment_lines(layout, strip, marks):
     return named(marks.kind(strip.place), lines, place=strip.place) if strip.place else group("array", lines)
 
 
-def arrow_at(x, y, across, down):
+def arrow_at(x: float, y: float, across: float, down: float) -> list[str]:
     """An arrow from this point on."""
     end_x, end_y = x + across, y + down
     if across:
@@ -70,13 +78,13 @@ def arrow_at(x, y, across, down):
     return [line, element("path", d=head, fill=GREY)]
 
 
-def box_lines(layout, strip, at, marks):
+def box_lines(layout: Layout, strip: Strip, at: int, marks: Marks) -> Iterator[str]:
     """A cell or a slot."""
     box, x, y = strip.boxes[at], layout.box_left(strip, at), layout.cells_top(strip)
-    middle, unsafe = x + layout.box / 2, bool(box.index) and box.index[2]
+    middle, unsafe = x + layout.box / 2, box.index is not None and box.index.is_unsafe
     ground = mixed(ASKED, GROUND, 0.16) if unsafe else GROUND
     yield element("rect", x=x, y=y, width=layout.box, height=layout.cell, rx=4, fill=ground, stroke=GREY)
-    place, text = box.value
+    place, text, _ = box.value
     height = VALUE if box.index else layout.cell - LABEL - 2.0
     value = marks.frame(place, x + 2, y + LABEL, layout.box - 4, height)
     value += [words_at(middle, y + 11, box.label, SMALL, GREY, "middle")] if box.label else []
@@ -91,7 +99,9 @@ def box_lines(layout, strip, at, marks):
         yield from named(marks.kind(place), index, place=place)
 
 
-def counter_lines(layout, strip, counter, y, marks, beside=()):
+def counter_lines(
+    layout: Layout, strip: Strip, counter: Counter, y: float, marks: Marks, beside: Sequence[str] = ()
+) -> list[str]:
     """A counter above or below its column."""
     column, place, text = counter
     x, wide = layout.box_left(strip, column), width_of(text, PLAIN, True) + 6
@@ -101,9 +111,9 @@ def counter_lines(layout, strip, counter, y, marks, beside=()):
     return named(marks.kind(place), [*lines, *beside], place=place)
 
 
-def next_lines(layout, strip, marks):
+def next_lines(layout: Layout, strip: Strip, shown: Shown, marks: Marks) -> Iterator[str]:
     """The next of a segment, with an arrow to the one that follows it."""
-    place, text = strip.next
+    place, text, _ = shown
     x, y = layout.box_left(strip, len(strip.boxes)), layout.cells_top(strip)
     frame = marks.frame(place, x, y, layout.next, layout.cell, GREY, GROUND, rx=4)
     is_there = text != "none"
@@ -116,7 +126,7 @@ def next_lines(layout, strip, marks):
         yield from arrow_at(x + layout.next, y + layout.cell / 2, LINK + 10.0, 0.0)
 
 
-def pill_lines(layout, strip, pill, marks):
+def pill_lines(layout: Layout, strip: Strip, pill: Counter, marks: Marks) -> Iterator[str]:
     """An end of the queue, with an arrow to its segment."""
     column, place, text = pill
     x, y = layout.box_left(strip, column), strip.top - 14 - layout.pill
@@ -127,14 +137,14 @@ def pill_lines(layout, strip, pill, marks):
     yield from arrow_at(x + wide / 2, y + PILL - 2.0, 0.0, layout.pill - PILL + 16.0)
 
 
-def strip_lines(layout, strip, marks):
+def strip_lines(layout: Layout, strip: Strip, marks: Marks) -> Iterator[str]:
     """A strip with all that is in it."""
     yield from segment_lines(layout, strip, marks)
     for at in range(len(strip.boxes)):
         yield from box_lines(layout, strip, at, marks)
     top = layout.cells_top(strip)
     if strip.above:
-        beside = []
+        beside: list[str] = []
         if strip.closed:
             x = layout.box_left(strip, len(strip.boxes)) + layout.next
             fill = ASKED_WORDS if strip.closed == "closed" else GREY
@@ -143,12 +153,12 @@ def strip_lines(layout, strip, marks):
     if strip.below:
         yield from counter_lines(layout, strip, strip.below, top + layout.cell + 14, marks)
     if strip.next:
-        yield from next_lines(layout, strip, marks)
+        yield from next_lines(layout, strip, strip.next, marks)
     for pill in strip.pills:
         yield from pill_lines(layout, strip, pill, marks)
 
 
-def path_of(layout, chip, lane):
+def path_of(layout: Layout, chip: "Chip", lane: int) -> list[tuple[float, float]]:
     """The corners of the line from a chip to its pin."""
     strip, (x, y) = layout.spots[chip.place], layout.pin_at(chip)
     column, level = strip.spots[chip.place]
@@ -156,7 +166,7 @@ def path_of(layout, chip, lane):
     x += 3 * (pins.index(chip.actor) % 4) - 1.5 * min(3, len(pins) - 1) - (4 if level == "pill" else 0)
     left, top, _, row = layout.chips[chip.actor]
     start, last = left - 5.0 - 2.5 * (row % 7), layout.lanes[-1] + LANES * lane
-    corners = [(left, top + 14), (start, top + 14), (start, last)]
+    corners: list[tuple[float, float]] = [(left, top + 14), (start, top + 14), (start, last)]
     if strip.row < len(layout.rows) - 1:
         beside = [it.actor for it in layout.led if layout.spots[it.place].row == strip.row]
         upper = layout.lanes[strip.row] + LANES * beside.index(chip.actor)
@@ -167,7 +177,7 @@ def path_of(layout, chip, lane):
     return [*corners, (x, y)]
 
 
-def line_lines(layout):
+def line_lines(layout: Layout) -> Iterator[str]:
     """The lines from chips to places, and the pins at their ends."""
     for lane, chip in enumerate(layout.led):
         corners = " ".join(f"{number(float(x))},{number(float(y))}" for x, y in path_of(layout, chip, lane))
@@ -175,14 +185,14 @@ def line_lines(layout):
         yield element("polyline", points=corners, stroke=colour_of(chip.actor)[0], **dashes)
 
 
-def pin_lines(x, y, actor):
+def pin_lines(x: float, y: float, actor: int) -> Iterator[str]:
     """An actor's number in a disc of its colour."""
     dark = colour_of(actor)[1]
     yield element("circle", cx=x, cy=y, r=PIN, fill=dark, stroke=GROUND, stroke_width=1.2)
     yield words_at(x, y + 3.6, str(actor), SMALL, GROUND, "middle", True)
 
 
-def chip_lines(layout, chip):
+def chip_lines(layout: Layout, chip: "Chip") -> list[str]:
     """An actor in a call."""
     x, y, height, _ = layout.chips[chip.actor]
     colour, dark = colour_of(chip.actor)
@@ -199,9 +209,10 @@ def chip_lines(layout, chip):
     return named("chip", lines, actor=chip.actor, place=chip.place or "-")
 
 
-def legend_lines(layout, marks):
+def legend_lines(layout: Layout, marks: Marks) -> Iterator[str]:
     """What a pin and a mark are, and who is in no call."""
-    x, y = MARGIN, layout.foot
+    x: float = MARGIN
+    y = layout.foot
     if layout.led:
         yield from pin_lines(x + 8, y - 4, layout.led[0].actor)
         text = "the place that this actor's next step would touch"
@@ -215,7 +226,7 @@ def legend_lines(layout, marks):
         yield words_at(MARGIN, y + 18, layout.idle(), SMALL, GREY)
 
 
-def sentences(moment, said):
+def sentences(moment: "Moment", said: str) -> Iterator[str]:
     """The moment in words."""
     yield f"{said}."
     for segment in moment.segments:
@@ -228,7 +239,7 @@ def sentences(moment, said):
         yield f"Actor {chip.actor}, {chip.call}, at {chip.point}: {then}."
 
 
-def draw(moment, said):
+def draw(moment: "Moment", said: str) -> str:
     """The moment as SVG; `said` is its last step in words."""
     layout, marks = Layout(moment, said), Marks(moment)
     lines = [

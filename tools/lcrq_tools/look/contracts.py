@@ -5,15 +5,14 @@ definitions of a file of definitions, or the types and constants of a source fil
 `names_in` are for pages that name these.
 """
 
-import collections
 import functools
 import re
+from collections.abc import Sequence
+from pathlib import Path
+from typing import NamedTuple
 
 from lcrq_tools.look.lines import COMMENT, counts_as_line
 from lcrq_tools.program import CRATES
-
-Function = collections.namedtuple("Function", "owner name is_public signature clauses")
-Clause = collections.namedtuple("Clause", "kind label text")
 
 OWNER = re.compile(r"(?:pub )?(?:impl\b(?:<.*?>)? (?:.* for )?|trait )(\w+)\b.*\{$")
 FUNCTION = re.compile(r" *(pub )?(?:pub\(\w+\) )?(?:const )?fn (\w+)")
@@ -21,6 +20,7 @@ CLAUSE = re.compile(r" *(requires|ensures)(?: (\w+))? \{")
 HEADING = re.compile(r" *(?://.*)?$")  # of a group of clauses, or the blank line above it
 BEGINS_CLAUSES = re.compile(f"{CLAUSE.pattern}|{HEADING.pattern}")
 DEFINITION = re.compile(r" *(?:(?:abbrev|unfoldable) (?:pub )?|pub (?:record|data) )(\w+)")
+END = {".antt": re.compile(r"\s*$"), ".rt": re.compile(r"\}$|\S.*;$")}  # of a definition and of a type
 TYPE = re.compile(r"(?:pub(?:\(\w+\))? )?(?:struct|enum|trait|const|type) (?!fn )(\w+)")
 STRUCT = re.compile(r"(?:pub(?:\(\w+\))? )?struct .*\{$", re.MULTILINE)
 FIELD = re.compile(r" {4}(?:pub(?:\(\w+\))? )?(\w+): (.*)")
@@ -30,13 +30,31 @@ OTHER = re.compile(r"^pub (\w+) :|\bconst (\w+):|^ *(?:pub |ghost )*use (.*)", r
 GHOST_FIELD = re.compile(r"^(?: *//.*\n)* {4}ghost (\w+): \{.*(?:\n {8}.*)*\},\n", re.MULTILINE)
 
 
+class Clause(NamedTuple):
+    """A clause of a contract; `kind` is `requires` or `ensures`."""
+
+    kind: str
+    label: str | None
+    text: str
+
+
+class Function(NamedTuple):
+    """A function, with the type or the trait that it is of, if any."""
+
+    owner: str | None
+    name: str
+    is_public: bool
+    signature: str
+    clauses: tuple[Clause, ...]
+
+
 @functools.cache
-def lines_of(path):
+def lines_of(path: Path) -> list[str]:
     """The lines of a file."""
     return path.read_text(encoding="utf-8").splitlines()
 
 
-def crate_of(path):
+def crate_of(path: Path) -> str:
     """The crate of a file."""
     return path.relative_to(CRATES).parts[0]
 
@@ -44,12 +62,12 @@ def crate_of(path):
 # ---- Functions -----------------------------------------------------------------------------------
 
 
-def clauses_at(lines, at):
+def clauses_at(lines: Sequence[str], at: int) -> list[Clause]:
     """The clauses from this line on."""
-    found = []
+    found: list[Clause] = []
     for line in lines[at:]:
         if begins := CLAUSE.match(line):
-            found.append(Clause(*begins.groups(), line.rstrip(";")))
+            found.append(Clause(begins[1], begins[2], line.rstrip(";")))
         elif found and found[-1].text.count("{") != found[-1].text.count("}"):
             found[-1] = found[-1]._replace(text=f"{found[-1].text}\n{line}")
         elif not HEADING.match(line):
@@ -57,41 +75,43 @@ def clauses_at(lines, at):
     return found
 
 
-def function_at(lines, first, header):
+def function_at(lines: Sequence[str], first: int, begins: re.Match[str], header: str | None) -> Function:
     """The function that begins at this line, in what begins with this header, if in anything."""
-    begins, last = FUNCTION.match(lines[first]), first
+    last = first
     while not lines[last].endswith(("{", ";")) and not BEGINS_CLAUSES.match(lines[last + 1]):
         last += 1
     signature = "\n".join(lines[first : last + 1]).rstrip("{; \n")
-    owner = header and OWNER.match(header)[1]
+    owner = OWNER.match(header or "")
     is_public = bool(begins[1]) or (header or "").startswith("pub trait")
-    return Function(owner, begins[2], is_public, signature, tuple(clauses_at(lines, last + 1)))
+    return Function(owner[1] if owner else None, begins[2], is_public, signature, tuple(clauses_at(lines, last + 1)))
 
 
 @functools.cache
-def functions_of(path):
+def functions_of(path: Path) -> list[Function]:
     """The functions of a source file, each with the type or the trait that it is of, if any."""
-    lines, header, found = lines_of(path), None, []
+    lines = lines_of(path)
+    header: str | None = None
+    found: list[Function] = []
     for at, line in enumerate(lines):
         if OWNER.match(line) or line == "}":
             header = line if line != "}" else None
-        elif FUNCTION.match(line):
-            found.append(function_at(lines, at, header))
+        elif begins := FUNCTION.match(line):
+            found.append(function_at(lines, at, begins, header))
     return found
 
 
 # ---- Definitions and types -----------------------------------------------------------------------
 
 
-def last_line_of(lines, first, suffix):
+def last_line_of(lines: Sequence[str], first: int, suffix: str) -> int:
     """The last line of a definition, before a blank one, or of a type, whose brace or semicolon is
     not indented."""
-    ends = {".antt": lambda line: not line.strip(), ".rt": lambda line: re.match(r"\}$|\S.*;$", line)}
-    last = next((at for at in range(first, len(lines)) if ends[suffix](lines[at])), len(lines) - 1)
+    end = END[suffix]
+    last = next((at for at in range(first, len(lines)) if end.match(lines[at])), len(lines) - 1)
     return last if lines[last].strip() else last - 1
 
 
-def block_at(lines, first, suffix):
+def block_at(lines: list[str], first: int, suffix: str) -> str:
     """The definition or the type that begins at this line, with the comment above it."""
     above = first
     while lines[above - 1].strip().startswith((COMMENT[suffix], "#[")):
@@ -101,51 +121,52 @@ def block_at(lines, first, suffix):
 
 
 @functools.cache
-def blocks_of(path):
+def blocks_of(path: Path) -> dict[str, str]:
     """The definitions of a file of definitions, or the types of a source file, by their names."""
     begins, lines = {".antt": DEFINITION, ".rt": TYPE}[path.suffix], lines_of(path)
     found = ((at, begins.match(line)) for at, line in enumerate(lines))
     return {name[1]: block_at(lines, at, path.suffix) for at, name in found if name}
 
 
-def without_ghosts(text):
+def without_ghosts(text: str) -> str:
     """A type without what the checker proves of each of its values; a trait keeps its ghost words."""
     return GHOST_FIELD.sub("", text)
 
 
-def ghosts_of(text):
+def ghosts_of(text: str) -> list[str]:
     """The names of what the checker proves of each value of a type."""
     return GHOST_FIELD.findall(text)
 
 
-def code_of(text, suffix):
+def code_of(text: str, suffix: str) -> str:
     """A block without its comments and blank lines."""
     return "\n".join(line for line in text.splitlines() if counts_as_line(line, suffix))
 
 
-def parts_of(text):
+def parts_of(text: str) -> tuple[str, list[tuple[str, str]]]:
     """A struct without comments as its first line, and the names and types of its fields; another
     block is whole, with no field."""
-    found, lines = [], text.splitlines()
+    found: list[tuple[str, str]] = []
+    lines = text.splitlines()
     if not STRUCT.match(text):
         return text, []
     for line in lines[1:-1]:
         if begins := FIELD.match(line):
-            found.append(begins.groups())
+            found.append((begins[1], begins[2]))
         else:
             found[-1] = (found[-1][0], f"{found[-1][1]} {line.strip()}")
     return lines[0], found
 
 
 @functools.cache
-def imports_of(path):
+def imports_of(path: Path) -> dict[str, tuple[str, str | None]]:
     """What each imported name of a file stands for: a module of definitions, and the name there, or
     none for the module itself."""
-    found = {}
+    found: dict[str, tuple[str, str | None]] = {}
     for module, names, alias in IMPORT.findall("\n".join(lines_of(path))):
         if alias:
             found[alias] = (module, None)
-        for name in filter(None, (name.strip() for name in names.split(","))):
+        for name in (it.strip() for it in names.split(",") if it.strip()):
             original, _, renamed = name.partition(" as ")
             found[renamed or original] = (module, original)
     return found
@@ -154,7 +175,7 @@ def imports_of(path):
 # ---- Names ---------------------------------------------------------------------------------------
 
 
-def labels_of(path, name):
+def labels_of(path: Path, name: str) -> set[str | None] | None:
     """The labels of what a file promises under a name: a function's clauses, a type's ghost fields, a
     record's fields; none if the file has no such name."""
     owner, _, short = name.rpartition("::")
@@ -165,13 +186,13 @@ def labels_of(path, name):
     return None if text is None else set(MEMBER.findall(text))
 
 
-def names_in(path):
+def names_in(path: Path) -> set[str]:
     """The names that a file of a crate has: its own, those of functions, clauses, definitions, lemmas,
     types and their members, and what it imports."""
     found = {path.stem, *path.relative_to(CRATES).parts}
     if path.suffix == ".rt":
         for function in functions_of(path):
-            found |= {function.name, *(clause.label for clause in function.clauses)}
+            found |= {function.name, *(clause.label for clause in function.clauses if clause.label)}
     if path.suffix in COMMENT:
         for name, text in blocks_of(path).items():
             found |= {name, *MEMBER.findall(text)}

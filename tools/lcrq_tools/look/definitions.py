@@ -27,7 +27,9 @@ import functools
 import re
 import signal
 import sys
+from collections.abc import ItemsView, Iterable, Iterator, Sequence
 from pathlib import Path
+from typing import NamedTuple
 
 from lcrq_tools.look.contracts import (
     GHOST_FIELD, Clause, Function, blocks_of, code_of, crate_of, functions_of, imports_of, lines_of, parts_of,
@@ -52,10 +54,24 @@ class Unknown(Exception):
 # ---- What a name means ---------------------------------------------------------------------------
 
 
+class Own(NamedTuple):
+    """A definition or a type of the crates."""
+
+    path: Path
+    name: str
+
+
+class OfKit(NamedTuple):
+    """A name of the kit, with the module that it is imported from."""
+
+    module: str
+    name: str
+
+
 @functools.cache
-def types():
+def types() -> dict[str, list[Path]]:
     """The source files that have a type of each name."""
-    found = {}
+    found: dict[str, list[Path]] = {}
     for crate in crate_names():
         for path in sorted((CRATES / crate / "src").rglob("*.rt")):
             for name in blocks_of(path):
@@ -64,56 +80,56 @@ def types():
 
 
 @functools.cache
-def crates_of_names(path):
+def crates_of_names(path: Path) -> dict[str, list[str]]:
     """The crates from which a source file imports each name."""
-    found = {}
+    found: dict[str, list[str]] = {}
     for crate, names in FROM_CRATE.findall("\n".join(lines_of(path))):
         for name in re.findall(r"\w+", names):
             found.setdefault(name, []).append(crate)
     return found
 
 
-def type_named(name, path):
+def type_named(name: str, path: Path) -> Own | OfKit | None:
     """The type of this name that a source file means: its own, its crate's, or an imported one."""
     files, crates = types().get(name, []), crates_of_names(path).get(name, [])
     own = [it for it in files if it == path]
     of_crate = [it for it in files if crate_of(it) == crate_of(path)]
     of_others = [it for it in files if crate_of(it) in crates]
-    of_kit = [crate for crate in crates if name[0].isupper() and is_of_kit(crate)]
-    found = [(it, name) for it in own + of_crate + of_others] + [(None, (crate, name)) for crate in of_kit]
-    return next(iter(found), None)
+    for it in own + of_crate + of_others:
+        return Own(it, name)
+    of_kit = (OfKit(crate, name) for crate in crates if name[0].isupper() and is_of_kit(crate))
+    return next(of_kit, None)
 
 
-def is_of_kit(crate):
+def is_of_kit(crate: str) -> bool:
     """Whether the first word of an import names a crate of the kit."""
     return crate not in ("crate", "self", "super") and not (CRATES / crate).is_dir()
 
 
-def declared(crate, names):
+def declared(crate: str, names: Sequence[str]) -> Own | None:
     """The type or the constant of the code that a module of declared names has."""
     for end in range(len(names), 0, -1):
         path = CRATES / crate / "src" / Path(*names[:end]).with_suffix(".rt")
         if path.is_file():
-            return next(((path, name) for name in names[end:] if name in blocks_of(path)), None)
+            return next((Own(path, name) for name in names[end:] if name in blocks_of(path)), None)
     return None
 
 
-def imported(module, name):
-    """What an imported name stands for: a file and a name there, or no file, with the module and
-    the name there, where it is the kit's."""
+def imported(module: str, name: str | None) -> Own | OfKit | None:
+    """What an imported name stands for."""
     root, crate, *names = module.split(".")
     if root != "Rattle" or not (CRATES / crate).is_dir():
-        return None, (module, name or names[-1])
+        return OfKit(module, name or names[-1])
     if names[1] == "declared":
         return declared(crate, [*names[2:], name or ""])
     path = CRATES / crate / "specs" / Path(*names[1:]).with_suffix(".antt")
-    return meant(name, path) if path.is_file() else None
+    return meant(name, path) if name and path.is_file() else None
 
 
-def meant(name, path):
+def meant(name: str, path: Path) -> Own | OfKit | None:
     """The definition or type that a word means in a file, if it means one."""
     if path.suffix == ".antt" and name in blocks_of(path):
-        return path, name
+        return Own(path, name)
     if name in imports_of(path):
         return imported(*imports_of(path)[name])
     return type_named(name, path) if path.suffix == ".rt" else None
@@ -122,7 +138,7 @@ def meant(name, path):
 # ---- What is reached -----------------------------------------------------------------------------
 
 
-def functions_named(path, name):
+def functions_named(path: Path, name: str) -> list[Function]:
     """The functions of a source file that a name means, as `obey` or `Book::obey`."""
     owner, _, short = name.rpartition("::")
     found = [it for it in functions_of(path) if it.name == short and owner in ("", it.owner)]
@@ -131,7 +147,7 @@ def functions_named(path, name):
     return found
 
 
-def kept_by(path, name):
+def kept_by(path: Path, name: str) -> Function:
     """A type as a function that ensures what each value of the type keeps."""
     text = blocks_of(path)[name]
     head = next(line for line in text.splitlines() if not line.startswith(COMMENT[path.suffix]))
@@ -139,7 +155,7 @@ def kept_by(path, name):
     return Function(None, name, True, head.rstrip("{ "), tuple(fields))
 
 
-def clauses_of(path, name, label):
+def clauses_of(path: Path, name: str, label: str) -> list[tuple[Function, Clause]]:
     """What the functions of this name require, and what they ensure, by this label if there is one;
     each clause with its function. What a type keeps stands for what it ensures."""
     functions = [kept_by(path, name)] if name in blocks_of(path) else functions_named(path, name)
@@ -157,15 +173,15 @@ def clauses_of(path, name, label):
 class Reached:
     """What contracts reach, in the order in which it is reached, breadth first."""
 
-    def __init__(self):
-        self.clauses = {}  # by files, names of functions and functions
-        self.texts = {}  # those of definitions and types, by their files and names
-        self.taken = set()  # the names from the kit, each after the module that it is imported from
-        self.waiting = collections.deque()  # files, and texts there whose words are to be followed
-        self.unread = []  # fields that nothing has named so far, each its file, its name and its type
-        self.read = set()  # the names of the others
+    def __init__(self) -> None:
+        self.clauses: dict[tuple[Path, str, Function], list[Clause]] = {}  # by files, names and functions
+        self.texts: dict[Own, str] = {}  # those of definitions and types
+        self.taken: set[OfKit] = set()
+        self.waiting: collections.deque[tuple[Path, str]] = collections.deque()  # texts whose words are to be followed
+        self.unread: list[tuple[Path, str, str]] = []  # fields that nothing has named so far: file, name and type
+        self.read: set[str] = set()  # the names of the others
 
-    def add_clauses(self, path, asked):
+    def add_clauses(self, path: Path, asked: str) -> None:
         """Adds the clauses of a function that are asked for."""
         name, _, label = asked.partition(".")
         for function, clause in clauses_of(path, name, label):
@@ -173,14 +189,14 @@ class Reached:
             clauses += [clause] if clause not in clauses else []
             self.waiting.append((path, clause.text.partition("{")[2]))
 
-    def add(self, path, name):
+    def add(self, path: Path, name: str) -> None:
         """Adds a definition or a type of a file."""
-        self.texts[path, name] = text = without_ghosts(blocks_of(path)[name])
+        self.texts[Own(path, name)] = text = without_ghosts(blocks_of(path)[name])
         head, fields = parts_of(code_of(text, path.suffix))
         self.waiting.append((path, head))
         self.unread += [(path, *field) for field in fields]
 
-    def follow(self):
+    def follow(self) -> None:
         """Follows all words, those of a field once something names it."""
         while self.waiting:
             path, text = self.waiting.popleft()
@@ -190,31 +206,31 @@ class Reached:
             self.waiting.extend((at, type_) for at, name, type_ in self.unread if name in self.read)
             self.unread = [it for it in self.unread if it[1] not in self.read]
 
-    def follow_word(self, path, word):
+    def follow_word(self, path: Path, word: str) -> None:
         """Adds what a word means in a file, if it means anything that isn't there yet."""
         found = meant(word, path)
-        if found and found[0] is None:
-            self.taken.add(found[1])
+        if isinstance(found, OfKit):
+            self.taken.add(found)
         elif found and found not in self.texts:
             self.add(*found)
 
-    def counts(self, path, name):
+    def counts(self, path: Path, name: str) -> tuple[int, int]:
         """How many lines of code and of comments a definition or a type has."""
-        text = self.texts[path, name]
+        text = self.texts[Own(path, name)]
         code = len(code_of(text, path.suffix).splitlines())
         return code, sum(bool(line.strip()) for line in text.splitlines()) - code
 
-    def totals(self):
+    def totals(self) -> tuple[int, int, int, int]:
         """How many definitions and types there are, in how many files, with how many lines of code
         and of comments."""
         counts = [self.counts(*it) for it in self.texts]
         files = {path for path, _ in self.texts}
         return len(counts), len(files), sum(code for code, _ in counts), sum(comments for _, comments in counts)
 
-    def from_kit(self):
+    def from_kit(self) -> Iterator[tuple[str, list[str]]]:
         """The kit's files with the names that are taken from them, each with the name that it is
         given here, if it is another one, and with those fields of a type that something names."""
-        files = {}
+        files: dict[Path | str, dict[str, str]] = {}
         for module, name in sorted(self.taken):
             place = place_of(module, name)
             names = files.setdefault(place.file, {})
@@ -227,9 +243,9 @@ class Reached:
             yield shown(file), [name + fields for name, fields in sorted(names.items())]
 
 
-def asked_for(words):
+def asked_for(words: Sequence[str]) -> list[tuple[str, list[str]]]:
     """The files of a command line, each with the names after it."""
-    asked = []
+    asked: list[tuple[str, list[str]]] = []
     for word in words:
         if word.endswith(".rt") or not asked:
             asked.append((word.removeprefix("crates/"), []))
@@ -238,7 +254,7 @@ def asked_for(words):
     return asked
 
 
-def reached_from(words):
+def reached_from(words: Sequence[str]) -> Reached:
     """What the clauses reach that a command line asks for."""
     reached = Reached()
     for file, names in asked_for(words):
@@ -259,22 +275,22 @@ def reached_from(words):
 # ---- What is printed -----------------------------------------------------------------------------
 
 
-def by_file(named):
+def by_file(named: Iterable[tuple[Path, str]]) -> ItemsView[Path, list[str]]:
     """Names as lists, by their files."""
-    files = {}
+    files: dict[Path, list[str]] = {}
     for path, name in named:
         files.setdefault(path.relative_to(CRATES), []).append(name)
     return files.items()
 
 
-def clause_names(reached):
+def clause_names(reached: Reached) -> Iterator[tuple[Path, str]]:
     """The files and the names of the clauses."""
     for (path, name, _), clauses in reached.clauses.items():
         labels = [clause.label for clause in clauses if clause.kind == "ensures"]
         yield from ((path, f"{name}.{label}" if label else name) for label in labels)
 
 
-def print_table(reached):
+def print_table(reached: Reached) -> None:
     """Prints the clauses, and then what is reached, a row a file."""
     print_head("File", "Lines", "Comments", "What is read there")
     for path, names in by_file(clause_names(reached)):
@@ -288,7 +304,7 @@ def print_table(reached):
         print_row(f"kit: {file}", "", "", ", ".join(names))
 
 
-def print_texts(reached):
+def print_texts(reached: Reached) -> None:
     """Prints the clauses, definitions and types themselves, each with its file."""
     contracts = [
         (path, "\n".join([function.signature, *(clause.text for clause in clauses)]))
@@ -305,15 +321,17 @@ def print_texts(reached):
         print(f"{file}: {', '.join(names)}")
 
 
-def main():
+def main() -> int:
+    """Prints what the command line asks for; returns the exit status."""
     parser = argparse.ArgumentParser(description="Which definitions and types a contract reaches.")
     parser.add_argument("--text", action="store_true", help="print the definitions themselves")
     words = "a source file, from crates/, and functions of it, with or without a label; else the headline's"
     parser.add_argument("words", nargs="*", metavar="FILE FUNCTION[.LABEL]", help=words)
     given = parser.parse_args()
+    asked: list[str] = given.words or HEADLINE
     signal.signal(signal.SIGPIPE, signal.SIG_DFL)  # who reads the output may stop
     try:
-        reached = reached_from(given.words or HEADLINE)
+        reached = reached_from(asked)
     except Unknown as fault:
         print(f"definitions.py: {fault}", file=sys.stderr)
         return 2

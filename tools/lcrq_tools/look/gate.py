@@ -19,6 +19,8 @@ import os
 import re
 import time
 from collections import defaultdict
+from collections.abc import Sequence
+from typing import NamedTuple, NoReturn
 
 from lcrq_tools.program import print_head, print_row
 
@@ -26,11 +28,22 @@ UNIT = ("rd_step", "proofs")
 KINDS = ("proofs", "tests", "edits")
 LOOK_EVERY = 0.2
 
+Times = defaultdict[tuple[str, str], float]  # processor seconds by crate and kind
+
+
+class Seen(NamedTuple):
+    """What a process of the checker has taken so far, and what it was called for."""
+
+    seconds: float  # of the processor
+    peak: int  # KiB
+    folder: str
+    words: str
+
 
 # ---- Watching ------------------------------------------------------------------------------------
 
 
-def text_of(path):
+def text_of(path: str) -> bytes:
     """The bytes of a file of /proc; none if the process has gone."""
     try:
         with open(path, "rb") as file:
@@ -39,10 +52,11 @@ def text_of(path):
         return b""
 
 
-def look():
+def look() -> dict[tuple[str, str], Seen]:
     """The checker's processes: processor seconds, most memory, folder and words, by number and
     start."""
-    found, tick = {}, os.sysconf("SC_CLK_TCK")
+    found: dict[tuple[str, str], Seen] = {}
+    tick = os.sysconf("SC_CLK_TCK")
     for number in filter(str.isdigit, os.listdir("/proc")):
         stat = text_of(f"/proc/{number}/stat")
         if b"(rattle)" not in stat:
@@ -56,13 +70,15 @@ def look():
             folder = ""
         # its own time, and that of the processes that it started and that have ended
         seconds = sum(map(int, fields[11:15])) / tick
-        found[number, fields[19]] = [seconds, int(peak[1]) if peak else 0, folder, re.sub(r"[\0\t\n]", " ", words)]
+        called = re.sub(r"[\0\t\n]", " ", words)
+        found[number, fields[19].decode()] = Seen(seconds, int(peak[1]) if peak else 0, folder, called)
     return found
 
 
-def watch(path):
+def watch(path: str) -> NoReturn:
     """Appends what each process took when it has ended."""
-    seen, began = {}, {}
+    seen: dict[tuple[str, str], Seen] = {}
+    began: dict[tuple[str, str], float] = {}
     with open(path, "a", encoding="utf-8", buffering=1) as times:
         while True:
             now = look()
@@ -73,14 +89,14 @@ def watch(path):
                 began.setdefault(key, time.time())
             # a process that is ending has no memory, folder or words any more: what was seen before
             # stays
-            seen |= {key: one for key, one in now.items() if one[3] or key not in seen}
+            seen |= {key: one for key, one in now.items() if one.words or key not in seen}
             time.sleep(LOOK_EVERY)
 
 
 # ---- The table -----------------------------------------------------------------------------------
 
 
-def kind_of(folder, words):
+def kind_of(folder: str, words: str) -> tuple[str, str] | None:
     """Returns the crate and what a call of the checker was for; none for what checks no crate."""
     crate = re.search(r"--crate-name (\w+)", words)
     if not crate:
@@ -88,13 +104,13 @@ def kind_of(folder, words):
     if "rt-edit" in folder:
         return crate[1], "edits"
     # the tests of rd_x are the crate rd_x_tests
-    name, tests = re.fullmatch(r"(\w+?)(_tests)?", crate[1]).groups()
-    return name, "tests" if tests or " --test " in f"{words} " else "proofs"
+    name = crate[1].removesuffix("_tests")
+    return name, "tests" if name != crate[1] or " --test " in f"{words} " else "proofs"
 
 
-def times_of(path, runs):
+def times_of(path: str, runs: Sequence[str]) -> Times:
     """Returns the processor seconds by crate and kind."""
-    times = defaultdict(float)
+    times: Times = defaultdict(float)
     with open(path, encoding="utf-8") as lines:
         for line in lines:
             seconds, _, _, folder, words = line.rstrip("\n").split("\t", 4)
@@ -104,7 +120,7 @@ def times_of(path, runs):
     return times
 
 
-def show(times):
+def show(times: Times) -> None:
     """Prints the table of one gate."""
     unit, total = times[UNIT] or 1.0, sum(times.values())
     print_head("Crate", "Proofs", "Tests", "Edits", "Share")
@@ -116,16 +132,19 @@ def show(times):
     print(f"\n{total / 60:.0f} processor minutes; the unit is {unit / 60:.2f} of them.")
 
 
-def main():
+def main() -> int:
+    """Watches, or prints the tables, as the command line asks; returns the exit status."""
     parser = argparse.ArgumentParser(description="Where the processor minutes of a gate go.")
     parser.add_argument("times", nargs="+", help="the files of times; with --watch the one to append to")
     parser.add_argument("--watch", action="store_true", help="watch the checker's processes until stopped")
-    parser.add_argument("--run", action="append", default=[], help="count only calls of this `rt ci`, by its process number")
+    about = "count only calls of this `rt ci`, by its process number"
+    parser.add_argument("--run", action="append", default=[], help=about)
     given = parser.parse_args()
+    times: list[str] = given.times
     try:
         if given.watch:
-            watch(given.times[0])
-        for path in given.times:
+            watch(times[0])
+        for path in times:
             show(times_of(path, given.run))
     except OSError as fault:
         raise SystemExit(f"gate.py: {fault.filename}: {fault.strerror}") from fault

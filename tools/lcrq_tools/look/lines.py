@@ -12,6 +12,7 @@ A line counts if it is neither blank nor a comment alone. Only Python's standard
 """
 
 import argparse
+from collections.abc import Sequence
 from pathlib import Path
 
 from lcrq_tools.program import CRATES, TOP, print_head, print_row
@@ -22,17 +23,17 @@ KIT = "test_kit"  # the crate of what the crates of tests share
 COMMENT = {".rt": "//", ".antt": "--"}
 
 
-def counts_as_line(line, suffix):
+def counts_as_line(line: str, suffix: str) -> bool:
     """Whether a line of a file with this suffix counts."""
     return bool(line.strip()) and not line.strip().startswith(COMMENT[suffix])
 
 
-def lines_in(path):
+def lines_in(path: Path) -> int:
     """How many lines of a file count."""
     return sum(counts_as_line(line, path.suffix) for line in path.read_text(encoding="utf-8").splitlines())
 
 
-def kind_of(parts):
+def kind_of(parts: Sequence[str]) -> str | None:
     """The kind of the file that is in its crate under these names; none if it isn't counted."""
     if parts[0] not in ("src", "specs", "proofs"):
         return None
@@ -41,7 +42,7 @@ def kind_of(parts):
     return {"src": "code", "specs": "definitions", "proofs": "proofs"}[parts[0]]
 
 
-def counts_of(crate):
+def counts_of(crate: Path) -> dict[str, int]:
     """The lines of a crate by their kind."""
     counts = dict.fromkeys(KINDS, 0)
     for path in sorted(crate.rglob("*")):
@@ -53,18 +54,18 @@ def counts_of(crate):
     return counts
 
 
-def crate_names():
+def crate_names() -> list[str]:
     """The names of all crates, lowest first."""
     rows = (TOP / "crates.txt").read_text(encoding="utf-8").splitlines()
     return [row.split(":")[0].split()[0] for row in rows if row.strip()]
 
 
-def print_counts(name, counts):
+def print_counts(name: str, counts: dict[str, int]) -> None:
     """Prints a row of the table."""
     print_row(name, *(f"{counts[kind]:,}" for kind in KINDS), f"{sum(counts.values()):,}")
 
 
-def print_crates():
+def print_crates() -> None:
     """Prints the table of all crates."""
     total = dict.fromkeys(KINDS, 0)
     print_head("Crate", "Code", "Definitions", "Proofs", "Tests", "All")
@@ -79,7 +80,8 @@ def print_crates():
     print_counts("all", total)
 
 
-def main():
+def main() -> int:
+    """Prints the table; returns the exit status."""
     argparse.ArgumentParser(description="Lines by crate and kind.").parse_args()
     print_crates()
     return 0

@@ -14,6 +14,8 @@ import functools
 import re
 import signal
 import sys
+from collections.abc import Iterator, Sequence
+from pathlib import Path
 
 from lcrq_tools.look.contracts import blocks_of, functions_of, ghosts_of, lines_of
 from lcrq_tools.look.lines import KIT, crate_names
@@ -24,7 +26,7 @@ PUBLIC_MODULE = re.compile(r"^pub mod (\w+);", re.MULTILINE)
 
 
 @functools.cache
-def exports_of(crate):
+def exports_of(crate: str) -> tuple[set[str], set[str]]:
     """The names that a library exports, and its public modules."""
     library = CRATES / crate / "src" / "lib.rt"
     text = "\n".join(lines_of(library)) if library.is_file() else ""
@@ -32,7 +34,7 @@ def exports_of(crate):
     return set(names), set(PUBLIC_MODULE.findall(text))
 
 
-def functions_in(crate, path):
+def functions_in(crate: str, path: Path) -> Iterator[tuple[str, str]]:
     """The rows of the public functions of a file: a name, and what the function ensures."""
     names, modules = exports_of(crate)
     module = f"{path.stem}::" if path.stem in modules else ""
@@ -43,14 +45,14 @@ def functions_in(crate, path):
             yield module + "::".join(filter(None, function[:2])), ", ".join(labels)
 
 
-def types_in(crate, path):
+def types_in(crate: str, path: Path) -> Iterator[tuple[str, str]]:
     """The rows of the exported types of a file that keep something: a name, and what is kept."""
     for name, text in blocks_of(path).items():
         if name in exports_of(crate)[0] and ghosts_of(text):
             yield name, f"keeps {', '.join(ghosts_of(text))}"
 
 
-def print_promises(crates):
+def print_promises(crates: Sequence[str]) -> None:
     """Prints the table of these crates."""
     print_head("Promise", "Clauses", "File")
     for crate in crates:
@@ -59,13 +61,15 @@ def print_promises(crates):
                 print_row(name, clauses, path.relative_to(CRATES))
 
 
-def main():
+def main() -> int:
+    """Prints the table that the command line asks for; returns the exit status."""
     parser = argparse.ArgumentParser(description="What each crate promises.")
     parser.add_argument("crates", nargs="*", metavar="CRATE", help="a crate; else all of them")
     given = parser.parse_args()
     signal.signal(signal.SIGPIPE, signal.SIG_DFL)  # who reads the output may stop
-    for name in set(given.crates) - set(crate_names()):
+    crates: list[str] = given.crates
+    for name in set(crates) - set(crate_names()):
         print(f"promises.py: no crate {name} in crates.txt", file=sys.stderr)
         return 2
-    print_promises(given.crates or [name for name in crate_names() if name != KIT])
+    print_promises(crates or [name for name in crate_names() if name != KIT])
     return 0

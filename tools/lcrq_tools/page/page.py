@@ -84,33 +84,44 @@ def start_of(asked: Asked, lanes: list[str], above: int) -> dict[str, str]:
 
 def command_of(arguments: argparse.Namespace) -> list[str]:
     """The command that shows a moment by the program, in front of the number of its line and behind it."""
-    name = "s.script" if arguments.script == "-" else Path(arguments.script).name
-    if arguments.trace:
-        words = ["lcrqdb", "load", Path(arguments.trace).name]
+    script: str = arguments.script
+    trace: str | None = arguments.trace
+    name = "s.script" if script == "-" else Path(script).name
+    if trace:
+        words = ["lcrqdb", "load", Path(trace).name]
     else:
-        options = [("--actors", arguments.actors), ("--ring", arguments.ring)]
+        options: list[tuple[str, str | None]] = [("--actors", arguments.actors), ("--ring", arguments.ring)]
         words = ["lcrqdb", "run", *(word for option, value in options if value for word in (option, value)), "-"]
     return ["head -n ", f" {shlex.quote(name)} | {shlex.join(words)}"]
+
+
+def heading_of(it: State) -> str:
+    """What stands above a moment of a handout."""
+    return f"After line {it.line}, {it.text}: {it.reply}" if it.line else "Before the first line"
 
 
 def handout_of(states: list[State]) -> list[tuple[int, str]]:
     """The moments that a handout shows: those of bookmarks, or the last one."""
     marked = [at for at, it in enumerate(states) if it.reply.startswith("marked ")]
-    about = lambda it: f"After line {it.line}, {it.text}: {it.reply}" if it.line else "Before the first line"
-    return [(at, about(states[at])) for at in marked or [len(states) - 1]]
+    return [(at, heading_of(states[at])) for at in marked or [len(states) - 1]]
 
 
-def data_of(fields: dict, moments: list[dict]) -> str:
+def compact(value: object) -> str:
+    """A value as JSON without spaces."""
+    return json.dumps(value, separators=(",", ":"))
+
+
+def data_of(fields: dict[str, object], moments: list[dict[str, object]]) -> str:
     """The page's data as JSON, a moment a line."""
-    compact = {"separators": (",", ":"), "ensure_ascii": True}
-    lines = ",\n".join(json.dumps(it, **compact) for it in moments)
-    text = json.dumps(fields, **compact).removesuffix("}") + f',"moments":[\n{lines}\n]}}'
+    lines = ",\n".join(map(compact, moments))
+    text = compact(fields).removesuffix("}") + f',"moments":[\n{lines}\n]}}'
     return text.replace("<", "\\u003c")
 
 
 def asked_of(arguments: argparse.Namespace) -> Asked:
     """The run that a page is asked for."""
-    first, last = arguments.part or (1, None)
+    part: tuple[int, int] | None = arguments.part
+    first, last = part or (1, None)
     asked = Asked(argparse.Namespace(**vars(arguments) | {"lines": last}), first - 1)
     if last and last > len(asked.lines):
         raise Fault(f"the script has {len(asked.lines)} lines: --lines names some of them")

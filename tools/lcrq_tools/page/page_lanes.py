@@ -5,6 +5,7 @@ moves it to its place above or below the border between live and undone steps.
 """
 
 from html import escape
+from typing import TypedDict
 
 from lcrq_tools.draw.drawing import dot_at, over
 from lcrq_tools.draw.figure import (
@@ -37,6 +38,13 @@ def band_of(lane: str) -> str:
     if lane in ("qhead", "qtail"):
         return "queue"
     return "" if actor_of(lane) else f"segment {segment_of(lane)}" if segment_of(lane) else "array"
+
+
+class Dots(TypedDict):
+    """Of a row its actor, and the lanes of its dots, each with 1 where the dot is filled."""
+
+    actor: int
+    dots: dict[int, int]
 
 
 class Lanes:
@@ -156,9 +164,10 @@ class Lanes:
         parts = [*self.grounds(), *self.start_lines(), first, *rows, border, "</g></svg>"]
         return "\n".join([self.open('class="body"', self.height), *parts])
 
-    def dots(self) -> dict[int, dict]:
+    def dots(self) -> dict[int, Dots]:
         """Of each row its actor and its dots: the lane, and whether the dot is filled."""
-        lanes, found = {lane: at for at, lane in enumerate(self.lanes)}, {}
+        lanes = {lane: at for at, lane in enumerate(self.lanes)}
+        found: dict[int, Dots] = {}
         for at, row in self.rows.items():
             dots = {lanes[dot.lane]: int(dot.kind == "wrote") for dot in row.dots}
             found[at] = {"actor": row.actor, "dots": {lanes[f"actor {row.actor}"]: 1} | dots}

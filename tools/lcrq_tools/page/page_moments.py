@@ -6,6 +6,8 @@ the undone steps, the segments in their order, what the last live step wrote, th
 """
 
 import re
+from collections.abc import Mapping
+from typing import TypedDict
 
 from lcrq_tools import manual, model
 from lcrq_tools.draw import moment
@@ -17,7 +19,7 @@ MOST_NAMED = 4  # steps or places in one sentence
 # ---- Actors and steps -----------------------------------------------------------------------------
 
 
-def chips_of(it: State, page: dict[str, dict[str, list[str]]], steps: dict[str, model.Step]) -> dict[int, dict | None]:
+def chips_of(it: State, page: moment.Code, steps: dict[str, model.Step]) -> dict[int, dict[str, str] | None]:
     """What each actor is about to do; nothing of one that is in no call."""
     chips = [moment.chip_of(actor, it.actors[actor], tried, page, steps) for actor, tried in it.tried.items()]
     return dict.fromkeys(it.actors) | {chip.actor: about(chip) for chip in chips}
@@ -105,7 +107,24 @@ def whys_of(states: list[State]) -> list[str]:
 # ---- States and their differences -----------------------------------------------------------------
 
 
-def whole_states(states: list[State], chips: list[dict[int, dict | None]], sentences: list[str]) -> list[dict]:
+class Whole(TypedDict, total=False):
+    """A moment as a page has it."""
+
+    places: dict[str, str]
+    actors: dict[str, dict[str, str] | None]
+    rows: list[int]
+    live: int
+    linked: list[str | int]
+    apart: list[str]
+    written: list[str]
+    last: int | None
+    named: list[int]
+    said: str
+
+
+def whole_states(
+    states: list[State], chips: list[dict[int, dict[str, str] | None]], sentences: list[str]
+) -> list[Whole]:
     """The moments as a page has them."""
     return [
         {
@@ -124,13 +143,19 @@ def whole_states(states: list[State], chips: list[dict[int, dict | None]], sente
     ]
 
 
-def changes_between(before: dict, after: dict) -> dict:
-    """What differs between two states; None stands for what isn't there any more."""
-    changes = {key: value for key, value in after.items() if key not in before or before[key] != value}
-    for key in changes.keys() & {"places", "actors"}:
-        old, new = before.get(key, {}), after[key]
-        gone = {name: None for name in old if name not in new}
-        changes[key] = gone | {name: it for name, it in new.items() if name not in old or old[name] != it}
+def changed_of(old: Mapping[str, object], new: Mapping[str, object]) -> dict[str, object]:
+    """What differs in a part of a state; None stands for what isn't there any more."""
+    gone: dict[str, object] = {name: None for name in old if name not in new}
+    return gone | {name: it for name, it in new.items() if name not in old or old[name] != it}
+
+
+def changes_between(before: Whole, after: Whole) -> dict[str, object]:
+    """What differs between two states."""
+    changes = changed_of(before, after)
+    if "places" in changes:
+        changes["places"] = changed_of(before.get("places", {}), after["places"])
+    if "actors" in changes:
+        changes["actors"] = changed_of(before.get("actors", {}), after["actors"])
     if "rows" in changes:
         old, new = before.get("rows", []), after["rows"]
         kept = next((at for at, (one, other) in enumerate(zip(old, new)) if one != other), min(len(old), len(new)))
@@ -138,6 +163,7 @@ def changes_between(before: dict, after: dict) -> dict:
     return changes
 
 
-def differences_of(states: list[dict]) -> list[dict]:
+def differences_of(states: list[Whole]) -> list[dict[str, object]]:
     """What each state changes of the one before it; the first one changes nothing."""
-    return [changes_between(before, after) for before, after in zip([{}, *states], states)]
+    befores: list[Whole] = [{}, *states]
+    return [changes_between(before, after) for before, after in zip(befores, states)]

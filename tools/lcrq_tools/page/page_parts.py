@@ -16,6 +16,8 @@ CELL = 3.8  # how wide a cell may be for pins to stand beside its texts, in the 
 MOST_BESIDE = 5  # chips, on a wide screen
 HALVES, VALUED = ("label", "value", "index"), ("cell", "acell")  # texts of a cell, and places with a value
 
+Chips = dict[int, dict[str, str] | None]  # of each actor what it is about to do; nothing of one that is in no call
+
 # The page's own colours: by day, and in the dark. Letters have a contrast of 4.5 at least.
 COLOURS = {
     "text": ("#222222", "#ececec"), "soft": ("#595959", "#b6b9be"), "ground": ("#ffffff", "#17191c"),
@@ -93,7 +95,7 @@ def most_at(lists: list[list[str]]) -> dict[str, int]:
     return most
 
 
-def pins_at(them: list[dict[int, dict | None]]) -> dict[str, int]:
+def pins_at(them: list[Chips]) -> dict[str, int]:
     """How many pins a place of each kind has at most, and a line of the pseudo-code."""
     abouts = [[about for about in it.values() if about] for it in them]
     needs: dict[str, int] = {}
@@ -105,7 +107,7 @@ def pins_at(them: list[dict[int, dict | None]]) -> dict[str, int]:
     return needs
 
 
-def room(states: list[State], them: list[dict[int, dict | None]]) -> str:
+def room(states: list[State], them: list[Chips]) -> str:
     """How much room texts and pins need at most, as CSS. What never stands there has none."""
     widths, rules = widths_of(states), []
     for kind, count in sorted(pins_at(them).items()):
@@ -236,24 +238,24 @@ def queue(states: list[State], ring: int) -> str:
 # ---- Actors ---------------------------------------------------------------------------------------
 
 
-def seen_of(chips: list[dict[int, dict | None]], actor: int) -> list[dict]:
+def seen_of(chips: list[Chips], actor: int) -> list[dict[str, str]]:
     """What an actor is about to do, wherever it is in a call."""
-    return [it[actor] for it in chips if it[actor]]
+    return [about for about in (it[actor] for it in chips) if about]
 
 
-def chips(them: list[dict[int, dict | None]], page: dict[str, dict[str, list[str]]]) -> str:
+def chips(them: list[Chips], page: dict[str, dict[str, list[str]]]) -> str:
     """Room for what the actors are about to do in these moments."""
     seen = {actor: seen_of(them, actor) for actor in them[0]}
     return "\n".join(chip(actor, abouts, page) for actor, abouts in seen.items() if abouts)
 
 
-def beside(them: list[dict[int, dict | None]]) -> int:
+def beside(them: list[Chips]) -> int:
     """How many chips stand beside each other where there is room for some, with rows of one length."""
     count = max(1, sum(bool(seen_of(them, actor)) for actor in them[0]))
     return -(-count // -(-count // MOST_BESIDE))
 
 
-def idle(them: list[dict[int, dict | None]]) -> str:
+def idle(them: list[Chips]) -> str:
     """Who is in no call at any of these moments, in words."""
     names = [str(actor) for actor in them[0] if not seen_of(them, actor)]
     return f" In no call: actor{'s' if len(names) > 1 else ''} {', '.join(names)}." if names else ""
@@ -272,7 +274,7 @@ def chip(actor: int, seen: list[dict[str, str]], page: dict[str, dict[str, list[
     return f'<li {kind}>{head}<div class="stack">{codes}</div><div class="chip-foot">{note}{words}</div></li>'
 
 
-def pseudo_code(them: list[dict[int, dict | None]], page: dict[str, dict[str, list[str]]]) -> str:
+def pseudo_code(them: list[Chips], page: dict[str, dict[str, list[str]]]) -> str:
     """The pseudo-code of the calls in which an actor is, with room for the actors at each line."""
     used = {about["call"].split(" ")[0] for it in them for about in it.values() if about}
     heads = {word: head for head, word in model.CALLS.items()}

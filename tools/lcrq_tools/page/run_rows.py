@@ -109,7 +109,7 @@ def lanes_of_rows(rows: list[Row], chain: list[str]) -> list[str]:
     return sorted(lanes, key=lambda lane: order_of(lane, chain))
 
 
-def order_of(lane: str, chain: list[str]) -> tuple:
+def order_of(lane: str, chain: list[str]) -> tuple[int | str, ...]:
     """Where a lane is: actors, the queue's ends, the segments, the array."""
     kind, *rest = lane.split(" ")
     if kind == "actor":

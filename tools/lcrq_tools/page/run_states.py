@@ -31,7 +31,8 @@ class State:
     actors: dict[int, str] = field(default_factory=dict)  # the reply about each actor
     places: dict[str, str] = field(default_factory=dict)  # the content of each place that is there
     tried: dict[int, tuple[str, str]] = field(default_factory=dict)  # the reply to a next step, and its record
-    linked: list[str | int] = field(default_factory=list)  # segments; a number stands for so many left out
+    chain: list[str] = field(default_factory=list)  # linked segments, in the order of their links
+    linked: list[str | int] = field(default_factory=list)  # those that are drawn; a number for so many left out
     apart: list[str] = field(default_factory=list)
     rows: list[int] = field(default_factory=list)  # of the steps of `records`
 
@@ -131,7 +132,7 @@ def ask_actors(asked: Asked, states: list[State], names: list[str]) -> None:
         nexts = {name: shown[f"next {name}"].removeprefix("is ") for name in names}
         nexts = {name: content for name, content in nexts.items() if not content.startswith("refused ")}
         ends = [shown[end].removeprefix("is ") for end in ("qhead", "qtail")]
-        it.linked, it.apart = in_order([*nexts], nexts, ends)
+        it.chain, it.apart = in_order([*nexts], nexts, ends)
 
 
 def moves_between(before: list[str], after: list[str]) -> list[str]:
@@ -144,7 +145,9 @@ def moves_between(before: list[str], after: list[str]) -> list[str]:
 
 def ask_trials(asked: Asked, states: list[State]) -> None:
     """Asks what each actor's next step would be."""
-    given, before, lengths = [], states[0].records[: states[0].live], []
+    given: list[bytes] = []
+    lengths: list[tuple[int, int]] = []
+    before = states[0].records[: states[0].live]
     for it in states:
         after, number = it.records[: it.live], it.live + 1
         moves = moves_between(before, after)
@@ -153,8 +156,8 @@ def ask_trials(asked: Asked, states: list[State]) -> None:
         lengths.append((len(moves), len(trials)))
         before = after
     replies = iter(asked.replies_to([*asked.lines[: asked.first], *given])[asked.first:])
-    for it, (moves, trials) in zip(states, lengths):
-        answers = [*itertools.islice(replies, moves + trials)][moves:]
+    for it, (moved, tried) in zip(states, lengths):
+        answers = [*itertools.islice(replies, moved + tried)][moved:]
         it.tried = dict(zip(it.busy(), zip(answers[::3], answers[1::3])))
 
 
@@ -166,17 +169,23 @@ def touched_by(it: State) -> list[str]:
 def kept_names(states: list[State]) -> set[str]:
     """The segments that are drawn: all of a short list, and of a long one its ends and those that a
     step touches."""
-    if all(len(it.linked) <= MOST_KEPT for it in states):
-        return {name for it in states for name in (*it.linked, *it.apart)}
+    if all(len(it.chain) <= MOST_KEPT for it in states):
+        return {name for it in states for name in (*it.chain, *it.apart)}
     places = {place for it in states for place in (*touched_by(it), *(record.split("; ")[2] for record in it.records))}
-    ends = {name for it in states for name in (*it.linked[:1], *it.linked[-1:], *it.apart)}
+    ends = {name for it in states for name in (*it.chain[:1], *it.chain[-1:], *it.apart)}
     return {*map(segment_of, places), *ends} - {""}
 
 
 def counted(linked: list[str], kept: set[str]) -> list[str | int]:
     """The segments that are drawn, in their order, and how many are left out between them."""
-    groups = itertools.groupby(linked, key=lambda name: name in kept)
-    return [item for is_kept, names in groups for item in ([*names] if is_kept else [len([*names])])]
+    found: list[str | int] = []
+    for is_kept, names in itertools.groupby(linked, key=lambda name: name in kept):
+        them = [*names]
+        if is_kept:
+            found.extend(them)
+        else:
+            found.append(len(them))
+    return found
 
 
 def used_slots(asked: Asked, states: list[State]) -> list[str]:
@@ -212,7 +221,7 @@ def states_of(asked: Asked) -> list[State]:
     kept = kept_names(states)
     ask_places(asked, states, sorted(kept, key=number_of))
     for it in states:
-        it.linked = counted(it.linked, kept)
+        it.linked = counted(it.chain, kept)
     return states
 
 

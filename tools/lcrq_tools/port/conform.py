@@ -54,12 +54,14 @@ def parser() -> argparse.ArgumentParser:
 
 def options_of(given: argparse.Namespace, records: list[Record]) -> list[str]:
     """The words after the program's name."""
-    if given.trace:
-        if given.ring:
+    trace: str | None = given.trace
+    ring: int | None = given.ring
+    if trace:
+        if ring:
             raise Unreadable("a trace has its own rings: --trace comes without --ring")
-        return ["load", "--", given.trace]
+        return ["load", "--", trace]
     actors = max(record.actor for record in records)
-    return ["run", "-", "--actors", str(actors), "--ring", str(given.ring or 4)]
+    return ["run", "-", "--actors", str(actors), "--ring", str(ring or 4)]
 
 
 class Progress:
@@ -87,11 +89,12 @@ class Ledger:
     """What the calls of a log put and took. Where the log has no reply of a call, the model's counts."""
 
     def __init__(self, comparison: Comparison):
-        self.put, self.taken = collections.Counter(), collections.Counter()
-        self.maybe = collections.Counter()  # by calls of which no reply is known
+        self.put: collections.Counter[str] = collections.Counter()
+        self.taken: collections.Counter[str] = collections.Counter()
+        self.maybe: collections.Counter[str] = collections.Counter()  # by calls of which no reply is known
         self.open: dict[int, tuple[str, int]] = {}  # of each actor the call that goes on, and its record
         self.comparison = comparison
-        self.begin(comparison.start)
+        self.begin()
         self.is_known = comparison.at == len(comparison.records) or any(it.reply for it in comparison.records)
         self.last = {record.actor: record for record in comparison.records}
         for at, record in enumerate(comparison.records):
@@ -100,8 +103,9 @@ class Ledger:
             self.end(call, comparison.ends.get(at, ""))
         self.open = {actor: it for actor, it in self.open.items() if it[1] not in comparison.ends}
 
-    def begin(self, start: dict) -> None:
+    def begin(self) -> None:
         """Counts what is there at the start of a trace."""
+        start = self.comparison.start
         segments = [segment for made in start["segments"] for segment in made]
         values = [cell[2] for segment in segments for cell in segment["cells"]]
         calls = [actor["op"][1] for actor in start["actors"] if actor["op"] and len(actor["op"]) == 2]
@@ -161,15 +165,17 @@ def summary(comparison: Comparison) -> str:
 def go_on(comparison: Comparison, found: Difference, progress: Progress) -> tuple[list[tuple[str, str, str]], str]:
     """All differences to the end of the log, the first being known: of each the label with the kind, the
     headline and what was changed; and why it stopped before the end, or nothing."""
-    differences, at = [], collections.Counter()
-    while found:
-        headline = About(comparison, found).headline()
-        at[found.at] += 1
-        changed = Side(comparison, found).take() if at[found.at] <= MOST_AT_ONE else ""
-        differences.append((f"{found.kind} at {found.label()}", headline, changed))
+    differences: list[tuple[str, str, str]] = []
+    at: collections.Counter[int] = collections.Counter()
+    following: Difference | None = found
+    while following:
+        headline = About(comparison, following).headline()
+        at[following.at] += 1
+        changed = Side(comparison, following).take() if at[following.at] <= MOST_AT_ONE else ""
+        differences.append((f"{following.kind} at {following.label()}", headline, changed))
         if not changed:
             return differences, "no change of one place or actor takes the port's side here: the rest is not compared"
-        found = comparison.difference(progress)
+        following = comparison.difference(progress)
     return differences, ""
 
 
@@ -205,6 +211,7 @@ def compare(given: argparse.Namespace, folder: Path) -> int:
 
 def compare_records(given: argparse.Namespace, comparison: Comparison) -> int:
     """Compares the records, and prints what comes of it; returns the exit status."""
+    output: Path | None = given.output
     progress = Progress(len(comparison.records))
     found = comparison.difference(progress)
     progress.end()
@@ -212,7 +219,7 @@ def compare_records(given: argparse.Namespace, comparison: Comparison) -> int:
     if found:
         about = About(comparison, found)
         lines = [*about.text(), f"  before it {summary(comparison)}"]
-        lines += [f"  {line}" for line in about.write(given.output)] if given.output else []
+        lines += [f"  {line}" for line in about.write(output)] if output else []
     print("\n".join(lines), flush=True)
     if found and given.go_on:
         differences, stopped = go_on(comparison, found, progress)
@@ -224,6 +231,7 @@ def compare_records(given: argparse.Namespace, comparison: Comparison) -> int:
 
 
 def main(words: list[str] | None = None) -> int:
+    """Compares what a command line names; returns the exit status."""
     given = parser().parse_args(words)
     try:
         with tempfile.TemporaryDirectory() as folder:

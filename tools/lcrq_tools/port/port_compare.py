@@ -6,6 +6,7 @@ import json
 from collections.abc import Callable, Sequence
 from dataclasses import dataclass
 
+from lcrq_tools.start.flaws import Trace
 from lcrq_tools.port.port_log import CHOICES, Names, Record
 from lcrq_tools.port.port_replay import Replay
 
@@ -50,7 +51,8 @@ class Comparison:
     def __init__(self, replay: Replay, records: list[Record]):
         self.replay, self.records = replay, records
         self.names = Names()
-        self.start = json.loads(replay.start())["start"]  # the parts with which it began
+        trace: Trace = json.loads(replay.start())
+        self.start = trace["start"]  # the parts with which it began
         self.at = 0  # the next record
         self.replied: dict[int, str] = {}  # what the model replied to the last call of an actor
         self.steps_of: dict[int, int] = {}  # the last step of each actor

@@ -216,7 +216,7 @@ class Names:
     """The segments of the model by the names that the port gives them. A name is learned when its
     segment is made, or the first time that it is seen where the model has a segment without one."""
 
-    def __init__(self):
+    def __init__(self) -> None:
         self.segments: dict[str, str] = {}  # the port's name, and the segment
         self.names: dict[str, str] = {}  # the segment, and the port's name
 

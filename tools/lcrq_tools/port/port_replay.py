@@ -19,7 +19,8 @@ class Known:
     """Replies that were asked for in one go, for whoever asks a line at a time."""
 
     def __init__(self, replay: "Replay"):
-        self.replay, self.replies = replay, {}
+        self.replay = replay
+        self.replies: dict[str, str] = {}
 
     def fetch(self, lines: list[str]) -> list[str]:
         """Asks for the replies to these lines, and keeps them."""
@@ -56,7 +57,7 @@ class Replay:
 
     def __init__(self, program: str, folder: Path, options: Sequence[str]):
         self.program, self.folder = program, folder
-        self.driven: Driven | None = None
+        self.driven: Driven | None = None  # none before it is opened
         self.entries: list[tuple[str, str]] = []  # of each step from 1 on: its control point, and its entry
         self.open(options)
 
@@ -64,7 +65,8 @@ class Replay:
         """Starts the program with these words, in place of the run before it."""
         self.close()
         self.options = list(options)
-        self.before, self.lines = len(self.entries), []
+        self.before = len(self.entries)
+        self.lines: list[str] = []
         self.driven = Driven([self.program, *options])
         self.first = int(self.ask(["len"])[0].split(" ")[1])  # live steps that a trace brings along
         cells = self.ask([f"show index 0.0 {cell}" for cell in range(9)])
@@ -99,17 +101,20 @@ class Replay:
 
     def ask_some(self, lines: list[str]) -> list[str]:
         """The replies to so many lines that all fit into a pipe."""
-        pipe, pieces, missing = self.driven.child.stdout.fileno(), [], len(lines)
+        driven = self.driven
+        assert driven  # it is open
+        pieces: list[bytes] = []
+        pipe, missing = driven.stdout.fileno(), len(lines)
         try:
-            os.write(self.driven.child.stdin.fileno(), ("\n".join(lines) + "\n").encode("ascii"))
+            os.write(driven.stdin.fileno(), ("\n".join(lines) + "\n").encode("ascii"))
         except OSError as fault:
             raise Broken(f"the program ended at `{lines[0]}`: {fault}") from fault
         while missing:
-            if not select.select([pipe], [], [], self.driven.seconds)[0]:
-                raise Broken(f"`{lines[0]}` took more than {self.driven.seconds} s")
+            if not select.select([pipe], [], [], driven.seconds)[0]:
+                raise Broken(f"`{lines[0]}` took more than {driven.seconds} s")
             pieces.append(os.read(pipe, PIPE_BYTES))
             if not pieces[-1]:
-                raise Broken(f"the program ended at `{lines[0]}` with status {self.driven.child.wait()}")
+                raise Broken(f"the program ended at `{lines[0]}` with status {driven.child.wait()}")
             missing -= pieces[-1].count(b"\n")
         return b"".join(pieces).decode("ascii").splitlines()
 

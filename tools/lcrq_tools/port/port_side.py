@@ -12,9 +12,9 @@ from collections.abc import Iterator
 from dataclasses import dataclass
 
 from lcrq_tools import program
-from lcrq_tools.port.port_compare import Comparison, Difference, words_of
 from lcrq_tools.start import freeze
-from lcrq_tools.start.flaws import IDLE
+from lcrq_tools.start.flaws import IDLE, Actor, Segment, Start, Trace, with_words
+from lcrq_tools.port.port_compare import Comparison, Difference, words_of
 
 MOST_WORDS = 2  # that are changed beside the control point
 
@@ -24,35 +24,39 @@ class Change:
     """A start that may take the port's side, and what to put back when the step is made."""
 
     said: str
-    start: dict
+    start: Trace
     restored: tuple[str, str] | None = None  # a place, and its content
 
 
 # ---- Changes -------------------------------------------------------------------------------------
 
 
-def put(start: dict, place: str, content: str) -> None:
+def put(start: Start, place: str, content: str) -> None:
     """Changes what is at a place."""
     kind, *rest = place.split(" ")
-    words = content.split(" ")
-    if kind in ("qhead", "qtail"):
-        start[kind] = freeze.name_of(content)
-    elif kind in ("ahead", "atail"):
-        start["array"][{"ahead": "head", "atail": "tail"}[kind]] = int(content)
-    elif kind == "acell":
-        others = [slot for slot in start["array"]["cells"] if slot[0] != int(rest[0])]
-        start["array"]["cells"] = sorted(others + [freeze.slot_of(int(rest[0]), content)] * (content != "empty"))
-    else:
-        put_into(segment_at(start, rest[0]), kind, [*map(int, rest[1:])], words)
+    match kind:
+        case "qhead":
+            start["qhead"] = freeze.name_of(content)
+        case "qtail":
+            start["qtail"] = freeze.name_of(content)
+        case "ahead":
+            start["array"]["head"] = int(content)
+        case "atail":
+            start["array"]["tail"] = int(content)
+        case "acell":
+            others = [slot for slot in start["array"]["cells"] if slot[0] != int(rest[0])]
+            start["array"]["cells"] = sorted(others + [freeze.slot_of(int(rest[0]), content)] * (content != "empty"))
+        case _:
+            put_into(segment_at(start, rest[0]), kind, [*map(int, rest[1:])], content.split(" "))
 
 
-def segment_at(start: dict, name: str) -> dict:
+def segment_at(start: Start, name: str) -> Segment:
     """A segment of a start."""
     maker, number = freeze.name_of(name)
     return start["segments"][maker][number]
 
 
-def put_into(segment: dict, kind: str, cell: list[int], words: list[str]) -> None:
+def put_into(segment: Segment, kind: str, cell: list[int], words: list[str]) -> None:
     """Changes what is at a place of a segment."""
     match kind:
         case "head":
@@ -70,7 +74,7 @@ def put_into(segment: dict, kind: str, cell: list[int], words: list[str]) -> Non
             segment["cells"][cell[0]] = freeze.cell_of(" ".join(words))
 
 
-def one_word(actor: dict) -> list[tuple[str, object]]:
+def one_word(actor: Actor) -> list[tuple[str, object]]:
     """Words that may keep an actor from being at another control point, with other values."""
     bits = [(word, value) for word in ("safe", "closed") for value in (False, True)]
     numbers = [("idx", actor["t"]), ("idx", actor["h"]), ("idx", max(0, actor["h"] - 1)), ("h", actor["t"] + 1)]
@@ -83,7 +87,7 @@ class Side:
     def __init__(self, comparison: Comparison, found: Difference):
         self.comparison, self.found, self.replay = comparison, found, comparison.replay
         self.actor = found.record.actor
-        self.world = json.loads(self.replay.start())
+        self.world: Trace = json.loads(self.replay.start())
 
     def take(self) -> str:
         """Takes it; returns what was changed, or nothing if no change will do."""
@@ -110,7 +114,7 @@ class Side:
         if self.found.entry:
             yield from self.contents(self.found.entry[0])
 
-    def with_actor(self, record: dict, said: str) -> Change:
+    def with_actor(self, record: Actor, said: str) -> Change:
         """The world with another record of the actor."""
         changed = copy.deepcopy(self.world)
         changed["start"]["actors"][self.actor - 1] = record
@@ -124,7 +128,8 @@ class Side:
         for count in range(most + 1):
             for words in itertools.combinations(one_word(actor), count):
                 others = [f"{word} {json.dumps(value)}" for word, value in words]
-                yield self.with_actor(actor | dict(words) | {"pc": label}, ", ".join([f"pc {label}", *others]))
+                changed = with_words(actor, {**dict(words), "pc": label})
+                yield self.with_actor(changed, ", ".join([f"pc {label}", *others]))
 
     def contents(self, place: str) -> Iterator[Change]:
         """Other contents of the place of the step: what the port found there, what its
@@ -180,7 +185,7 @@ class Side:
         self.replay.open_start(json.dumps(change.start))
         if change.restored:
             self.make_step()
-            world = json.loads(self.replay.start())
+            world: Trace = json.loads(self.replay.start())
             put(world["start"], *change.restored)
             self.replay.open_start(json.dumps(world))
         return change.said
@@ -196,10 +201,11 @@ class Side:
     def take_words(self) -> str:
         """Lets the actor have the port's word after the step."""
         self.make_step()
-        world = json.loads(self.replay.start())
+        world: Trace = json.loads(self.replay.start())
         word, _, value = self.found.port.partition(" ")
+        actors = world["start"]["actors"]
         try:
-            world["start"]["actors"][self.actor - 1][word] = freeze.WORDS[word](value)
+            actors[self.actor - 1] = with_words(actors[self.actor - 1], {word: freeze.WORDS[word](value)})
         except ValueError:
             return ""
         self.replay.open_start(json.dumps(world))

@@ -30,13 +30,14 @@ class Fault(Exception):
     """Why nothing is built."""
 
 
-def opened(pipe: Path, build: subprocess.Popen) -> int:
+def opened(pipe: Path, build: subprocess.Popen[bytes]) -> int:
     """The pipe, open for writing, once a program reads it."""
     while build.poll() is None:
         try:
             return os.open(pipe, os.O_WRONLY | os.O_NONBLOCK)
         except OSError:  # nobody reads it yet
             time.sleep(LOOK_EVERY)
+    assert build.stderr  # a pipe
     said = build.stderr.read().decode(errors="replace").strip()
     raise Fault(f"`rt try` ended before the program ran: {said.splitlines()[-1] if said else build.returncode}")
 
@@ -55,10 +56,11 @@ def build_into(out: Path) -> None:
     with tempfile.TemporaryDirectory(prefix="lcrqdb-") as name:
         pipe = Path(name) / "script"
         os.mkfifo(pipe)
-        more = {"stdin": subprocess.DEVNULL, "stdout": subprocess.DEVNULL, "stderr": subprocess.PIPE}
         # a session of its own, so that Control-C reaches it once, by `terminate`, and it clears up
-        more |= {"cwd": CRATES / "lcrqdb", "env": os.environ | {"TMPDIR": name}, "start_new_session": True}
-        with subprocess.Popen(["rt", "try", "--", "run", str(pipe)], **more) as build:
+        with subprocess.Popen(
+            ["rt", "try", "--", "run", str(pipe)], cwd=CRATES / "lcrqdb", env=os.environ | {"TMPDIR": name},
+            stdin=subprocess.DEVNULL, stdout=subprocess.DEVNULL, stderr=subprocess.PIPE, start_new_session=True,
+        ) as build:
             try:
                 end = opened(pipe, build)
                 out.parent.mkdir(parents=True, exist_ok=True)
@@ -74,7 +76,7 @@ def main() -> int:
     """Builds the program where that takes the place of no other one."""
     parser = argparse.ArgumentParser(description="Builds the program without any proof, and keeps it.")
     parser.add_argument("-o", dest="out", type=Path, default=BUILT, metavar="FILE", help=f"where it goes ({BUILT})")
-    out = parser.parse_args().out
+    out: Path = parser.parse_args().out
     begin = time.monotonic()
     try:
         if out.exists() and not is_unproved(out.read_bytes()):

@@ -205,7 +205,7 @@ def pages_read_by(scripts: dict[str, bytes], choice: Choice) -> dict[str, bytes]
 
 def printer() -> list[str]:
     """The words that print a page, before the PDF and the page."""
-    browser = next(filter(None, map(shutil.which, BROWSERS)), None)
+    browser = next((path for name in BROWSERS if (path := shutil.which(name))), None)
     if not browser and shutil.which("weasyprint"):
         return ["weasyprint"]
     if not browser:
@@ -325,8 +325,8 @@ def read_options() -> argparse.Namespace:
     """The command line."""
     parser = argparse.ArgumentParser(description="Makes the archive that is handed out.")
     parser.add_argument("-o", dest="folder", default=".", metavar="FOLDER", help="where it goes (this folder)")
-    chosen = {"type": lessons_in, "default": tuple(LESSONS), "metavar": "N,N..", "help": "these lessons alone"}
-    parser.add_argument("--lessons", **chosen)
+    lessons = "these lessons alone"
+    parser.add_argument("--lessons", type=lessons_in, default=tuple(LESSONS), metavar="N,N..", help=lessons)
     about = "where the answers to exercises are: with them (so if left out), apart on a page, or nowhere"
     parser.add_argument("--answers", choices=("with", "apart", "none"), default="with", help=about)
     parser.add_argument("--pdf", action="store_true", help="print guide, lessons and answers, too")
@@ -336,14 +336,14 @@ def read_options() -> argparse.Namespace:
 
 def write(given: argparse.Namespace, version: str, files: dict[str, bytes], seconds: int) -> None:
     """Writes the archive, and beside it what is printed; prints the path of each."""
-    choice, folder = Choice(given.lessons, given.answers), f"lcrqdb-{version}-x86_64"
+    choice, folder, out = Choice(given.lessons, given.answers), f"lcrqdb-{version}-x86_64", Path(given.folder)
     if not choice.is_all:
         folder += "-lessons-" + "-".join(map(str, choice.lessons))
     made = {f"{folder}.tar.gz": archive_of(files, folder, seconds)}
     made |= {f"{folder}-{Path(name).name}": data for name, data in files.items() if name.endswith(".pdf")}
     for name, data in made.items():
-        (Path(given.folder) / name).write_bytes(data)
-        print(Path(given.folder) / name)
+        (out / name).write_bytes(data)
+        print(out / name)
 
 
 def main() -> int:
@@ -353,11 +353,12 @@ def main() -> int:
         raise SystemExit("the pages are made by pandoc: install Debian's package pandoc")
     if given.pdf:
         printer()
-    version, seconds = version_of(given.program), last_commit()
+    built: str = given.program
+    version, seconds = version_of(built), last_commit()
     try:
-        files = files_of(given.program, version, seconds, Choice(given.lessons, given.answers), given.pdf)
+        files = files_of(built, version, seconds, Choice(given.lessons, given.answers), given.pdf)
         if program.is_unproved(files["bin/lcrqdb"]):
-            print(f"{given.program} is not proved: this archive is to try out", file=sys.stderr)
+            print(f"{built} is not proved: this archive is to try out", file=sys.stderr)
         write(given, version, files, seconds)
     except OSError as fault:
         raise SystemExit(f"{fault.filename}: {fault.strerror}") from fault

@@ -19,9 +19,10 @@ import mimetypes
 import re
 import tempfile
 import time
+from collections.abc import Callable
 from dataclasses import dataclass
 from pathlib import Path
-from typing import Any, Callable
+from typing import Any, NotRequired, TypedDict
 
 from lcrq_tools import program
 from lcrq_tools.program import TOP
@@ -116,13 +117,28 @@ def read_for(choice: Choice, source: Path) -> str:
     for first, second in MARKS.items():
         taken = 1 if first == "all lessons" and choice.is_all else 2
         pair = re.compile(rf"<!-- {first} -->((?:(?!<!-- {first} ).)*?)<!-- {second}:\s?(.*?)\s?-->", re.DOTALL)
-        text = pair.sub(lambda found, taken=taken: found[taken], text)
+        text = pair.sub(rf"\{taken}", text)
     if left := re.search(rf"<!-- ({names})\b", text):
         raise SystemExit(f"{source}: the mark {left[0]} --> has no other")
     return text
 
 
 # ---- Documents -----------------------------------------------------------------------------------
+
+Json = Any  # a part of a document, as pandoc writes it: what an element has is another thing for each kind
+
+
+class Element(TypedDict):
+    """An element of a document: its kind, and what it has."""
+
+    t: str
+    c: NotRequired[Json]
+
+
+class Document(TypedDict):
+    """A document, as far as it is changed here."""
+
+    blocks: list[Element]
 
 
 def pandoc(words: list[str], given: bytes) -> bytes:
@@ -133,31 +149,33 @@ def pandoc(words: list[str], given: bytes) -> bytes:
     return ended.output
 
 
-def changed(value: Any, change: Callable[[dict], Any]) -> Any:
+def changed(value: Json, change: Callable[[Element], Element]) -> Json:
     """A part of a document with what `change` makes of each of its elements, inner ones first."""
     if type(value) is list:
         return [changed(it, change) for it in value]
     if type(value) is not dict:
         return value
-    inside = {key: changed(it, change) for key, it in value.items()}
+    inside: Json = {key: changed(it, change) for key, it in value.items()}
     return change(inside) if "t" in inside else inside
 
 
-def text_in(value: Any) -> str:
+def text_in(value: Json) -> str:
     """The text of a part of a document."""
     if type(value) is list:
         return "".join(map(text_in, value))
     if type(value) is not dict:
         return ""
-    kind, inside = value["t"], value.get("c")
+    inside: Json = value.get("c")
+    kind = value["t"]
     if kind in ("Space", "SoftBreak", "LineBreak"):
         return " "
     if kind in ("Str", "Code"):
-        return inside if kind == "Str" else inside[1]
+        text: str = inside if kind == "Str" else inside[1]
+        return text
     return text_in(inside)
 
 
-def links_in(value: Any) -> list[str]:
+def links_in(value: Json) -> list[str]:
     """Where the links of a part of a document lead."""
     if type(value) is list:
         return [url for it in value for url in links_in(it)]
@@ -168,17 +186,22 @@ def links_in(value: Any) -> list[str]:
     return links_in(value.get("c"))
 
 
-def span(inlines: list) -> dict:
+def span(inlines: list[Element]) -> Element:
     """Inlines as one element."""
     return {"t": "Span", "c": [["", [], []], inlines]}
 
 
-def words(text: str) -> list[dict]:
+def words(text: str) -> list[Element]:
     """A text as inlines."""
     return [{"t": "Str", "c": text}]
 
 
-def header(level: int, name: str, inlines: list) -> dict:
+def link_to(url: str, text: str) -> Element:
+    """A link."""
+    return {"t": "Link", "c": [["", [], []], words(text), [url, ""]]}
+
+
+def header(level: int, name: str, inlines: list[Element]) -> Element:
     """A heading."""
     return {"t": "Header", "c": [level, [name, [], []], inlines]}
 
@@ -194,14 +217,16 @@ class Part:
     page: str
     source: Path
 
-    def document(self) -> dict:
-        """It as pandoc reads it: its elements, each a dict with its type `t` and what it has, `c`."""
-        return json.loads(pandoc(["-f", "gfm", "-t", "json"], read_for(self.choice, self.source).encode()))
+    def document(self) -> Document:
+        """It as pandoc reads it."""
+        text = read_for(self.choice, self.source)
+        whole: Document = json.loads(pandoc(["-f", "gfm", "-t", "json"], text.encode()))
+        return whole
 
     def text(self) -> str:
         """It as text, with links that lead to the pages of the archive."""
 
-        def led(found: re.Match) -> str:
+        def led(found: re.Match[str]) -> str:
             """A link in the text, where it leads in the archive."""
             target = self.target_of(found[3])
             return f"{found[1]}[{found[2]}]({target})" if target else found[2]
@@ -240,30 +265,31 @@ class Part:
         if file == SCHEMA:
             return SCHEMA.name
         is_example = file.parent == PORT or file.parent == EXAMPLES and file.suffix in HANDED_OUT
-        name = file.relative_to(EXAMPLES) if is_example and is_chosen(file, self.choice) else None
-        return f"../examples/{name}" if name else None
+        is_there = is_example and is_chosen(file, self.choice)
+        return f"../examples/{file.relative_to(EXAMPLES)}" if is_there else None
 
-    def text_of(self, link: dict) -> list:
+    def text_of(self, link: Element) -> list[Element]:
         """The text of a link. Where that is the name of a page of the repository, it is the name of
         the page in the archive."""
+        inlines: list[Element]
         _, inlines, (url, _) = link["c"]
         page = self.page_of(self.file_of(url))
         return words(f"{page}.html") if text_in(inlines).endswith(".md") and page else inlines
 
-    def linked(self, link: dict) -> dict:
+    def linked(self, link: Element) -> Element:
         """A link as it is on a page of the archive."""
         attributes, _, (url, title) = link["c"]
         target, text = self.target_of(url), self.text_of(link)
         return {"t": "Link", "c": [attributes, text, [target, title]]} if target else span(text)
 
-    def named(self, link: dict) -> dict:
+    def named(self, link: Element) -> Element:
         """A link as it is in the man page: its text, and after it the name of the page to which it
         leads."""
         page = (self.target_of(link["c"][2][0]) or "").partition("#")[0]
         text = self.text_of(link)
         return span(text if text_in(text) == page or not page else [*text, *words(f" ({page})")])
 
-    def with_picture(self, image: dict) -> dict:
+    def with_picture(self, image: Element) -> Element:
         """An image with its picture in it."""
         attributes, inlines, (url, title) = image["c"]
         try:
@@ -273,7 +299,7 @@ class Part:
         inside = f"data:{mimetypes.guess_type(url)[0]};base64,{data}"
         return {"t": "Image", "c": [attributes, inlines, [inside, title]]}
 
-    def with_chosen(self, table: dict) -> dict:
+    def with_chosen(self, table: Element) -> Element:
         """A table without the rows that lead to lessons that are not chosen."""
         *others, bodies, foot = table["c"]
         left_out = {path for number, path in LESSONS.items() if number not in self.choice.lessons}
@@ -283,11 +309,12 @@ class Part:
         ]
         return {"t": "Table", "c": [*others, kept, foot]}
 
-    def for_page(self, element: dict) -> dict:
+    def for_page(self, element: Element) -> Element:
         """An element as its page has it. Lessons are below the heading of their page, a browser
         finds the widths of columns itself, code has no colours, and a short one no end of a line in
         it."""
-        kind, inside = element["t"], element.get("c")
+        kind = element["t"]
+        inside: Json = element.get("c")
         if kind == "Link":
             return self.linked(element)
         if kind == "Image":
@@ -305,12 +332,12 @@ class Part:
             return {"t": kind, "c": [["", [], [["language", *inside[0][1]]] if inside[0][1] else []], inside[1]]}
         return element
 
-    def blocks(self) -> list[dict]:
+    def blocks(self) -> list[Element]:
         """Its blocks on the page of the archive."""
-        blocks = self.document()["blocks"]
+        whole = self.document()["blocks"]
         if self.source == EXAMPLES / "README.md":
-            blocks = [self.with_chosen(it) if it["t"] == "Table" else it for it in blocks]
-        blocks = changed(blocks, self.for_page)
+            whole = [self.with_chosen(it) if it["t"] == "Table" else it for it in whole]
+        blocks: list[Element] = changed(whole, self.for_page)
         is_lesson = self.source in LESSONS.values()
         if self.page == "answers":
             return answers_in(blocks)
@@ -335,7 +362,7 @@ def is_chosen(path: Path, choice: Choice) -> bool:
 # ---- Answers -------------------------------------------------------------------------------------
 
 
-def bounds_of_answer(blocks: list[dict]) -> tuple[int, int]:
+def bounds_of_answer(blocks: list[Element]) -> tuple[int, int]:
     """Where the folded answer of a lesson begins and ends."""
     html = [it["c"][1].strip() if it["t"] == "RawBlock" else "" for it in blocks]
     if html.count(ANSWER) != 1:
@@ -344,17 +371,17 @@ def bounds_of_answer(blocks: list[dict]) -> tuple[int, int]:
     return begin, html.index("</details>", begin)
 
 
-def without_answers(blocks: list[dict]) -> list[dict]:
+def without_answers(blocks: list[Element]) -> list[Element]:
     """A lesson without the answer to its exercise."""
     begin, end = bounds_of_answer(blocks)
     return blocks[:begin] + blocks[end + 1:]
 
 
-def answers_in(blocks: list[dict]) -> list[dict]:
+def answers_in(blocks: list[Element]) -> list[Element]:
     """A lesson's exercise and its answer, under the lesson's heading."""
     begin, end = bounds_of_answer(blocks)
     exercise = max(at for at, it in enumerate(blocks[:begin]) if it["t"] == "Header") + 1
-    answer = {"t": "Para", "c": [{"t": "Strong", "c": words("Answer")}]}
+    answer: Element = {"t": "Para", "c": [{"t": "Strong", "c": words("Answer")}]}
     return [blocks[0], *blocks[exercise:begin], answer, *blocks[begin + 1: end]]
 
 
@@ -363,15 +390,18 @@ def answers_in(blocks: list[dict]) -> list[dict]:
 
 def page_of(page: str, version: str, choice: Choice, run_pages: list[str]) -> bytes:
     """A page of HTML. After the heading of a lesson come links to the pages of its runs."""
-    whole, blocks = Part(choice, page, choice.pages()[page][0]).document(), []
+    whole = Part(choice, page, choice.pages()[page][0]).document()
+    blocks: list[Element] = []
     if page == "answers":
         blocks.append(header(1, "answers", words("Answers to the exercises")))
     for source in choice.pages()[page]:
         part = Part(choice, page, source).blocks()
         runs = [name for name in run_pages if source in LESSONS.values() and name.startswith(source.stem)]
-        links = [{"t": "Link", "c": [["", [], []], words(name), [f"../examples/{name}", ""]]} for name in runs]
-        told = [{"t": "Para", "c": [*words("Step by step: "), *joined(links)]}] if runs and page == "lessons" else []
-        blocks += [part[0], *told, *part[1:]]
+        blocks.append(part[0])
+        if runs and page == "lessons":
+            links = [link_to(f"../examples/{name}", name) for name in runs]
+            blocks.append({"t": "Para", "c": [*words("Step by step: "), *joined(links)]})
+        blocks += part[1:]
     shown = [name for name in choice.pages() if name in (page, "manual", "recipes", "model", "guide", "lessons")]
     names = (name if name == page else f'<a href="{name}.html">{name}</a>' for name in shown)
     with tempfile.NamedTemporaryFile("w", suffix=".html", encoding="utf-8") as template:
@@ -379,10 +409,10 @@ def page_of(page: str, version: str, choice: Choice, run_pages: list[str]) -> by
         template.flush()
         options = ["-f", "json", "-t", "html5", "--standalone", f"--template={template.name}"]
         options += ["--toc", "--toc-depth=2", "-M", f"pagetitle=lcrqdb {version}: {page}"]
-        return pandoc(options, json.dumps(whole | {"blocks": blocks}).encode())
+        return pandoc(options, json.dumps({**whole, "blocks": blocks}).encode())
 
 
-def joined(links: list[dict]) -> list[dict]:
+def joined(links: list[Element]) -> list[Element]:
     """Links as one line of text."""
     return [it for link in links for it in (*words(", "), link)][1:]
 
@@ -392,26 +422,28 @@ def joined(links: list[dict]) -> list[dict]:
 COLUMNS = 70  # that pandoc gives a table of a man page
 BETWEEN = 3  # of these between two of its columns
 # no word parted and no line spread, for many are commands to type
-AS_WRITTEN = {"t": "RawBlock", "c": ["man", ".nh\n.ad l"]}
+AS_WRITTEN: Element = {"t": "RawBlock", "c": ["man", ".nh\n.ad l"]}
 
 
-def widths_of(table: dict) -> list[float]:
+def widths_of(table: Element) -> list[float]:
     """How wide the columns of a table are to be: as wide as their widest cell, and where that is
     too much, the wide ones equal."""
     head, bodies = table["c"][3], table["c"][4]
     rows = [*head[1], *(row for body in bodies for row in body[3])]
     widest = [max(len(text_in(cell[4])) for cell in column) for column in zip(*(row[1] for row in rows))]
-    left, widths = COLUMNS - BETWEEN * (len(widest) - 1), {}
+    left = COLUMNS - BETWEEN * (len(widest) - 1)
+    widths: dict[int, int] = {}
     for count, at in enumerate(sorted(range(len(widest)), key=lambda at: widest[at])):
         widths[at] = min(widest[at], left // (len(widest) - count))
         left -= widths[at]
     return [widths[at] / COLUMNS for at in range(len(widest))]
 
 
-def for_man(element: dict, part: Part) -> dict:
+def for_man(element: Element, part: Part) -> Element:
     """An element of the manual as its man page has it: without links and pictures, and with its
     parts as sections."""
-    kind, inside = element["t"], element.get("c")
+    kind = element["t"]
+    inside: Json = element.get("c")
     if kind == "Link":
         return part.named(element)
     if kind == "Image":
@@ -429,7 +461,7 @@ def man_page(version: str, seconds: int, choice: Choice) -> bytes:
     """The manual as a man page."""
     part = Part(choice, "manual", choice.pages()["manual"][0])
     whole = part.document()
-    blocks = [AS_WRITTEN, *changed(whole["blocks"][1:], functools.partial(for_man, part=part))]
+    blocks: list[Element] = [AS_WRITTEN, *changed(whole["blocks"][1:], functools.partial(for_man, part=part))]
     options = ["-f", "json", "-t", "man", "--standalone", "-M", "title=LCRQDB", "-M", "section=1"]
     options += ["-M", f"footer=lcrqdb {version}", "-M", time.strftime("date=%Y-%m-%d", time.gmtime(seconds))]
-    return pandoc(options, json.dumps(whole | {"blocks": blocks}).encode())
+    return pandoc(options, json.dumps({**whole, "blocks": blocks}).encode())

@@ -29,9 +29,11 @@ MOST_STEPS = 20_000  # of a continuation
 class Continuation:
     """A run over a trace that goes on at random."""
 
-    def __init__(self, given: argparse.Namespace, seed: int):
-        self.chance, self.lines, self.taken = random.Random(seed), [], collections.Counter()
-        with Driven([given.program, "load", "--", given.trace]) as driven:
+    def __init__(self, program_path: str, trace: str, seed: int):
+        self.chance = random.Random(seed)
+        self.lines: list[str] = []
+        self.taken: collections.Counter[str] = collections.Counter()
+        with Driven([program_path, "load", "--", trace]) as driven:
             self.driven = driven
             self.there = collections.Counter(self.values())
             self.go_on()
@@ -103,17 +105,21 @@ class Continuation:
 
 def go_on(given: argparse.Namespace) -> None:
     """Makes the continuations, and prints what became of the values."""
+    first: int = given.seed
+    runs: int = given.runs
+    output: Path | None = given.output
     outcomes: dict[str, list[int]] = {}
-    for seed in range(given.seed, given.seed + given.runs):
-        it = Continuation(given, seed)
-        if seed == given.seed and given.output:
-            given.output.write_text("".join(f"{line}\n" for line in it.lines), encoding="ascii")
+    for seed in range(first, first + runs):
+        it = Continuation(given.program, given.trace, seed)
+        if seed == first and output:
+            output.write_text("".join(f"{line}\n" for line in it.lines), encoding="ascii")
         outcomes.setdefault(it.outcome(), []).append(seed)
     for outcome, seeds in sorted(outcomes.items(), key=lambda row: -len(row[1])):
-        print(f"{len(seeds)} of {given.runs} continuations, the first of seed {seeds[0]}: {outcome}")
+        print(f"{len(seeds)} of {runs} continuations, the first of seed {seeds[0]}: {outcome}")
 
 
 def main() -> int:
+    """Makes the continuations that the command line asks for; returns the exit status."""
     parser = argparse.ArgumentParser(description="Goes on from a trace at random until all actors are idle.")
     parser.add_argument("trace", metavar="TRACE", help="the trace from which it goes on")
     parser.add_argument("--runs", type=int, default=100, metavar="N", help="how many continuations (100)")

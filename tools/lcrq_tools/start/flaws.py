@@ -7,21 +7,83 @@ used, and each trial is a run of the program.
 """
 
 import copy
+import functools
 import json
 import re
 import tempfile
-from collections.abc import Callable, Iterator
+from collections.abc import Callable, Iterator, Mapping
 from pathlib import Path
+from typing import Literal, TypedDict, cast
 
 from lcrq_tools import model, program
 
-IDLE = {"pc": "Idle", "op": None, "crq": [0, 0], "new": [0, 0], "next": [0, 0], "t": 0, "h": 0}
-IDLE |= {"closed": False, "val": None, "safe": False, "idx": 0, "pass": 0}
+# ---- A trace, as its JSON is ---------------------------------------------------------------------
+
+Name = list[int]  # of a segment: its maker, and its number among those of this maker
+Cell = list[int | None]  # its safe bit, its index and its value
+Slot = list[int | str]  # of the array: where it is, and its value or `top`
+End = Literal["qhead", "qtail"]
+
+# An actor: its control point, its call and its words.
+Actor = TypedDict(
+    "Actor",
+    {
+        "pc": str, "op": list[str | int] | None, "crq": Name, "new": Name, "next": Name, "t": int, "h": int,
+        "closed": bool, "val": int | None, "safe": bool, "idx": int, "pass": int,
+    },
+)
+
+
+class Segment(TypedDict):
+    """A segment."""
+
+    head: int
+    tail: int
+    closed: bool
+    next: Name | None
+    cells: list[Cell]
+
+
+class Array(TypedDict):
+    """The array."""
+
+    head: int
+    tail: int
+    cells: list[Slot]  # those that aren't empty
+
+
+class Start(TypedDict):
+    """The world at a start; the segments are lists by their makers."""
+
+    actors: list[Actor]
+    segments: list[list[Segment]]
+    qhead: Name
+    qtail: Name
+    array: Array
+
+
+class Trace(TypedDict):
+    """A trace with a start, as far as it is read here."""
+
+    ring: int
+    start: Start
+
+
+IDLE: Actor = {
+    "pc": "Idle", "op": None, "crq": [0, 0], "new": [0, 0], "next": [0, 0], "t": 0, "h": 0,
+    "closed": False, "val": None, "safe": False, "idx": 0, "pass": 0,
+}
+ENDS: tuple[End, ...] = ("qhead", "qtail")
 FLAW = re.compile(r"lcrqdb: refused 26 Flaw ([0-9])")
 POINTS_FIT = "\n| Control point | An actor's words fit if |"
 
 # A part of a start: its name, and what makes it plain.
-Part = tuple[str, Callable[[dict], None]]
+Part = tuple[str, Callable[[Start], None]]
+
+
+def with_words(actor: Actor, words: Mapping[str, object]) -> Actor:
+    """An actor with these words in the place of its own."""
+    return cast(Actor, {**actor, **words})
 
 
 # ---- The conditions of the page ------------------------------------------------------------------
@@ -49,41 +111,62 @@ def rows_for(point: str, page: str) -> Iterator[str]:
 # ---- Parts ---------------------------------------------------------------------------------------
 
 
-def actor_parts(start: dict) -> Iterator[Part]:
+def make_idle(at: int, start: Start) -> None:
+    """Makes an actor idle."""
+    start["actors"][at] = IDLE.copy()
+
+
+def actor_parts(start: Start) -> Iterator[Part]:
     """The actors, made idle."""
     for at, _ in enumerate(start["actors"]):
-        yield f"actor {at + 1}", lambda it, at=at: it["actors"].__setitem__(at, dict(IDLE))
+        yield f"actor {at + 1}", functools.partial(make_idle, at)
 
 
-def segment_names(start: dict) -> Iterator[tuple[str, int, int]]:
+def segment_names(start: Start) -> Iterator[tuple[str, int, int]]:
     """The segments."""
     for maker, made in enumerate(start["segments"]):
         yield from ((f"segment {maker}.{number}", maker, number) for number in range(len(made)))
 
 
-def empty(segment: dict) -> None:
+def make_fresh(maker: int, number: int, start: Start) -> None:
     """Makes a segment's counters and cells those of a fresh one."""
-    cells = [[True, at, None] for at in range(len(segment["cells"]))]
-    segment.update({"head": 0, "tail": 0, "cells": cells})
+    segment = start["segments"][maker][number]
+    segment["head"] = segment["tail"] = 0
+    segment["cells"] = [[True, at, None] for at in range(len(segment["cells"]))]
 
 
-def ring_parts(start: dict) -> Iterator[Part]:
+def ring_parts(start: Start) -> Iterator[Part]:
     """The rings of the segments, made fresh."""
     for name, maker, number in segment_names(start):
-        yield name, lambda it, at=(maker, number): empty(it["segments"][at[0]][at[1]])
+        yield name, functools.partial(make_fresh, maker, number)
 
 
-def link_parts(start: dict) -> Iterator[Part]:
+def lead_to_root(end: End, start: Start) -> None:
+    """Lets an end of the queue name the root."""
+    start[end] = [0, 0]
+
+
+def make_last(maker: int, number: int, start: Start) -> None:
+    """Lets a segment's next be none."""
+    start["segments"][maker][number]["next"] = None
+
+
+def link_parts(start: Start) -> Iterator[Part]:
     """The queue's ends and the segments' next, which then name the root and none."""
-    for end in ("qhead", "qtail"):
-        yield end, lambda it, end=end: it.update({end: [0, 0]})
+    for end in ENDS:
+        yield end, functools.partial(lead_to_root, end)
     for name, maker, number in segment_names(start):
-        yield f"next of {name}", lambda it, at=(maker, number): it["segments"][at[0]][at[1]].update({"next": None})
+        yield f"next of {name}", functools.partial(make_last, maker, number)
 
 
-def array_parts(_: dict) -> Iterator[Part]:
+def clear_array(start: Start) -> None:
+    """Makes the array empty."""
+    start["array"] = {"head": 0, "tail": 0, "cells": []}
+
+
+def array_parts(_: Start) -> Iterator[Part]:
     """The array."""
-    yield "the array", lambda it: it.update({"array": {"head": 0, "tail": 0, "cells": []}})
+    yield "the array", clear_array
 
 
 PARTS = {2: link_parts, 3: actor_parts, 4: ring_parts, 5: ring_parts, 6: array_parts, 7: actor_parts, 8: actor_parts}
@@ -95,15 +178,15 @@ PARTS = {2: link_parts, 3: actor_parts, 4: ring_parts, 5: ring_parts, 6: array_p
 class Trials:
     """The trace whose flaw is looked for, and the program that is asked."""
 
-    def __init__(self, program_path: str, trace: dict, folder: Path):
+    def __init__(self, program_path: str, trace: Trace, folder: Path):
         self.program, self.trace, self.file = program_path, trace, folder / "tried.trace"
 
-    def refusal(self, start: dict) -> str:
+    def refusal(self, start: Start) -> str:
         """What the program says of this start; nothing if it takes it."""
-        self.file.write_text(json.dumps(self.trace | {"start": start}), encoding="utf-8")
+        self.file.write_text(json.dumps({**self.trace, "start": start}), encoding="utf-8")
         return program.run([self.program, "load", "--", str(self.file)]).errors.strip()
 
-    def flaw_of(self, start: dict) -> int:
+    def flaw_of(self, start: Start) -> int:
         """The number of the flaw of a start, or 0."""
         found = FLAW.fullmatch(self.refusal(start))
         return int(found[1]) if found else 0
@@ -122,13 +205,14 @@ class Trials:
     def words_with(self, number: int, at: int) -> list[str]:
         """The words of an actor of which each alone, as an idle actor has it, removes the flaw that the
         actor has while all others are idle."""
-        found = []
+        found: list[str] = []
         for word in (it for it in IDLE if it not in ("pc", "op")):
             start = copy.deepcopy(self.trace["start"])
-            start["actors"] = [dict(IDLE) if it != at else actor for it, actor in enumerate(start["actors"])]
-            if start["actors"][at][word] != IDLE[word]:
-                start["actors"][at][word] = IDLE[word]
-                found += [word] * (self.flaw_of(start) != number)
+            given = start["actors"][at]
+            start["actors"] = [IDLE.copy() for _ in start["actors"]]
+            start["actors"][at] = with_words(given, {word: IDLE.get(word)})
+            if start["actors"][at] != given and self.flaw_of(start) != number:
+                found.append(word)
         return found
 
 
@@ -143,7 +227,7 @@ def about_actor(trials: Trials, number: int, name: str, page: str) -> str:
     return f"{name} at {actor['pc']}: {'; '.join(fits)}{blamed}"
 
 
-def flaw_in(program_path: str, trace: dict) -> str:
+def flaw_in(program_path: str, trace: Trace) -> str:
     """What is wrong with the start of a trace, and where; nothing if the program takes it."""
     page = model.PAGE.read_text(encoding="utf-8")
     with tempfile.TemporaryDirectory() as folder:

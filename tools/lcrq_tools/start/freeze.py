@@ -16,8 +16,8 @@ refused. The status is 1, with the reason in one line, if a file can't be read o
 program does not run the script, or if a line is refused that makes a step or is no command, unless
 `--refused` is given. `--check` says instead whether the program takes the start of a trace: of a
 `Flaw N` it names the first part and the condition, which it finds by trying parts through the
-program (`flaws.py`), with status 1. Only Python's standard library is needed; where `jsonschema` is there too, the
-start is checked against docs/trace.schema.json.
+program (`tools/flaws.py`), with status 1. Only Python's standard library is needed; where
+`jsonschema` is there too, the start is checked against docs/trace.schema.json.
 """
 
 import argparse
@@ -26,7 +26,9 @@ import itertools
 import json
 import subprocess
 import sys
+from collections.abc import Callable, Iterable
 from pathlib import Path
+from typing import Protocol, TypeVar, cast
 
 from lcrq_tools import program
 from lcrq_tools.program import Broken, Driven
@@ -52,49 +54,53 @@ START = """{{
 }}
 """
 
+T = TypeVar("T")
+
 # ---- What a reply shows, as a trace has it -------------------------------------------------------
 
 
-def or_null(word, value_of):
+def or_null(word: str, value_of: Callable[[str], T]) -> T | None:
     """What a word stands for, where it may be `none`."""
     return None if word == "none" else value_of(word)
 
 
-def name_of(word):
+def name_of(word: str) -> flaws.Name:
     """The name of a segment."""
     return [int(number) for number in word.split(".")]
 
 
-def value_of(word):
+def value_of(word: str) -> int | None:
     """A value, or that there is none."""
     return or_null(word, int)
 
 
-def bit_of(word):
+def bit_of(word: str) -> bool:
     """A bit."""
     return word == "1"
 
 
-WORDS = dict.fromkeys(("crq", "new", "next"), name_of) | dict.fromkeys(("t", "h", "idx", "pass"), int)
-WORDS |= {"closed": bit_of, "safe": bit_of, "val": value_of}
+WORDS: dict[str, Callable[[str], object]] = {
+    "crq": name_of, "new": name_of, "next": name_of, "t": int, "h": int, "idx": int, "pass": int,
+    "closed": bit_of, "safe": bit_of, "val": value_of,
+}
 
 
-def actor_of(reply):
+def actor_of(reply: str) -> flaws.Actor:
     """The actor of a reply to `actor A`."""
     words = reply.split(" ")
     first = words.index("crq")
     call = None if words[2] == "none" else [words[2], *map(int, words[3:first])]
-    named = zip(words[first::2], words[first + 1::2])
-    return {"pc": words[1], "op": call} | {key: WORDS[key](word) for key, word in named}
+    named = {key: WORDS[key](word) for key, word in zip(words[first::2], words[first + 1::2])}
+    return cast(flaws.Actor, {"pc": words[1], "op": call, **named})
 
 
-def cell_of(content):
+def cell_of(content: str) -> flaws.Cell:
     """A cell of a ring."""
     safe, index, value = content.split(" ")
     return [bit_of(safe), int(index), value_of(value)]
 
 
-def slot_of(at, content):
+def slot_of(at: int, content: str) -> flaws.Slot:
     """A slot of the array that is not empty."""
     return [at, "top" if content == "top" else int(content.removeprefix("value "))]
 
@@ -102,61 +108,75 @@ def slot_of(at, content):
 # ---- The world, as it is asked for ---------------------------------------------------------------
 
 
+class Replier(Protocol):
+    """What replies to a line, as `Driven` does."""
+
+    def ask(self, line: str) -> tuple[str] | tuple[str, float, float]:
+        """The reply to a line, and maybe what it took."""
+
+
 class Asked:
     """A world at which a run of the program is."""
 
-    def __init__(self, driven):
+    def __init__(self, driven: Replier) -> None:
         self.driven = driven
 
-    def show(self, place):
+    def show(self, place: str) -> str:
         """What is at a place."""
         return self.driven.ask(f"show {place}")[0].removeprefix("is ")
 
-    def all_of(self, line, first=0):
+    def all_of(self, line: str, first: int = 0) -> list[str]:
         """The replies to a line with this number and each one after it, up to one that is
         refused."""
         replies = (self.driven.ask(line.format(number))[0] for number in itertools.count(first))
         taken = itertools.takewhile(lambda reply: not reply.startswith("refused "), replies)
         return [reply.removeprefix("is ") for reply in taken]
 
-    def segment(self, name):
+    def segment(self, name: str) -> flaws.Segment:
         """The segment of this name."""
         state, tail = self.show(f"tail {name}").split(" ")
-        cells = [cell_of(content) for content in self.all_of(f"show cell {name} {{}}")]
-        counters = {"head": int(self.show(f"head {name}")), "tail": int(tail), "closed": state == "closed"}
-        return counters | {"next": or_null(self.show(f"next {name}"), name_of), "cells": cells}
+        return {
+            "head": int(self.show(f"head {name}")),
+            "tail": int(tail),
+            "closed": state == "closed",
+            "next": or_null(self.show(f"next {name}"), name_of),
+            "cells": [cell_of(content) for content in self.all_of(f"show cell {name} {{}}")],
+        }
 
-    def made_by(self, maker):
+    def made_by(self, maker: int) -> list[flaws.Segment]:
         """The segments that a maker made."""
         count = len(self.all_of(f"show whole {maker}.{{}}"))
         return [self.segment(f"{maker}.{number}") for number in range(count)]
 
-    def array(self):
+    def array(self) -> flaws.Array:
         """The array."""
         slots = enumerate(self.all_of("show acell {}"))
         filled = [slot_of(at, content) for at, content in slots if content != "empty"]
         return {"head": int(self.show("ahead")), "tail": int(self.show("atail")), "cells": filled}
 
-    def start(self):
+    def start(self) -> str:
         """The whole world as the text of a trace that begins there."""
         actors = [actor_of(reply) for reply in self.all_of("actor {}", 1)]
         made = [self.made_by(maker) for maker in range(len(actors) + 1)]
-        ends = {end: name_of(self.show(end)) for end in ("qhead", "qtail")}
-        return text_of(len(made[0][0]["cells"]), actors, made, ends | {"array": self.array()})
+        others: dict[str, object] = {end: name_of(self.show(end)) for end in flaws.ENDS}
+        others["array"] = self.array()
+        return text_of(len(made[0][0]["cells"]), actors, made, others)
 
 
-def text_of(ring, actors, made, others):
+def text_of(
+    ring: int, actors: list[flaws.Actor], made: list[list[flaws.Segment]], others: dict[str, object]
+) -> str:
     """The text of a trace that begins with these parts: an actor and a segment a line."""
     lists = ["[" + (",\n" + " " * 7).join(map(json.dumps, segments)) + "]" for segments in made]
-    rows = {"actors": map(json.dumps, actors), "segments": lists}
-    rows = {key: (",\n" + " " * 6).join(lines) for key, lines in rows.items()}
-    return START.format(ring=ring, **rows, **{key: json.dumps(part) for key, part in others.items()})
+    rows: dict[str, Iterable[str]] = {"actors": map(json.dumps, actors), "segments": lists}
+    texts = {key: (",\n" + " " * 6).join(lines) for key, lines in rows.items()}
+    return START.format(ring=ring, **texts, **{key: json.dumps(part) for key, part in others.items()})
 
 
 # ---- Runs ----------------------------------------------------------------------------------------
 
 
-def read(name):
+def read(name: str) -> bytes:
     """The bytes of a file, or of standard input."""
     try:
         return sys.stdin.buffer.read() if name == "-" else Path(name).read_bytes()
@@ -164,7 +184,7 @@ def read(name):
         raise SystemExit(f"{name} can't be read: {fault.strerror}") from fault
 
 
-def write(name, text):
+def write(name: str, text: str) -> None:
     """Writes a text into a file, or to standard output."""
     try:
         if name == "-":
@@ -175,20 +195,20 @@ def write(name, text):
         raise SystemExit(f"{name} can't be written: {fault.strerror}") from fault
 
 
-def look_for_refusals(given, words, script):
+def look_for_refusals(words: list[str], script: bytes, takes_refused: bool) -> None:
     """Runs a script, and says how many of its lines are refused; a refused event ends it."""
     ended = program.run(words, script)
     if ended.status:
         raise SystemExit(f"`{' '.join(words)}` ended with status {ended.status}: {ended.errors.strip()}")
     replies = ended.output.decode().splitlines()
     said, has_fault = program.refusals_of(script, replies)
-    if has_fault and not given.refused:
+    if has_fault and not takes_refused:
         raise SystemExit(f"{said}; --refused writes the start all the same")
     if said:
         print(said, file=sys.stderr)
 
 
-def start_after(words, script):
+def start_after(words: list[str], script: bytes) -> str:
     """The world at the end of a script, as the text of a start."""
     lines = script.decode("latin-1").split("\n")
     with Driven(words) as driven:
@@ -197,7 +217,7 @@ def start_after(words, script):
         return Asked(driven).start()
 
 
-def schema_fault(text):
+def schema_fault(text: str) -> str:
     """What the schema of traces refuses in a text; nothing where the library for it is missing."""
     if not importlib.util.find_spec("jsonschema"):
         return ""
@@ -206,12 +226,12 @@ def schema_fault(text):
     return schema.fault_of(json.loads(text))
 
 
-def read_options():
+def read_options() -> argparse.Namespace:
     """The command line."""
     parser = argparse.ArgumentParser(description="Writes the world at a script's end as a start.")
     parser.add_argument("script", metavar="SCRIPT", nargs="?", help="the script; - is standard input")
-    output = {"metavar": "START.trace", "help": "the file to write; - is standard output"}
-    parser.add_argument("-o", dest="output", **output)
+    output = "the file to write; - is standard output"
+    parser.add_argument("-o", dest="output", metavar="START.trace", help=output)
     parser.add_argument("--check", metavar="TRACE", help="say which part of a trace's start has a flaw")
     parser.add_argument("--trace", help="the trace over which the script runs")
     parser.add_argument("--actors", type=int, choices=range(1, 17), metavar="A", help="1 to 16 actors (4)")
@@ -226,37 +246,40 @@ def read_options():
     return given
 
 
-def check(given):
+def check(program_path: str, name: str) -> int:
     """Says what is wrong with the start of a trace; returns the exit status."""
     try:
-        trace = json.loads(read(given.check))
-        parts = trace["start"] if isinstance(trace, dict) and "actors" in trace.get("start", {}) else None
+        trace: flaws.Trace = json.loads(read(name))
+        has_start = isinstance(trace, dict) and "actors" in trace.get("start", {})
     except ValueError:
-        parts = None
-    ended = program.run([given.program, "load", "--", given.check])
+        has_start = False
+    ended = program.run([program_path, "load", "--", name])
     said = ended.errors.strip().removeprefix("lcrqdb: ")
-    if parts and "refused 26 " in said:
-        said = flaws.flaw_in(given.program, trace)
-    print(f"{given.check}: {said or 'no flaw'}", file=sys.stderr if said else sys.stdout)
+    if has_start and "refused 26 " in said:
+        said = flaws.flaw_in(program_path, trace)
+    print(f"{name}: {said or 'no flaw'}", file=sys.stderr if said else sys.stdout)
     return 1 if said else 0
 
 
-def main():
+def main() -> int:
+    """Writes the start that the command line asks for, or checks one; returns the exit status."""
     given = read_options()
+    program_path: str = given.program
+    trace_name: str | None = given.trace
     if given.check:
-        return check(given)
+        return check(program_path, given.check)
     script = read(given.script)
     options = ["--actors", str(given.actors or 4), "--ring", str(given.ring or 4)]
-    words = [given.program, *(["load", given.trace] if given.trace else ["run", "-", *options])]
+    words = [program_path, *(["load", trace_name] if trace_name else ["run", "-", *options])]
     try:
-        look_for_refusals(given, words, script)
+        look_for_refusals(words, script, given.refused)
         start = start_after(words, script)
     except (Broken, OSError, subprocess.TimeoutExpired) as fault:
         raise SystemExit(f"the script can't be run: {fault}") from fault
-    if fault := schema_fault(start):
-        raise SystemExit(f"the schema of traces refuses this start: {fault}")
+    if wrong := schema_fault(start):
+        raise SystemExit(f"the schema of traces refuses this start: {wrong}")
     write(given.output, start)
-    trace = json.loads(start)
+    trace: flaws.Trace = json.loads(start)
     world = program.world_of(len(trace["start"]["actors"]), trace["ring"])
     print(f"a start with {world}", file=sys.stderr)
     return 0
