@@ -7,6 +7,7 @@ steps count from 1.
 """
 
 import heapq
+from collections.abc import Sequence
 from dataclasses import dataclass
 
 
@@ -16,12 +17,12 @@ class Step:
 
     line: str  # that makes it
     place: str  # - where it has none
-    touched: tuple
-    wrote: tuple
+    touched: tuple[str, ...]
+    wrote: tuple[str, ...]
     ended: str  # what the reply to its line has after `ok K`
 
 
-def names(place, ring):
+def names(place: str, ring: int) -> tuple[str, ...]:
     """The places that this one names, over rings of this many cells."""
     kind, *rest = place.split(" ")
     if kind == "cell":
@@ -32,7 +33,7 @@ def names(place, ring):
     return () if place == "-" else (place,)
 
 
-def step_of(record, ring):
+def step_of(record: str, ring: int) -> Step:
     """The step of a record."""
     _, line, place, access, _, reply = record.split("; ")
     touched = names(place, ring)
@@ -41,26 +42,28 @@ def step_of(record, ring):
     return Step(line, place, touched + itself, wrote + itself, "" if reply == "-" else f" {reply}")
 
 
-def depend(one, other):
+def depend(one: Step, other: Step) -> bool:
     """Whether two steps depend on each other."""
     return not (set(one.touched).isdisjoint(other.wrote) and set(one.wrote).isdisjoint(other.touched))
 
 
-def first_dependant(steps, number):
+def first_dependant(steps: Sequence[Step], number: int) -> int | None:
     """The number of the first later step that depends on this one, or none."""
     return next((at for at in range(number + 1, len(steps) + 1) if depend(steps[number - 1], steps[at - 1])), None)
 
 
-def last_writer(steps, place, ring):
+def last_writer(steps: Sequence[Step], place: str, ring: int) -> int | None:
     """The number of the last step that wrote this place or one that it names, or none."""
     named = set(names(place, ring))
     return next((at for at in range(len(steps), 0, -1) if not named.isdisjoint(steps[at - 1].wrote)), None)
 
 
-def closure(steps, number):
+def closure(steps: Sequence[Step], number: int) -> list[int]:
     """The numbers of this step and of all later ones that depend on it, directly or through
     others."""
-    taken, touched, wrote = [], set(), set()
+    taken: list[int] = []
+    touched: set[str] = set()
+    wrote: set[str] = set()
     for at, step in enumerate(steps[number - 1:], number):
         if at == number or not (touched.isdisjoint(step.wrote) and wrote.isdisjoint(step.touched)):
             taken.append(at)
@@ -69,10 +72,12 @@ def closure(steps, number):
     return taken
 
 
-def leads(steps):
+def leads(steps: Sequence[Step]) -> list[list[int]]:
     """For each step later ones that depend on it, enough of them: all others do so through
     these."""
-    after, writer, readers = [[] for _ in steps], {}, {}
+    after: list[list[int]] = [[] for _ in steps]
+    writer: dict[str, int] = {}
+    readers: dict[str, list[int]] = {}
     for at, step in enumerate(steps):
         before = {writer[place] for place in step.touched if place in writer}
         before.update(reader for place in step.wrote for reader in readers.pop(place, ()))
@@ -86,12 +91,13 @@ def leads(steps):
     return after
 
 
-def latest_first(steps):
+def latest_first(steps: Sequence[Step]) -> list[Step]:
     """The steps in another order, in which each is still after those on which it depends: always
     the latest that may come next."""
-    after, waits, order = leads(steps), [0] * len(steps), []
-    for later in after:
-        for at in later:
+    after, waits = leads(steps), [0] * len(steps)
+    order: list[Step] = []
+    for dependants in after:
+        for at in dependants:
             waits[at] += 1
     free = [-at for at, count in enumerate(waits) if not count]
     heapq.heapify(free)

@@ -47,10 +47,10 @@ class Job:
 
     name: str
     steps: int
-    lines: list
+    lines: list[str]
     timed: int
-    base: object = None
-    last: str = None  # the last reply, or none where it is not known before
+    base: "Job | None" = None
+    last: str | None = None  # the last reply, or none where it is not known before
     refused: int = 0
     actors: int = 4
     ring: int = 4
@@ -68,16 +68,19 @@ class Measure:
     stolen: float = 0.0  # of the time with work, the share that the machine's host gave to others
 
 
+Shorter = tuple[float | None, float | None]  # seconds and KiB at the next smaller length, where they are known
+
+
 # ---- Scripts -------------------------------------------------------------------------------------
 
 
-def spare_steps():
+def spare_steps() -> list[str]:
     """A call, a read of the queue's tail and a read of the root's next, by each actor that the
     others do not have."""
     return [line for actor in range(5, 5 + SPARE) for line in (f"enq {actor} 1", f"go {actor}", f"go {actor}")]
 
 
-def run_with_spare_steps(steps, before):
+def run_with_spare_steps(steps: int, before: int) -> list[str]:
     """Random dequeues, which write neither the queue's ends nor the root's next, and the spare
     steps after the first of them."""
     run = random_run(steps - SPARE * SPARE_STEPS, enqueues=0.0)
@@ -87,14 +90,14 @@ def run_with_spare_steps(steps, before):
 # ---- Jobs ----------------------------------------------------------------------------------------
 
 
-def start_jobs(few):
+def start_jobs(few: bool) -> list[Job]:
     """Starting up, and lines that change nothing."""
     start = Job("start-up: the empty script", 0, [], 0, often=4)
     lines = 100_000 if few else 1_000_000
     return [start, Job("`len`", 0, ["len"] * lines, lines, start, "at 0 0")]
 
 
-def walking_jobs(base, few):
+def walking_jobs(base: Job, few: bool) -> list[Job]:
     """The steps of a run one by one back and forth, and many at once."""
     steps, run = base.steps, base.lines
     far, pairs = steps * 10 // 13, 10 if few else 20
@@ -107,7 +110,7 @@ def walking_jobs(base, few):
     ]
 
 
-def rollback_jobs(base):
+def rollback_jobs(base: Job) -> list[Job]:
     """Rolling back the first step and one in the middle, each with all that depends on it."""
     middle = base.steps // 2
     return [
@@ -116,7 +119,7 @@ def rollback_jobs(base):
     ]
 
 
-def lone_undo_jobs(steps):
+def lone_undo_jobs(steps: int) -> list[Job]:
     """Lone undos of steps on which nothing depends, at the front and in the middle; and rollbacks
     of the same."""
     jobs = []
@@ -131,7 +134,7 @@ def lone_undo_jobs(steps):
     return jobs
 
 
-def free_steps_job(steps):
+def free_steps_job(steps: int) -> Job:
     """Free steps at random places of a run, each undone alone and redone, so that it is last."""
     source = random.Random(SEED)
     lines = random_run(steps - SPARE * SPARE_STEPS, enqueues=0.0)
@@ -152,7 +155,7 @@ def free_steps_job(steps):
     return Job(name, steps, lines + pairs, SPARE, base, f"at {steps} 0", actors=4 + SPARE)
 
 
-def refused_undo_jobs(steps, few):
+def refused_undo_jobs(steps: int, few: bool) -> list[Job]:
     """Lone undos that only the last step of the run refuses: the actor of the step goes on at the
     end."""
     jobs, times = [], 50 if few else 200
@@ -166,17 +169,19 @@ def refused_undo_jobs(steps, few):
     return jobs
 
 
-def goto_at_random_job(marked, marks, few):
+def goto_at_random_job(marked: Job, marks: int, few: bool) -> Job:
     """Going from one of these bookmarks to another by chance."""
     steps, source = marked.steps, random.Random(SEED)
     ends = [source.randint(1, marks) for _ in range(20 if few else 200)]
     lines = marked.lines + [f"goto m{number}" for number in ends]
-    return Job(f"`goto` among {marks} marks by chance", steps, lines, len(ends), marked, f"at {ends[-1] * steps // marks} 0")
+    name, last = f"`goto` among {marks} marks by chance", f"at {ends[-1] * steps // marks} 0"
+    return Job(name, steps, lines, len(ends), marked, last)
 
 
-def mark_jobs(base, marks, few):
+def mark_jobs(base: Job, marks: int, few: bool) -> list[Job]:
     """Bookmarks all along a random run, going from one to another, and comparing."""
-    steps, lines = base.steps, []
+    steps = base.steps
+    lines: list[str] = []
     for number in range(1, marks + 1):
         lines += base.lines[(number - 1) * steps // marks:number * steps // marks] + [f"mark m{number}"]
     marked = Job(f"`mark`, {marks} along the run", steps, lines, marks, base, f"marked {steps}")
@@ -198,7 +203,7 @@ def mark_jobs(base, marks, few):
     ]
 
 
-def same_job(steps, few):
+def same_job(steps: int, few: bool) -> Job:
     """Comparing a run with itself when its first step is last."""
     run = ["enq 5 1"] + random_run(steps - 1) + ["mark a", "undo 1", "redo", "mark b"]
     base = Job("run with its first step moved to the end", steps, run, steps, actors=5)
@@ -207,7 +212,7 @@ def same_job(steps, few):
     return Job(name, steps, run + ["same a b"] * times, times, base, "same yes", actors=5)
 
 
-def all_jobs(options):
+def all_jobs(options: argparse.Namespace) -> list[Job]:
     """The jobs, each length after the shorter ones."""
     few = options.quick
     jobs = start_jobs(few)
@@ -222,7 +227,7 @@ def all_jobs(options):
 # ---- Runs ----------------------------------------------------------------------------------------
 
 
-def fault_in(job, ended):
+def fault_in(job: Job, ended: program.Watched) -> str:
     """What is wrong with the replies of a run, or nothing."""
     if not ended.is_in_time:
         return "too long"
@@ -239,9 +244,9 @@ def fault_in(job, ended):
     return ""
 
 
-def one_run(options, job, script):
+def one_run(options: argparse.Namespace, job: Job, script: Path) -> Measure:
     """Runs the program once on a script."""
-    words = [options.program, "run", script, "--actors", str(job.actors), "--ring", str(job.ring)]
+    words = [options.program, "run", str(script), "--actors", str(job.actors), "--ring", str(job.ring)]
     ended = program.watch(
         words, rest=options.rest, seconds=options.seconds, look_every=LOOK_EVERY
     )
@@ -249,12 +254,12 @@ def one_run(options, job, script):
     return Measure(ended.seconds, peak, fault_in(job, ended))
 
 
-def measure(options, job, folder):
+def measure(options: argparse.Namespace, job: Job, folder: Path) -> Measure:
     """The medians of several runs of a job; the first fault ends them."""
-    script = os.path.join(folder, "script")
-    with open(script, "w", encoding="ascii") as file:
-        file.writelines(line + "\n" for line in job.lines)
-    runs, ticks = [], program.processor_ticks()
+    script = folder / "script"
+    script.write_text("".join(line + "\n" for line in job.lines), encoding="ascii")
+    runs: list[Measure] = []
+    ticks = program.processor_ticks()
     for _ in range(options.runs * job.often):
         runs.append(one_run(options, job, script))
         if runs[-1].fault:
@@ -269,19 +274,19 @@ def measure(options, job, folder):
 # ---- The table -----------------------------------------------------------------------------------
 
 
-def ratio(new, old):
+def ratio(new: float | None, old: float | None) -> str:
     """How many times as much, or nothing to say."""
     return f"{new / old:.1f}" if new and old else ""
 
 
-def rate(lines, seconds):
+def rate(lines: int, seconds: float | None) -> str:
     """Lines a second, or nothing to say."""
     if not lines or not seconds:
         return ""
     return f"{lines / seconds:,.0f}" if lines / seconds >= 10 else f"{lines / seconds:.2g}"
 
 
-def cells_of(job, seconds, done, shorter):
+def cells_of(job: Job, seconds: float | None, done: Measure, shorter: Shorter) -> tuple[str, ...]:
     """The cells of a row. Seconds that are none are within the spread; `shorter` has those of the
     next smaller length."""
     head = (job.name, f"{job.steps:,}", f"{job.timed:,}")
@@ -296,13 +301,15 @@ def cells_of(job, seconds, done, shorter):
 class Table:
     """Prints a row for each job, and keeps what later rows are compared with."""
 
-    def __init__(self, options, folder):
+    def __init__(self, options: argparse.Namespace, folder: Path) -> None:
         self.options, self.folder = options, folder
-        self.whole, self.shorter, self.failed = {}, {}, False
+        self.whole: dict[tuple[str, int], Measure] = {}
+        self.shorter: dict[str, Shorter] = {}
+        self.failed = False
         head = ("Seconds", "Lines a second", "Peak MiB", "Time x", "Memory x", "Stolen")
         program.print_head("What", "Steps", "Lines", *head)
 
-    def measured(self, job):
+    def measured(self, job: Job) -> Measure:
         """The job's measure, taken once."""
         key = (job.name, job.steps)
         if key not in self.whole:
@@ -310,7 +317,7 @@ class Table:
             self.whole[key] = measure(self.options, job, self.folder)
         return self.whole[key]
 
-    def without_base(self, job):
+    def without_base(self, job: Job) -> tuple[Measure, float | None]:
         """The job's measure without its base, and the seconds that are left if they are more than
         the spread of both."""
         done = self.measured(job)
@@ -321,7 +328,7 @@ class Table:
         fault = base.fault or done.fault
         return Measure(seconds, done.peak_kib, fault, spread, done.stolen), left
 
-    def add(self, job):
+    def add(self, job: Job) -> None:
         """Measures a job and prints its row."""
         done, left = self.without_base(job)
         shorter = self.shorter.get(job.name, (None, None))
@@ -330,7 +337,7 @@ class Table:
         self.failed |= done.fault.startswith("wrong")
 
 
-def read_options():
+def read_options() -> argparse.Namespace:
     """The command line."""
     parser = argparse.ArgumentParser(description=__doc__.splitlines()[0])
     program.add_program(parser)
@@ -353,10 +360,10 @@ def read_options():
     return options
 
 
-def main():
+def main() -> int:
     options = read_options()
     with tempfile.TemporaryDirectory() as folder:
-        table = Table(options, folder)
+        table = Table(options, Path(folder))
         for job in all_jobs(options):
             table.add(job)
     return 1 if table.failed else 0

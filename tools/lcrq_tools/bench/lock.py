@@ -98,7 +98,7 @@ fn main(rt: HostRuntime) -> io::Result<()> {
 """
 
 
-def main():
+def main() -> int:
     parser = argparse.ArgumentParser(description="Times short holds of the ticket lock.")
     parser.add_argument("--runs", type=int, default=9, help="how often both are timed (9)")
     parser.add_argument("--holds", type=int, default=20_000, help="holds of each thread (20000)")

@@ -9,10 +9,12 @@ and what that takes is the line's time, not a share of the time of a whole run. 
 line takes more than 50 ms at 65,535 steps, whatever the run. The runs have letters:
 
     a   four actors by chance, with calls of both kinds
-    b   eight actors that dequeue, each on its own segment, in turn: no step depends on another actor's
+    b   eight actors that dequeue, each on its own segment, in turn: no step depends on another
+        actor's
     c   the same in 64 stretches, each of one actor
     d   eight actors by chance that dequeue on one segment
-    e   eight actors by chance that only enqueue, over rings of two cells, so that rings close and segments are made all the time
+    e   eight actors by chance that only enqueue, over rings of two cells, so that rings close and
+        segments are made all the time
     f   sixteen actors, twelve of which dequeue by chance on two segments of two cells
 
 After each run the session asks, undoes and redoes each step, undoes steps alone, rolls back a step
@@ -45,8 +47,9 @@ import statistics
 import sys
 import tempfile
 from array import array
-from collections.abc import Callable
+from collections.abc import Callable, Iterable
 from dataclasses import dataclass, field
+from typing import TypeVar
 
 from lcrq_tools import dependence, program
 from lcrq_tools.bench.commands import MOST_STEPS
@@ -67,31 +70,33 @@ MARK, DROP = "`mark`", "`drop`"
 ALONG, ACROSS = "`goto` along a run", "`goto` another order of a run"
 UNEQUAL = "`same` of lists that differ at the end"
 
+Key = TypeVar("Key")
+
 # ---- Runs ----------------------------------------------------------------------------------------
 
 
-def in_turn(runners, steps):
+def in_turn(runners: int, steps: int) -> list[str]:
     """Steps of the runners in turn."""
     return [f"go {at % runners + 1}" for at in range(steps)]
 
 
-def in_stretches(runners, steps):
+def in_stretches(runners: int, steps: int) -> list[str]:
     """Steps of the runners in turn, a sixty-fourth of all at a time."""
     return [f"go {at // (steps // STRETCHES) % runners + 1}" for at in range(steps)]
 
 
-def by_chance(runners, steps):
+def by_chance(runners: int, steps: int) -> list[str]:
     """Steps of the runners by chance."""
     source = random.Random(SEED)
     return [f"go {source.randint(1, runners)}" for _ in range(steps)]
 
 
-def enqueues(runners, steps):
+def enqueues(runners: int, steps: int) -> list[str]:
     """Enqueues of the runners by chance over rings of two cells."""
     return random_run(steps, 1.0, runners, 2)
 
 
-def calls(runners, steps):
+def calls(runners: int, steps: int) -> list[str]:
     """Calls of the runners by chance over rings of four cells."""
     return random_run(steps, 0.5, runners, 4)
 
@@ -103,19 +108,18 @@ class Run:
 
     runners: int
     ring: int
-    lines: Callable
-    makers: list = field(default_factory=list)
+    lines: Callable[[int, int], list[str]]
+    makers: list[int] = field(default_factory=list)
 
-    def words(self, folder):
+    def words(self, folder: Path) -> list[str]:
         """The words after the program's name, for lines on standard input."""
         if not self.makers:
             return ["run", "-", "--actors", str(self.runners + SPARES), "--ring", str(self.ring)]
-        trace = os.path.join(folder, "start.trace")
-        with open(trace, "w", encoding="ascii") as file:
-            file.write(dequeuers(self.ring, self.makers, SPARES))
-        return ["load", trace]
+        trace = folder / "start.trace"
+        trace.write_text(dequeuers(self.ring, self.makers, SPARES), encoding="ascii")
+        return ["load", str(trace)]
 
-    def whole(self, steps):
+    def whole(self, steps: int) -> list[str]:
         """The lines of this many steps: the runners', a step on which nothing depends as number 2
         and another in the middle, and a call as number 3 that goes on only at the end, where it
         takes a value if there is one. The last step can be exchanged for another."""
@@ -135,7 +139,7 @@ RUNS = {
 }
 
 
-def steps_of(words, run, count):
+def steps_of(words: list[str], run: Run, count: int) -> list[dependence.Step]:
     """The steps of a run of this length, from their records."""
     lines = run.whole(count) + [f"step {number}" for number in range(1, count + 1)]
     ended = program.run(words, ("\n".join(lines) + "\n").encode())
@@ -159,7 +163,7 @@ class Line:
     text: str
     wanted: str
 
-    def fits(self, reply):
+    def fits(self, reply: str) -> bool:
         """Whether this is the reply."""
         return reply.startswith(self.wanted) if self.wanted.endswith(" ") else reply == self.wanted
 
@@ -168,8 +172,9 @@ class Session:
     """The lines of a session over a run. Each method adds some; between them the run is live as it
     was made, with none undone."""
 
-    def __init__(self, run, steps):
-        self.run, self.steps, self.count, self.lines = run, steps, len(steps), []
+    def __init__(self, run: Run, steps: list[dependence.Step]) -> None:
+        self.run, self.steps, self.count = run, steps, len(steps)
+        self.lines: list[Line] = []
         self.make(steps)
         self.ask()
         self.walk()
@@ -181,32 +186,32 @@ class Session:
         self.go_along()
         self.drop("run")
 
-    def say(self, row, text, wanted):
+    def say(self, row: str, text: str, wanted: str) -> None:
         """Adds a line."""
         self.lines.append(Line(row, text, wanted))
 
-    def move(self, row, text, undone=0, live=None):
+    def move(self, row: str, text: str, undone: int = 0, live: int | None = None) -> None:
         """Adds a line that moves steps, and leaves this many undone; and live, if these are not all
         others."""
         self.say(row, text, f"at {self.count - undone if live is None else live} {undone}")
 
-    def drop(self, *names):
+    def drop(self, *names: str) -> None:
         """Adds lines that drop these bookmarks."""
         for name in names:
             self.say(DROP, f"drop {name}", "dropped")
 
-    def make(self, steps, first=STEP):
+    def make(self, steps: list[dependence.Step], first: str = STEP) -> None:
         """Makes these steps, the first of the run."""
         for number, step in enumerate(steps, 1):
             self.say(first if number == 1 else STEP, step.line, f"ok {number}{step.ended}")
 
-    def places(self):
+    def places(self) -> list[str]:
         """Some places that there are: of the root, and those of steps here and there."""
         root = ["qhead", "qtail", "head 0.0", "tail 0.0", "next 0.0", "cell 0.0 0", "whole 0.0", "ahead", "acell 63"]
         others = {self.steps[self.count * part // 16].place for part in range(16)} - {"-"}
         return root + sorted(others - set(root))
 
-    def ask(self):
+    def ask(self) -> None:
         """Queries."""
         self.move("`len`", "len")
         for actor in (1, self.run.runners):
@@ -221,7 +226,7 @@ class Session:
         for number in {*takes[:1], *takes[-1:]}:
             self.say("`origin`", f"origin {number}", "origin call ")
 
-    def walk(self):
+    def walk(self) -> None:
         """Undoes and redoes all steps, one by one and at once."""
         for undone in range(1, self.count + 1):
             self.move(UNDO, "undo", undone)
@@ -230,13 +235,13 @@ class Session:
         self.move(BACK, f"back {self.count}", self.count)
         self.move(FORWARD, f"forward {self.count}")
 
-    def compare_equal(self):
+    def compare_equal(self) -> None:
         """Compares a run with itself."""
         self.say(MARK, "mark equal", f"marked {self.count}")
         self.say("`same` of equal lists", "same run equal", "same yes")
         self.drop("equal")
 
-    def compare(self, row):
+    def compare(self, row: str) -> None:
         """Compares the live steps, which are the run in another order, with it, and goes to and fro
         between the two."""
         self.say(MARK, "mark other", f"marked {self.count}")
@@ -245,21 +250,21 @@ class Session:
         for name in ("run", "other", "run"):
             self.move(ACROSS, f"goto {name}")
 
-    def undo_alone(self):
+    def undo_alone(self) -> None:
         """Undoes steps alone and redoes them: at the front, in the middle and at the end; and is
         refused."""
         for number in (1, 3):
             refused = f"refused 13 Depended {dependence.first_dependant(self.steps, number)}"
             self.say("`undo K`, refused", f"undo {number}", refused)
         middle = self.count // 2 + 3
-        for row, number in (("`undo K`, at the front", 2), ("`undo K`, in the middle", middle), ("`undo K`, the last step", self.count)):
-            self.move(row, f"undo {number}", 1)
+        for where, number in (("at the front", 2), ("in the middle", middle), ("the last step", self.count)):
+            self.move(f"`undo K`, {where}", f"undo {number}", 1)
             self.move(REDO, "redo")
             if number != self.count:
                 self.compare("`same`, a step undone alone and redone")
                 self.drop("other")
 
-    def rolled(self):
+    def rolled(self) -> dict[int, str]:
         """The numbers of the steps that are rolled back, each with its row: the first one, one in
         the middle, and one of each actor, which is the later the greater the actor's number is."""
         runners, found = self.run.runners, {1: "`roll 1`", self.count // 2: "`roll` of a step in the middle"}
@@ -269,13 +274,13 @@ class Session:
             found.setdefault(next(own, 1), "`roll` of a step of each actor")
         return found
 
-    def roll(self, row, number):
+    def roll(self, row: str, number: int) -> int:
         """Rolls a step back, and returns how many are undone then."""
         undone = len(dependence.closure(self.steps, number))
         self.move(row, f"roll {number}", undone)
         return undone
 
-    def roll_back(self):
+    def roll_back(self) -> None:
         """Rolls steps back and redoes them; and once goes on with another step instead."""
         for number, row in self.rolled().items():
             undone = self.roll(row, number)
@@ -286,7 +291,7 @@ class Session:
         self.say(DISCARDS, f"go {self.run.runners + SPARES}", f"ok {self.count - undone + 1}")
         self.move(ACROSS, "goto run")
 
-    def make_another_order(self):
+    def make_another_order(self) -> None:
         """Makes the run anew in another order, compares and goes to and fro; then another last
         step, which makes it another run."""
         order = dependence.latest_first(self.steps[:-1]) + self.steps[-1:]
@@ -302,7 +307,7 @@ class Session:
         self.move(ACROSS, "goto run")
         self.drop("last", "other")
 
-    def go_along(self):
+    def go_along(self) -> None:
         """Sets bookmarks along the run, and goes from each to each."""
         lengths = {"start": 0, "middle": self.count // 2, "near": self.count - 1}
         for name, length in lengths.items():
@@ -311,7 +316,7 @@ class Session:
             self.move(FORWARD, f"forward {self.count - length}")
         self.say(UNEQUAL, "same run near", "same no")
         lengths["run"] = self.count
-        for name in ("start", "run", "middle", "run", "near", "run", "near", "middle", "start", "middle", "near", "start", "run"):
+        for name in "start run middle run near run near middle start middle near start run".split():
             self.move(ALONG, f"goto {name}", live=lengths[name])
         self.drop("start", "middle", "near")
 
@@ -330,7 +335,10 @@ class Timed:
     other: float
 
 
-def driven_once(words, lines, seconds):
+Column = dict[tuple[str, str], Timed]  # at a length the slowest line of each run's letter and row
+
+
+def driven_once(words: list[str], lines: list[Line], seconds: float) -> "tuple[array[float], array[float]]":
     """What each line of a session took, from end to end and of the processor."""
     wholes, processors = array("d"), array("d")
     with Driven(words, seconds) as driven:
@@ -345,22 +353,22 @@ def driven_once(words, lines, seconds):
     return wholes, processors
 
 
-def timed(options, letter, count, folder):
+def timed(options: argparse.Namespace, letter: str, count: int, folder: Path) -> list[Timed]:
     """The lines of a session over a run of this length, each with the medians of what it took."""
     run = RUNS[letter]
     words = [options.program, *run.words(folder)]
     lines = Session(run, steps_of(words, run, count)).lines
     print(f"run {letter}, {count} steps, {len(lines)} lines", file=sys.stderr, flush=True)
     sessions = [driven_once(words, lines, options.seconds) for _ in range(options.runs)]
-    clocks = [map(statistics.median, zip(*times)) for times in zip(*sessions)]
+    clocks = [[statistics.median(times) for times in zip(*clock)] for clock in zip(*sessions)]
     if options.processor:
         clocks.reverse()
-    return [Timed(letter, line, *both) for line, *both in zip(lines, *clocks)]
+    return [Timed(letter, line, ms, other) for line, ms, other in zip(lines, *clocks)]
 
 
-def slowest(lines, key):
+def slowest(lines: Iterable[Timed], key: Callable[[Timed], Key]) -> dict[Key, Timed]:
     """Of the lines of each key the slowest."""
-    found = {}
+    found: dict[Key, Timed] = {}
     for one in lines:
         if key(one) not in found or one.ms > found[key(one)].ms:
             found[key(one)] = one
@@ -370,22 +378,22 @@ def slowest(lines, key):
 # ---- The tables ----------------------------------------------------------------------------------
 
 
-def shown(ms):
+def shown(ms: float) -> str:
     """Milliseconds."""
     return f"{ms:,.0f}" if ms >= 100 else f"{ms:.1f}" if ms >= 10 else f"{ms:.2f}"
 
 
-def other_clock(options):
+def other_clock(options: argparse.Namespace) -> str:
     """What the clock shows by which the table does not go."""
     return "From end to end" if options.processor else "Of the processor"
 
 
-def is_too_much(few, many, old, new):
+def is_too_much(few: int, many: int, old: Timed, new: Timed) -> bool:
     """Whether lines take too many times as long at a length as at a smaller one."""
     return new.ms > 1 and new.ms / old.ms > MOST_GROWTH ** math.log2(many / few)
 
 
-def print_table(options, columns, tells_growth=False):
+def print_table(options: argparse.Namespace, columns: list[dict[str, Timed]], tells_growth: bool = False) -> None:
     """Prints a table of the slowest lines of each row, with a column for each length."""
     pairs = list(itertools.pairwise(options.lengths))
     heads = [f"{count:,} steps, ms" for count in options.lengths] + [f"{many:,} / {few:,}" for few, many in pairs]
@@ -403,7 +411,7 @@ def print_table(options, columns, tells_growth=False):
     print(flush=True)
 
 
-def print_long(options, lines):
+def print_long(options: argparse.Namespace, lines: list[Timed]) -> None:
     """Prints the lines that took longer than the limit."""
     print(f"Lines of more than {options.limit:g} ms at {options.lengths[-1]:,} steps: {len(lines) or 'none'}\n")
     if lines:
@@ -415,12 +423,13 @@ def print_long(options, lines):
         print()
 
 
-def measured(options, folder):
+def measured(options: argparse.Namespace, folder: Path) -> tuple[list[Column], list[Timed]]:
     """For each length the slowest lines of each row of each run, and the lines at the greatest
     length that took longer than the limit."""
-    columns, long = [], []
+    columns: list[Column] = []
+    long: list[Timed] = []
     for count in options.lengths:
-        found = {}
+        found: Column = {}
         for letter in options.only:
             try:
                 lines = timed(options, letter, count, folder)
@@ -434,12 +443,13 @@ def measured(options, folder):
     return columns, long
 
 
-def compared(found):
+def compared(found: Column) -> dict[str, Timed]:
     """Of the slowest lines at a length those of the second table."""
-    return {row: one for (letter, row), one in found.items() if letter == APART and row.startswith(("`same", "`roll"))}
+    rows = ((row, one) for (letter, row), one in found.items() if letter == APART)
+    return {row: one for row, one in rows if row.startswith(("`same", "`roll"))}
 
 
-def print_all(options, columns, long):
+def print_all(options: argparse.Namespace, columns: list[Column], long: list[Timed]) -> None:
     """Prints the tables."""
     print_table(options, [slowest(column.values(), lambda one: one.line.row) for column in columns])
     if APART in options.only:
@@ -447,33 +457,35 @@ def print_all(options, columns, long):
     print_long(options, long)
 
 
-def read_options():
+def read_options() -> argparse.Namespace:
     """The command line."""
     parser = argparse.ArgumentParser(description=__doc__.splitlines()[0])
     program.add_program(parser)
     parser.add_argument("--runs", type=int, default=5, help="how often each session is driven (5)")
     parser.add_argument("--lengths", default="16000,32000,65535", help="steps of the runs, rising (16000,32000,65535)")
-    parser.add_argument("--limit", type=float, default=50.0, help="the most milliseconds of a line at the greatest length (50)")
+    about = "the most milliseconds of a line at the greatest length (50)"
+    parser.add_argument("--limit", type=float, default=50.0, help=about)
     parser.add_argument("--processor", action="store_true", help="go by the time of the processor")
     parser.add_argument("--only", default="".join(RUNS), help=f"the letters of the runs ({''.join(RUNS)})")
     parser.add_argument("--seconds", type=float, default=120.0, help="the longest time of one line (120)")
     options = parser.parse_args()
     options.program = os.path.abspath(options.program)
     options.lengths = [int(count) for count in options.lengths.split(",")]
-    if not all(FEWEST_STEPS <= count <= MOST_STEPS for count in options.lengths) or options.lengths != sorted(set(options.lengths)):
+    is_rising = options.lengths == sorted(set(options.lengths))
+    if not is_rising or not all(FEWEST_STEPS <= count <= MOST_STEPS for count in options.lengths):
         parser.error(f"--lengths: {FEWEST_STEPS} to {MOST_STEPS} steps each, rising")
     if not options.only or not set(options.only) <= set(RUNS) or options.runs < 1:
         parser.error(f"--only: letters of {''.join(RUNS)}; --runs: at least 1")
     return options
 
 
-def main():
+def main() -> int:
     options = read_options()
     gc.disable()  # a pause would count as the program's time
     ticks = program.processor_ticks()
     with tempfile.TemporaryDirectory() as folder:
         try:
-            columns, long = measured(options, folder)
+            columns, long = measured(options, Path(folder))
         except Broken as fault:
             print(f"WRONG: {fault}")
             return 1

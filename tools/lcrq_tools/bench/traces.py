@@ -19,7 +19,9 @@ import statistics
 import subprocess
 import tempfile
 import time
+from collections.abc import Collection, Iterator
 from pathlib import Path
+from typing import NamedTuple
 
 from lcrq_tools import program
 from lcrq_tools.machine import random_run
@@ -27,36 +29,46 @@ from lcrq_tools.machine import random_run
 QUERIES = 200
 MARKS = 64
 
-# a run of the program over a file on standard input, and the file with what it is to write, if that
-# is compared
-Job = collections.namedtuple("Job", "words given wanted")
+Measured = tuple[float, int, int]  # seconds, the most KiB that were held, and the bytes of the text
+# A name, the length of the text in bytes, seconds or none where it went wrong, the most KiB that were held, and
+# what it is compared with.
+Row = tuple[str, int, float | None, int, str]
 
 
-def event(line):
+class Job(NamedTuple):
+    """A run of the program over a file on standard input."""
+
+    words: list[str]
+    given: Path
+    wanted: Path | None  # with what it is to write, if that is compared
+
+
+def event(line: str) -> list[str | int]:
     """The event of a trace that a line of a script makes."""
     words = line.split()
     values = [int(word) if word.isdigit() else word == "yes" for word in words[1:]]
     return [words[0], *values]
 
 
-def text_of(value):
+def text_of(value: object) -> str:
     """The text of a trace."""
     return json.dumps(value, separators=(",", ":")) + "\n"
 
 
-def first_trace(lines):
+def first_trace(lines: list[str]) -> str:
     """The trace of version 1 of a run over the program's defaults."""
     return text_of({"actors": 4, "events": [event(line) for line in lines], "ring": 4, "version": 1})
 
 
-def second_trace(lines, marked):
+def second_trace(lines: list[str], marked: list[int]) -> str:
     """That of version 2, with a bookmark after each of these numbers of lines."""
     events = [event(line) for line in lines]
     marks = [{"events": events[:count], "name": f"n{count}"} for count in marked]
-    return text_of({"events": events, "marks": marks, "ring": 4, "start": {"fresh": 4}, "undone": [], "version": 2})
+    start = {"fresh": 4}
+    return text_of({"events": events, "marks": marks, "ring": 4, "start": start, "undone": [], "version": 2})
 
 
-def marked_script(lines, marked):
+def marked_script(lines: list[str], marked: Collection[int]) -> list[str]:
     """The lines of a run with a bookmark after each of these numbers of them."""
     script = []
     for number, line in enumerate(lines, 1):
@@ -66,7 +78,7 @@ def marked_script(lines, marked):
     return script
 
 
-def run_once(job):
+def run_once(job: Job) -> tuple[float, bool]:
     """The seconds of one run, and whether it went well and wrote what is wanted."""
     with tempfile.TemporaryFile() as output, open(job.given, "rb") as given:
         begin = time.perf_counter()
@@ -77,7 +89,7 @@ def run_once(job):
     return seconds, good
 
 
-def peak_of(job):
+def peak_of(job: Job) -> int:
     """The most KiB that the process of a run has held: of three runs, since on a loaded machine a
     look may come too late for one."""
     peaks = []
@@ -87,10 +99,11 @@ def peak_of(job):
     return max(peaks)
 
 
-def in_turn(jobs, runs):
+def in_turn(jobs: dict[str, Job], runs: int) -> dict[str, float | None]:
     """The median seconds of each job over several rounds, in each of which every job runs once;
     none where one of its runs went wrong."""
-    seconds, wrong = collections.defaultdict(list), set()
+    seconds: dict[str, list[float]] = collections.defaultdict(list)
+    wrong: set[str] = set()
     for _ in range(runs):
         for name, job in jobs.items():
             took, good = run_once(job)
@@ -103,27 +116,28 @@ def in_turn(jobs, runs):
 class Folder:
     """Files by their names."""
 
-    def __init__(self, path):
+    def __init__(self, path: str) -> None:
         self.path = Path(path)
 
-    def put(self, name, text):
+    def put(self, name: str, text: str) -> Path:
         """A file with this text."""
         file = self.path / name
         file.write_text(text, encoding="ascii")
         return file
 
 
-def jobs_of(options, folder):
+def jobs_of(options: argparse.Namespace, folder: Folder) -> dict[str, Job]:
     """The jobs by their names; those that begin with a run have its report before the trace."""
     lines, empty = random_run(options.steps), folder.put("empty", "")
     script = folder.put("run", "".join(line + "\n" for line in lines))
     report = program.run([options.program, "run", str(script)]).output.decode()
     first, second = first_trace(lines), second_trace(lines, [])
     traces = {"first": folder.put("first", first), "second": folder.put("second", second)}
+    written = folder.put("report 2", report + second)
     jobs = {
         "start": Job([options.program, "run", str(empty)], empty, empty),
         "run": Job([options.program, "run", str(script)], empty, None),
-        "written": Job([options.program, "run", str(script), "--trace"], empty, folder.put("report 2", report + second)),
+        "written": Job([options.program, "run", str(script), "--trace"], empty, written),
     }
     for name, file in traces.items():
         jobs[f"{name} loaded"] = Job([options.program, "load", str(file)], empty, empty)
@@ -134,7 +148,7 @@ def jobs_of(options, folder):
     return jobs
 
 
-def marked_jobs(options, folder, lines, part):
+def marked_jobs(options: argparse.Namespace, folder: Folder, lines: list[str], part: int) -> dict[str, Job]:
     """The jobs of a run with bookmarks along it, its first part."""
     empty = folder.path / "empty"
     marked = sorted({len(lines) * number // MARKS for number in range(1, MARKS + 1)})
@@ -149,16 +163,16 @@ def marked_jobs(options, folder, lines, part):
     }
 
 
-def rows(options, folder):
-    """The rows: a name, the length of the text in bytes, seconds, peak memory in KiB, and what it
-    is compared with: a row's number and words."""
+def rows(options: argparse.Namespace, folder: Folder) -> Iterator[Row]:
+    """The rows of the table."""
     jobs = jobs_of(options, folder)
     took = in_turn(jobs, options.runs)
 
-    def row(name, job, base, text, compared=""):
+    def row(name: str, job: str, base: str, text: str, compared: str = "") -> Row:
         """A row of a job, whose base is taken off."""
-        bad = took[job] is None or took[base] is None
-        return name, (folder.path / text).stat().st_size, None if bad else took[job] - took[base], peak_of(jobs[job]), compared
+        whole, other = took[job], took[base]
+        seconds = None if whole is None or other is None else whole - other
+        return name, (folder.path / text).stat().st_size, seconds, peak_of(jobs[job]), compared
 
     events = f"a trace of {options.steps:,} events"
     yield row(f"{events}, version 2, written", "written", "run", "second")
@@ -170,22 +184,24 @@ def rows(options, folder):
             base_job = base if base == "start" else f"{base} {part}"
             compared = "of a tenth" if part == 1 else ""
             yield row(name, f"marked {verb} {part}", base_job, f"marked trace {part}", compared)
-    yield row(f"{QUERIES} last writers and {QUERIES} origins over {options.steps:,} events", "asked", "second loaded", "second")
+    name = f"{QUERIES} last writers and {QUERIES} origins over {options.steps:,} events"
+    yield row(name, "asked", "second loaded", "second")
 
 
-def growth(now, before, compared):
+def growth(now: Measured, before: Measured, compared: str) -> str:
     """How many times the time, the memory and the text a row has of the row before."""
-    times = [one / other for one, other in zip(now, before)]
-    return "{:.2f} times the time {}, {:.2f} times its memory, {:.2f} times its text".format(times[0], compared, *times[1:])
+    seconds, memory, text = (one / other for one, other in zip(now, before))
+    return f"{seconds:.2f} times the time {compared}, {memory:.2f} times its memory, {text:.2f} times its text"
 
 
-def main():
+def main() -> int:
     parser = argparse.ArgumentParser(description=__doc__.splitlines()[0])
     program.add_program(parser)
     parser.add_argument("--steps", type=int, default=65_000)
     parser.add_argument("--runs", type=int, default=9)
     options = parser.parse_args()
-    good, before = True, None
+    good = True
+    before: Measured | None = None
     program.print_head("What", "Text, MB", "Seconds", "Peak MiB", "Compared")
     with tempfile.TemporaryDirectory() as path:
         for name, size, seconds, peak, compared in rows(options, Folder(path)):

@@ -20,32 +20,32 @@ from lcrq_tools import program
 VIEWERS = 4
 
 
-def script_of(actor, lines):
+def script_of(actor: int, lines: int) -> list[str]:
     """Dequeues of an empty queue by one actor, with a `len` after each of their steps."""
     steps = [f"deq {actor}"] + [f"go {actor}"] * 11
     return [line for number in range(lines // 2) for line in (steps[number % 12], "len")]
 
 
-def ways_of(built, lines, folder):
+def ways_of(built: str, lines: int, folder: Path) -> list[tuple[str, list[str], int]]:
     """The three ways: a name, the words, and how many lines are to be written."""
     scripts = [script_of(number, lines) for number in range(1, VIEWERS + 1)]
     whole = [line for script in scripts for line in script]
     names = [str(folder / f"viewer-{number}") for number in range(1, VIEWERS + 1)]
     for name, script in zip([*names, str(folder / "whole")], [*scripts, whole]):
         Path(name).write_text("".join(line + "\n" for line in script), encoding="ascii")
-    total, script = VIEWERS * lines, str(folder / "whole")
+    total, together = VIEWERS * lines, str(folder / "whole")
     return [
         (f"`view`, {VIEWERS} viewers of {lines:,} lines", [built, "view", *names], total + VIEWERS + 1),
-        (f"`view`, one viewer of {total:,} lines", [built, "view", script], total + 2),
-        (f"`run` of {total:,} lines", [built, "run", script], total),
+        (f"`view`, one viewer of {total:,} lines", [built, "view", together], total + 2),
+        (f"`run` of {total:,} lines", [built, "run", together], total),
     ]
 
 
-def measure(built, runs, lines, keeps):
-    """Times the three ways in turn, and prints the table."""
+def measure(built: str, runs: int, lines: int, keeps: bool) -> int:
+    """Times the three ways in turn, and prints the table; returns the exit status."""
     with tempfile.TemporaryDirectory() as folder:
         ways = ways_of(built, lines, Path(folder))
-        taken = {name: [] for name, _, _ in ways}
+        taken: dict[str, list[program.Watched]] = {name: [] for name, _, _ in ways}
         for _ in range(runs):
             for name, words, wanted in ways:
                 ended = program.watch(words, keeps=keeps)
@@ -60,7 +60,7 @@ def measure(built, runs, lines, keeps):
     return 0
 
 
-def main():
+def main() -> int:
     parser = argparse.ArgumentParser(description="Times viewers.")
     program.add_program(parser)
     parser.add_argument("--runs", type=int, default=9, help="how often each is run (9)")
