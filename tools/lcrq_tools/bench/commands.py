@@ -29,6 +29,7 @@ import statistics
 import sys
 import tempfile
 from dataclasses import dataclass
+from pathlib import Path
 
 from lcrq_tools import program
 from lcrq_tools.machine import SEED, random_run

@@ -22,6 +22,7 @@ import tempfile
 import time
 from collections.abc import Iterator
 from pathlib import Path
+from typing import Any
 
 from lcrq_tools import dependence, model, program
 from lcrq_tools.checks import run_pages, shown
@@ -32,8 +33,10 @@ try:
     from selenium.webdriver.common.action_chains import ActionChains
     from selenium.webdriver.common.by import By
     from selenium.webdriver.common.keys import Keys
+
+    HAS_SELENIUM = True
 except ImportError:
-    webdriver = None
+    HAS_SELENIUM = False
 
 LONG = "long"
 WIDTHS = (400, 1000, 1900)  # pixels: a phone, a window, a beamer
@@ -42,6 +45,8 @@ MOST_MS = 50.0  # that a key may take
 WALKS = 3  # how often each key is pressed: the quickest counts, since others may use the machine
 LEAST_SIZE = {400: 9.5, 1000: 11.0, 1900: 13.0}  # pixels of the smallest letters, by the width
 READS = Path(__file__).with_name("browser.js").read_text(encoding="utf-8")
+Json = Any  # what a function of browser.js returns
+Selenium = Any  # an object of selenium, most of whose functions have no types
 OPTIONS = ("--headless=new", "--no-sandbox", "--disable-gpu", "--force-prefers-reduced-motion")
 
 
@@ -52,13 +57,13 @@ class Browser:
     """A page in a browser."""
 
     def __init__(self) -> None:
-        options = webdriver.ChromeOptions()
-        options.binary_location = shutil.which("chromium")
+        options: Selenium = webdriver.ChromeOptions()
+        options.binary_location = shutil.which("chromium") or "chromium"
         for word in OPTIONS:
             options.add_argument(word)
         options.set_capability("goog:loggingPrefs", {"browser": "ALL"})
-        service = webdriver.chrome.service.Service(shutil.which("chromedriver"))
-        self.driver = webdriver.Chrome(options=options, service=service)
+        service = webdriver.chrome.service.Service(shutil.which("chromedriver") or "chromedriver")
+        self.driver: Selenium = webdriver.Chrome(options=options, service=service)
 
     def open(self, path: Path, fragment: str = "") -> None:
         """Opens a page."""
@@ -66,20 +71,24 @@ class Browser:
         self.driver.get(f"{path.as_uri()}{fragment}")
         self.driver.execute_cdp_cmd("Runtime.evaluate", {"expression": READS})
 
-    def ask(self, call: str) -> object:
+    def ask(self, call: str) -> Json:
         """What a function of browser.js returns."""
         return self.driver.execute_script(f"return {call}")
 
+    def actions(self) -> Selenium:
+        """Actions of the keys and the mouse, none so far."""
+        return ActionChains(self.driver)  # type: ignore[no-untyped-call]  # selenium has no type there
+
     def press(self, key: str) -> None:
         """Presses a key."""
-        ActionChains(self.driver).send_keys(key).perform()
+        self.actions().send_keys(key).perform()
 
     def address(self, wanted: str) -> str:
         """The end of the address; it may take a moment until that is as wanted."""
         ends = time.monotonic() + 2.0
         while self.ask("location.hash") != wanted and time.monotonic() < ends:
             time.sleep(0.05)
-        return self.ask("location.hash")
+        return str(self.ask("location.hash"))
 
     def resize(self, width: int) -> None:
         """Gives the page this width."""
@@ -90,7 +99,7 @@ class Browser:
         """What the browser has logged, if anything."""
         return "; ".join(it["message"] for it in self.driver.get_log("browser"))
 
-    def tree(self) -> list[dict]:
+    def tree(self) -> list[shown.Node]:
         """The nodes of the accessibility tree that aren't left out, each its role, its name and more."""
         nodes = self.driver.execute_cdp_cmd("Accessibility.getFullAXTree", {})["nodes"]
         return [
@@ -110,7 +119,7 @@ class Browser:
 class Walk:
     """A page, and the replies at each of its lines."""
 
-    def __init__(self, browser: Browser, path: Path, arguments: argparse.Namespace):
+    def __init__(self, browser: Browser, path: Path, arguments: argparse.Namespace) -> None:
         self.browser, self.path, self.arguments = browser, path, arguments
         self.asked = page.asked_of(arguments)
         self.count = len(self.asked.lines)
@@ -156,7 +165,7 @@ class Walk:
         """What is wrong with what the slider, a click and the address show, or nothing."""
         browser, middle = self.browser, max(1, self.count // 2)
         slider = browser.driver.find_element(By.ID, "slider")
-        ActionChains(browser.driver).move_to_element(slider).click().perform()
+        browser.actions().move_to_element(slider).click().perform()
         fault = self.fault_at(int(slider.get_attribute("value")))
         if slider.get_attribute("value") == "0":
             return "a click on the slider leads nowhere"
@@ -229,8 +238,8 @@ def long_fault(browser: Browser, folder: Path, given: argparse.Namespace) -> str
     browser.resize(WIDTHS[-1])
     browser.open(path)
     keys = ["ArrowRight"] * 400 + ["ArrowLeft"] * 400
-    walks = [[browser.ask(f"pressed('{key}')") for key in keys] for _ in range(WALKS)]
-    times = sorted(map(min, zip(*walks)))
+    walks: list[list[float]] = [[browser.ask(f"pressed('{key}')") for key in keys] for _ in range(WALKS)]
+    times = sorted(min(them) for them in zip(*walks))
     print(f"      {path.stat().st_size} bytes, a key takes {times[400]:.1f} ms, the slowest {times[-1]:.1f} ms")
     late = [it for it in times if it > MOST_MS]
     return f"{len(late)} of 800 keys take more than {MOST_MS} ms" if late else browser.errors()
@@ -258,8 +267,8 @@ def main() -> int:
     program.add_program(parser)
     given = parser.parse_args()
     missing = [name for name in ("chromium", "chromedriver") if not shutil.which(name)]
-    if missing or webdriver is None:
-        lacks = ", ".join([*missing, *([] if webdriver else ["selenium"])])
+    if missing or not HAS_SELENIUM:
+        lacks = ", ".join([*missing, *([] if HAS_SELENIUM else ["selenium"])])
         wanted = "Debian's chromium, chromium-driver and python3-selenium"
         raise SystemExit(f"not run: {lacks} not found; it needs {wanted}")
     browser = Browser()

@@ -11,6 +11,7 @@ used.
 """
 
 import argparse
+from collections.abc import Iterator
 
 from lcrq_tools import manual, program
 
@@ -21,7 +22,7 @@ OUTPUT = "  output|"  # before each line of standard output there
 SECONDS = 10.0  # a reply that takes longer does not come
 
 
-def rows():
+def rows() -> list[tuple[str, str]]:
     """Each line of the script with the reply to it."""
     stored = (REHEARSALS / "stdout").read_text(encoding="ascii")
     view = stored.partition(HEAD)[2].partition("  errors")[0].splitlines()
@@ -35,7 +36,7 @@ def rows():
     return list(zip(lines, replies))
 
 
-def checks_of(driven, asked):
+def checks_of(driven: program.Driven, asked: list[tuple[str, str]]) -> Iterator[tuple[str, str]]:
     """Asks each line, and gives the line with what is wrong with the reply, or nothing. The first
     line without a reply is the last one."""
     for line, wanted in asked:
@@ -47,7 +48,7 @@ def checks_of(driven, asked):
         yield line, "" if reply == wanted else f"{reply}, wanted {wanted}"
 
 
-def main():
+def main() -> int:
     parser = argparse.ArgumentParser(description=__doc__.splitlines()[0])
     program.add_program(parser)
     words = [parser.parse_args().program, "run", "-"]

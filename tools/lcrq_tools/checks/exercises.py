@@ -46,7 +46,7 @@ class Fault(Exception):
 class Answer:
     """A table of an answer."""
 
-    begins: re.Match  # the line before it
+    begins: re.Match[str]  # the line before it
     rows: list[list[str]]  # each a line and its reply
     changes: list[list[str]]  # of the trace, each a text and what is in its place
 
@@ -56,10 +56,11 @@ class Answer:
 
 def rows_of(text: str) -> list[list[str]]:
     """The two cells of each row of a table."""
-    rows = [ROW.fullmatch(line) for line in text.splitlines()]
-    if not rows or not all(rows):
+    found = [ROW.fullmatch(line) for line in text.splitlines()]
+    rows = [list(row.groups()) for row in found if row]
+    if not rows or len(rows) < len(found):
         raise Fault("a table has no rows, or one that is not two texts in backticks")
-    return [list(row.groups()) for row in rows]
+    return rows
 
 
 def answers_of(page: str) -> list[Answer]:
@@ -83,7 +84,7 @@ def answers_of(page: str) -> list[Answer]:
 # ---- Runs ----------------------------------------------------------------------------------------
 
 
-def lines_before(begins: re.Match, script: Path) -> list[str]:
+def lines_before(begins: re.Match[str], script: Path) -> list[str]:
     """The lines of a script that come before those of a table."""
     first, times, start, end, _ = (int(it) if it and it.isdecimal() else 0 for it in begins.groups())
     lines = script.read_text(encoding="ascii").splitlines() if first else []

@@ -4,14 +4,17 @@ Python's standard library is used.
 
 import json
 from collections.abc import Callable, Iterator
+from typing import Any
 
 from lcrq_tools import program
 from lcrq_tools.checks.port_runs import Bench
 
 SOUND = program.CRATES / "lessons" / "data" / "15-why-a-dequeue-looks-twice-1.trace"
 
+Start = dict[str, Any]  # that of a trace, as JSON has it
 
-def rows() -> Iterator[tuple[str, Callable[[dict], object]]]:
+
+def rows() -> Iterator[tuple[str, Callable[[Start], object]]]:
     """What is said of a start, and what changes the sound one so."""
     yield "no flaw", lambda start: None
     yield "Flaw 1: There are 1 to 16 actors", lambda start: start["segments"].pop()

@@ -18,6 +18,8 @@ import os
 import re
 import subprocess
 import tempfile
+from collections.abc import Callable, Iterator, Sequence
+from typing import Any, TypeGuard
 
 from lcrq_tools import manual, program, schema
 from lcrq_tools.program import SECONDS, peak_of
@@ -27,6 +29,13 @@ START_KIB = 8 * 1024  # more than a start takes
 READ, WRITE = "lcrqdb: refused 24 Read\n", "lcrqdb: refused 25 Write\n"
 BAD_TRACE = "lcrqdb: refused 27 BadTrace\n"
 
+Json = Any  # what a text of JSON holds
+Keys = tuple[str | int, ...]  # the keys of objects and the places in lists that lead to a value
+Fits = Callable[[object], bool]  # whether a value is what it has to be
+Change = Callable[[Json, Json], object]  # changes an object or a list at a key or a place
+Checks = Iterator[tuple[str, str]]  # names, each with what is wrong or nothing
+Answer = tuple[int, bytes, str]  # a status, standard output and standard error
+
 # ---- The grammar of lines ------------------------------------------------------------------------
 
 NUMBER = rb"(?:0|[1-9][0-9]*)"
@@ -35,15 +44,16 @@ NAME = re.compile(rb"[a-z0-9-]{1,16}")
 MOST_BYTES = 256
 
 
-def forms_of(line):
+def forms_of(line: str) -> list[str]:
     """The forms of a line of the manual: X for a number that is not an actor's, and each place."""
     form = re.sub(r"\b[KNI]\b", "X", line)
     return [form.replace("PLACE", place) for place in manual.PLACES] if "PLACE" in form else [form]
 
 
-def form_of(form):
+def form_of(form: str) -> tuple[re.Pattern[bytes], list[int | None]]:
     """A form as a pattern, with the range of each of its numbers and how many names it has."""
-    pattern, ranges = "", []
+    pattern = ""
+    ranges: list[int | None] = []
     for part in re.split(r"([ .])", form):
         if part in MOST:
             ranges.append(MOST[part])
@@ -62,7 +72,7 @@ FORMS = [form for line in manual.FORMS for form in forms_of(line)]
 GRAMMAR = [form_of(form) for form in FORMS]
 
 
-def fault_of(line):
+def fault_of(line: bytes) -> bytes | None:
     """The reply to a line that spells no command, or none."""
     if len(line) > MOST_BYTES:
         return b"refused 23 LineTooLong"
@@ -74,7 +84,7 @@ def fault_of(line):
     return b"refused 22 BadLine"
 
 
-def lines_of(script):
+def lines_of(script: bytes) -> list[bytes]:
     """The lines of a script: the last one may lack its line feed."""
     lines = script.split(b"\n")
     return lines if lines[-1] else lines[:-1]
@@ -83,12 +93,17 @@ def lines_of(script):
 # ---- Runs ----------------------------------------------------------------------------------------
 
 
-def run(built, words, given=b"", **more):
+def run(
+    built: str,
+    words: Sequence[str | bytes],
+    given: bytes = b"",
+    preexec_fn: Callable[[], None] | None = None,
+) -> program.Ended:
     """What a run of the program gives: its status, standard output and standard error."""
-    return program.run([built, *words], given, **more)
+    return program.run([built, *words], given, preexec_fn=preexec_fn)
 
 
-def replies_fit(built, script):
+def replies_fit(built: str, script: bytes) -> str:
     """Whether each line of a script has the reply that the grammar wants; says the first that has
     not."""
     status, output, errors = run(built, ["run", "-"], script)
@@ -105,23 +120,26 @@ def replies_fit(built, script):
 
 # ---- Lines ---------------------------------------------------------------------------------------
 
-SPELLED = ["enq 1 7", "enq 255 18446744073709551615", "deq 2", "aenq 1 0", "adeq 16", "go 1", "starve 1 yes", "starve 1 no"]
-SPELLED += ["undo", "undo 3", "roll 1", "back 0", "redo", "forward 2", "mark a", "mark abcdefghij-45678", "drop a", "goto a-1"]
-SPELLED += ["marks", "markat 1", "same a b", "origin 4", "writer qtail", "writer cell 0.0 0", "show qhead", "show head 1.0"]
-SPELLED += ["show tail 255.4294967295", "show next 0.0", "show cell 0.0 255", "show whole 1.0", "show ahead", "show atail"]
+SPELLED = ["enq 1 7", "enq 255 18446744073709551615", "deq 2", "aenq 1 0", "adeq 16", "go 1", "starve 1 yes"]
+SPELLED += ["starve 1 no", "undo", "undo 3", "roll 1", "back 0", "redo", "forward 2", "mark a"]
+SPELLED += ["mark abcdefghij-45678", "drop a", "goto a-1", "marks", "markat 1", "same a b", "origin 4", "writer qtail"]
+SPELLED += ["writer cell 0.0 0", "show qhead", "show head 1.0", "show tail 255.4294967295", "show next 0.0"]
+SPELLED += ["show cell 0.0 255", "show whole 1.0", "show ahead", "show atail"]
 SPELLED += ["show value 0.0 3", "show index 255.4294967295 255", "writer value 0.0 0", "writer index 16.1 10"]
 SPELLED += ["show acell 63", "actor 1", "step 1", "len"]
 
 
-def line_of(form):
+def line_of(form: str) -> str:
     """A line of this form."""
     return re.sub("[A-Z]+", lambda word: "a" if word[0] == "NAME" else "1", form)
 
 
-SPELLED += [line_of(form) for form in FORMS if not any(form_of(form)[0].fullmatch(line.encode()) for line in SPELLED)]
+SPELLED += [
+    line_of(form) for form in FORMS if not any(form_of(form)[0].fullmatch(line.encode()) for line in SPELLED)
+]
 
 
-def mutations(line):
+def mutations(line: bytes) -> Iterator[bytes]:
     """The beginnings of a line, and the line with each byte left out, changed to each other, or put
     in."""
     for at in range(len(line) + 1):
@@ -132,7 +150,7 @@ def mutations(line):
             yield line[:at] + bytes([byte]) + line[at + 1:]
 
 
-def line_checks(built):
+def line_checks(built: str) -> Checks:
     """Scripts of hostile lines."""
     alone = b"".join(bytes([byte]) + b"\n" for byte in range(256))
     yield "each of the 256 bytes alone is a line", replies_fit(built, alone)
@@ -149,107 +167,122 @@ def line_checks(built):
 
 # ---- The grammar of traces of version 2 ----------------------------------------------------------
 
-WORDS = {"go": [], "deq": [], "adeq": [], "enq": [2**64 - 1], "aenq": [2**64 - 1], "starve": [None]}
+WORDS: dict[str, list[int | None]] = {"go": [], "deq": [], "adeq": []}
+WORDS |= {"enq": [2**64 - 1], "aenq": [2**64 - 1], "starve": [None]}
 POINTS = {"Idle"} | {f"E{n}" for n in range(1, 15)} | {f"Q{n}" for n in range(1, 15)} | {"A1", "A2", "B1", "B2", "B3"}
 
 
-def is_number(value, most=2**64 - 1):
+def is_number(value: object, most: int = 2**64 - 1) -> TypeGuard[int]:
     """Whether a value is a whole number up to this one."""
     return type(value) is int and 0 <= value <= most
 
 
-def is_bit(value):
+def is_bit(value: object) -> bool:
     """Whether a value is a bit."""
     return type(value) is bool
 
 
-def is_value(value):
+def is_value(value: object) -> bool:
     """Whether a value is one that a cell or an actor has, or says that there is none."""
     return value is None or is_number(value)
 
 
-def is_name(value):
+def is_name(value: object) -> bool:
     """Whether a value names a segment."""
-    return type(value) is list and len(value) == 2 and is_number(value[0], 255) and is_number(value[1], 2**32 - 1)
+    if type(value) is not list or len(value) != 2:
+        return False
+    return is_number(value[0], 255) and is_number(value[1], 2**32 - 1)
 
 
-def is_event(value):
+def is_event(value: object) -> bool:
     """Whether a value is an event."""
-    if type(value) is not list or len(value) < 2 or type(value[0]) is not str or value[0] not in WORDS or not is_number(value[1], 255):
+    if type(value) is not list or len(value) < 2 or type(value[0]) is not str or value[0] not in WORDS:
         return False
     wanted = WORDS[value[0]]
-    return len(value) == 2 + len(wanted) and all(is_bit(it) if most is None else is_number(it, most) for it, most in zip(value[2:], wanted))
+    if not is_number(value[1], 255) or len(value) != 2 + len(wanted):
+        return False
+    return all(is_bit(it) if most is None else is_number(it, most) for it, most in zip(value[2:], wanted))
 
 
-def is_list(value, is_item):
+def is_list(value: object, is_item: Fits) -> TypeGuard[list[Json]]:
     """Whether a value is a list of these."""
     return type(value) is list and all(is_item(it) for it in value)
 
 
-def is_events(value):
+def is_events(value: object) -> bool:
     """Whether a value is a list of events."""
     return is_list(value, is_event)
 
 
-def is_object(value, members):
+def is_object(value: object, members: dict[str, Fits]) -> bool:
     """Whether a value is an object with exactly these keys, and each member is what it has to
     be."""
-    return type(value) is dict and value.keys() == members.keys() and all(fits(value[key]) for key, fits in members.items())
+    if type(value) is not dict or value.keys() != members.keys():
+        return False
+    return all(fits(value[key]) for key, fits in members.items())
 
 
-def is_cell(value):
+def is_cell(value: object) -> bool:
     """Whether a value is a cell of a ring."""
-    return type(value) is list and len(value) == 3 and is_bit(value[0]) and is_number(value[1]) and is_value(value[2])
+    if type(value) is not list or len(value) != 3:
+        return False
+    return is_bit(value[0]) and is_number(value[1]) and is_value(value[2])
 
 
-def is_segment(ring):
+def is_segment(ring: Json) -> Fits:
     """What says whether a value is a segment with this many cells."""
-    members = {"closed": is_bit, "head": is_number, "tail": is_number, "next": lambda it: it is None or is_name(it)}
+    members: dict[str, Fits] = {"closed": is_bit, "head": is_number, "tail": is_number}
+    members["next"] = lambda it: it is None or is_name(it)
     members["cells"] = lambda it: is_list(it, is_cell) and len(it) == ring
     return lambda value: is_object(value, members)
 
 
-def is_slots(value):
+def is_slots(value: object) -> bool:
     """Whether a value is a list of slots of the array with their positions, which rise."""
-    def is_slot(it):
+    def is_slot(it: object) -> bool:
         return type(it) is list and len(it) == 2 and is_number(it[0], 63) and (it[1] == "top" or is_number(it[1]))
+
     return is_list(value, is_slot) and all(one[0] < other[0] for one, other in zip(value, value[1:]))
 
 
-def is_op(value):
+def is_op(value: object) -> bool:
     """Whether a value is a call, or says that there is none."""
     calls = {"enq": 2, "aenq": 2, "deq": 1, "adeq": 1}
     if value is None:
         return True
-    named = type(value) is list and value and type(value[0]) is str and calls.get(value[0]) == len(value)
-    return bool(named) and all(is_number(it) for it in value[1:])
+    if type(value) is not list or not value or type(value[0]) is not str or calls.get(value[0]) != len(value):
+        return False
+    return all(is_number(it) for it in value[1:])
 
 
-ACTOR = {"closed": is_bit, "crq": is_name, "h": is_number, "idx": is_number, "new": is_name, "next": is_name, "op": is_op, "safe": is_bit}
-ACTOR |= {"pass": lambda it: is_number(it, 255), "pc": lambda it: type(it) is str and it in POINTS, "t": is_number, "val": is_value}
+ACTOR: dict[str, Fits] = {"crq": is_name, "new": is_name, "next": is_name, "op": is_op, "closed": is_bit}
+ACTOR |= {"safe": is_bit, "h": is_number, "idx": is_number, "t": is_number, "val": is_value}
+ACTOR |= {"pass": lambda it: is_number(it, 255), "pc": lambda it: type(it) is str and it in POINTS}
 
 
-def is_start(ring):
+def is_start(ring: Json) -> Fits:
     """What says whether a value is a start over rings of this many cells."""
-    array = {"cells": is_slots, "head": is_number, "tail": is_number}
-    parts = {"qhead": is_name, "qtail": is_name, "array": lambda it: is_object(it, array)}
+    array: dict[str, Fits] = {"cells": is_slots, "head": is_number, "tail": is_number}
+    parts: dict[str, Fits] = {"qhead": is_name, "qtail": is_name, "array": lambda it: is_object(it, array)}
     parts["actors"] = lambda it: is_list(it, lambda actor: is_object(actor, ACTOR))
     parts["segments"] = lambda it: is_list(it, lambda made: is_list(made, is_segment(ring)))
-    fresh = {"fresh": lambda it: is_number(it, 16) and it > 0}
+    fresh: dict[str, Fits] = {"fresh": lambda it: is_number(it, 16) and it > 0}
     return lambda value: is_object(value, fresh) or is_object(value, parts)
 
 
-def is_marks(value):
+def is_marks(value: object) -> bool:
     """Whether a value is a list of bookmarks: 64 at most, with different names."""
-    members = {"events": is_events, "name": lambda it: type(it) is str and NAME.fullmatch(it.encode()) is not None}
-    named = is_list(value, lambda it: is_object(it, members)) and len(value) <= 64
-    return named and len({it["name"] for it in value}) == len(value)
+    members: dict[str, Fits] = {"events": is_events}
+    members["name"] = lambda it: type(it) is str and NAME.fullmatch(it.encode()) is not None
+    if not is_list(value, lambda it: is_object(it, members)) or len(value) > 64:
+        return False
+    return len({it["name"] for it in value}) == len(value)
 
 
-def is_trace(value):
+def is_trace(value: object) -> bool:
     """Whether a value is a trace of version 2."""
     ring = value.get("ring") if type(value) is dict else None
-    members = {"events": is_events, "marks": is_marks, "start": is_start(ring), "undone": is_events}
+    members: dict[str, Fits] = {"events": is_events, "undone": is_events, "marks": is_marks, "start": is_start(ring)}
     members |= {"ring": lambda it: is_number(it) and it in (2, 4, 8), "version": lambda it: is_number(it) and it == 2}
     return is_object(value, members)
 
@@ -257,14 +290,15 @@ def is_trace(value):
 # ---- Traces --------------------------------------------------------------------------------------
 
 TRACE = '{"actors":4,"events":[["enq",1,7],["go",1]],"ring":4,"version":1}'
-BAD_EVENTS = ['["go",256]', '["go",-1]', '["go"]', '["enq",1]', '["starve",1,1]', '["hop",1]', '["go",1.0]', '["go",1e0]', '["go",1,1]']
-BAD_EVENTS += ["[]", "{}", "null", '"go"', '["go","1"]', '["enq",1,18446744073709551616]', '["enq",1,-1]', '["deq",1,2]', '["Go",1]']
+BAD_EVENTS = ['["go",256]', '["go",-1]', '["go"]', '["enq",1]', '["starve",1,1]', '["hop",1]', '["go",1.0]']
+BAD_EVENTS += ['["go",1e0]', '["go",1,1]', "[]", "{}", "null", '"go"', '["go","1"]', '["enq",1,18446744073709551616]']
+BAD_EVENTS += ['["enq",1,-1]', '["deq",1,2]', '["Go",1]']
 
 
-def bad_traces():
+def bad_traces() -> Iterator[tuple[str, bytes]]:
     """Texts that are no trace, by what is wrong with them."""
-    for old, new in [('"actors":4', '"actors":0'), ('"actors":4', '"actors":17'), ('"ring":4', '"ring":3'), ('"ring":4', '"ring":16')]:
-        yield f"{new}", TRACE.replace(old, new).encode()
+    for key, worth in [("actors", 0), ("actors", 17), ("ring", 3), ("ring", 16)]:
+        yield f'"{key}":{worth}', TRACE.replace(f'"{key}":4', f'"{key}":{worth}').encode()
     for new in ('"version":0', '"version":3', '"version":1.0', '"version":"1"'):
         yield new, TRACE.replace('"version":1', new).encode()
     yield "a key more", TRACE.replace('"ring"', '"rung":1,"ring"').encode()
@@ -281,18 +315,21 @@ def bad_traces():
 
 
 # an actor at the fetch-and-add of its enqueue, with two bookmarks, a live and an undone event
-ACTORS = '[{"closed":false,"crq":[0,0],"h":0,"idx":0,"new":[0,0],"next":[0,0],"op":["enq",1],"pass":0,"pc":"E4","safe":false,"t":0,"val":null}]'
+ACTORS = '[{"closed":false,"crq":[0,0],"h":0,"idx":0,"new":[0,0],"next":[0,0],"op":["enq",1],'
+ACTORS += '"pass":0,"pc":"E4","safe":false,"t":0,"val":null}]'
 SEGMENT = '{"cells":[[true,0,null],[true,1,null]],"closed":false,"head":0,"next":null,"tail":0}'
 ARRAY = '{"cells":[[0,"top"],[5,7]],"head":0,"tail":0}'
 PARTS = f'{{"actors":{ACTORS},"array":{ARRAY},"qhead":[0,0],"qtail":[0,0],"segments":[[{SEGMENT}],[]]}}'
 MARKS = '[{"events":[["go",1],["go",1]],"name":"a"},{"events":[],"name":"b-2"}]'
 SECOND = f'{{"events":[["go",1]],"marks":{MARKS},"ring":2,"start":{PARTS},"undone":[["go",1]],"version":2}}'
-OTHERS = [None, True, False, -1, 0, 1, 2, 3, 4, 16, 17, 63, 64, 255, 256, 2**32 - 1, 2**32, 2**62, 2**62 + 1, 2**64 - 1, 2**64, 10**400, 1.0, 0.5]
-OTHERS += ["", "a", "A", "a" * 16, "a" * 17, "top", "empty", "E4", "E15", "go", [], [0], [0, 0], [1, 7], [0, 0, 0], [True, 0, None], ["deq"], ["enq", 7]]
-OTHERS += [["go", 1], ["go", 0], ["starve", 1, True], {}, {"fresh": 1}, {"fresh": 0}, {"events": [], "name": "c"}, {"events": [], "name": "a"}]
+OTHERS: list[Json] = [None, True, False, -1, 0, 1, 2, 3, 4, 16, 17, 63, 64, 255, 256, 2**32 - 1, 2**32, 2**62]
+OTHERS += [2**62 + 1, 2**64 - 1, 2**64, 10**400, 1.0, 0.5, "", "a", "A", "a" * 16, "a" * 17, "top", "empty"]
+OTHERS += ["E4", "E15", "go", [], [0], [0, 0], [1, 7], [0, 0, 0], [True, 0, None], ["deq"], ["enq", 7], ["go", 1]]
+OTHERS += [["go", 0], ["starve", 1, True], {}, {"fresh": 1}, {"fresh": 0}]
+OTHERS += [{"events": [], "name": "c"}, {"events": [], "name": "a"}]
 
 
-def places_in(value, path=()):
+def places_in(value: Json, path: Keys = ()) -> Iterator[Keys]:
     """The paths to all values in a value."""
     yield path
     inside = value.items() if type(value) is dict else enumerate(value) if type(value) is list else ()
@@ -300,32 +337,37 @@ def places_in(value, path=()):
         yield from places_in(it, (*path, key))
 
 
-def at(value, path):
+def at(value: Json, path: Keys) -> Json:
     """The value at a path."""
     for key in path:
         value = value[key]
     return value
 
 
-def changed(value, path, change):
+def changed(value: Json, path: Keys, change: Change) -> Json:
     """A value with another at a path: `change` is called with what has it and the last key."""
     new = copy.deepcopy(value)
     change(at(new, path[:-1]), path[-1])
     return new
 
 
-def nearly_traces():
+def puts(other: Json) -> Change:
+    """The change that puts another value in place."""
+    return lambda it, key: it.__setitem__(key, other)
+
+
+def nearly_traces() -> Iterator[Json]:
     """Values that are nearly that trace: each value in it changed to others, left out or doubled,
     each key misspelled, a key more in each object."""
     whole = json.loads(SECOND)
     for path in places_in(whole):
         inside = at(whole, path)
         if type(inside) is dict:
-            yield changed({"": whole}, ("", *path, "more"), lambda it, key: it.__setitem__(key, 0))[""]
+            yield changed({"": whole}, ("", *path, "more"), puts(0))[""]
         if not path:
             continue
         for other in OTHERS:
-            yield changed(whole, path, lambda it, key, other=other: it.__setitem__(key, other))
+            yield changed(whole, path, puts(other))
         yield changed(whole, path, lambda it, key: it.pop(key))
         if type(path[-1]) is str:
             yield changed(whole, path, lambda it, key: it.__setitem__(key.upper(), it.pop(key)))
@@ -333,7 +375,7 @@ def nearly_traces():
             yield changed(whole, path, lambda it, key: it.insert(key, copy.deepcopy(it[key])))
 
 
-def nearly_trace_fault(built):
+def nearly_trace_fault(built: str) -> tuple[int, str]:
     """Whether just those of these values are no trace that the grammar says; says the first that is
     not answered so. A value that is a trace is loaded, or its start is flawed, or an event of it is
     refused."""
@@ -349,13 +391,13 @@ def nearly_trace_fault(built):
     return count, ""
 
 
-def second_with(old, new):
+def second_with(old: str, new: str) -> bytes:
     """That trace with another text for a part of it."""
     assert old in SECOND, old
     return SECOND.replace(old, new, 1).encode()
 
 
-def second_bad_traces():
+def second_bad_traces() -> Iterator[tuple[str, bytes]]:
     """Texts that are no trace of version 2 and no value that JSON's own writer gives, by what is
     wrong with them."""
     for number in ("0.0", "0e0", "1e0", "1E400", "00", "+0", "0x0", "1" * 5000, "NaN", "Infinity"):
@@ -364,7 +406,8 @@ def second_bad_traces():
         key = '"name":' if old.startswith('"name"') else ""
         for opened, closed in (("[", "]"), ('{"a":', "}")):
             yield f"200 {opened} for {old[:20]}", second_with(old, key + opened * 200)
-            yield f"200 {opened} and as many {closed} for {old[:20]}", second_with(old, key + opened * 200 + "0" + closed * 200)
+            text = key + opened * 200 + "0" + closed * 200
+            yield f"200 {opened} and as many {closed} for {old[:20]}", second_with(old, text)
     yield "65 bookmarks", second_with(MARKS, json.dumps([{"events": [], "name": f"n{n}"} for n in range(65)]))
     yield "a name that is no UTF-8", second_with('"name":"a"', '"name":"?"').replace(b"?", b"\xc0\x80")
     yield "a name with an escaped NUL", second_with('"name":"a"', '"name":"\\u0000"')
@@ -376,33 +419,36 @@ def second_bad_traces():
 FLAW = "lcrqdb: refused 26 Flaw {}\n"
 
 
-def huge_parts():
+def huge_parts() -> Iterator[tuple[str, bytes, Answer]]:
     """Texts of huge parts: a name, the text, and what the program ends with."""
-    loaded = (0, b"at 1 1\n", "")
-    rows = [(65_535, loaded), (65_536, (1, b"", FLAW.format(1)))]
-    for count, wanted in rows:
-        made = ",".join([SEGMENT] * count)
-        yield f"{count:,} segments of an actor", second_with(f"[[{SEGMENT}],[]]", f"[[{SEGMENT}],[{made}]]"), wanted
+    loaded, flawed = (0, b"at 1 1\n", ""), (1, b"", FLAW.format(1))
+    made = f"[[{SEGMENT}],[]]"
+    for count, wanted in [(65_535, loaded), (65_536, flawed)]:
+        many = ",".join([SEGMENT] * count)
+        yield f"{count:,} segments of an actor", second_with(made, f"[[{SEGMENT}],[{many}]]"), wanted
     sixteen = ",".join([ACTORS[1:-1]] * 16)
     lists = f"[[{SEGMENT}]" + ",[]" * 16 + "]"
-    yield "16 actors", second_with(ACTORS, f"[{sixteen}]").replace(f"[[{SEGMENT}],[]]".encode(), lists.encode()), loaded
-    yield "17 actors", second_with(ACTORS, f"[{sixteen},{ACTORS[1:-1]}]").replace(b"],[]]", b"]" + b",[]" * 17 + b"]"), (1, b"", FLAW.format(1))
-    yield "no actor", second_with(ACTORS, "[]"), (1, b"", FLAW.format(1))
-    yield "a list of a maker too much", second_with(f"[[{SEGMENT}],[]]", f"[[{SEGMENT}],[],[]]"), (1, b"", FLAW.format(1))
-    yield "two segments of maker 0", second_with(f"[[{SEGMENT}],[]]", f"[[{SEGMENT},{SEGMENT}],[]]"), (1, b"", FLAW.format(1))
+    yield "16 actors", second_with(ACTORS, f"[{sixteen}]").replace(made.encode(), lists.encode()), loaded
+    actors = second_with(ACTORS, f"[{sixteen},{ACTORS[1:-1]}]")
+    yield "17 actors", actors.replace(b"],[]]", b"]" + b",[]" * 17 + b"]"), flawed
+    yield "no actor", second_with(ACTORS, "[]"), flawed
+    yield "a list of a maker too much", second_with(made, f"[[{SEGMENT}],[],[]]"), flawed
+    yield "two segments of maker 0", second_with(made, f"[[{SEGMENT},{SEGMENT}],[]]"), flawed
     full = json.dumps([[at, 2**64 - 1] for at in range(64)])
     yield "a full array", second_with('[[0,"top"],[5,7]]', full), loaded
     names = json.dumps([{"events": [["go", 1]], "name": f"{n:-^16}"} for n in range(64)])
     yield "64 bookmarks with names of 16 bytes", second_with(MARKS, names), loaded
 
 
-def second_trace_checks(built):
+def second_trace_checks(built: str) -> Checks:
     """Texts of traces of version 2."""
     wanted = (1, b"", BAD_TRACE)
     assert is_trace(json.loads(SECOND))
-    yield "a whole session", differs(load(built, SECOND.encode(), b"len\nmarks\nredo\n"), (0, b"at 1 1\nmarks 2\nat 2 0\n", ""))
+    loaded = load(built, SECOND.encode(), b"len\nmarks\nredo\n")
+    yield "a whole session", differs(loaded, (0, b"at 1 1\nmarks 2\nat 2 0\n", ""))
     beginnings = [load(built, SECOND[:end].encode()) for end in range(len(SECOND))]
-    yield f"each of the {len(SECOND)} beginnings of a whole session", differs([it for it in beginnings if it != wanted], [])
+    others = [it for it in beginnings if it != wanted]
+    yield f"each of the {len(SECOND)} beginnings of a whole session", differs(others, [])
     count, fault = nearly_trace_fault(built)
     yield f"{count:,} values that are nearly a whole session", fault
     for name, text in second_bad_traces():
@@ -413,18 +459,25 @@ def second_trace_checks(built):
     refused += [('"events":[["go",1]],"marks"', '"events":[["go",0]],"marks"', "28 TraceStep 1 cause 1 NoActor")]
     refused += [('"undone":[["go",1]]', '"undone":[["go",1],["go",0]]', "28 TraceStep 3 cause 1 NoActor")]
     refused += [('"head":0,"next"', '"head":4611686018427387905,"next"', "26 Flaw 4")]
-    for old, new, text in refused:
-        yield f"{text} of a whole session", differs(load(built, second_with(old, new)), (1, b"", f"lcrqdb: refused {text}\n"))
+    for old, new, why in refused:
+        ended = load(built, second_with(old, new))
+        yield f"{why} of a whole session", differs(ended, (1, b"", f"lcrqdb: refused {why}\n"))
     for key in ("events", "marks", "ring", "start", "undone", "version"):
         twice = second_with(f'"{key}":', f'"{key}":{json.dumps(json.loads(SECOND)[key])},"{key}":')
         status, _, errors = load(built, twice)
         fault = "" if status == 0 or (status, errors) == (1, BAD_TRACE) else f"status {status}, {errors!r}"
         yield f"the key {key} twice ends as some trace or as none", fault
-    other = json.dumps(dict(reversed(json.loads(SECOND).items())), indent=3).replace("enq", "\\u0065nq").encode()
-    yield "a whole session in other white space, order of keys and escapes", differs(load(built, b"\n\t" + other + b"\r\n"), (0, b"at 1 1\n", ""))
+    loaded = load(built, spelled_otherwise(SECOND))
+    yield "a whole session in other white space, order of keys and escapes", differs(loaded, (0, b"at 1 1\n", ""))
 
 
-def load(built, text, script=b"len\n"):
+def spelled_otherwise(trace: str) -> bytes:
+    """A trace in other white space, order of keys and escapes."""
+    other = json.dumps(dict(reversed(json.loads(trace).items())), indent=3).replace("enq", "\\u0065nq").encode()
+    return b"\n\t" + other + b"\r\n"
+
+
+def load(built: str, text: bytes, script: bytes = b"len\n") -> Answer:
     """Loads a trace and runs a script over it. Where the schema differs from the answer, that is
     after standard error."""
     with tempfile.NamedTemporaryFile() as file:
@@ -439,7 +492,7 @@ def load(built, text, script=b"len\n"):
 MOST_FOR_SCHEMA = 1_000_000  # bytes of a text on which the schema is tried
 
 
-def with_one_key_each(pairs):
+def with_one_key_each(pairs: list[tuple[str, Json]]) -> dict[str, Json]:
     """An object of these keys and values; none if a key is there twice, of which nothing is
     promised."""
     if len(dict(pairs)) < len(pairs):
@@ -447,18 +500,22 @@ def with_one_key_each(pairs):
     return dict(pairs)
 
 
-def is_beyond_schemas(value):
+def is_beyond_schemas(value: Json) -> bool:
     """Whether a value has what is no trace and what no schema can say: a number as 1.0, one name
     twice, slots that do not rise."""
     inside = [at(value, path) for path in places_in(value)]
     lists = [it for it in inside if type(it) is list]
     names = [[mark.get("name") for mark in it] for it in lists if all(type(mark) is dict for mark in it)]
-    numbers = [[slot[0] for slot in it] for it in lists if all(type(slot) is list and slot and type(slot[0]) is int for slot in it)]
+    numbers = [
+        [slot[0] for slot in it]
+        for it in lists
+        if all(type(slot) is list and slot and type(slot[0]) is int for slot in it)
+    ]
     twice = any(len(it) > len(set(map(str, it))) for it in names)
     return any(type(it) is float for it in inside) or twice or any(it != sorted(set(it)) for it in numbers)
 
 
-def schema_fault(text, is_bad):
+def schema_fault(text: bytes, is_bad: bool) -> str:
     """Where the schema differs from the program on a text, which answers that it is BadTrace or
     not; nothing if it does not differ."""
     try:
@@ -473,12 +530,12 @@ def schema_fault(text, is_bad):
     return "the schema takes it" if is_bad and not fault and not is_beyond_schemas(value) else ""
 
 
-def differs(got, wanted):
+def differs(got: object, wanted: object) -> str:
     """What is wrong, or nothing."""
     return "" if got == wanted else f"{got!r}, wanted {wanted!r}"
 
 
-def trace_checks(built):
+def trace_checks(built: str) -> Checks:
     """Texts of traces."""
     beginnings = [load(built, TRACE[:at].encode()) for at in range(len(TRACE))]
     wanted = (1, b"", BAD_TRACE)
@@ -486,12 +543,13 @@ def trace_checks(built):
     for name, text in bad_traces():
         yield f"no trace: {name}", differs(load(built, text), wanted)
     refused = TRACE.replace('["enq",1,7]', '["go",0]').encode()
-    yield "an event of no actor", differs(load(built, refused), (1, b"", "lcrqdb: refused 28 TraceStep 1 cause 1 NoActor\n"))
-    other = json.dumps(dict(reversed(json.loads(TRACE).items())), indent=3).replace("enq", "\\u0065nq").encode()
-    yield "other white space, order of keys and escapes", differs(load(built, b"\n\t" + other + b"\r\n"), (0, b"at 2 0\n", ""))
+    no_actor = (1, b"", "lcrqdb: refused 28 TraceStep 1 cause 1 NoActor\n")
+    yield "an event of no actor", differs(load(built, refused), no_actor)
+    loaded = load(built, spelled_otherwise(TRACE))
+    yield "other white space, order of keys and escapes", differs(loaded, (0, b"at 2 0\n", ""))
 
 
-def cost(built, text, wanted):
+def cost(built: str, text: bytes, wanted: str) -> tuple[float, int, bool]:
     """The seconds and the most KiB of refusing a text, and whether it was refused so."""
     with tempfile.NamedTemporaryFile() as file:
         file.write(text)
@@ -501,16 +559,16 @@ def cost(built, text, wanted):
     return ended.seconds, ended.peak_kib, fits
 
 
-def repeated(old, item, count):
+def repeated(old: str, item: str, count: int) -> bytes:
     """That trace with a list of this many of these items for a part of it."""
     return second_with(old, "[" + ",".join([item] * count) + "]")
 
 
-def growth_checks(built):
+def growth_checks(built: str) -> Checks:
     """Long texts that are refused: with ten times the bytes at most twenty times the time and the
     memory, beside a start's own."""
     deep = '"start":'
-    texts = {
+    texts: dict[str, tuple[Callable[[int], bytes], str]] = {
         "opening brackets": (lambda n: b"[" * n, BAD_TRACE),
         "a string": (lambda n: b'"' + b"a" * (10 * n) + b'"', BAD_TRACE),
         "a number's digits": (lambda n: b"7" * (n // 100), BAD_TRACE),
@@ -528,16 +586,16 @@ def growth_checks(built):
         few, many = cost(built, text(100_000), wanted), cost(built, text(1_000_000), wanted)
         grew = many[0] > 20 * few[0] + 0.1 or many[1] > 20 * max(few[1], START_KIB)
         fault = "" if few[2] and many[2] and not grew else f"refused {few[2]} {many[2]}"
-        shown = f"{few[0]:.3f} s and {few[1] / 1024:.0f} MiB, ten times as long {many[0]:.3f} s and {many[1] / 1024:.0f} MiB"
-        yield f"{name} of {len(text(1_000_000)):,} bytes: {shown}", fault
+        first, second = (f"{seconds:.3f} s and {kib / 1024:.0f} MiB" for seconds, kib, _ in (few, many))
+        yield f"{name} of {len(text(1_000_000)):,} bytes: {first}, ten times as long {second}", fault
 
 
 # ---- Command lines and devices -------------------------------------------------------------------
 
 
-def bad_words(built):
+def bad_words(built: str) -> Checks:
     """Command lines."""
-    yield "a word that is no UTF-8", differs(run(built, ["run", b"\xff\xfe"])[::2][0], 2)
+    yield "a word that is no UTF-8", differs(run(built, ["run", b"\xff\xfe"]).status, 2)
     yield "an empty name", differs(run(built, ["run", ""]), (1, b"", READ))
     yield "a name of 100,000 bytes", differs(run(built, ["run", "a" * 100_000]), (1, b"", READ))
     yield "an option of 100,000 bytes", differs(run(built, ["run", "-", "--ring", "4" * 100_000])[:2], (2, b""))
@@ -546,20 +604,22 @@ def bad_words(built):
         file.flush()
         viewers = b"".join(b"viewer %d\nat 0 0\n" % number for number in range(1, 65)) + b"history 64\n"
         yield "64 files for `view`", differs(run(built, ["view"] + [file.name] * 64), (0, viewers, ""))
-        yield "65 files for `view`", differs(run(built, ["view"] + [file.name] * 65), (2, b"", "lcrqdb: 1 to 64 files\n"))
+        ended = run(built, ["view"] + [file.name] * 65)
+        yield "65 files for `view`", differs(ended, (2, b"", "lcrqdb: 1 to 64 files\n"))
         two = b"viewer 1\nat 0 0\nviewer 2\nat 0 0\nhistory 2\n"
         yield "two views of one file", differs(run(built, ["view", file.name, file.name]), (0, two, ""))
-        yield "a file of a view that is not there", differs(run(built, ["view", file.name, "/nowhere/script"]), (1, b"", READ))
+        ended = run(built, ["view", file.name, "/nowhere/script"])
+        yield "a file of a view that is not there", differs(ended, (1, b"", READ))
     yield "`view` of a folder", differs(run(built, ["view", "/"]), (1, b"", READ))
     yield "`load` of a folder", differs(run(built, ["load", "/"]), (1, b"", READ))
 
 
-def closed(number):
+def closed(number: int) -> Callable[[], None]:
     """Closes a standard stream in the child before the program starts."""
     return lambda: os.close(number)
 
 
-def stream_checks(built):
+def stream_checks(built: str) -> Checks:
     """Streams that are closed, empty or endless."""
     yield "/dev/null for a script", differs(run(built, ["run", "/dev/null"]), (0, b"", ""))
     yield "a folder for a script", differs(run(built, ["run", "/"]), (1, b"", READ))
@@ -572,10 +632,11 @@ def stream_checks(built):
     yield "100,000,000 zero bytes and no line feed", endless(built, 100_000_000)
 
 
-def endless(built, count):
+def endless(built: str, count: int) -> str:
     """Reads this many bytes of a device that gives no line feed: one line that is too long, in the
     memory of any other."""
     child = subprocess.Popen([built, "run", "-"], stdin=subprocess.PIPE, stdout=subprocess.PIPE)
+    assert child.stdin
     for _ in range(count // 1_000_000):
         child.stdin.write(bytes(1_000_000))
     peak = peak_of(child.pid)
@@ -584,13 +645,14 @@ def endless(built, count):
     return "" if fits else f"status {child.returncode}, {output[:80]!r}, {peak} KiB"
 
 
-def shrinking(built):
+def shrinking(built: str) -> str:
     """A file that is made empty while its script runs: whole lines were read, so each reply is
     whole."""
     with tempfile.NamedTemporaryFile() as file:
         file.write(b"len\n" * 1_000_000)
         file.flush()
         child = subprocess.Popen([built, "run", file.name], stdout=subprocess.PIPE, stderr=subprocess.PIPE)
+        assert child.stdout and child.stderr
         first = child.stdout.read(7)
         os.truncate(file.name, 0)
         rest, errors = child.stdout.read(), child.stderr.read()
@@ -601,12 +663,13 @@ def shrinking(built):
     return "" if fits else f"status {status}, {errors!r}, {sorted(replies)[:3]}"
 
 
-def reader_that_leaves(built, lines):
+def reader_that_leaves(built: str, lines: int) -> str:
     """For each reply a reader that goes away after it: the program ends with status 1 and says so,
     or had written all."""
     for taken in range(lines):
         reading, writing = os.pipe()
         child = subprocess.Popen([built, "run", "-"], stdin=subprocess.PIPE, stdout=writing, stderr=subprocess.PIPE)
+        assert child.stdin and child.stderr
         os.close(writing)
         for _ in range(taken):
             child.stdin.write(b"len\n")
@@ -624,19 +687,20 @@ def reader_that_leaves(built, lines):
     return ""
 
 
-def device_checks(built):
+def device_checks(built: str) -> Checks:
     """Files and readers that change while the program runs."""
     yield "a file that shrinks while it is read", shrinking(built)
     yield "a reader that leaves after each of 50 replies", reader_that_leaves(built, 50)
 
 
-def all_checks(built):
+def all_checks(built: str) -> Checks:
     """The checks, each a name and what is wrong, or nothing."""
-    for checks in (line_checks, trace_checks, second_trace_checks, growth_checks, bad_words, stream_checks, device_checks):
+    of_traces = (trace_checks, second_trace_checks, growth_checks)
+    for checks in (line_checks, *of_traces, bad_words, stream_checks, device_checks):
         yield from checks(built)
 
 
-def main():
+def main() -> int:
     parser = argparse.ArgumentParser(description=__doc__.splitlines()[0])
     program.add_program(parser)
     return program.print_checks(all_checks(parser.parse_args().program))

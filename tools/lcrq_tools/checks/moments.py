@@ -8,82 +8,95 @@ actor's next step; of each pin, that it is at that place. No label may overlap a
 off.
 """
 
+import argparse
 import json
 import re
 import tempfile
+from collections.abc import Iterable
 from dataclasses import dataclass
 from pathlib import Path
+from typing import Any
 from xml.etree import ElementTree
 
 from lcrq_tools import model, program
-from lcrq_tools.draw import figure, moment, picture
+from lcrq_tools.draw import figure, picture
 
 SVG = "{http://www.w3.org/2000/svg}"
+
+Trace = dict[str, Any]  # as JSON has it
+Label = tuple[float, float, str]  # its x, its y and its text
+Chip = tuple[str, list[str]]  # the place that the actor would touch, and the labels
 
 
 @dataclass
 class Drawn:
     """A moment as its elements say it."""
 
-    places: dict  # of each place its labels, each its x, its y and its text
-    written: set  # the places that are marked
-    broken: set  # the segments in a broken frame
-    chips: dict  # of each actor its place and its labels
-    pins: dict  # of each actor its place, and where the pin is
-    segments: list  # the linked segments, as they are read
+    places: dict[str, list[Label]]  # the labels of each place
+    written: set[str]  # the places that are marked
+    broken: set[str]  # the segments in a broken frame
+    chips: dict[int, Chip]  # of each actor
+    pins: dict[int, tuple[str, float, float]]  # of each actor its place, and where the pin is
+    segments: list[str]  # the linked segments, as they are read
 
 
-def labels_of(group):
+def labels_of(group: ElementTree.Element) -> list[Label]:
     """The labels of a group."""
-    return [(float(it.get("x")), float(it.get("y")), it.text) for it in group.iter(f"{SVG}text")]
+    texts = group.iter(f"{SVG}text")
+    return [(float(it.attrib["x"]), float(it.attrib["y"]), it.text or "") for it in texts]
 
 
-def read(svg):
+def read(svg: str) -> Drawn:
     """What a moment has."""
     drawn = Drawn({}, set(), set(), {}, {}, [])
     for group in ElementTree.fromstring(svg).iter(f"{SVG}g"):
-        kinds, place = group.get("class").split(" "), group.get("data-place")
+        kinds, place = group.attrib["class"].split(" "), group.get("data-place", "")
         if kinds[0] == "place":
             drawn.places[place] = labels_of(group)
             drawn.written |= {place} if "written" in kinds else set()
-            if place.startswith("whole "):
-                is_broken = group[0].get("stroke-dasharray") is not None
-                (drawn.broken.add if is_broken else drawn.segments.append)(place.removeprefix("whole "))
+            if not place.startswith("whole "):
+                continue
+            if "stroke-dasharray" in group[0].attrib:
+                drawn.broken.add(place.removeprefix("whole "))
+            else:
+                drawn.segments.append(place.removeprefix("whole "))
         elif kinds[0] == "chip":
-            drawn.chips[int(group.get("data-actor"))] = (place, [text for _, _, text in labels_of(group)])
+            drawn.chips[int(group.attrib["data-actor"])] = (place, [text for _, _, text in labels_of(group)])
         elif kinds[0] == "pin":
-            disc = group[0]
-            drawn.pins[int(group.get("data-actor"))] = (place, float(disc.get("cx")), float(disc.get("cy")))
+            disc = group[0].attrib
+            drawn.pins[int(group.attrib["data-actor"])] = (place, float(disc["cx"]), float(disc["cy"]))
     return drawn
 
 
 # ---- The same session, as a trace ------------------------------------------------------------------
 
 
-def trace_of(session: moment.Session) -> dict:
+def trace_of(session: figure.Session) -> Trace:
     """The session as a trace."""
     built, command, *others = session.words
     ended = program.run([built, command, "--trace", *others], session.script)
     if ended.status:
         raise figure.Fault(ended.errors.strip())
-    return json.loads(ended.output.splitlines()[-1])
+    trace: Trace = json.loads(ended.output.splitlines()[-1])
+    return trace
 
 
 class Loaded:
     """A trace that is loaded anew for each list of questions."""
 
-    def __init__(self, program_path, folder, trace):
-        self.words = [program_path, "load", "--", str(Path(folder) / "moment.trace")]
-        Path(self.words[-1]).write_text(json.dumps(trace), encoding="ascii")
+    def __init__(self, program_path: str, folder: Path, trace: Trace) -> None:
+        file = folder / "moment.trace"
+        file.write_text(json.dumps(trace), encoding="ascii")
+        self.words = [program_path, "load", "--", str(file)]
 
-    def ask(self, lines):
+    def ask(self, lines: list[str]) -> list[str]:
         """The replies to these lines."""
         ended = program.run(self.words, "".join(f"{line}\n" for line in lines).encode("ascii"))
         if ended.status:
             raise figure.Fault(ended.errors.strip())
         return ended.output.decode("ascii").splitlines()
 
-    def about(self, word, places):
+    def about(self, word: str, places: Iterable[str]) -> dict[str, str]:
         """The replies to a line about each of these places, by the place."""
         return dict(zip(places, self.ask([f"{word} {place}" for place in places])))
 
@@ -91,7 +104,7 @@ class Loaded:
 # ---- The checks of a moment -----------------------------------------------------------------------
 
 
-def labels_wanted(place, content):
+def labels_wanted(place: str, content: str) -> list[str]:
     """The labels of a place that has this content."""
     kind, *rest = place.split(" ")
     if kind == "value":
@@ -108,7 +121,7 @@ def labels_wanted(place, content):
     return [named.get(kind, f"head {content} ▴")]
 
 
-def places_fault(drawn, loaded, live):
+def places_fault(drawn: Drawn, loaded: Loaded, live: int) -> str:
     """Where a label or a mark of a place isn't as the program replies, or nothing."""
     content, writers = loaded.about("show", drawn.places), loaded.about("writer", drawn.places)
     for place, labels in drawn.places.items():
@@ -128,7 +141,7 @@ def places_fault(drawn, loaded, live):
     return ""
 
 
-def segments_fault(drawn, loaded, records, arguments):
+def segments_fault(drawn: Drawn, loaded: Loaded, records: list[str], arguments: argparse.Namespace) -> str:
     """Which segment is missing, or stands where it should not, or nothing."""
     places = [record.split("; ")[2] for record in records]
     made = {place.removeprefix("whole ") for place in places if place.startswith("whole ")}
@@ -152,7 +165,7 @@ def segments_fault(drawn, loaded, records, arguments):
     return ""
 
 
-def missing_fault(drawn, loaded, ring):
+def missing_fault(drawn: Drawn, loaded: Loaded, ring: int) -> str:
     """Which place should be drawn and is not, or nothing."""
     wanted = {"qhead", "qtail"}
     for name in [*drawn.segments, *drawn.broken]:
@@ -165,7 +178,7 @@ def missing_fault(drawn, loaded, ring):
     return f"{missing[0]} is not drawn" if missing else ""
 
 
-def counters_fault(drawn, ring):
+def counters_fault(drawn: Drawn, ring: int) -> str:
     """Which counter stands at another cell than that of its position, or nothing."""
     for place, labels in drawn.places.items():
         kind, _, name = place.partition(" ")
@@ -181,7 +194,7 @@ def counters_fault(drawn, ring):
     return ""
 
 
-def chip_fault(actor, chip, about, tried, page):
+def chip_fault(actor: int, chip: Chip, about: str, tried: list[str], page: str) -> str:
     """What of a chip isn't as the program replies, or nothing."""
     place, texts = chip
     head, _, words = about.removeprefix("actor ").partition(" crq ")
@@ -202,7 +215,7 @@ def chip_fault(actor, chip, about, tried, page):
     return "" if place == wanted and is_said else f"the chip of actor {actor} says {texts[-1]}, and it {made}, {record}"
 
 
-def chips_fault(drawn, loaded, count):
+def chips_fault(drawn: Drawn, loaded: Loaded, count: int) -> str:
     """What of the chips isn't as the program replies, or nothing."""
     replies = dict(enumerate(loaded.ask([f"actor {it}" for it in range(1, 17)]), 1))
     there = {actor for actor, reply in replies.items() if reply.startswith("actor ")}
@@ -218,12 +231,12 @@ def chips_fault(drawn, loaded, count):
     return ""
 
 
-def spot_of(drawn, place):
+def spot_of(drawn: Drawn, place: str) -> Label:
     """Where a place is drawn: its first label. A cell is where its value is."""
     return drawn.places[re.sub("^(cell|index) ", "value ", place)][0]
 
 
-def pins_fault(drawn):
+def pins_fault(drawn: Drawn) -> str:
     """Which pin is missing, or is not at its place, or nothing."""
     there = {*drawn.places} | {re.sub("^value ", "cell ", place) for place in drawn.places}
     wanted = {actor: place for actor, (place, _) in drawn.chips.items() if place in there}
@@ -239,13 +252,13 @@ def pins_fault(drawn):
     return ""
 
 
-def faults_of(svg, arguments):
+def faults_of(svg: str, arguments: argparse.Namespace) -> str:
     """The first thing that is wrong with a moment, but for its labels' boxes, or nothing."""
-    drawn, session = read(svg), moment.Session(arguments)
+    drawn, session = read(svg), figure.Session(arguments)
     records = picture.records_of(session) if session.live + session.undone else []
     trace = trace_of(session)
     with tempfile.TemporaryDirectory() as folder:
-        loaded = Loaded(arguments.program, folder, trace)
+        loaded = Loaded(arguments.program, Path(folder), trace)
         return (
             places_fault(drawn, loaded, session.live)
             or segments_fault(drawn, loaded, records[: session.live], arguments)

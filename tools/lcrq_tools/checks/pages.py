@@ -22,6 +22,9 @@ standard library is used.
 import collections
 import json
 import re
+from collections.abc import Callable, Iterable, Iterator
+from pathlib import Path
+from typing import ParamSpec
 
 from lcrq_tools import manual, model
 from lcrq_tools.look import contracts, definitions
@@ -33,9 +36,12 @@ BLOCK = re.compile(r"^( *)```(\w+)\n(.*?)^ *```$", re.MULTILINE | re.DOTALL)
 REPLY = re.compile(rf"(?:{'|'.join(sorted(manual.REPLIES))}|viewer|history)\b.*")
 OUTPUT = "  output|"  # before each line of standard output in the stored output of `rehearsals`
 
-# The pages, and of each the examples in their order: a name, and that of the one whose lines the
-# page leaves out before it.
-PAGES = {
+Given = ParamSpec("Given")
+Rows = list[list[str]]  # each a line and its reply
+Example = tuple[str, str | None]  # a name, and that of the one whose lines a page leaves out before it
+
+# The pages, and of each the examples in their order.
+PAGES: dict[str, list[Example]] = {
     "README.md": [("session", None)],
     "docs/MANUAL.md": [("manual-1", None), ("manual-2", None), ("manual-3", "manual-1"), ("manual-4", None)],
     "docs/RECIPES.md": [("poised", None)],
@@ -45,45 +51,44 @@ PAGES = {
 COPIED = ["questions.script", "question.script"]
 
 
-def tried(check, *given):
+def tried(check: Callable[Given, str], *given: Given.args, **named: Given.kwargs) -> str:
     """What a check finds wrong, or nothing; a file that it can't read is wrong too."""
     try:
-        return check(*given)
+        return check(*given, **named)
     except (OSError, ValueError) as fault:
         return str(fault)
 
 
-def blocks_of(page):
+def blocks_of(page: str) -> Iterator[tuple[str, list[str]]]:
     """The blocks of a page, each its kind and its lines, without what a list puts before them."""
     for found in BLOCK.finditer(page):
         yield found[2], [line.removeprefix(found[1]) for line in found[3].splitlines()]
 
 
-def rows_of(lines):
+def rows_of(lines: list[str]) -> Rows | None:
     """The lines and the replies of a block, what is after a reply left out; none if it is no such
     block."""
     rows = [re.split(r" {2,}", line)[:2] for line in lines]
     return rows if all(len(row) == 2 and REPLY.fullmatch(row[1]) for row in rows) else None
 
 
-def example(name):
+def example(name: str) -> Rows:
     """The lines of an example with the replies of its report."""
-    lines, replies = ((EXAMPLES / f"{name}.{kind}").read_text(encoding="ascii").splitlines() for kind in ("script", "report"))
+    files = [EXAMPLES / f"{name}.{kind}" for kind in ("script", "report")]
+    lines, replies = (file.read_text(encoding="ascii").splitlines() for file in files)
     if len(lines) != len(replies):
         raise ValueError(f"{name}.script has {len(lines)} lines, and {name}.report has {len(replies)}")
     return [list(row) for row in zip(lines, replies)]
 
 
-def is_example(rows, name, before):
+def is_example(rows: Rows, name: str, before: str | None) -> str:
     """What is wrong with these lines and replies, or nothing, where they are those of an example
     after those of another."""
-    wanted = example(name)
-    if before:
-        wanted = wanted[len(example(before)):] if wanted[: len(example(before))] == example(before) else None
-    return "" if rows == wanted else f"it is not {name}.script beside {name}.report"
+    left_out = example(before) if before else []
+    return "" if left_out + rows == example(name) else f"it is not {name}.script beside {name}.report"
 
 
-def is_rehearsed(lines):
+def is_rehearsed(lines: list[str]) -> str:
     """What is wrong with a block of a command line and what it writes, or of a trace alone, or
     nothing."""
     stored = (REHEARSALS / "stdout").read_text(encoding="utf-8")
@@ -92,7 +97,7 @@ def is_rehearsed(lines):
     return "" if wanted in stored else "it is not in the stored output of rehearsals"
 
 
-def value_of(text):
+def value_of(text: str) -> str | None:
     """A text of JSON in one spelling: in Python itself, 1 equals 1.0 and true. None of any other text."""
     try:
         return json.dumps(json.loads(text), sort_keys=True)
@@ -100,26 +105,27 @@ def value_of(text):
         return None
 
 
-def is_a_trace(lines):
+def is_a_trace(lines: list[str]) -> str:
     """What is wrong with a trace that is written by hand, or nothing, where it is one of the traces
     of the examples, which the gate loads."""
     traces = [value_of(path.read_text(encoding="ascii", errors="replace")) for path in EXAMPLES.glob("*.trace")]
-    return "" if value_of("\n".join(lines)) in filter(None, traces) else "no example has this trace"
+    trace = value_of("\n".join(lines))
+    return "" if trace is not None and trace in traces else "no example has this trace"
 
 
-def is_copied(name):
+def is_copied(name: str) -> str:
     """What is wrong with a script of `rehearsals` among the examples, or nothing."""
     copy, source = EXAMPLES / name, REHEARSALS / "data" / name
     return "" if copy.read_bytes() == source.read_bytes() else f"it is not {source.relative_to(TOP)}"
 
 
-def is_read(page):
+def is_read(page: Path) -> str:
     """What of the pseudo-code can't be read, or nothing."""
     model.read(page.read_text(encoding="utf-8"))
     return ""
 
 
-def checks_of(name, examples):
+def checks_of(name: str, examples: list[Example]) -> Iterator[tuple[str, str]]:
     """The checks of a page, each a name and what is wrong, or nothing."""
     left = list(examples)
     for kind, lines in blocks_of((TOP / name).read_text(encoding="utf-8")):
@@ -139,7 +145,7 @@ def checks_of(name, examples):
         yield f"{name}: {example_name}", "it is not on the page"
 
 
-def all_checks():
+def all_checks() -> Iterator[tuple[str, str]]:
     """The checks of all pages, and of the scripts that they name."""
     for name, examples in PAGES.items():
         yield from checks_of(name, examples)
@@ -149,7 +155,7 @@ def all_checks():
 
 
 def check_blocks() -> int:
-    """Prints each block and each script of the pages with what is wrong; returns the exit status."""
+    """Prints each check of a block, a script or the pseudo-code; returns the exit status."""
     wrong = 0
     for check, fault in all_checks():
         wrong += bool(fault)
@@ -165,7 +171,7 @@ NAME = re.compile(r"(?:\w+::)*([A-Za-z_]\w+)")
 FILE = re.compile(r"[\w.-]*/[\w./-]*|\w+\.(?:rt|antt|py|md)")
 
 
-def missing_of(line):
+def missing_of(line: str) -> Iterator[str]:
     """What a row cites, as `name`: `label` (`file`), and the file doesn't have."""
     for cited, file in CITED.findall(line) if line.startswith("|") else []:
         path = CRATES / file
@@ -179,7 +185,7 @@ def missing_of(line):
                     yield from (f"{it} of {name}" for it in QUOTED.findall(f"`{labels}") if it not in there)
 
 
-def unknown_in(page, line, names):
+def unknown_in(page: Path, line: str, names: set[str]) -> Iterator[str]:
     """The files and the names of a line that are not in the tree."""
     for word in QUOTED.findall(line):
         name = NAME.fullmatch(re.sub("<.*>", "", word))
@@ -194,7 +200,7 @@ def unknown_in(page, line, names):
             yield word
 
 
-def check_names():
+def check_names() -> int:
     """Prints each name on docs/PROVED.md and the READMEs of the crates that is not in the tree, or not
     in the file that is named for it; returns the exit status."""
     names = {name for path in CRATES.rglob("*") for name in contracts.names_in(path)}
@@ -225,18 +231,18 @@ FOLLOWED = ["rd_journal/src/sessions.rt", "undo_at.answer", "undo_at.run"]
 FILES = re.compile(r"the script prints (\d+) files")
 
 
-def in_row(numbers):
+def in_row(numbers: Iterable[int]) -> str:
     """Numbers as the cells of a row have them."""
     return " | ".join(f"{number:,}" for number in numbers)
 
 
-def said_in(pattern, text):
+def said_in(pattern: re.Pattern[str], text: str) -> str:
     """The numbers of a sentence on a page, as the cells of a row."""
     found = pattern.search(" ".join(text.split()))
     return " | ".join(found.groups()) if found else "no such sentence"
 
 
-def guarantees():
+def guarantees() -> Iterator[tuple[str, str, str]]:
     """The rows of the guarantees, each with what the page says, and what the script gives."""
     text = PROVED.read_text(encoding="utf-8")
     rows = GUARANTEE.findall(text)
@@ -246,21 +252,21 @@ def guarantees():
         yield words or "the headline", said, in_row([count, *lines])
 
 
-def files_of(cell):
+def files_of(cell: str) -> list[Path]:
     """The files that a cell names; one without a folder is in that of the file before it."""
-    found = []
+    found: list[Path] = []
     for name in QUOTED.findall(cell):
         found.append(CRATES / name if "/" in name else found[-1].parent / name)
     return found
 
 
-def only_in(paths, others):
+def only_in(paths: Iterable[Path], others: Iterable[Path]) -> str:
     """The files that are in the one list and not in the other, or more often."""
     more = collections.Counter(paths) - collections.Counter(others)
     return ", ".join(sorted(str(path.relative_to(CRATES)) for path in more.elements())) or "no other file"
 
 
-def reading():
+def reading() -> Iterator[tuple[str, str, str]]:
     """The rows of what one must read to believe the headline, with what they add up to, as above."""
     text, reached = ARCHITECTURE.read_text(encoding="utf-8"), definitions.reached_from(definitions.HEADLINE)
     rows = [(files_of(cell), said, int(minutes)) for cell, said, minutes in READ.findall(text)]
@@ -274,7 +280,7 @@ def reading():
     yield "files of undo_at", said_in(FILES, text), str(definitions.reached_from(FOLLOWED).totals()[1])
 
 
-def check_numbers():
+def check_numbers() -> int:
     """Prints each number of definitions, files and lines on the pages that `definitions.py` doesn't
     give, with the one that it gives; returns the exit status."""
     rows = [(PROVED, row) for row in guarantees()] + [(ARCHITECTURE, row) for row in reading()]

@@ -41,6 +41,9 @@ PORTS = f"{EXAMPLES}/{PORT_LESSON}.md"
 RUNS, CROWDED_RUNS = 200, 12  # how many runs are drawn at random: short ones, and longer ones
 TRIED = 60  # of how many of the short ones the last moment is drawn too
 
+# What draws a picture or a moment, the page, the file, the script and the options.
+Drawing = tuple[ModuleType, str, str, str, str]
+
 # The pictures that the pages show: the page, the picture's file, the script, and the options. A
 # name without a folder is one of the examples.
 PICTURES = [
@@ -107,7 +110,9 @@ def path_of(name: str) -> Path:
 def arguments_of(tool: ModuleType, script: str, options: str, program_path: str) -> argparse.Namespace:
     """The command line of a picture or a moment."""
     words = [str(path_of(word)) if word.endswith(".trace") else word for word in options.split()]
-    return tool.parser().parse_args([str(path_of(script)), *words, "--refused", "--program", program_path])
+    given = [str(path_of(script)), *words, "--refused", "--program", program_path]
+    arguments: argparse.Namespace = tool.parser().parse_args(given)
+    return arguments
 
 
 def link_of(page: str, name: str) -> str:
@@ -146,8 +151,8 @@ def row_of_lesson(row: tuple[str, str, str], ending: str) -> tuple[str, str, str
     return f"{EXAMPLES}/{lesson}.md", f"{name}{ending}.svg", f"{name}.script", options
 
 
-def pictures() -> Iterator[tuple]:
-    """All pictures and moments: what draws it, the page, the file, the script and the options."""
+def pictures() -> Iterator[Drawing]:
+    """All pictures and moments."""
     yield from ((picture, *row) for row in PICTURES)
     yield from ((picture, *row_of_lesson(row, "")) for row in LESSONS)
     yield from ((moment, *row) for row in MOMENTS)
@@ -173,7 +178,7 @@ def short_script(chance: random.Random) -> str:
     for line in chance.choices([*WEIGHTS], [*WEIGHTS.values()], k=60):
         word, *choice = line.split(" ")
         actor, value = str(chance.randint(1, 3)), str(chance.randint(0, 9))
-        more = {"undo": [], "redo": [], "enq": [actor, value], "aenq": [actor, value]}
+        more: dict[str, list[str]] = {"undo": [], "redo": [], "enq": [actor, value], "aenq": [actor, value]}
         script.append(" ".join([word, *more.get(word, [actor, *choice])]))
     return "".join(f"{line}\n" for line in script)
 
@@ -340,8 +345,8 @@ def long_run_fault(given: argparse.Namespace) -> str:
 
 def checks(given: argparse.Namespace) -> Iterator[tuple[str, str]]:
     """The checks, each a name and what is wrong, or nothing."""
-    for tool, page, *row in pictures():
-        yield f"{row[0]} of {page}", stored_fault(tool, page, *row, given)
+    for tool, page, name, script, options in pictures():
+        yield f"{name} of {page}", stored_fault(tool, page, name, script, options, given)
     for path in strangers():
         yield path.name, "no page shows it"
     yield f"{RUNS} runs at random", random_faults(given, RUNS, random_fault)

@@ -10,6 +10,7 @@ import sys
 from collections.abc import Iterator
 from dataclasses import dataclass
 from pathlib import Path
+from typing import Any
 
 from lcrq_tools import program
 from lcrq_tools.port import conform
@@ -20,6 +21,7 @@ RINGS = (2, 4, 8)
 DIFFERS = re.compile(r"step ([0-9]+): ")
 
 Told = tuple[int, str]  # the status of the tool, and what it writes
+Start = dict[str, Any]  # that of a trace, as JSON has it
 
 
 @dataclass
@@ -92,7 +94,7 @@ class Bench:
         return "" if (folder / "steps.svg").exists() else "there is no picture"
 
 
-def questions_of(start: dict) -> list[str]:
+def questions_of(start: Start) -> list[str]:
     """The lines that ask for all actors, segments and ends of a start."""
     lines = [f"actor {number}" for number in range(1, len(start["actors"]) + 2)] + ["show qhead", "show qtail"]
     for maker, made in enumerate(start["segments"]):

@@ -56,9 +56,11 @@ def wanted_outcomes() -> set[str]:
 
 def plain_runs(bench: Bench) -> Iterator[tuple[str, str]]:
     """The runs of the plain port, and what they reach."""
-    seen, count = set(), 0
+    seen: set[str] = set()
+    count = 0
+    ways: list[tuple[list[str], int]] = [(["--turns"], TURNS), ([], FREE)]
     for ring in RINGS:
-        for words, runs in (["--turns"], TURNS), ([], FREE):
+        for words, runs in ways:
             fault = ""
             for seed in range(1, runs + 1):
                 log = bench.log_of("lcrq", "--ring", ring, "--seed", seed, "--threads", 2 + seed % 4, *words)

@@ -25,8 +25,10 @@ import json
 import operator
 import random
 import tempfile
+from collections.abc import Callable, Iterator
 from dataclasses import dataclass, field
 from pathlib import Path
+from typing import NamedTuple, TypeVar
 
 from lcrq_tools import model, program
 
@@ -37,10 +39,39 @@ WANTED = 200_000  # so many steps are made in all, at least
 SLOTS = 64  # of the array
 LOOK = 0.01  # how often all places are compared in the middle of a schedule
 ROOT = "0.0"
-WORDS = ("crq", "new", "next", "t", "h", "closed", "val", "safe", "idx", "pass")
-IDLE = dict(zip(WORDS, (ROOT, ROOT, ROOT, 0, 0, False, None, False, 0, 0)))
-SIGNS = {">": operator.gt, "<": operator.lt, ">=": operator.ge, "<=": operator.le}
+SIGNS: dict[str, Callable[[int, int], bool]] = {">": operator.gt, "<": operator.lt}
+SIGNS |= {">=": operator.ge, "<=": operator.le}
 KINDS = {"QHead": "qhead", "QTail": "qtail", "ArrHead": "ahead", "ArrTail": "atail", "ArrCell": "acell"}
+
+
+class Tail(NamedTuple):
+    """What a ring's tail has."""
+
+    is_closed: bool
+    number: int
+
+
+Word = str | int | None  # what a word of an actor has: a segment's name, a number, a bit, or none
+
+
+class Cell(NamedTuple):
+    """What a cell has."""
+
+    is_safe: bool
+    idx: int
+    value: Word
+
+
+Content = Word | Tail | Cell  # what a place has
+Asked = tuple[str, str]  # a line, and the reply that is wanted
+Row = tuple[str, str, str]  # the same, and the control point at which the line was
+PseudoCode = tuple[dict[str, model.Step], dict[str, str]]  # the steps, and the first control point of each call
+# A control point; or of one the position of a sentence, its text, and what that came to.
+Met = str | tuple[str, int, str, bool]
+Kind = TypeVar("Kind", str, Tail, Cell)
+
+IDLE: dict[str, Word] = {"crq": ROOT, "new": ROOT, "next": ROOT, "t": 0, "h": 0, "closed": False, "val": None}
+IDLE |= {"safe": False, "idx": 0, "pass": 0}
 
 
 class Refused(Exception):
@@ -50,20 +81,17 @@ class Refused(Exception):
 # ---- The world -----------------------------------------------------------------------------------
 
 
-def text_of(kind: str, content) -> str:
+def text_of(kind: str, content: Content) -> str:
     """A content as the program shows it, by the kind of its place."""
-    match kind:
-        case "tail":
-            return f"{'closed' if content[0] else 'open'} {content[1]}"
-        case "cell":
-            return f"{int(content[0])} {content[1]} {text_of('value', content[2])}"
-        case "index":
-            return f"{int(content[0])} {content[1]}"
-        case "value" | "next":
-            return "none" if content is None else str(content)
-        case "acell":
-            return {None: "empty", "top": "top"}.get(content, f"value {content}")
-    return str(content)
+    match content:
+        case Tail(is_closed, number):
+            return f"{'closed' if is_closed else 'open'} {number}"
+        case Cell(is_safe, idx, value):
+            halves = {"index": f"{int(is_safe)} {idx}", "value": text_of("value", value)}
+            return halves.get(kind, " ".join(halves.values()))
+        case None:
+            return "empty" if kind == "acell" else "none"
+    return f"value {content}" if kind == "acell" and content != "top" else str(content)
 
 
 def named(name: str) -> list[int]:
@@ -78,25 +106,27 @@ class Actor:
     point: str = "Idle"
     call: str = ""  # the word of a script that began its call
     argument: int | None = None
-    words: dict = field(default_factory=lambda: dict(IDLE))
+    words: dict[str, Word] = field(default_factory=lambda: dict(IDLE))
 
     def text(self) -> str:
         """The words as the program shows them."""
         argument = "" if self.argument is None else f" {self.argument}"
-        shown = (text_of("value", it) if it is None else int(it) if isinstance(it, bool) else it for it in self.words.values())
-        words = " ".join(f"{word} {it}" for word, it in zip(self.words, shown))
+        shown = {word: int(it) if isinstance(it, bool) else it for word, it in self.words.items()}
+        words = " ".join(f"{word} {text_of('value', it)}" for word, it in shown.items())
         return f"actor {self.point} {self.call or 'none'}{argument} {words}"
 
 
 class World:
     """The places and the actors, with the pseudo-code that decides each step."""
 
-    def __init__(self, pseudo_code, actors: int, ring: int, start: str, seen: collections.Counter):
+    def __init__(
+        self, pseudo_code: PseudoCode, actors: int, ring: int, start: str, seen: collections.Counter[Met]
+    ) -> None:
         self.steps, self.firsts = pseudo_code
         self.ring, self.seen = ring, seen
         self.actors = {number: Actor() for number in range(1, actors + 1)}
         self.made = dict.fromkeys(self.actors, 0)
-        self.places = {"qhead": ROOT, "qtail": ROOT, "ahead": 0, "atail": 0}
+        self.places: dict[str, Content] = {"qhead": ROOT, "qtail": ROOT, "ahead": 0, "atail": 0}
         self.places |= {f"acell {slot}": None for slot in range(SLOTS)}
         self.add_segment(ROOT)
         if start == "linked":
@@ -105,10 +135,10 @@ class World:
 
     def add_segment(self, name: str) -> None:
         """Puts a fresh segment into the world."""
-        self.places |= {f"head {name}": 0, f"tail {name}": (False, 0), f"next {name}": None}
-        self.places |= {f"cell {name} {cell}": (True, cell, None) for cell in range(self.ring)}
+        self.places |= {f"head {name}": 0, f"tail {name}": Tail(False, 0), f"next {name}": None}
+        self.places |= {f"cell {name} {cell}": Cell(True, cell, None) for cell in range(self.ring)}
 
-    def questions(self):
+    def questions(self) -> Iterator[Asked]:
         """A line for each place and each actor, and for a segment that nobody has made, with the
         reply that is wanted."""
         for place, content in self.places.items():
@@ -117,17 +147,22 @@ class World:
             yield f"actor {number}", actor.text()
             yield f"show whole {number}.{self.made[number]}", "refused 19 NoSuchPlace"
 
-    def segment(self, name: str) -> dict:
+    def segment(self, name: str) -> dict[str, object]:
         """A segment as a trace has it."""
-        (is_closed, tail), next_name = self.places[f"tail {name}"], self.places[f"next {name}"]
-        cells = [list(self.places[f"cell {name} {cell}"]) for cell in range(self.ring)]
-        counters = {"head": self.places[f"head {name}"], "tail": tail, "closed": is_closed}
-        return counters | {"next": next_name and named(next_name), "cells": cells}
+        tail, after = self.places[f"tail {name}"], self.places[f"next {name}"]
+        assert isinstance(tail, Tail)
+        return {
+            "head": self.places[f"head {name}"],
+            "tail": tail.number,
+            "closed": tail.is_closed,
+            "next": named(after) if isinstance(after, str) else None,
+            "cells": [self.places[f"cell {name} {cell}"] for cell in range(self.ring)],
+        }
 
     def trace(self) -> str:
         """The trace without events that begins here, while all actors are idle and the array is as
         in the fresh world."""
-        idle = {word: named(it) if it == ROOT else it for word, it in IDLE.items()}
+        idle = {word: named(ROOT) if it == ROOT else it for word, it in IDLE.items()}
         made = [[f"{maker}.{number}" for number in range(count)] for maker, count in self.made.items()]
         start = {
             "actors": [idle | {"pc": "Idle", "op": None} for _ in self.actors],
@@ -136,7 +171,7 @@ class World:
             "qtail": named(ROOT),
             "array": {"head": 0, "tail": 0, "cells": []},
         }
-        lists = {"events": [], "undone": [], "marks": []}
+        lists: dict[str, list[object]] = {"events": [], "undone": [], "marks": []}
         return json.dumps({"version": 2, "ring": self.ring, "start": start} | lists)
 
 
@@ -147,15 +182,16 @@ class Turn:
     """One step of an actor: the lines of its control point are executed from the first to the last,
     or to the first that leads elsewhere. There is a method for each form of a sentence."""
 
-    def __init__(self, world: World, number: int, choice: str = ""):
+    def __init__(self, world: World, number: int, choice: str = "") -> None:
         self.world, self.number, self.choice = world, number, choice
         self.actor = world.actors[number]
         self.words = self.actor.words
         self.step = world.steps[self.actor.point]
         self.place, self.access, self.answer = "-", "none", "-"
-        self.found = None  # what was at the place
-        self.is_won = None
-        self.goes, self.reply = self.step.after, None
+        self.found: Content = None  # what was at the place
+        self.is_won: bool | None = None
+        self.goes = self.step.after
+        self.reply: str | None = None
         self.position = 0  # of the sentence in the step
 
     def make(self) -> str:
@@ -171,7 +207,7 @@ class Turn:
                 raise model.Unreadable(f"the text ends after {self.step.label}")
         if self.reply:
             self.world.actors[self.number] = Actor()
-        else:
+        elif self.goes:
             self.actor.point = self.goes
         return f"{self.place}; {self.access}; {self.answer}; {self.reply or '-'}"
 
@@ -180,7 +216,7 @@ class Turn:
         self.world.seen[self.step.label, self.position, text, outcome] += 1
         return outcome
 
-    def end_of(self, it):
+    def end_of(self, it: model.Sentence | model.Branch | model.Outcome) -> model.Sentence | None:
         """What is done for a sentence of the step, or nothing."""
         if isinstance(it, model.Branch):
             return it.then if any(self.holds(condition) for condition in it.conditions) else it.other
@@ -203,160 +239,184 @@ class Turn:
     def at(self, place: str) -> tuple[str, str]:
         """The kind and the name of a place that the page names."""
         if place.startswith("cell "):
-            index = self.words[place.split(" ")[1]] % self.world.ring
+            index = self.number_of(place.split(" ")[1]) % self.world.ring
             return "cell", f"cell {self.words['crq']} {index}"
         name, _, word = place.removeprefix("the counter of ").rstrip(")").partition("(")
         kind = KINDS.get(name, name.lower())
         return kind, f"{kind} {self.words[word]}" if word else kind
 
-    def look(self, place: str):
+    def look(self, place: str) -> Content:
         """Reads a place."""
         kind, self.place = self.at(place)
         self.found = self.world.places[self.place]
         self.access, self.answer = "read", text_of(kind, self.found)
         return self.found
 
-    def look_half(self, place: str, half: str, part: slice | int):
+    def look_for(self, place: str, kind: type[Kind]) -> Kind:
+        """Reads a place that has something of this kind."""
+        found = self.look(place)
+        if not isinstance(found, kind):
+            raise model.Unreadable(f"{self.step.label} reads {found} at {place}")
+        return found
+
+    def look_half(self, place: str, half: str) -> Cell:
         """Reads one half of a cell."""
-        cell = self.look(place)[part]
+        cell = self.look_for(place, Cell)
         self.place, self.answer = self.place.replace("cell", half), text_of(half, cell)
         return cell
 
     def count(self, place: str) -> int:
         """Reads a counter, also one beside a closed bit."""
         found = self.look(place)
-        return found[1] if isinstance(found, tuple) else found
+        if isinstance(found, Tail):
+            return found.number
+        if isinstance(found, int):
+            return found
+        raise model.Unreadable(f"{self.step.label} reads {found} at {place}")
 
-    def write(self, content, access: str = "wrote") -> None:
+    def write(self, content: Content, access: str = "wrote") -> None:
         """Writes the place that was read."""
         self.world.places[self.place], self.access = content, access
 
-    def swap_if(self, text: str, is_equal: bool, new, access: str = "wrote") -> None:
+    def swap_if(self, text: str, is_equal: bool, new: Content, access: str = "wrote") -> None:
         """Writes the place that was read, if it has what a CAS asks for."""
         self.is_won = self.see(text, is_equal)
         if is_equal:
             self.write(new, access)
         self.answer = "won" if is_equal else "lost"
 
-    def value(self, term: str):
+    def value(self, term: str) -> Word:
         """What a word, a number or a letter of the page stands for."""
         if term in self.words:
             return self.words[term]
         if term == "x" and self.actor.argument is None:
             raise model.Unreadable(f"{self.step.label} names x in a call without it")
-        known = {"R": self.world.ring, "x": self.actor.argument, "none": None, "true": True, "false": False}
+        known: dict[str, Word] = {"R": self.world.ring, "x": self.actor.argument}
+        known |= {"none": None, "true": True, "false": False}
         return known[term] if term in known else int(term)
+
+    def number_of(self, term: str) -> int:
+        """What a word or a number of the page stands for, where that is a number."""
+        found = self.value(term)
+        if not isinstance(found, int):
+            raise model.Unreadable(f"{self.step.label} takes {term} for a number, and it is {found}")
+        return found
 
     def sum(self, text: str) -> int:
         """A number, or the sum of two."""
-        return sum(self.value(term) for term in text.split(" + "))
+        return sum(self.number_of(term) for term in text.split(" + "))
 
-    def triple(self, text: str) -> tuple:
+    def triple(self, text: str) -> Cell:
         """What a CAS2 expects or writes."""
         bit, index, value = text.split(", ")
-        return self.value(bit), self.sum(index), self.value(value)
+        return Cell(bool(self.value(bit)), self.sum(index), self.value(value))
 
     # ---- Sentences
 
-    def do_name(self, _, word, place):
-        self.words[word] = self.look(place)
+    def do_name(self, _: str, word: str, place: str) -> None:
+        self.words[word] = self.look_for(place, str)
 
-    def do_counter(self, _, word, place):
+    def do_counter(self, _: str, word: str, place: str) -> None:
         self.words[word] = self.count(place)
 
-    def do_add(self, _, word, place):
+    def do_add(self, _: str, word: str, place: str) -> None:
         count = self.count(place)
         if self.place in ("ahead", "atail") and count == SLOTS:
             raise Refused("refused 8 ArrayEnd")
         self.words[word] = count
-        self.write((self.found[0], count + 1) if isinstance(self.found, tuple) else count + 1)
+        self.write(Tail(self.found.is_closed, count + 1) if isinstance(self.found, Tail) else count + 1)
 
-    def do_tail(self, _, bit, word, place):
-        self.words[bit], self.words[word] = self.look(place)
+    def do_tail(self, _: str, bit: str, word: str, place: str) -> None:
+        self.words[bit], self.words[word] = self.look_for(place, Tail)
 
-    def do_value(self, _, place):
-        self.words["val"] = self.look_half(place, "value", 2)
+    def do_value(self, _: str, place: str) -> None:
+        self.words["val"] = self.look_half(place, "value").value
 
-    def do_index(self, _, bit, word, place):
-        self.words[bit], self.words[word] = self.look_half(place, "index", slice(2))
+    def do_index(self, _: str, bit: str, word: str, place: str) -> None:
+        cell = self.look_half(place, "index")
+        self.words[bit], self.words[word] = cell.is_safe, cell.idx
 
-    def do_cas(self, text, place, old, new):
+    def do_cas(self, text: str, place: str, old: str, new: str) -> None:
         self.swap_if(text, self.look(place) == self.value(old), self.value(new))
 
-    def do_cas_tail(self, text, place, old, new):
-        self.swap_if(text, self.look(place) == (False, self.sum(old)), (False, self.sum(new)))
+    def do_cas_tail(self, text: str, place: str, old: str, new: str) -> None:
+        self.swap_if(text, self.look(place) == Tail(False, self.sum(old)), Tail(False, self.sum(new)))
 
-    def do_cas2(self, text, place, old, new):
-        old, new = self.triple(old), self.triple(new)
-        self.swap_if(text, self.look(place) == old, new, "wrote index" if old[2] == new[2] else "wrote")
+    def do_cas2(self, text: str, place: str, old: str, new: str) -> None:
+        before, after = self.triple(old), self.triple(new)
+        access = "wrote index" if before.value == after.value else "wrote"
+        self.swap_if(text, self.look(place) == before, after, access)
 
-    def do_close(self, _, place):
-        is_closed, count = self.look(place)
-        self.write((True, count))
+    def do_close(self, _: str, place: str) -> None:
+        is_closed, count = self.look_for(place, Tail)
+        self.write(Tail(True, count))
         self.answer = f"was {'closed' if is_closed else 'open'}"
 
-    def do_make(self, _, word, place, at, tail):
+    def do_make(self, _: str, word: str, place: str, at: str, tail: str) -> None:
         name = f"{self.number}.{self.world.made[self.number]}"
         self.world.made[self.number] += 1
         self.world.add_segment(name)
-        self.world.places[f"cell {name} {at}"] = (True, int(at), self.value(place[0]))
-        self.world.places[f"tail {name}"] = (False, int(tail))
+        self.world.places[f"cell {name} {at}"] = Cell(True, int(at), self.value(place[0]))
+        self.world.places[f"tail {name}"] = Tail(False, int(tail))
         self.words[word] = name
         self.place, self.access, self.answer = f"whole {name}", "wrote", f"made {name}"
 
-    def do_swap(self, _, what, place):
+    def do_swap(self, _: str, what: str, place: str) -> None:
         self.look(place)
         self.write("top" if what == "top" else self.value(what))
 
-    def do_set(self, _, number):
+    def do_set(self, _: str, number: str) -> None:
         self.words["pass"] = int(number)
 
-    def do_take(self, _, word):
-        self.words[word] = self.back("next")
+    def do_take(self, _: str, word: str) -> None:
+        found = self.back("next")
+        assert not isinstance(found, tuple)
+        self.words[word] = found
 
-    def do_go(self, text, to, number="", then=""):
+    def do_go(self, text: str, to: str, number: str = "", then: str = "") -> None:
         self.goes = then if number and self.see(text, self.words["pass"] == int(number)) else to
 
-    def do_answer(self, _, what):
+    def do_answer(self, _: str, what: str) -> None:
         taken = self.back("acell") if what == "v" else self.words["val"]
         self.reply = what if what in ("enqueued", "empty") else f"value {taken}"
 
     # ---- Conditions
 
-    def back(self, kind: str):
+    def back(self, kind: str) -> Content:
         """What was found at the place, which the page calls by a word for one of this kind."""
         if self.place.split(" ")[0] != kind:
             raise model.Unreadable(f"{self.step.label} names a {kind} that it has not read")
         return self.found
 
-    def is_has_none(self, place):
+    def is_has_none(self, place: str) -> bool:
         return self.look(place) is None
 
-    def is_was_closed(self):
-        return self.back("tail")[0]
+    def is_was_closed(self) -> bool:
+        found = self.back("tail")
+        return isinstance(found, Tail) and found.is_closed
 
-    def is_has_value(self):
+    def is_has_value(self) -> bool:
         return self.words["val"] is not None
 
-    def is_has_no_value(self):
+    def is_has_no_value(self) -> bool:
         return self.words["val"] is None
 
-    def is_bit(self, word):
-        return self.words[word]
+    def is_bit(self, word: str) -> bool:
+        return bool(self.words[word])
 
-    def is_compare(self, sign, right, place="", left=""):
+    def is_compare(self, sign: str, right: str, place: str = "", left: str = "") -> bool:
         return SIGNS[sign](self.count(place) if place else self.sum(left), self.sum(right))
 
-    def is_changed(self, place, bit, word):
+    def is_changed(self, place: str, bit: str, word: str) -> bool:
         return self.look(place) != (self.words[bit], self.words[word])
 
-    def is_chosen(self, choice):
+    def is_chosen(self, choice: str) -> bool:
         return self.choice == choice
 
-    def is_was_empty(self):
+    def is_was_empty(self) -> bool:
         return self.back("acell") is None
 
-    def is_was_value(self):
+    def is_was_value(self) -> bool:
         return self.back("acell") not in (None, "top")
 
 
@@ -366,10 +426,12 @@ class Turn:
 class Schedule:
     """A random schedule: its lines, each with the reply that the pseudo-code gives."""
 
-    def __init__(self, pseudo_code, actors: int, ring: int, start: str, seed: int, seen: collections.Counter):
+    def __init__(
+        self, pseudo_code: PseudoCode, actors: int, ring: int, start: str, seed: int, seen: collections.Counter[Met]
+    ) -> None:
         self.world, self.seen = World(pseudo_code, actors, ring, start, seen), seen
         self.chance, self.count = random.Random(f"{actors} {ring} {start} {seed}"), 0
-        self.rows = []  # a line, the reply, and the control point at which it was
+        self.rows: list[Row] = []
         self.draw_mix()
         while self.able and self.drawn < EVENTS:
             self.drawn += 1
@@ -426,21 +488,24 @@ class Schedule:
         entry = turn.make()
         return f"starve {number} {choice}" if choice else f"go {number}", entry, turn.reply or ""
 
-    def asked(self, number: int, line: str, entry: str, reply: str):
+    def asked(self, number: int, line: str, entry: str, reply: str) -> Iterator[Asked]:
         """The line of a step and the questions after it, each with the reply that is wanted."""
         yield line, f"ok {self.count}" + (f" {reply}" if reply else "")
         yield f"actor {number}", self.world.actors[number].text()
         yield f"step {self.count}", f"step {self.count}; {line}; {entry}"
         kind, _, rest = entry.partition("; ")[0].partition(" ")
-        shown = f"cell {rest}" if kind in ("value", "index") else f"tail {rest}" if kind == "whole" else f"{kind} {rest}".strip()
+        kind = {"value": "cell", "index": "cell", "whole": "tail"}.get(kind, kind)
+        shown = f"{kind} {rest}".strip()
         if kind != "-":
-            yield f"show {shown}", f"is {text_of(shown.split(' ')[0], self.world.places[shown])}"
+            yield f"show {shown}", f"is {text_of(kind, self.world.places[shown])}"
 
 
 # ---- The checks ----------------------------------------------------------------------------------
 
 
-def replies_to(given, actors: int, ring: int, start: str, schedules: list[Schedule]) -> program.Ended:
+def replies_to(
+    given: argparse.Namespace, actors: int, ring: int, start: str, schedules: list[Schedule]
+) -> program.Ended:
     """What the program gives to the lines of all schedules, one after the other."""
     script = "".join(f"{line}\n" for it in schedules for line, *_ in it.rows).encode("ascii")
     if start == "fresh":
@@ -451,7 +516,7 @@ def replies_to(given, actors: int, ring: int, start: str, schedules: list[Schedu
         return program.run([given.program, "load", trace.name], script)
 
 
-def fault_of(ended: program.Ended, lines: dict, schedules: list[Schedule]) -> str:
+def fault_of(ended: program.Ended, lines: dict[str, list[str]], schedules: list[Schedule]) -> str:
     """The first difference between the pseudo-code and the program over these schedules, or
     nothing."""
     replies = iter(ended.output.decode("ascii", "replace").splitlines())
@@ -465,7 +530,7 @@ def fault_of(ended: program.Ended, lines: dict, schedules: list[Schedule]) -> st
     return "" if not ended.status else f"the program ended with status {ended.status}: {ended.errors.strip()}"
 
 
-def outcomes_of(steps: dict):
+def outcomes_of(steps: dict[str, model.Step]) -> Iterator[Met]:
     """All that the lines may come to, as `seen` counts it: that an actor is there; that a condition
     holds and that it doesn't; that a CAS wins and loses; which way a word of the pass leads."""
     for step in steps.values():
@@ -479,13 +544,15 @@ def outcomes_of(steps: dict):
                 yield step.label, position, "won" if it.is_won else "lost", True
 
 
-def unreached(steps: dict, seen: collections.Counter) -> str:
+def unreached(steps: dict[str, model.Step], seen: collections.Counter[Met]) -> str:
     """What of the lines was not reached, or nothing."""
     missing = (it for it in outcomes_of(steps) if not seen[it])
     return ", ".join(it if isinstance(it, str) else f"{it[0]}: `{it[2]}` {'yes' if it[3] else 'no'}" for it in missing)
 
 
-def comparisons(given, page: str, seen: collections.Counter):
+def comparisons(
+    given: argparse.Namespace, page: str, seen: collections.Counter[Met]
+) -> Iterator[tuple[str, int, str]]:
     """The comparisons, each a name, how many steps it has, and what is wrong, or nothing."""
     pseudo_code = model.read(page)
     lines = {label: text for column in model.lines_of(page).values() for label, text in column.items()}
@@ -497,9 +564,10 @@ def comparisons(given, page: str, seen: collections.Counter):
         yield name, steps, fault_of(ended, lines, drawn)
 
 
-def checks(given):
+def checks(given: argparse.Namespace) -> Iterator[tuple[str, str]]:
     """The checks, each a name and what is wrong, or nothing; the first difference ends them."""
-    seen, total = collections.Counter(), 0
+    seen: collections.Counter[Met] = collections.Counter()
+    total = 0
     try:
         page = given.page.read_text(encoding="utf-8")
         points = model.read(page)[0]
@@ -517,7 +585,7 @@ def checks(given):
     yield f"each line, and all that it may come to, {least} times or more", unreached(points, seen)
 
 
-def main():
+def main() -> int:
     parser = argparse.ArgumentParser(description="Executes the pseudo-code of the model beside the program.")
     parser.add_argument("--page", type=Path, default=model.PAGE, help="another page in place of docs/MODEL.md")
     program.add_program(parser)

@@ -23,7 +23,6 @@ Python's standard library is used.
 """
 
 import argparse
-import collections
 import concurrent.futures
 import contextlib
 import functools
@@ -33,7 +32,9 @@ import resource
 import struct
 import subprocess
 import tempfile
+from collections.abc import Callable, Iterable, Iterator, Sequence
 from pathlib import Path
+from typing import NamedTuple, Protocol
 
 from lcrq_tools import program
 from lcrq_tools.program import run
@@ -44,8 +45,29 @@ REFUSED = b"refused 20 NoMemory"
 # the first words of the lines that may be refused memory
 MAY_TAKE = {b"enq", b"deq", b"aenq", b"adeq", b"go", b"starve", b"mark", b"goto", b"same"}
 
-# what a run gives, how many allocations it asked for, and how many of these were refused
-Counted = collections.namedtuple("Counted", [*program.Ended._fields, "calls", "refused"])
+
+class Counted(NamedTuple):
+    """What a run gives, how many allocations it asked for, and how many of these were refused."""
+
+    status: int
+    output: bytes
+    errors: str
+    calls: int
+    refused: int
+
+
+class Refusing(Protocol):
+    """A run in which allocations are refused from a number on, or just this one."""
+
+    def __call__(self, words: Sequence[str], number: int, given: bytes = b"") -> Counted:
+        """The run of these words with this standard input."""
+
+
+Run = program.Ended | Counted
+Words = tuple[str, ...]  # of a command line, after the program
+FaultIn = Callable[[str, Words, bytes, Run], str]  # of a program, words, a script and their run, what is wrong
+# Names, how many points were refused if memory is refused there, and what is wrong or nothing.
+Outcomes = Iterator[tuple[str, int | None, str]]
 
 # ---- Runs that are refused memory ----------------------------------------------------------------
 
@@ -53,25 +75,26 @@ Counted = collections.namedtuple("Counted", [*program.Ended._fields, "calls", "r
 class Refuser:
     """Runs programs with allocations refused by number, and counts them."""
 
-    def __init__(self, folder):
-        self.library = os.path.join(folder, "refuse.so")
+    def __init__(self, folder: Path) -> None:
+        self.library = str(folder / "refuse.so")
         self.folder = folder
         flags = ["-O2", "-Wall", "-fPIC", "-shared", "-fno-builtin"]
         subprocess.run(["cc", *flags, "-o", self.library, str(HERE / "refuse.c")], check=True)
 
-    def run(self, words, first, last, given=b""):
+    def run(self, words: Sequence[str], first: int, last: int, given: bytes = b"") -> Counted:
         """A run in which the allocations of these numbers are refused."""
         with tempfile.NamedTemporaryFile(dir=self.folder) as file:
             file.write(bytes(24))
             file.flush()
-            more = {"LD_PRELOAD": self.library, "REFUSE_COUNTS": file.name, "REFUSE_FIRST": str(first), "REFUSE_LAST": str(last)}
+            more = {"LD_PRELOAD": self.library, "REFUSE_COUNTS": file.name}
+            more |= {"REFUSE_FIRST": str(first), "REFUSE_LAST": str(last)}
             ended = run(words, given, env={**os.environ, **more})
             with mmap.mmap(file.fileno(), 24, access=mmap.ACCESS_READ) as counts:
                 calls, refused, _ = struct.unpack("QQq", counts[:])
         return Counted(*ended, calls, refused)
 
     @contextlib.contextmanager
-    def driven(self, words):
+    def driven(self, words: Sequence[str]) -> Iterator[tuple[program.Driven, Callable[[], int]]]:
         """A run that is asked a line at a time, and what says how many bytes it holds."""
         with tempfile.NamedTemporaryFile(dir=self.folder) as file:
             file.write(bytes(24))
@@ -79,18 +102,18 @@ class Refuser:
             more = [f"LD_PRELOAD={self.library}", f"REFUSE_COUNTS={file.name}"]
             with mmap.mmap(file.fileno(), 24, access=mmap.ACCESS_READ) as counts:
                 with program.Driven(["env", *more, *words]) as asked:
-                    yield asked, lambda: struct.unpack("QQq", counts[:])[2]
+                    yield asked, lambda: int(struct.unpack("QQq", counts[:])[2])
 
-    def one(self, words, number, given=b""):
+    def one(self, words: Sequence[str], number: int, given: bytes = b"") -> Counted:
         """A run in which just this allocation is refused."""
         return self.run(words, number, number, given)
 
-    def rest(self, words, number, given=b""):
+    def rest(self, words: Sequence[str], number: int, given: bytes = b"") -> Counted:
         """A run in which this allocation and all after it are refused."""
         return self.run(words, number, 2**63, given)
 
 
-def each_refused(runs):
+def each_refused(runs: Callable[[int], Counted]) -> Iterator[tuple[int, Counted]]:
     """The ended runs of number 1, 2, .. up to the first that met no refusal, which is left out."""
     with concurrent.futures.ThreadPoolExecutor(os.cpu_count()) as pool:
         number = 1
@@ -107,19 +130,19 @@ def each_refused(runs):
 
 
 @functools.lru_cache(maxsize=4096)
-def usual(built, words, script):
+def usual(built: str, words: Words, script: bytes) -> bytes:
     """The replies to a script with ample memory."""
     ended = run([built, *words], script)
     assert (ended.status, ended.errors) == (0, ""), f"with ample memory: {ended}"
     return ended.output
 
 
-def lines_of(text):
+def lines_of(text: bytes) -> list[bytes]:
     """The lines of a text, the last of which may lack its line feed."""
     return text.splitlines()
 
 
-def fault_in_report(built, words, script, output):
+def fault_in_report(built: str, words: Words, script: bytes, output: bytes) -> str:
     """What is wrong with the report of a script that was refused memory here and there. A line that
     was refused memory may be one that takes some, and all others are answered as if it weren't
     there."""
@@ -139,7 +162,7 @@ def fault_in_report(built, words, script, output):
     return "" if len(others) == len(wanted) else f"{len(others)} replies, wanted {len(wanted)}"
 
 
-def fault_in_run(built, words, script, ended):
+def fault_in_run(built: str, words: Words, script: bytes, ended: Run) -> str:
     """What is wrong with a run of a script."""
     if (ended.status, ended.errors) == (0, ""):
         return fault_in_report(built, words, script, ended.output)
@@ -148,37 +171,38 @@ def fault_in_run(built, words, script, ended):
     return f"status {ended.status}, {ended.errors!r}, {ended.output[-40:]!r}"
 
 
-def fault_in_traced_run(built, words, script, ended):
+def fault_in_traced_run(built: str, words: Words, script: bytes, ended: Run) -> str:
     """What is wrong with a run of a script that writes its trace: there is the whole trace of what
     was done, or none of it."""
     report, trace = parted(ended.output)
+    without = tuple(it for it in words if it != "--trace")
     if trace:
         kept = kept_lines(script, report)
         wanted = usual(built, words, kept)
         fits = (ended.status, ended.errors) == (0, "") and wanted.endswith(trace)
-        return fault_in_report(built, tuple(it for it in words if it != "--trace"), script, report) if fits else f"{ended}, {trace!r}"
+        return fault_in_report(built, without, script, report) if fits else f"{ended}, {trace!r}"
     if (ended.status, ended.errors) != (1, NO_MEMORY):
         return f"status {ended.status}, {ended.errors!r}"
-    without = tuple(it for it in words if it != "--trace")
     return fault_in_report(built, without, script, ended.output) if ended.output else ""
 
 
-def parted(output):
+def parted(output: bytes) -> tuple[bytes, bytes]:
     """The report of a run that writes its trace, and the trace, which is nothing where there is
     none: its line alone begins with a brace."""
     lines = output.splitlines(keepends=True)
     return (b"".join(lines[:-1]), lines[-1]) if lines and lines[-1].startswith(b"{") else (output, b"")
 
 
-def kept_lines(script, report):
+def kept_lines(script: bytes, report: bytes) -> bytes:
     """The lines of a script that were not refused memory."""
     pairs = zip(lines_of(script), lines_of(report))
     return b"".join(line + b"\n" for line, reply in pairs if reply != REFUSED)
 
 
-def viewers_in(output):
+def viewers_in(output: bytes) -> tuple[list[list[bytes]], int | None]:
     """The replies to each viewer, and the number of recorded calls, of the text of a view."""
-    replies, calls = [], None
+    replies: list[list[bytes]] = []
+    calls: int | None = None
     for line in lines_of(output):
         if line.startswith(b"viewer "):
             replies.append([])
@@ -189,7 +213,7 @@ def viewers_in(output):
     return replies, calls
 
 
-def fault_in_view(built, words, _script, ended):
+def fault_in_view(built: str, words: Words, _script: bytes, ended: Run) -> str:
     """What is wrong with a view of scripts of queries: each viewer has its usual answers, or was
     not started; a call that is not recorded says so, and is not counted."""
     if (ended.status, ended.output, ended.errors) == (1, b"", NO_MEMORY):
@@ -211,7 +235,7 @@ def fault_in_view(built, words, _script, ended):
     return "" if calls == recorded else f"history {calls}, wanted {recorded}"
 
 
-def fault_in_words(built, words, _script, ended):
+def fault_in_words(built: str, words: Words, _script: bytes, ended: Run) -> str:
     """What is wrong with a command line that asks for help or is a mistake."""
     if (ended.status, ended.output, ended.errors) == (1, b"", NO_MEMORY):
         return ""
@@ -221,43 +245,51 @@ def fault_in_words(built, words, _script, ended):
 
 # ---- Scripts -------------------------------------------------------------------------------------
 
-QUERIES = ["len", "marks", "markat 1", "markat 2", "show qhead", "show qtail", "show ahead", "show atail", "show acell 0", "show acell 1"]
-QUERIES += [f"show {kind} {name}" for name in ("0.0", "1.0", "2.0") for kind in ("head", "tail", "next", "whole")]
-QUERIES += [f"show {kind} {name} {at}" for name in ("0.0", "1.0", "2.0") for kind in ("cell", "value", "index") for at in (0, 1)]
+NAMES = ("0.0", "1.0", "2.0")  # of segments
+QUERIES = ["len", "marks", "markat 1", "markat 2", "show qhead", "show qtail", "show ahead", "show atail"]
+QUERIES += ["show acell 0", "show acell 1"]
+QUERIES += [f"show {kind} {name}" for name in NAMES for kind in ("head", "tail", "next", "whole")]
+QUERIES += [f"show {kind} {name} {at}" for name in NAMES for kind in ("cell", "value", "index") for at in (0, 1)]
 QUERIES += [f"actor {number}" for number in (1, 2, 3, 4)]
-QUERIES += ["step 1", "step 7", "step 26", "step 28", "writer qtail", "writer tail 0.0", "writer cell 0.0 0", "writer value 0.0 0", "origin 7"]
+QUERIES += ["step 1", "step 7", "step 26", "step 28", "writer qtail", "writer tail 0.0", "writer cell 0.0 0"]
+QUERIES += ["writer value 0.0 0", "origin 7"]
 
 # up to the two makings of a ring after a full one, that of actor 1 last, and both actors' next
 # step: over rings of two cells
-RACE = ["enq 1 7"] + ["go 1"] * 6 + ["enq 1 8"] + ["go 1"] * 6 + ["enq 1 9"] + ["go 1"] * 2 + ["enq 2 10"] + ["go 2"] * 2 + ["go 1"] * 5
+RACE = ["enq 1 7"] + ["go 1"] * 6 + ["enq 1 8"] + ["go 1"] * 6 + ["enq 1 9"] + ["go 1"] * 2
+RACE += ["enq 2 10"] + ["go 2"] * 2 + ["go 1"] * 5
 RACE += ["go 2", "go 1", "go 2", "undo 27", "redo", "go 2", "go 1"]
 # before them, two bookmarks of which neither begins the other
 APART = ["deq 3", "mark x", "undo", "deq 4", "mark y", "undo"]
 # what comes of them, which takes no memory
-UNDOS = [("undo", "at 29 1"), ("undo 28", "at 28 2"), ("back 3", "at 25 5"), ("redo", "at 26 4"), ("forward 2", "at 28 2"), ("roll 27", "at 26 4")]
-UNDOS += [("undo 30", "refused 12 NoSuchStep 26"), ("undo 1", "refused 13 Depended 2"), ("forward 5", "refused 11 NothingToRedo")]
-MORE = ["mark a", "undo", "undo 28", "back 3", "forward 2", "mark b", "hello", "same a b", "deq 3", "go 3", "mark c", "same a c", "goto a"]
-MORE += ["starve 1 yes", "aenq 4 5", "go 4", "adeq 4", "goto c", "drop b", "goto b", "same c a", "back 30", "enq 4 5", "mark A", "roll 1"]
+UNDOS = [("undo", "at 29 1"), ("undo 28", "at 28 2"), ("back 3", "at 25 5"), ("redo", "at 26 4")]
+UNDOS += [("forward 2", "at 28 2"), ("roll 27", "at 26 4"), ("undo 30", "refused 12 NoSuchStep 26")]
+UNDOS += [("undo 1", "refused 13 Depended 2"), ("forward 5", "refused 11 NothingToRedo")]
+MORE = ["mark a", "undo", "undo 28", "back 3", "forward 2", "mark b", "hello", "same a b", "deq 3", "go 3", "mark c"]
+MORE += ["same a c", "goto a", "starve 1 yes", "aenq 4 5", "go 4", "adeq 4", "goto c", "drop b", "goto b", "same c a"]
+MORE += ["back 30", "enq 4 5", "mark A", "roll 1"]
 
 TRACE = b'{"actors":4,"events":[["enq",1,7],["go",1],["aenq",2,5],["deq",3],["go",3]],"ring":4,"version":1}\n'
 # a start by hand, whose actor makes the next ring, with live and undone events and two bookmarks
 # that share two
-START = b'{"actors":[{"closed":false,"crq":[0,0],"h":0,"idx":0,"new":[0,0],"next":[0,0],"op":["enq",1],"pass":0,"pc":"E11","safe":false,"t":2,"val":null}],'
+START = b'{"actors":[{"closed":false,"crq":[0,0],"h":0,"idx":0,"new":[0,0],"next":[0,0],"op":["enq",1],'
+START += b'"pass":0,"pc":"E11","safe":false,"t":2,"val":null}],'
 START += b'"array":{"cells":[[1,"top"],[63,5]],"head":2,"tail":3},"qhead":[0,0],"qtail":[0,0],'
 START += b'"segments":[[{"cells":[[true,0,7],[true,1,8]],"closed":false,"head":0,"next":null,"tail":2}],[]]}'
 STEP = b'["go",1]'
-SESSION = b'{"events":[' + b",".join([STEP] * 3) + b'],"marks":[{"events":[' + b",".join([STEP] * 2) + b'],"name":"a"},{"events":[' + b",".join([STEP] * 4)
+SESSION = b'{"events":[' + b",".join([STEP] * 3) + b'],"marks":[{"events":[' + b",".join([STEP] * 2)
+SESSION += b'],"name":"a"},{"events":[' + b",".join([STEP] * 4)
 SESSION += b',["adeq",1]],"name":"b"}],"ring":2,"start":' + START + b',"undone":[' + STEP + b'],"version":2}\n'
 
 
-def script_of(lines):
+def script_of(lines: Iterable[str]) -> bytes:
     """The text of these lines."""
     return "".join(line + "\n" for line in lines).encode()
 
 
-def asked_behind(lines):
+def asked_behind(lines: Iterable[str]) -> bytes:
     """The text of these lines with all queries after each that may take memory."""
-    text = []
+    text: list[str] = []
     for line in lines:
         text.append(line)
         if line.split(" ")[0].encode() in MAY_TAKE:
@@ -265,29 +297,32 @@ def asked_behind(lines):
     return script_of(text + QUERIES)
 
 
-def command_lines(folder):
+def command_lines(folder: Path) -> Iterator[tuple[str, Words, bytes, FaultIn]]:
     """Command lines with the script on standard input, and what says what is wrong with their
     end."""
     script = asked_behind(RACE + MORE)
-    files = []
-    texts = [("script", script), ("trace", TRACE), ("session", SESSION), ("first", b"len\nhello\nshow qhead\n"), ("second", b"show tail 0.0\nactor 1\n")]
-    for name, text in texts:
-        files.append(os.path.join(folder, name))
-        Path(files[-1]).write_bytes(text)
-    file, trace, session, first, second = files
+    texts = {"script": script, "trace": TRACE, "session": SESSION}
+    texts |= {"first": b"len\nhello\nshow qhead\n", "second": b"show tail 0.0\nactor 1\n"}
+    for name, text in texts.items():
+        (folder / name).write_bytes(text)
+    file, trace, session, first, second = (str(folder / name) for name in texts)
     yield "run", ("run", "-", "--ring", "2"), script, fault_in_run
     yield "run of a file", ("run", file, "--ring", "2"), b"", functools.partial(fault_in_file_run, script)
-    yield "run --trace", ("run", "-", "--ring", "2", "--trace"), script_of(RACE[:9] + ["mark a", "back 2", "mark b"]), fault_in_traced_run
+    marked = script_of(RACE[:9] + ["mark a", "back 2", "mark b"])
+    yield "run --trace", ("run", "-", "--ring", "2", "--trace"), marked, fault_in_traced_run
     yield "load", ("load", trace), script_of(["len", "go 1", "undo", "mark a", "len"]), fault_in_run
-    moves = ["len", "marks", "markat 2", "redo", "deq 1", "same a b", "goto b", "undo", "mark c", "goto a", "go 1", "len", "show whole 1.0"]
-    yield "load of a whole session", ("load", session), script_of(moves), fault_in_run
-    yield "load --trace", ("load", session, "--trace"), script_of(moves), fault_in_traced_run
+    moves = script_of(
+        ["len", "marks", "markat 2", "redo", "deq 1", "same a b", "goto b", "undo", "mark c", "goto a", "go 1"]
+        + ["len", "show whole 1.0"]
+    )
+    yield "load of a whole session", ("load", session), moves, fault_in_run
+    yield "load --trace", ("load", session, "--trace"), moves, fault_in_traced_run
     yield "view", ("view", first, second, first, second), b"", fault_in_view
     yield "help", ("run", "--help"), b"", fault_in_words
     yield "a mistake", ("run", "-", "--ring", "3"), b"", fault_in_words
 
 
-def fault_in_file_run(script, built, words, _given, ended):
+def fault_in_file_run(script: bytes, built: str, words: Words, _given: bytes, ended: Run) -> str:
     """What is wrong with a run of the script in a file, which is compared with runs over standard
     input."""
     return fault_in_run(built, tuple("-" if at == 1 else word for at, word in enumerate(words)), script, ended)
@@ -300,13 +335,13 @@ DEVICES = "tests::devices::"  # tests of which to refuse each allocation would t
 NONE = "tests::none_left::"  # tests that pass whatever is refused to them from some point on
 
 
-def tests_of(tests):
+def tests_of(tests: str) -> list[str]:
     """The names of the tests in a built test program."""
     listed = run([tests, "--list"]).output.decode()
     return [line.removesuffix(": test") for line in listed.splitlines() if line.endswith(": test")]
 
 
-def devices_part(given, _refuser):
+def devices_part(given: argparse.Namespace, _refuser: Refuser) -> Outcomes:
     """Each test over devices that fail, once."""
     for name in tests_of(given.tests):
         if name.startswith(DEVICES):
@@ -314,16 +349,16 @@ def devices_part(given, _refuser):
             yield name.removeprefix("tests::"), None, fault_in_test(ended)
 
 
-def fault_in_test(ended):
+def fault_in_test(ended: Run) -> str:
     """What is wrong with a run of a test."""
     return "" if ended.status == 0 else f"status {ended.status}, {ended.errors.strip()!r}"
 
 
-def refused_tests(given, names, runs):
+def refused_tests(given: argparse.Namespace, names: list[str], runs: Refusing) -> Outcomes:
     """Each test of these names with allocations refused from each number on, as `runs` does it."""
     for name in names:
         points, fault = 0, ""
-        for number, ended in each_refused(lambda number, name=name: runs([given.tests, name], number)):
+        for number, ended in each_refused(functools.partial(runs, [given.tests, name])):
             points += 1
             found = fault_in_test(ended)
             if found and not fault:
@@ -331,21 +366,22 @@ def refused_tests(given, names, runs):
         yield name.removeprefix("tests::"), points, fault
 
 
-def tests_part(given, refuser):
+def tests_part(given: argparse.Namespace, refuser: Refuser) -> Outcomes:
     """Each test with each one of its allocations refused."""
-    return refused_tests(given, [name for name in tests_of(given.tests) if not name.startswith(DEVICES)], refuser.one)
+    names = [name for name in tests_of(given.tests) if not name.startswith(DEVICES)]
+    return refused_tests(given, names, refuser.one)
 
 
-def none_part(given, refuser):
+def none_part(given: argparse.Namespace, refuser: Refuser) -> Outcomes:
     """Each test of calls that take no memory, with all allocations refused from each one on."""
     return refused_tests(given, [name for name in tests_of(given.tests) if name.startswith(NONE)], refuser.rest)
 
 
-def program_part(given, refuser, runs):
+def program_part(given: argparse.Namespace, refuser: Refuser, runs: Refusing) -> Outcomes:
     """Each command line with allocations refused from each number on, as `runs` does it."""
     for name, words, script, fault_in in command_lines(refuser.folder):
         points, fault = 0, ""
-        for number, ended in each_refused(lambda number, words=words, script=script: runs([given.program, *words], number, script)):
+        for number, ended in each_refused(functools.partial(runs, [given.program, *words], given=script)):
             points += 1
             found = fault_in(given.program, words, script, ended)
             if found and not fault:
@@ -353,17 +389,17 @@ def program_part(given, refuser, runs):
         yield name, points, fault
 
 
-def one_part(given, refuser):
+def one_part(given: argparse.Namespace, refuser: Refuser) -> Outcomes:
     """The program with each one of its allocations refused."""
     return program_part(given, refuser, refuser.one)
 
 
-def rest_part(given, refuser):
+def rest_part(given: argparse.Namespace, refuser: Refuser) -> Outcomes:
     """The program with all allocations refused from each one on."""
     return program_part(given, refuser, refuser.rest)
 
 
-def undos_part(given, refuser):
+def undos_part(given: argparse.Namespace, refuser: Refuser) -> Outcomes:
     """Undos, redos and queries with all allocations refused from the line before them on: it
     compares two bookmarks, which needs some."""
     words = [given.program, "run", "-", "--ring", "2"]
@@ -380,12 +416,12 @@ def undos_part(given, refuser):
     yield f"{len(lines_of(later))} lines after {taken} allocations", ended.refused, fault
 
 
-def limited(built, words, script, limit):
+def limited(built: str, words: Sequence[str], script: bytes, limit: int) -> program.Ended:
     """A run under a limit of its address space."""
     return run(["prlimit", f"--as={limit}", built, *words], script)
 
 
-def lowest(built):
+def lowest(built: str) -> int:
     """The lowest limit, in steps of a page, under which the program starts: the loader and the C
     library need it."""
     low, high = 0, 1 << 30
@@ -396,32 +432,34 @@ def lowest(built):
     return high
 
 
-def long_script():
+def long_script() -> bytes:
     """A script of some 9,600 steps with bookmarks, undos and queries among them."""
-    lines = []
+    lines: list[str] = []
     for at in range(800):
         lines += ["deq 1"] + ["go 1"] * 11 + ["undo", "redo"]
         if at % 200 == 100:
-            lines += [f"mark a{at}", "back 500", "undo", "enq 2 5", f"mark b{at}", f"same a{at} b{at}", f"goto a{at}"]
-            lines += QUERIES
+            lines += [f"mark a{at}", "back 500", "undo", "enq 2 5", f"mark b{at}"]
+            lines += [f"same a{at} b{at}", f"goto a{at}", *QUERIES]
     return script_of(lines + QUERIES)
 
 
-def limits_part(given, refuser):
+def limits_part(given: argparse.Namespace, refuser: Refuser) -> Outcomes:
     """Runs under limits that are lowered step by step, to the lowest under which the program
     starts."""
     floor = lowest(given.program)
-    many = os.path.join(refuser.folder, "many")
+    many = refuser.folder / "many"
     # few lines: viewers take turns, and 64 threads that do so are slow on a machine that does other
     # work too
-    Path(many).write_bytes(b"len\nshow tail 0.0\n")
-    runs = [("run", ("run", "-", "--ring", "2"), long_script(), fault_in_run, 64 << 10, 130)]
-    runs += [("view of 64", ("view", *[many] * 64), b"", fault_in_view, 8 << 20, 80)]
+    many.write_bytes(b"len\nshow tail 0.0\n")
+    runs: list[tuple[str, Words, bytes, FaultIn, int, int]] = [
+        ("run", ("run", "-", "--ring", "2"), long_script(), fault_in_run, 64 << 10, 130),
+        ("view of 64", ("view", *[str(many)] * 64), b"", fault_in_view, 8 << 20, 80),
+    ]
     for name, words, script, fault_in, step, steps in runs:
         fault, short = "", 0
         limits = [floor + step * at // 4 for at in range(4 * 4)] + [floor + step * at for at in range(4, steps)]
         with concurrent.futures.ThreadPoolExecutor(os.cpu_count()) as pool:
-            ends = pool.map(lambda limit, words=words, script=script: limited(given.program, words, script, limit), limits)
+            ends = pool.map(functools.partial(limited, given.program, words, script), limits)
             for limit, ended in zip(limits, ends):
                 short += REFUSED in ended.output or ended.status == 1
                 found = fault_in(given.program, words, script, ended)
@@ -434,7 +472,7 @@ BRANCHES = 63  # and a bookmark at no step
 CALLS = 40  # in each of them
 
 
-def back_part(given, refuser):
+def back_part(given: argparse.Namespace, refuser: Refuser) -> Outcomes:
     """Bookmarks on branches that have no step in common, all but one of which are dropped: at most
     a tenth of what they took is held then."""
     with refuser.driven([given.program, "run", "-"]) as (asked, held):
@@ -453,11 +491,12 @@ def back_part(given, refuser):
     yield f"{left >> 10} KiB are left of {taken >> 10}", None, fault
 
 
-OF_TESTS = {"devices": devices_part, "tests": tests_part, "none": none_part}
+Part = Callable[[argparse.Namespace, Refuser], Outcomes]
+OF_TESTS: dict[str, Part] = {"devices": devices_part, "tests": tests_part, "none": none_part}
 PARTS = OF_TESTS | {"one": one_part, "rest": rest_part, "undos": undos_part, "limits": limits_part, "back": back_part}
 
 
-def print_part(part, outcomes):
+def print_part(part: str, outcomes: Outcomes) -> int:
     """Prints what became of a part: for each of its checks how many points were refused, if it is
     one that refuses. Returns how many are wrong."""
     total, wrong = 0, 0
@@ -472,17 +511,19 @@ def print_part(part, outcomes):
     return wrong
 
 
-def main():
+def main() -> int:
     parser = argparse.ArgumentParser(description="Refuses memory at each point in turn, and looks at what is answered.")
-    parser.add_argument("parts", nargs="*", choices=[[], *PARTS], metavar="PART", help=f"{', '.join(PARTS)}; all if none is named")
+    about = f"{', '.join(PARTS)}; all if none is named"
+    parser.add_argument("parts", nargs="*", choices=[[], *PARTS], metavar="PART", help=about)
     program.add_program(parser)
-    parser.add_argument("--tests", default=str(program.CRATES / "shortages/out/shortages_tests"), help="the built tests of crates/shortages")
+    tests = str(program.CRATES / "shortages" / "out" / "shortages_tests")
+    parser.add_argument("--tests", default=tests, help="the built tests of crates/shortages")
     given, wrong = parser.parse_args(), 0
     parts = given.parts or list(PARTS)
     if not OF_TESTS.keys().isdisjoint(parts):
         program.required(given.tests, "rt ci, which is the gate")
     with tempfile.TemporaryDirectory() as folder:
-        refuser = Refuser(folder)
+        refuser = Refuser(Path(folder))
         for part in parts:
             wrong += print_part(part, PARTS[part](given, refuser))
     print("nothing is wrong" if not wrong else f"{wrong} wrong")

@@ -22,10 +22,11 @@ import subprocess
 import sys
 import tarfile
 import tempfile
+from collections.abc import Iterator, Mapping
 from dataclasses import dataclass, field
 from html.parser import HTMLParser
 from pathlib import Path
-from typing import Iterator
+from typing import NamedTuple
 
 from lcrq_tools import program
 from lcrq_tools.program import TOP
@@ -35,7 +36,7 @@ RELEASE = [sys.executable, str(TOP / "tools" / "release.py")]
 SECONDS = 600  # that making an archive, or the commands of a page, may take
 
 # The archives: the options, and whether the commands of its pages are run.
-ARCHIVES = [
+ARCHIVES: list[tuple[list[str], bool]] = [
     ([], True),
     (["--lessons", "5,14,15", "--answers", "apart"], True),
     (["--lessons", "12", "--answers", "none"], True),
@@ -80,26 +81,40 @@ PLACEHOLDERS |= {"to.script", "before.trace", "from.trace", "port.trace", "steps
 # ---- Pages ---------------------------------------------------------------------------------------
 
 
+Rows = list[list[str]]  # the cells of each row of a table
+
+
+class Item(NamedTuple):
+    """A piece of code with its language, `code` within a line, or a table."""
+
+    kind: str
+    text: str = ""
+    rows: Rows | None = None
+
+
 @dataclass
 class Page(HTMLParser):
     """A page of the archive: its code, tables and links in order, its names, and its text."""
 
     path: Path
-    items: list = field(default_factory=list)  # each its kind and its text, or the rows of a table
-    inside: list = field(default_factory=list)  # the code of a table, which comes after it
-    names: set = field(default_factory=set)
-    links: list = field(default_factory=list)
+    items: list[Item] = field(default_factory=list)
+    inside: list[Item] = field(default_factory=list)  # the code of a table, which comes after it
+    names: set[str] = field(default_factory=set)
+    links: list[str] = field(default_factory=list)
     text: str = ""
 
     def __post_init__(self) -> None:
         """Reads the page."""
         super().__init__()
-        self.kind, self.code, self.is_pre, self.rows, self.cell = "", None, False, None, None
+        self.kind, self.is_pre = "", False
+        self.code: str | None = None
+        self.rows: Rows | None = None
+        self.cell: str | None = None
         self.feed(self.path.read_text(encoding="utf-8"))
 
-    def handle_starttag(self, tag: str, attributes: list) -> None:
+    def handle_starttag(self, tag: str, attributes: list[tuple[str, str | None]]) -> None:
         """Begins an element."""
-        given = dict(attributes)
+        given = {name: value for name, value in attributes if value is not None}
         self.names |= {given["id"]} if "id" in given else set()
         self.links += [given["href"]] if "href" in given else []
         if tag == "pre":
@@ -108,7 +123,7 @@ class Page(HTMLParser):
             self.code = ""
         elif tag == "table":
             self.rows = []
-        elif tag == "tr":
+        elif tag == "tr" and self.rows is not None:
             self.rows.append([])
         elif tag in ("td", "th"):
             self.cell = ""
@@ -117,15 +132,15 @@ class Page(HTMLParser):
         """Ends an element."""
         if tag == "code":
             where = self.items if self.rows is None else self.inside
-            where.append((self.kind if self.is_pre else "code", self.code))
+            where.append(Item(self.kind if self.is_pre else "code", self.code or ""))
             self.code = None
         elif tag == "pre":
             self.is_pre, self.kind = False, ""
-        elif tag in ("td", "th"):
-            self.rows[-1].append(self.cell)
+        elif tag in ("td", "th") and self.rows is not None:
+            self.rows[-1].append(self.cell or "")
             self.cell = None
-        elif tag == "table":
-            self.items += [("table", self.rows), *self.inside]
+        elif tag == "table" and self.rows is not None:
+            self.items += [Item("table", rows=self.rows), *self.inside]
             self.rows, self.inside = None, []
 
     def handle_data(self, data: str) -> None:
@@ -153,7 +168,7 @@ def stands_for(text: str) -> str:
     return " ".join(STANDS_FOR.get(word, word) for word in text.split(" "))
 
 
-def replies_in(rows: list) -> str | None:
+def replies_in(rows: Rows) -> str | None:
     """The replies of a table of lines and replies, where each is certain."""
     if rows[0][:2] != ["Line", "Reply"] or any(row[1].startswith("viewer ") for row in rows):
         return None
@@ -162,11 +177,11 @@ def replies_in(rows: list) -> str | None:
 
 def commands_of(page: Page) -> Iterator[Command]:
     """The commands of a page in order."""
-    for (kind, text), after in zip(page.items, [*page.items[1:], ("", "")]):
+    for (kind, text, _), after in zip(page.items, [*page.items[1:], Item("")]):
         if kind in ("sh", "python"):
             yield Command(kind, text, None)
         elif kind == "code" and COMMAND.fullmatch(text):
-            shown = replies_in(after[1]) if after[0] == "table" and "--trace" not in text else None
+            shown = replies_in(after.rows) if after.rows and "--trace" not in text else None
             yield Command("sh", stands_for(text), shown)
         elif kind == "text" and text.startswith("lcrqdb ") and "[" not in text:
             first, _, rest = text.partition("\n")
@@ -182,7 +197,7 @@ def readme_commands(folder: Path) -> list[Command]:
 def plain(lines: list[str]) -> list[str]:
     """Lines with their counts done."""
     found = (re.fullmatch(r"(.*?)(?: x(\d+))?", line) for line in lines)
-    return [it[1] for it in found for _ in range(int(it[2] or 1))]
+    return [it[1] for it in found if it for _ in range(int(it[2] or 1))]
 
 
 def lay_own(folder: Path, pages: list[Page], built: str) -> None:
@@ -207,7 +222,7 @@ def lay_own(folder: Path, pages: list[Page], built: str) -> None:
     mine = folder / "examples" / "my-port"
     mine.write_text("#!/bin/sh\ncat t1.log\n", encoding="ascii")
     mine.chmod(0o755)
-    for kind, text in (item for page in pages for item in page.items):
+    for kind, text, _ in (item for page in pages for item in page.items):
         if kind == "awk":
             (folder / "examples" / "plain.awk").write_text(text, encoding="ascii")
 
@@ -362,7 +377,10 @@ def make(words: list[str], built: str, folder: Path) -> Path:
         raise program.Broken(f"release.py {' '.join(words)}: {ended.errors.strip()}")
     made = folder / next(line for line in ended.output.decode().splitlines() if line.endswith(".tar.gz")).split("/")[-1]
     with tarfile.open(made) as archive:
-        archive.extractall(folder, filter="data") if hasattr(tarfile, "data_filter") else archive.extractall(folder)
+        if hasattr(tarfile, "data_filter"):  # from Python 3.11.4 on, which mypy 1.0.1 doesn't know
+            archive.extractall(folder, filter="data")  # type: ignore[call-arg]
+        else:
+            archive.extractall(folder)
     return folder / made.name.removesuffix(".tar.gz")
 
 
@@ -449,10 +467,10 @@ def is_printed(built: str) -> str:
     return f"{wrong[0]} is no PDF" if wrong else ""
 
 
-def refuses(words: list[str], said: str, built: str, **more: object) -> str:
+def refuses(words: list[str], said: str, built: str, env: Mapping[str, str] | None = None) -> str:
     """What is wrong where these options have to be refused in one line, or nothing."""
     with tempfile.TemporaryDirectory() as name:
-        ended = program.run([*RELEASE, *words, "--program", built, "-o", name], **more)
+        ended = program.run([*RELEASE, *words, "--program", built, "-o", name], env=env)
     last = ended.errors.strip().splitlines()[-1:] or [""]
     is_right = ended.status and said in last[0] and "Traceback" not in ended.errors
     return "" if is_right else f"status {ended.status}: {last[0]}"
@@ -467,9 +485,9 @@ def all_checks(built: str) -> Iterator[tuple[str, str]]:
     yield "the same choice gives the same bytes", is_reproducible(built)
     yield "--lessons 99 is refused", refuses(["--lessons", "99"], "no lesson has the number '99'", built)
     with tempfile.TemporaryDirectory() as name:
-        (Path(name) / "pandoc").symlink_to(shutil.which("pandoc"))
-        alone = {"env": os.environ | {"PATH": name}}
-        yield "--pdf without a printer is refused", refuses(["--pdf"], "neither is there", built, **alone)
+        (Path(name) / "pandoc").symlink_to(shutil.which("pandoc") or "pandoc")
+        alone = os.environ | {"PATH": name}
+        yield "--pdf without a printer is refused", refuses(["--pdf"], "neither is there", built, alone)
     browsers = ("weasyprint", "chromium", "chromium-browser", "google-chrome")
     if any(map(shutil.which, browsers)):
         yield "--pdf", is_printed(built)

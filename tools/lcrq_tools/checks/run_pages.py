@@ -14,17 +14,19 @@ Each check prints a line; the status is 1 if one of them fails. Only Python's st
 
 import argparse
 import json
+import math
 import random
 import re
 import tempfile
 from collections.abc import Iterator
 from html import unescape
 from pathlib import Path
+from typing import Any
 
 from lcrq_tools import program
 from lcrq_tools.checks import moments, pictures
 from lcrq_tools.draw import figure
-from lcrq_tools.page import page, page_parts, run_rows
+from lcrq_tools.page import page, page_parts, run_rows, run_states
 
 RUNS, STEPS = 20, 60  # how many runs at random, and the lines of each
 EACH = 6  # of how many moments of such a run one is compared
@@ -32,6 +34,9 @@ MOST_BYTES = 1_000_000  # of a page of 400 lines
 CONTRAST = 4.5
 OTHERS = [("session", ""), ("guide-1", "")]  # pages beside those of the lessons: the script, and its world
 WORLD = {"--ring": 1, "--actors": 1, "--trace": 1}  # options of a picture that a page has too, with their words
+
+State = dict[str, Any]  # a moment of a page's data, as JSON has it
+Data = dict[str, Any]  # all of them, the same way
 
 
 # ---- The pages ------------------------------------------------------------------------------------
@@ -55,10 +60,13 @@ def arguments_of(name: str, options: str, program_path: str) -> argparse.Namespa
     return pictures.arguments_of(page, f"{name}.script", options, program_path)
 
 
-def states_in(text: str) -> tuple[dict, list[dict]]:
+def states_in(text: str) -> tuple[Data, list[State]]:
     """The data of a page, and its moments as whole states."""
-    data = json.loads(re.search(r'<script type="application/json" id="run">(.*?)</script>', text, re.DOTALL)[1])
-    states, before = [], {"places": {}, "actors": {}, "rows": []}
+    found = re.search(r'<script type="application/json" id="run">(.*?)</script>', text, re.DOTALL)
+    assert found, "the page has no data"
+    data: Data = json.loads(found[1])
+    states: list[State] = []
+    before: State = {"places": {}, "actors": {}, "rows": []}
     for change in data["moments"]:
         kept, others = change.get("rows", [len(before["rows"]), []])
         state = before | change | {"rows": before["rows"][:kept] + others}
@@ -77,12 +85,12 @@ def labels_in(text: str) -> dict[int, str]:
 # ---- The same moments, asked in another way -------------------------------------------------------
 
 
-def trace_after(asked: page.Asked, line: int) -> dict:
+def trace_after(asked: run_states.Asked, line: int) -> moments.Trace:
     """The session after so many lines, as a trace."""
     return moments.trace_of(asked.at(line))
 
 
-def replies_about(state: dict, loaded: moments.Loaded, names: list[str]) -> dict[str, str]:
+def replies_about(state: State, loaded: moments.Loaded, names: list[str]) -> dict[str, str]:
     """What a loaded session replies about a moment, by the line. Steps come last, undone ones are made for
     that; and then the step of each actor, which going to a bookmark takes back."""
     there = [place for place in names if state["places"].get(place) is not None]
@@ -101,12 +109,12 @@ def replies_about(state: dict, loaded: moments.Loaded, names: list[str]) -> dict
     return about | {trial[0]: f"{made}; {record}" for trial, made, record in zip(trials, tried[::3], tried[1::3])}
 
 
-def segments_in(state: dict) -> list[str]:
+def segments_in(state: State) -> list[str]:
     """The segments that a state has; others of a long list are counted."""
     return [it for it in (*state["linked"], *state["apart"]) if isinstance(it, str)]
 
 
-def places_wanted(states: list[dict], ring: int) -> list[str]:
+def places_wanted(states: list[State], ring: int) -> list[str]:
     """The places that a page has to know, and those that it knows."""
     names = {name for state in states for name in segments_in(state)}
     wanted = {"qhead", "qtail", "ahead", "atail", *(place for state in states for place in state["places"])}
@@ -114,7 +122,7 @@ def places_wanted(states: list[dict], ring: int) -> list[str]:
     return sorted(wanted | {f"cell {name} {at}" for name in names for at in range(ring)})
 
 
-def places_fault(state: dict, replies: dict[str, str]) -> str:
+def places_fault(state: State, replies: dict[str, str]) -> str:
     """Where a place has another content than the program replies, or another last writer, or nothing."""
     for line, reply in replies.items():
         word, _, place = line.partition(" ")
@@ -127,7 +135,7 @@ def places_fault(state: dict, replies: dict[str, str]) -> str:
     return ""
 
 
-def segments_fault(state: dict, replies: dict[str, str]) -> str:
+def segments_fault(state: State, replies: dict[str, str]) -> str:
     """Which segment is missing or is at another position than its links say, or nothing."""
     shows = {line: reply for line, reply in replies.items() if line.startswith("show next ")}
     nexts = {line.split(" ")[2]: reply.removeprefix("is ") for line, reply in shows.items()}
@@ -145,7 +153,7 @@ def segments_fault(state: dict, replies: dict[str, str]) -> str:
     return next((f"{name} is shown as never linked" for name in state["apart"] if name in named), "")
 
 
-def slots_fault(state: dict, slots: list[str]) -> str:
+def slots_fault(state: State, slots: list[str]) -> str:
     """Which segment has no place on the page that is in its order, or nothing."""
     left = [*slots]
     at = 0
@@ -157,7 +165,7 @@ def slots_fault(state: dict, slots: list[str]) -> str:
     return next((f"there is no room for {name} beside {slots}" for name in state["apart"] if name not in left), "")
 
 
-def actors_fault(state: dict, replies: dict[str, str]) -> str:
+def actors_fault(state: State, replies: dict[str, str]) -> str:
     """What of the actors isn't as the program replies, or nothing."""
     for actor, chip in state["actors"].items():
         head, _, words = replies[f"actor {actor}"].removeprefix("actor ").partition(" crq ")
@@ -174,7 +182,7 @@ def actors_fault(state: dict, replies: dict[str, str]) -> str:
     return ""
 
 
-def rows_fault(data: dict, state: dict, labels: dict[int, str], replies: dict[str, str]) -> str:
+def rows_fault(data: Data, state: State, labels: dict[int, str], replies: dict[str, str]) -> str:
     """Which step isn't as the program replies, or nothing."""
     if replies["len"] != f"at {state['live']} {len(state['rows']) - state['live']}":
         return f"{state['live']} of {len(state['rows'])} steps are live, and the program replies {replies['len']}"
@@ -196,7 +204,7 @@ def state_fault(text: str, arguments: argparse.Namespace, each: int) -> str:
     with tempfile.TemporaryDirectory() as folder:
         for at in sorted({*range(0, len(states), each), len(states) - 1}):
             state, line = states[at], data["first"] + at
-            loaded = moments.Loaded(arguments.program, folder, trace_after(asked, line))
+            loaded = moments.Loaded(arguments.program, Path(folder), trace_after(asked, line))
             replies = replies_about(state, loaded, names)
             said = asked.lines[line - 1].decode("ascii", "replace") if at else f"{state['live']} live steps"
             fault = (
@@ -250,7 +258,7 @@ def random_fault(seed: int, folder: Path, given: argparse.Namespace) -> str:
 def brightness(colour: str) -> float:
     """How bright a colour is, as contrast counts it."""
     parts = [int(colour[at: at + 2], 16) / 255 for at in (1, 3, 5)]
-    red, green, blue = (it / 12.92 if it <= 0.04045 else ((it + 0.055) / 1.055) ** 2.4 for it in parts)
+    red, green, blue = (it / 12.92 if it <= 0.04045 else math.pow((it + 0.055) / 1.055, 2.4) for it in parts)
     return 0.2126 * red + 0.7152 * green + 0.0722 * blue
 
 

@@ -39,7 +39,7 @@ class Drawn:
     names: list[str]  # what is at the left of each row
     downs: list[float]  # how far down each row is
     texts: list[tuple[Box, str]]  # the boxes of all labels, each with its text
-    headings: list[list[tuple[float, float, str]]]  # those of each part: where each is, and its text
+    headings: list[list[moments.Label]]  # those of each part: where each is, and its text
     bands: list[tuple[float, float, bool]]  # from where to where each is, and whether its frame is broken
     shades: list[tuple[int, int, int]]  # the lane's position, from where, to where
     bars: list[Box]
@@ -58,39 +58,43 @@ class Drawn:
 
 def box_of(text: Element) -> Box:
     """The box of a label, as a wide font has it."""
-    size, x, y = (float(text.get(name)) for name in ("font-size", "x", "y"))
+    size, x, y = (float(text.attrib[name]) for name in ("font-size", "x", "y"))
     width = figure.width_of(text.text or "", size, text.get("font-weight") == "bold")
-    left = x - width * {"start": 0, "middle": 0.5, "end": 1}[text.get("text-anchor")]
+    left = x - width * {"start": 0, "middle": 0.5, "end": 1}[text.attrib["text-anchor"]]
     return left, y - HIGH * size, left + width, y + LOW * size
 
 
 def frame_of(rect: Element) -> Box:
     """The box of a rectangle."""
-    left, top, width, height = (float(rect.get(name)) for name in ("x", "y", "width", "height"))
+    left, top, width, height = (float(rect.attrib[name]) for name in ("x", "y", "width", "height"))
     return left, top, left + width, top + height
 
 
 def dot_of(element: Element) -> tuple[float, float, bool]:
     """Where a dot or a cross is, and whether it is filled."""
     if element.tag == f"{SVG}circle":
-        return float(element.get("cx")), float(element.get("cy")), element.get("fill") != figure.GROUND
-    x, y, half = map(float, re.match(r"M([\d.]+) ([\d.]+)l([\d.]+) ", element.get("d")).groups())
+        return float(element.attrib["cx"]), float(element.attrib["cy"]), element.get("fill") != figure.GROUND
+    found = re.match(r"M([\d.]+) ([\d.]+)l([\d.]+) ", element.attrib["d"])
+    assert found, "a cross begins otherwise"
+    x, y, half = map(float, found.groups())
     return x + half / 2, y + half / 2, False
 
 
 def shade_of(path: Element) -> tuple[int, int, int]:
     """The lane of a shade, and from where to where it is."""
-    left, top, begins, bottom, ends = SHADE.fullmatch(path.get("d")).groups()
+    found = SHADE.fullmatch(path.attrib["d"])
+    assert found, "a shade has another form"
+    left, top, begins, bottom, ends = found.groups()
     return int(left) + 6, int(top) - 6 * (begins == "a6 6"), int(bottom) + 6 * (ends == "a6 6")
 
 
 def marks_of(root: Element, downs: list[float]) -> dict[str, set[int]]:
     """The rows that are marked by each kind of mark; by a bar the first and the last that it has."""
-    marked = {}
+    marked: dict[str, set[int]] = {}
     for rect in (it for group in groups_of(root, "asked", "row") for it in group.iter(f"{SVG}rect") if it.get("class")):
         _, top, _, bottom = frame_of(rect)
         inside = [at for at, down in enumerate(downs, 1) if top < down < bottom]
-        marked.setdefault(rect.get("class"), set()).update(inside)
+        marked.setdefault(rect.attrib["class"], set()).update(inside)
     if "bar" in marked:
         marked["bar"] = {min(marked["bar"]), max(marked["bar"])}
     return marked
@@ -98,7 +102,7 @@ def marks_of(root: Element, downs: list[float]) -> dict[str, set[int]]:
 
 def groups_of(root: Element, *kinds: str) -> list[Element]:
     """The groups of these kinds."""
-    return [group for group in root.iter(f"{SVG}g") if group.get("class").split(" ")[0] in kinds]
+    return [group for group in root.iter(f"{SVG}g") if group.attrib["class"].split(" ")[0] in kinds]
 
 
 def read(svg: str) -> Drawn:
@@ -107,20 +111,20 @@ def read(svg: str) -> Drawn:
     rows = groups_of(root, "row")
     dots = [[dot_of(it) for it in row if it.get("class") in ("wrote", "read", "lost")] for row in rows]
     downs = [row[0][1] for row in dots]
-    headings = [list(group.iter(f"{SVG}text")) for group in groups_of(root, "headings")]
+    headings = [moments.labels_of(group) for group in groups_of(root, "headings")]
     bands = [rect for group in groups_of(root, "bands") for rect in group]
     return Drawn(
         rows=[{round(x): filled for x, _, filled in row} for row in dots],
         names=[row.findtext(f"{SVG}text", "") for row in rows],
         downs=downs,
         texts=[(box_of(text), text.text or "") for text in root.iter(f"{SVG}text")],
-        headings=[[(float(it.get("x")), float(it.get("y")), it.text) for it in texts] for texts in headings],
+        headings=headings,
         bands=[(*frame_of(band)[::2], band.get("stroke-dasharray") is not None) for band in bands],
         shades=[shade_of(path) for path in root.iter(f"{SVG}path") if path.get("class") == "call"],
         bars=[frame_of(rect) for rect in root.findall(f"{SVG}g[@class='asked']/{SVG}rect[@class='bar']")],
-        breaks=[float(group.find(f"{SVG}line").get("y1")) for group in groups_of(root, "break")],
-        starts=[(float(it.get("x")), it.text) for row in groups_of(root, "start") for it in row.iter(f"{SVG}text")],
-        size=(float(root.get("width")), float(root.get("height"))),
+        breaks=[float(group.findall(f"{SVG}line")[0].attrib["y1"]) for group in groups_of(root, "break")],
+        starts=[(x, text) for row in groups_of(root, "start") for x, _, text in moments.labels_of(row)],
+        size=(float(root.attrib["width"]), float(root.attrib["height"])),
         title=root.findtext(f"{SVG}title", ""),
         about=root.findtext(f"{SVG}desc", ""),
         marked=marks_of(root, downs),
@@ -137,7 +141,7 @@ class Run:
     arguments: argparse.Namespace
     live: int
     ring: int
-    start: dict  # that of the trace; nothing over a fresh world
+    start: moments.Trace  # that of the trace; nothing over a fresh world
     records: list[str]
     steps: list[dependence.Step]
 
@@ -331,8 +335,8 @@ def actors_fault(drawn: Drawn, run: Run) -> str:
         return f"it has the actors {[*lanes]}, wanted {sorted(wanted)}"
     for actor, x in lanes.items():
         said = [text for at, text in drawn.starts if at == x - 9]
-        wanted = rf"[A-Z]\d+ {busy[actor]}" if actor in busy else ""
-        if not re.fullmatch(wanted, " ".join(said)):
+        pattern = rf"[A-Z]\d+ {busy[actor]}" if actor in busy else ""
+        if not re.fullmatch(pattern, " ".join(said)):
             return f"it says that actor {actor} is at {said}, and its call is {busy.get(actor)}"
     return ""
 
@@ -384,7 +388,7 @@ def chain_of(run: Run, session: figure.Session) -> tuple[list[str], set[str]]:
     trace |= {"events": trace["events"] + trace["undone"], "undone": []}
     names = sorted(segments_of(run))
     with tempfile.TemporaryDirectory() as folder:
-        loaded = moments.Loaded(run.arguments.program, folder, trace)
+        loaded = moments.Loaded(run.arguments.program, Path(folder), trace)
         nexts = {place[5:]: reply[3:] for place, reply in loaded.about("show", [f"next {it}" for it in names]).items()}
     chain = ["0.0"]
     while nexts[chain[-1]] != "none":
@@ -431,5 +435,5 @@ def faults_of(svg: str, run: Run, session: figure.Session) -> str:
 
 def fault_of(svg: str, arguments: argparse.Namespace) -> str:
     """The first thing that is wrong with a picture, by a session of its command line, or nothing."""
-    session = picture.Session(arguments)
+    session = figure.Session(arguments)
     return faults_of(svg, run_of(arguments, session, picture.records_of(session)), session)

@@ -14,6 +14,7 @@ asked, and the status is 1 if any of them is wrong. Only Python's standard libra
 
 import argparse
 import tempfile
+from collections.abc import Iterator
 
 from lcrq_tools import program
 from lcrq_tools.machine import FAR, dequeuers
@@ -24,10 +25,14 @@ EACH = 8_191  # steps of an actor
 STEPS = ACTORS * EACH
 RING = 4
 
+Step = tuple[int, int]  # an actor, and how many steps of that actor are before it
+Lines = list[tuple[str, str]]  # lines with their replies
+Checks = Iterator[tuple[str, Lines]]
+
 # ---- What the program has to answer --------------------------------------------------------------
 
 
-def record(actor, at):
+def record(actor: int, at: int) -> str:
     """What `step K` says of the step after this many others of the actor, without its number: its
     rounds are Q2, Q3, Q4, Q7 and Q8."""
     drawn, part = divmod(at, 5)
@@ -37,29 +42,29 @@ def record(actor, at):
     return f"go {actor}; {rows[part]}; -"
 
 
-def in_turn():
-    """The steps in turn, each an actor and how many steps of that actor are before it."""
+def in_turn() -> list[Step]:
+    """The steps in turn."""
     return [(actor, at) for at in range(EACH) for actor in range(1, ACTORS + 1)]
 
 
-def one_by_one():
+def one_by_one() -> list[Step]:
     """All steps of the first actor, then all of the second one, and so on."""
     return sorted(in_turn())
 
 
-def rolled_back(steps, number):
+def rolled_back(steps: list[Step], number: int) -> tuple[list[Step], list[Step]]:
     """The steps that stay when this one is rolled back, and those that go: the ones of its actor
     from there on."""
     before, later, actor = steps[:number - 1], steps[number - 1:], steps[number - 1][0]
     return before + [step for step in later if step[0] != actor], [step for step in later if step[0] == actor]
 
 
-def makes(steps):
+def makes(steps: list[Step]) -> Lines:
     """The lines that make these steps, the first of a run, with their replies."""
     return [(f"go {actor}", f"ok {number}") for number, (actor, _) in enumerate(steps, 1)]
 
 
-def records(steps, first=1):
+def records(steps: list[Step], first: int = 1) -> Lines:
     """Lines that ask for the records of these steps, which are in a run from this number on, with
     their replies."""
     return [(f"step {number}", f"step {number}; {record(*step)}") for number, step in enumerate(steps, first)]
@@ -68,7 +73,7 @@ def records(steps, first=1):
 # ---- Checks --------------------------------------------------------------------------------------
 
 
-def making():
+def making() -> Checks:
     """Both orders, with a bookmark at each."""
     turn, single = in_turn(), one_by_one()
     yield "steps in turn", makes(turn) + [("mark turn", f"marked {STEPS}")]
@@ -78,30 +83,31 @@ def making():
     yield "their records", records(single)
 
 
-def comparing():
+def comparing() -> Checks:
     """What `same` says: yes of two orders of independent steps, and no where one actor made a step
     less and another a step more."""
     yield "`same` of both orders", [("same turn single", "same yes"), ("same single turn", "same yes")]
-    other = [("goto turn", f"at {STEPS} 0"), ("undo", f"at {STEPS - 1} 1"), ("go 1", f"ok {STEPS}"), ("mark other", f"marked {STEPS}")]
-    yield "a last step by another actor", other
+    other = [("goto turn", f"at {STEPS} 0"), ("undo", f"at {STEPS - 1} 1"), ("go 1", f"ok {STEPS}")]
+    yield "a last step by another actor", [*other, ("mark other", f"marked {STEPS}")]
     pairs = (("turn", "other"), ("other", "turn"), ("single", "other"), ("other", "single"))
     yield "`same` of that and each order", [(f"same {one} {two}", "same no") for one, two in pairs]
     yield "going back", [("goto turn", f"at {STEPS} 0"), ("drop other", "dropped")]
 
 
-def rolling(number):
+def rolling(number: int) -> Checks:
     """Rolling back a step of the run in turn, and redoing what went."""
     stay, gone = rolled_back(in_turn(), number)
     left = len(stay)
     yield f"`roll {number}`", [(f"roll {number}", f"at {left} {len(gone)}"), ("len", f"at {left} {len(gone)}")]
     yield f"the {left} steps that stay", records(stay) + [(f"step {left + 1}", f"refused 12 NoSuchStep {left}")]
     yield f"the {len(gone)} that went, redone", [(f"forward {len(gone)}", f"at {STEPS} 0"), *records(gone, left + 1)]
-    compared = [(f"same {one} {two}", "same yes") for one, two in (("turn", "rolled"), ("rolled", "turn"), ("single", "rolled"))]
+    pairs = (("turn", "rolled"), ("rolled", "turn"), ("single", "rolled"))
+    compared = [(f"same {one} {two}", "same yes") for one, two in pairs]
     yield "`same` of the run and this", [("mark rolled", f"marked {STEPS}"), *compared]
     yield "going back", [("goto turn", f"at {STEPS} 0"), ("drop rolled", "dropped")]
 
 
-def undoing():
+def undoing() -> Checks:
     """Undoing a step alone: refused where its actor went on, and done where it did not; and last
     writers."""
     number = STEPS - ACTORS + 1
@@ -116,7 +122,7 @@ def undoing():
     yield "last writers", heads + [(f"writer tail {actor}.0", "writer none") for actor in range(1, ACTORS + 1)]
 
 
-def all_checks():
+def all_checks() -> Checks:
     """The checks in the order of one session: each a name, and lines with their replies."""
     yield from making()
     yield from comparing()
@@ -125,7 +131,7 @@ def all_checks():
     yield from undoing()
 
 
-def fault_and_slowest(driven, lines, limit):
+def fault_and_slowest(driven: Driven, lines: Lines, limit: float) -> tuple[str, str]:
     """What is wrong with the replies to these lines or with the time that one takes, or nothing;
     and what the slowest line took."""
     fault, most, slowest = "", 0.0, ""
@@ -140,9 +146,9 @@ def fault_and_slowest(driven, lines, limit):
     return fault, f"`{slowest}` took {most:.1f} ms"
 
 
-def faults(given, trace):
+def faults(given: argparse.Namespace, trace: str) -> list[str]:
     """Runs the checks, and prints and returns what is wrong."""
-    wrong = []
+    wrong: list[str] = []
     with Driven([given.program, "load", trace]) as driven:
         for name, lines in all_checks():
             fault, slowest = fault_and_slowest(driven, lines, given.limit)
@@ -153,7 +159,7 @@ def faults(given, trace):
     return wrong
 
 
-def main():
+def main() -> int:
     parser = argparse.ArgumentParser(description=__doc__.splitlines()[0])
     program.add_program(parser)
     parser.add_argument("--limit", type=float, default=1000.0, help="the most milliseconds of a line (1000)")
@@ -164,7 +170,7 @@ def main():
         try:
             wrong = faults(given, trace.name)
         except Broken as fault:
-            wrong = [fault]
+            wrong = [str(fault)]
             print(f"WRONG {fault}")
     print(f"{len(wrong)} wrong" if wrong else "nothing is wrong")
     return 1 if wrong else 0

@@ -4,7 +4,12 @@
 read from the page, and name the first thing that isn't as the program replies.
 """
 
-from lcrq_tools.page import page
+from typing import Any
+
+from lcrq_tools.page import run_states
+
+Shown = dict[str, Any]  # what the page shows, as a function of browser.js returns it
+Node = dict[str, Any]  # of the accessibility tree: its role, its name and more
 
 # ---- What the program replies ---------------------------------------------------------------------
 
@@ -12,10 +17,9 @@ from lcrq_tools.page import page
 class Replies:
     """What the program replies after so many lines of a script."""
 
-    def __init__(self, asked: page.Asked, line: int):
-        self.line, self.lines = line, asked.lines[:line]
+    def __init__(self, asked: run_states.Asked, line: int) -> None:
+        self.asked, self.line, self.lines = asked, line, asked.lines[:line]
         self.text = self.lines[-1].decode() if line else ""
-        self.run = lambda more: asked.replies_to([*self.lines, *(it.encode() for it in more)])
         replies = self.run(["len"])
         self.reply, self.live, self.undone = replies[line - 1] if line else "", *map(int, replies[-1].split(" ")[1:])
         count, ring = self.live + self.undone, asked.session.ring
@@ -35,11 +39,15 @@ class Replies:
         busy = [actor for actor, reply in self.actors.items() if not reply.startswith("actor Idle ")]
         self.tried = {actor: self.trial(actor) for actor in busy}
 
+    def run(self, more: list[str]) -> list[str]:
+        """The replies to the script's lines and these."""
+        return self.asked.replies_to([*self.lines, *(it.encode() for it in more)])
+
     def ask(self, lines: list[str]) -> list[str]:
         """The replies to these lines, after the script's."""
         return self.run(lines)[-len(lines):] if lines else []
 
-    def names(self, asked: page.Asked) -> list[str]:
+    def names(self, asked: run_states.Asked) -> list[str]:
         """The segments that are there."""
         tried = [f"{maker}.{at}" for maker in range(asked.session.actors + 1) for at in range(12)]
         replies = self.ask([f"show whole {name}" for name in tried])
@@ -69,7 +77,7 @@ def wanted_text(place: str, content: str) -> str:
     return texts[kind]
 
 
-def where_wanted(place: str, content: str, ring: int) -> dict:
+def where_wanted(place: str, content: str, ring: int) -> dict[str, str | int]:
     """Where a page has a place with this content, and which words stand with it."""
     kind, *rest = place.split(" ")
     last = content.split(" ")[-1]
@@ -77,7 +85,7 @@ def where_wanted(place: str, content: str, ring: int) -> dict:
         return {"segment": f"segment {content}"}
     if kind in ("ahead", "atail", "acell"):
         return {"slot": last if kind != "acell" else rest[0]}
-    wanted = {"segment": f"segment {rest[0]}"}
+    wanted: dict[str, str | int] = {"segment": f"segment {rest[0]}"}
     if kind in ("value", "index"):
         wanted["column"] = int(rest[1])
     if kind in ("head", "tail"):
@@ -86,7 +94,7 @@ def where_wanted(place: str, content: str, ring: int) -> dict:
     return wanted | ({"warning": "unsafe" if content.startswith("0 ") else ""} if kind == "index" else {})
 
 
-def places_fault(shown: dict, it: Replies) -> str:
+def places_fault(shown: Shown, it: Replies) -> str:
     """Which place isn't as the program replies, or nothing. The array is shown where it is used."""
     places = shown["places"]
     for place, content in it.places.items():
@@ -104,7 +112,7 @@ def places_fault(shown: dict, it: Replies) -> str:
     return "" if names == {*it.names_there} else f"the segments {names} are shown, and there are {it.names_there}"
 
 
-def order_fault(shown: dict, it: Replies) -> str:
+def order_fault(shown: Shown, it: Replies) -> str:
     """Where the segments stand in another order than that of their links, or an arrow is missing or leads to
     another one, or nothing."""
     for (name, _, leads), (after, _, _) in zip(shown["order"], [*shown["order"][1:], ["", "", ""]]):
@@ -120,7 +128,7 @@ def order_fault(shown: dict, it: Replies) -> str:
     return ""
 
 
-def actors_fault(shown: dict, it: Replies, code: dict[str, str]) -> str:
+def actors_fault(shown: Shown, it: Replies, code: dict[str, str]) -> str:
     """Which actor isn't as the program replies, or nothing."""
     pins = {actor: place for place, about in shown["places"].items() for actor in about["pins"]}
     at_lines = {actor: point for point, actors in shown["code"].items() for actor in actors}
@@ -148,7 +156,7 @@ def actors_fault(shown: dict, it: Replies, code: dict[str, str]) -> str:
     return ""
 
 
-def rows_fault(shown: dict, it: Replies) -> str:
+def rows_fault(shown: Shown, it: Replies) -> str:
     """Which step isn't as the program replies, or nothing."""
     rows = shown["rows"]
     numbers = [*map(str, range(1, it.live + 1)), *["undone"] * it.undone]
@@ -170,7 +178,7 @@ def rows_fault(shown: dict, it: Replies) -> str:
     return "" if last == ([str(it.live)] if it.live else []) else f"the rows {last} are marked as the last one"
 
 
-def words_fault(shown: dict, it: Replies, tree: list[dict], last_line: int) -> str:
+def words_fault(shown: Shown, it: Replies, tree: list[Node], last_line: int) -> str:
     """What of the line and its words isn't as the program replies, or nothing."""
     line = [str(it.line), it.text, it.reply] if it.line else ["0", "before the first line"]
     if shown["current"] != [line]:

@@ -10,15 +10,23 @@ status is 1 if anything differs. Only Python's standard library is used.
 import argparse
 import os
 import re
+import subprocess
 import tempfile
+from collections.abc import Iterator, Sequence
 from pathlib import Path
+from typing import IO
 
 from lcrq_tools import manual, program
 
 LESSONS = program.CRATES / "lessons" / "data"
 
+Answer = tuple[int, str, str]  # a status, standard output and standard error
 # A name, the words, standard input, the status, and how standard output and standard error begin.
-ROWS = [
+Row = tuple[str, list[str], str, int, str, str]
+# A name, the text of a trace, standard input, the status, standard output and standard error.
+TraceRow = tuple[str, str, str, int, str, str]
+
+ROWS: list[Row] = [
     ("an empty script", ["run", "-"], "", 0, "", ""),
     ("a last line without its line feed", ["run", "-"], "len", 0, "at 0 0\n", ""),
     ("two actors", ["run", "-", "--actors", "2"], "deq 3\n", 0, "refused 1 NoActor\n", ""),
@@ -41,7 +49,8 @@ ROWS = [
         ["run", "-", "--trace", "--actors", "2"],
         "deq 1\nmark a\nundo\n",
         0,
-        'ok 1\nmarked 1\nat 0 1\n{"events":[],"marks":[{"events":[["deq",1]],"name":"a"}],"ring":4,"start":{"fresh":2},"undone":[["deq",1]],"version":2}\n',
+        'ok 1\nmarked 1\nat 0 1\n{"events":[],"marks":[{"events":[["deq",1]],"name":"a"}],"ring":4,'
+        '"start":{"fresh":2},"undone":[["deq",1]],"version":2}\n',
         "",
     ),
     ("a trace that is not there", ["load", "/nowhere/trace"], "len\n", 1, "", "lcrqdb: refused 24 Read\n"),
@@ -60,26 +69,38 @@ SCRIPTS = [
 # A script of a thousand lines.
 MANY = "len\n" * 1000
 
+# A trace of version 1 whose keys aren't in their order.
+UNORDERED = '{"version":1, "ring":2, "events":[], "actors":1}'
+
 # The parts of a world of one actor, which is at the fetch-and-add of its enqueue.
 POISED = (
-    '{"actors":[{"closed":false,"crq":[0,0],"h":0,"idx":0,"new":[0,0],"next":[0,0],"op":["enq",1],"pass":0,"pc":"E4","safe":false,"t":0,"val":null}],'
+    '{"actors":[{"closed":false,"crq":[0,0],"h":0,"idx":0,"new":[0,0],"next":[0,0],"op":["enq",1],"pass":0,"pc":"E4",'
+    '"safe":false,"t":0,"val":null}],'
     '"array":{"cells":[],"head":0,"tail":0},"qhead":[0,0],"qtail":[0,0],'
     '"segments":[[{"cells":[[true,0,null],[true,1,null]],"closed":false,"head":0,"next":null,"tail":0}],[]]}'
 )
 
 
-def session(events="[]", marks="[]", start='{"fresh":1}', undone="[]") -> str:
+def session(events: str = "[]", marks: str = "[]", start: str = '{"fresh":1}', undone: str = "[]") -> str:
     """The text of a trace of version 2 over rings of two cells."""
     return f'{{"events":{events},"marks":{marks},"ring":2,"start":{start},"undone":{undone},"version":2}}\n'
 
 
-# A name, the text of a trace, standard input, the status, standard output and standard error.
-TRACES = [
+LONG = ",".join(((['["deq",1]'] + ['["go",1]'] * 11) * 5462)[:65_536])  # 65,536 events
+
+TRACES: list[TraceRow] = [
     ("a trace", '{"actors":4,"events":[["enq",1,7],["go",1]],"ring":4,"version":1}\n', "len\n", 0, "at 2 0\n", ""),
-    ("a trace in another order", '{"version":1, "ring":2, "events":[], "actors":1}', "deq 2\n", 0, "refused 1 NoActor\n", ""),
-    ("a trace above 2 MB", '{"version":1, "ring":2, "events":[], "actors":1}' + " " * 2_200_000, "len\n", 0, "at 0 0\n", ""),
+    ("a trace in another order", UNORDERED, "deq 2\n", 0, "refused 1 NoActor\n", ""),
+    ("a trace above 2 MB", UNORDERED + " " * 2_200_000, "len\n", 0, "at 0 0\n", ""),
     ("half a trace", '{"actors":4,"ev', "len\n", 1, "", "lcrqdb: refused 27 BadTrace\n"),
-    ("a float in a trace", '{"actors":4,"events":[],"ring":4,"version":1.0}', "len\n", 1, "", "lcrqdb: refused 27 BadTrace\n"),
+    (
+        "a float in a trace",
+        '{"actors":4,"events":[],"ring":4,"version":1.0}',
+        "len\n",
+        1,
+        "",
+        "lcrqdb: refused 27 BadTrace\n",
+    ),
     (
         "a refused event",
         '{"actors":4,"events":[["enq",1,7],["go",1],["starve",1,true]],"ring":4,"version":1}',
@@ -90,14 +111,21 @@ TRACES = [
     ),
     (
         "65,536 events",
-        '{"actors":4,"events":[' + ",".join(((['["deq",1]'] + ['["go",1]'] * 11) * 5462)[:65_536]) + '],"ring":4,"version":1}',
+        f'{{"actors":4,"events":[{LONG}],"ring":4,"version":1}}',
         "len\n",
         1,
         "",
         "lcrqdb: refused 28 TraceStep 65536 cause 9 TooLong\n",
     ),
     ("an undone event", session('[["enq",1,7]]', undone='[["go",1]]'), "len\nredo\n", 0, "at 1 1\nat 2 0\n", ""),
-    ("a bookmark", session(marks='[{"events":[["deq",1]],"name":"a"}]'), "len\nmarks\ngoto a\n", 0, "at 0 0\nmarks 1\nat 1 0\n", ""),
+    (
+        "a bookmark",
+        session(marks='[{"events":[["deq",1]],"name":"a"}]'),
+        "len\nmarks\ngoto a\n",
+        0,
+        "at 0 0\nmarks 1\nat 1 0\n",
+        "",
+    ),
     (
         "a refused event of a bookmark",
         session(marks='[{"events":[["go",1]],"name":"a"}]'),
@@ -106,7 +134,14 @@ TRACES = [
         "",
         "lcrqdb: refused 32 TraceMark 1 1 cause 3 Idle\n",
     ),
-    ("a refused undone event", session('[["deq",1]]', undone='[["go",1],["deq",1]]'), "", 1, "", "lcrqdb: refused 28 TraceStep 3 cause 2 NotIdle\n"),
+    (
+        "a refused undone event",
+        session('[["deq",1]]', undone='[["go",1],["deq",1]]'),
+        "",
+        1,
+        "",
+        "lcrqdb: refused 28 TraceStep 3 cause 2 NotIdle\n",
+    ),
     ("a start of one's own", session(start=POISED), "go 1\nshow tail 0.0\n", 0, "ok 1\nis open 1\n", ""),
     (
         "a flaw",
@@ -119,7 +154,7 @@ TRACES = [
     ("a start with too many actors", session(start='{"fresh":17}'), "len\n", 1, "", "lcrqdb: refused 27 BadTrace\n"),
     (
         "65,536 events of a bookmark",
-        session(marks='[{"events":[' + ",".join(((['["deq",1]'] + ['["go",1]'] * 11) * 5462)[:65_536]) + '],"name":"a"}]'),
+        session(marks=f'[{{"events":[{LONG}],"name":"a"}}]'),
         "len\n",
         1,
         "",
@@ -133,7 +168,7 @@ UNDONE = session('[["enq",1,7]]', MARKS, undone='[["go",1]]')
 REDONE = session('[["enq",1,7],["go",1]]', MARKS)
 FIRST = '{"actors":1,"events":[],"ring":2,"version":1}'
 OWN, OWN_STEPPED = session(start=POISED), session('[["go",1]]', start=POISED)
-SAVED = [
+SAVED: list[TraceRow] = [
     ("a session saved as it was", UNDONE, "", 0, UNDONE, ""),
     ("a session gone on with and saved", UNDONE, "redo\n", 0, "at 2 0\n" + REDONE, ""),
     ("a trace of version 1 saved", FIRST, "len\n", 0, "at 0 0\n" + session(), ""),
@@ -142,9 +177,9 @@ SAVED = [
 ]
 
 
-def run(built: str, words: list, given: str = "", **more) -> tuple:
+def run(built: str, words: list[str], given: str = "", stdout: int | IO[bytes] = subprocess.PIPE) -> Answer:
     """The status, standard output and standard error of a run, as texts."""
-    status, output, errors = program.run([built, *words], given.encode(), **more)
+    status, output, errors = program.run([built, *words], given.encode(), stdout=stdout)
     return status, (output or b"").decode(), errors
 
 
@@ -153,22 +188,21 @@ def begins(text: str, start: str) -> bool:
     return text.startswith(start) if start else text == ""
 
 
-def fault_of(got, wanted, is_good) -> str:
+def fault_of(got: Sequence[object], wanted: Sequence[object], is_good: bool) -> str:
     """What is wrong with a run, or nothing."""
     return "" if is_good else f"{got!r}, wanted {wanted!r}"
 
 
-def run_row(built: str, row) -> str:
+def run_row(built: str, row: Row) -> str:
     """What is wrong with one row."""
-    _, words, given, *wanted = row
-    got = run(built, words, given)
+    _, words, given, *_ = row
+    got, wanted = run(built, words, given), row[3:]
     fits = got[0] == wanted[0] and begins(got[1], wanted[1]) and begins(got[2], wanted[2])
     return fault_of(got, wanted, fits)
 
 
-def run_script(built: str, row) -> str:
+def run_script(built: str, script: str, report: str) -> str:
     """What is wrong with the run of one script in a file; standard input has another one."""
-    _, script, report = row
     with tempfile.NamedTemporaryFile("w", encoding="ascii") as file:
         file.write(script)
         file.flush()
@@ -177,17 +211,18 @@ def run_script(built: str, row) -> str:
     return fault_of(got, (0, len(report), report[-40:], ""), (status, output, errors) == (0, report, ""))
 
 
-def run_trace(built: str, row, *flags) -> str:
+def run_trace(built: str, row: TraceRow, *flags: str) -> str:
     """What is wrong with the loading of one trace, with these flags."""
-    _, trace, given, *wanted = row
+    _, trace, given, *_ = row
+    wanted = row[3:]
     with tempfile.NamedTemporaryFile("w", encoding="ascii") as file:
         file.write(trace)
         file.flush()
         got = run(built, ["load", file.name, *flags], given)
-    return fault_of(got, wanted, list(got) == wanted)
+    return fault_of(got, wanted, got == wanted)
 
 
-def write_fault(built: str, output, words: list[str], given: str) -> str:
+def write_fault(built: str, output: int | IO[bytes], words: list[str], given: str) -> str:
     """What is wrong where standard output takes nothing: status 1 and the text of a failed
     write."""
     status, _, errors = run(built, words, given, stdout=output)
@@ -207,18 +242,18 @@ def closed_pipe(built: str) -> str:
 
 def full_device(built: str, words: list[str], given: str) -> str:
     """What is wrong with a full device."""
-    with open("/dev/full", "w", encoding="ascii") as full:
+    with open("/dev/full", "wb") as full:
         return write_fault(built, full, words, given)
 
 
-def table_of(lines: str, replies: list) -> re.Pattern:
+def table_of(lines: str, replies: list[str]) -> re.Pattern[str]:
     """What the table of a page looks like: each line of a script beside its reply, and any words."""
     pairs = zip(lines.splitlines(), replies, strict=True)
     rows = "".join(re.escape(f"| `{line}` | `{reply}` |") + r"[^|\n]*\|\n" for line, reply in pairs)
     return re.compile(re.escape("\n| Line | Reply | What happens |\n|---|---|---|\n") + rows + "\n")
 
 
-def has_each_reply(built: str, scripts: list) -> bool:
+def has_each_reply(built: str, scripts: list[Path]) -> bool:
     """Whether each line of two viewers has a reply."""
     status, text, _ = run(built, ["view", *map(str, scripts)])
     first, second = text.removeprefix("viewer 1\n").split("viewer 2\n")
@@ -264,16 +299,16 @@ def help_fault(built: str) -> str:
     return ", ".join(sorted(listed ^ {*manual.FORMS, *manual.PLACES}))
 
 
-def all_checks(built: str):
+def all_checks(built: str) -> Iterator[tuple[str, str]]:
     """The checks, each a name and what is wrong, or nothing."""
     for row in ROWS:
         yield row[0], run_row(built, row)
-    for row in SCRIPTS:
-        yield row[0], run_script(built, row)
-    for row in TRACES:
-        yield row[0], run_trace(built, row)
-    for row in SAVED:
-        yield row[0], run_trace(built, row, "--trace")
+    for name, lines, replies in SCRIPTS:
+        yield name, run_script(built, lines, replies)
+    for trace in TRACES:
+        yield trace[0], run_trace(built, trace)
+    for trace in SAVED:
+        yield trace[0], run_trace(built, trace, "--trace")
     yield "the help has the lines and the places of the manual", help_fault(built)
     yield "a closed pipe", closed_pipe(built)
     yield "a full device", full_device(built, ["run", "-"], MANY)

@@ -147,7 +147,7 @@ fn main(rt: HostRuntime) -> io::Result<()> {
 """
 
 
-def main():
+def main() -> int:
     parser = argparse.ArgumentParser(description="Puts a stress on a desk.")
     parser.add_argument("--runs", type=int, default=9, help="how often the 64 viewers ask (9)")
     runs = parser.parse_args().runs

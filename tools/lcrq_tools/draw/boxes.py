@@ -15,7 +15,7 @@ from typing import TYPE_CHECKING, NamedTuple
 from lcrq_tools.draw.figure import DARK, GREY, HEAD, MARGIN, PLAIN, SMALL, colour_of, width_of
 
 if TYPE_CHECKING:
-    from moment import Chip, Moment, Segment
+    from lcrq_tools.draw.moment import Chip, Moment, Segment
 
 Column = tuple[int, int, bool]  # the `id` of a strip, a column of it, and whether its pins are at an end of the queue
 

@@ -17,7 +17,7 @@ from lcrq_tools.draw.figure import (
 )
 
 if TYPE_CHECKING:
-    from moment import Chip, Moment
+    from lcrq_tools.draw.moment import Chip, Moment
 
 APART = "never linked so far: no segment has one of these as its next"
 
