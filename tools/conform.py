@@ -1,0 +1,9 @@
+#!/usr/bin/env python3
+"""Replays the log of a port, and names the first access that differs."""
+
+import sys
+
+from lcrq_tools.port.conform import main
+
+if __name__ == "__main__":
+    sys.exit(main())

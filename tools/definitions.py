@@ -1,0 +1,9 @@
+#!/usr/bin/env python3
+"""Lists the definitions and types that a contract reaches."""
+
+import sys
+
+from lcrq_tools.look.definitions import main
+
+if __name__ == "__main__":
+    sys.exit(main())

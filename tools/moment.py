@@ -1,0 +1,9 @@
+#!/usr/bin/env python3
+"""Draws the queue at one moment of a run as SVG."""
+
+import sys
+
+from lcrq_tools.draw.moment import main
+
+if __name__ == "__main__":
+    sys.exit(main())

@@ -1,0 +1,9 @@
+#!/usr/bin/env python3
+"""Makes the run of a script a page."""
+
+import sys
+
+from lcrq_tools.page.page import main
+
+if __name__ == "__main__":
+    sys.exit(main())

@@ -1,0 +1,9 @@
+#!/usr/bin/env python3
+"""Lists what the public functions of the crates promise."""
+
+import sys
+
+from lcrq_tools.look.promises import main
+
+if __name__ == "__main__":
+    sys.exit(main())

@@ -1,0 +1,9 @@
+#!/usr/bin/env python3
+"""Builds the program without any proof."""
+
+import sys
+
+from lcrq_tools.release.quick_build import main
+
+if __name__ == "__main__":
+    sys.exit(main())
