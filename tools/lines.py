@@ -3,7 +3,8 @@
 
 import sys
 
+from lcrq_tools.faults import status_of
 from lcrq_tools.look.lines import main
 
 if __name__ == "__main__":
-    sys.exit(main())
+    sys.exit(status_of(main))

@@ -4,6 +4,7 @@
 import sys
 
 from lcrq_tools.draw.moment import main
+from lcrq_tools.faults import status_of
 
 if __name__ == "__main__":
-    sys.exit(main())
+    sys.exit(status_of(main))

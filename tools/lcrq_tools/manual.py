@@ -6,6 +6,7 @@
 
 import re
 
+from lcrq_tools.faults import Fault
 from lcrq_tools.program import TOP
 
 PAGE = (TOP / "docs" / "MANUAL.md").read_text(encoding="utf-8")
@@ -20,7 +21,7 @@ def quoted_in(head: str, column: int) -> list[str]:
         if is_inside:
             quoted += re.findall("`([^`]+)`", row.split("|")[column])
     if not quoted:
-        raise SystemExit(f"docs/MANUAL.md has no table whose head begins {head}")
+        raise Fault(f"docs/MANUAL.md has no table whose head begins {head}")
     return quoted
 
 

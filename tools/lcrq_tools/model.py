@@ -9,6 +9,7 @@ Only Python's standard library is used.
 import re
 from dataclasses import dataclass
 
+from lcrq_tools.faults import Fault
 from lcrq_tools.program import TOP
 
 PAGE = TOP / "docs" / "MODEL.md"
@@ -24,7 +25,7 @@ MARGIN = 5  # how many letters of a column are for its labels
 LABEL = "[EQAB][1-9][0-9]*"
 
 
-class Unreadable(ValueError):
+class Unreadable(Fault, ValueError):
     """What of the page can't be read, and why."""
 
 

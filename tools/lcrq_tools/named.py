@@ -8,7 +8,10 @@ import ast
 import importlib
 import sys
 import textwrap
+from collections.abc import Callable
 from pathlib import Path
+
+from lcrq_tools.faults import Fault
 
 
 def named_in(folder: str) -> dict[str, str]:
@@ -31,7 +34,7 @@ def main(folder: str) -> int:
             print(textwrap.fill(about, 100, initial_indent=f"{name:<16}", subsequent_indent=" " * 16))
         return 0
     if words[0] not in names:
-        print(f"{Path(tool).name}: {words[0]}: no such name; without one they are listed", file=sys.stderr)
-        return 1
+        raise Fault(f"{words[0]}: no such name; without one they are listed")
     sys.argv = [f"{Path(tool).name} {words[0]}", *words[1:]]
-    return importlib.import_module(f"lcrq_tools.{folder}.{words[0]}").main()
+    of_module: Callable[[], int] = importlib.import_module(f"lcrq_tools.{folder}.{words[0]}").main
+    return of_module()

@@ -17,6 +17,8 @@ from collections.abc import Callable, Iterable, Mapping, Sequence
 from pathlib import Path
 from typing import IO, NamedTuple, Self
 
+from lcrq_tools.faults import Fault, Parser
+
 TOP = Path(__file__).resolve().parent.parent.parent
 CRATES = TOP / "crates"
 # Where the program is: where `rt run` and `rt ci` leave it, and in the archive that is handed out.
@@ -31,6 +33,9 @@ ELF = b"\x7fELF"  # how a program begins
 # The lines that make a step, and the replies to a line that is no command.
 MAKES_A_STEP = re.compile(rb"(a?enq|a?deq|go|starve) ")
 NO_COMMAND = ("refused 22 ", "refused 23 ")
+
+# What makes the checks of a command line, each a name and what is wrong, or nothing.
+Checks = Callable[[argparse.Namespace], Iterable[tuple[str, str]]]
 
 
 class Ended(NamedTuple):
@@ -52,7 +57,7 @@ class Watched(NamedTuple):
     is_in_time: bool
 
 
-class Broken(Exception):
+class Broken(Fault):
     """The program ended, took too long or gave another reply than the one that is wanted."""
 
 
@@ -62,11 +67,11 @@ def is_unproved(data: bytes) -> bool:
 
 
 def required(path: str, command: str) -> str:
-    """Where a program is that this path names. Where there is none the script ends in one line,
-    with the command that builds it."""
+    """Where a program is that this path names. Where there is none, the fault has the command that
+    builds it."""
     found = shutil.which(path)
     if not found:
-        raise SystemExit(f"no program at {path}: at the top of the repository, this builds it: {command}")
+        raise Fault(f"no program at {path}: at the top of the repository, this builds it: {command}")
     return found
 
 
@@ -321,6 +326,14 @@ def print_row(*cells: object) -> None:
 def spread_of(values: Sequence[float]) -> tuple[float, float, float]:
     """The median, the least and the greatest."""
     return statistics.median(values), min(values), max(values)
+
+
+def run_checks(about: str | None, example: str, checks: Checks) -> int:
+    """What a check does that has no option but the program: prints what `checks` finds with these
+    options, and returns the exit status."""
+    parser = Parser(about, example)
+    add_program(parser)
+    return print_checks(checks(parser.parse_args()))
 
 
 def print_checks(checks: Iterable[tuple[str, str]]) -> int:

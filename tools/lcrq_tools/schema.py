@@ -4,43 +4,41 @@
 
 For each file it prints where the first value is that the schema refuses, and why; `$` is the whole
 trace. The status is 1 if there is one, or if a file can't be read. It needs the library
-`jsonschema`: python3-jsonschema of Debian, or jsonschema of pip. Without it the status is 2.
+`jsonschema`: python3-jsonschema of Debian, or jsonschema of pip. Without it the status is 1, too.
 """
 
-import argparse
 import functools
+import importlib.util
 import json
 import re
-import sys
 from collections.abc import Iterator
 from pathlib import Path
 
-try:
-    from jsonschema import Draft7Validator, ValidationError, validators
-except ModuleNotFoundError:
-    print("this needs jsonschema: python3-jsonschema of Debian, or jsonschema of pip", file=sys.stderr)
-    sys.exit(2)
-
+from lcrq_tools.faults import Fault, Parser
 from lcrq_tools.program import TOP
+
+HAS_LIBRARY = importlib.util.find_spec("jsonschema") is not None
+if HAS_LIBRARY:
+    from jsonschema import Draft7Validator, ValidationError, validators
 
 SCHEMA = TOP / "docs" / "trace.schema.json"
 MOST_SHOWN = 160  # letters of what is wrong, which may show a whole list
 
 
-def has_pattern(_validator: object, pattern: str, value: object, _schema: object) -> Iterator[ValidationError]:
+def has_pattern(_validator: object, pattern: str, value: object, _schema: object) -> "Iterator[ValidationError]":
     """The keyword `pattern`, whose `$` is the end of the text, also where a line feed is last: that
     of Python's `re` is before it, too."""
     if isinstance(value, str) and not re.search(pattern.replace("$", r"\Z"), value):
         yield ValidationError(f"{value!r} does not match {pattern!r}")
 
 
-Validator = validators.extend(Draft7Validator, {"pattern": has_pattern})
-
-
 @functools.cache
-def validator() -> Draft7Validator:
+def validator() -> "Draft7Validator":
     """What checks values against the schema of traces."""
-    checker: Draft7Validator = Validator(json.loads(SCHEMA.read_text(encoding="utf-8")))
+    if not HAS_LIBRARY:
+        raise Fault("this needs jsonschema: python3-jsonschema of Debian, or jsonschema of pip")
+    kind = validators.extend(Draft7Validator, {"pattern": has_pattern})
+    checker: "Draft7Validator" = kind(json.loads(SCHEMA.read_text(encoding="utf-8")))
     return checker
 
 
@@ -71,7 +69,7 @@ def fault_in(name: str) -> str:
 
 def main() -> int:
     """Checks the files of the command line; returns the exit status."""
-    parser = argparse.ArgumentParser(description="Checks traces against their JSON Schema.")
+    parser = Parser("Checks traces against their JSON Schema.", "schema.py start.trace")
     parser.add_argument("files", nargs="+", metavar="FILE", help="a trace")
     faults = [(name, fault_in(name)) for name in parser.parse_args().files]
     for name, fault in faults:

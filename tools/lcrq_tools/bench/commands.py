@@ -32,6 +32,7 @@ from dataclasses import dataclass
 from pathlib import Path
 
 from lcrq_tools import program
+from lcrq_tools.faults import Parser
 from lcrq_tools.machine import SEED, random_run
 
 FEWEST_STEPS, MOST_STEPS = 100, 65_535
@@ -340,7 +341,7 @@ class Table:
 
 def read_options() -> argparse.Namespace:
     """The command line."""
-    parser = argparse.ArgumentParser(description=__doc__.splitlines()[0])
+    parser = Parser(__doc__, "python3 tools/bench.py commands --quick")
     program.add_program(parser)
     parser.add_argument("--quick", action="store_true", help="short runs, few repetitions")
     parser.add_argument("--runs", type=int, help="runs of each script (5, quick: 3)")

@@ -12,11 +12,11 @@ A hold takes the value, adds 1 to a number in it, and puts it back. The program 
 before the first thread starts and after the last has ended.
 """
 
-import argparse
 import re
 import sys
 
 from lcrq_tools import program
+from lcrq_tools.faults import Parser
 
 PROGRAM = """//! Times short holds of the ticket lock.
 #![tactic(auto)]
@@ -99,7 +99,7 @@ fn main(rt: HostRuntime) -> io::Result<()> {
 
 
 def main() -> int:
-    parser = argparse.ArgumentParser(description="Times short holds of the ticket lock.")
+    parser = Parser(__doc__, "python3 tools/bench.py lock --runs 3")
     parser.add_argument("--runs", type=int, default=9, help="how often both are timed (9)")
     parser.add_argument("--holds", type=int, default=20_000, help="holds of each thread (20000)")
     given = parser.parse_args()

@@ -54,6 +54,7 @@ from typing import TypeVar
 
 from lcrq_tools import dependence, program
 from lcrq_tools.bench.commands import MOST_STEPS
+from lcrq_tools.faults import Parser
 from lcrq_tools.machine import SEED, dequeuers, random_run
 from lcrq_tools.program import Broken, Driven
 
@@ -460,7 +461,7 @@ def print_all(options: argparse.Namespace, columns: list[Column], long: list[Tim
 
 def read_options() -> argparse.Namespace:
     """The command line."""
-    parser = argparse.ArgumentParser(description=__doc__.splitlines()[0])
+    parser = Parser(__doc__, "python3 tools/bench.py slowest --lengths 1000,2000 --runs 1")
     program.add_program(parser)
     parser.add_argument("--runs", type=int, default=5, help="how often each session is driven (5)")
     parser.add_argument("--lengths", default="16000,32000,65535", help="steps of the runs, rising (16000,32000,65535)")

@@ -24,6 +24,7 @@ from pathlib import Path
 from typing import NamedTuple
 
 from lcrq_tools import program
+from lcrq_tools.faults import Parser
 from lcrq_tools.machine import random_run
 
 QUERIES = 200
@@ -195,7 +196,7 @@ def growth(now: Measured, before: Measured, compared: str) -> str:
 
 
 def main() -> int:
-    parser = argparse.ArgumentParser(description=__doc__.splitlines()[0])
+    parser = Parser(__doc__, "python3 tools/bench.py traces --steps 8000 --runs 3")
     program.add_program(parser)
     parser.add_argument("--steps", type=int, default=65_000)
     parser.add_argument("--runs", type=int, default=9)

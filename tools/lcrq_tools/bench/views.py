@@ -10,12 +10,12 @@ lines, and the history follows. With --null they go into /dev/null instead, wher
 to nothing. Only Python's standard library is used.
 """
 
-import argparse
 import sys
 import tempfile
 from pathlib import Path
 
 from lcrq_tools import program
+from lcrq_tools.faults import Parser
 
 VIEWERS = 4
 
@@ -61,7 +61,7 @@ def measure(built: str, runs: int, lines: int, keeps: bool) -> int:
 
 
 def main() -> int:
-    parser = argparse.ArgumentParser(description="Times viewers.")
+    parser = Parser(__doc__, "python3 tools/bench.py views --runs 3")
     program.add_program(parser)
     parser.add_argument("--runs", type=int, default=9, help="how often each is run (9)")
     parser.add_argument("--lines", type=int, default=20_000, help="lines of each script (20000)")

@@ -26,6 +26,7 @@ from typing import Any
 
 from lcrq_tools import dependence, model, program
 from lcrq_tools.checks import run_pages, shown
+from lcrq_tools.faults import Fault, Parser
 from lcrq_tools.page import page
 
 try:
@@ -261,7 +262,7 @@ def checks(browser: Browser, folder: Path, given: argparse.Namespace) -> Iterato
 
 def main() -> int:
     """Prints each check; returns the exit status."""
-    parser = argparse.ArgumentParser(description="Goes along the pages of runs in a browser.")
+    parser = Parser(__doc__, "/usr/bin/python3 tools/check.py browser session")
     about = f"the examples whose pages are opened, and {LONG} for the run of 400 lines (all)"
     parser.add_argument("names", nargs="*", metavar="NAME", help=about)
     program.add_program(parser)
@@ -270,7 +271,7 @@ def main() -> int:
     if missing or not HAS_SELENIUM:
         lacks = ", ".join([*missing, *([] if HAS_SELENIUM else ["selenium"])])
         wanted = "Debian's chromium, chromium-driver and python3-selenium"
-        raise SystemExit(f"not run: {lacks} not found; it needs {wanted}")
+        raise Fault(f"not run: {lacks} not found; it needs {wanted}")
     browser = Browser()
     try:
         with tempfile.TemporaryDirectory() as folder:

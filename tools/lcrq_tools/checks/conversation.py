@@ -48,13 +48,13 @@ def checks_of(driven: program.Driven, asked: list[tuple[str, str]]) -> Iterator[
         yield line, "" if reply == wanted else f"{reply}, wanted {wanted}"
 
 
+def all_checks(given: argparse.Namespace) -> Iterator[tuple[str, str]]:
+    """Each line, with what is wrong with the reply to it, or nothing."""
+    asked = rows()
+    with program.Driven([given.program, "run", "-"], SECONDS) as driven:
+        yield from checks_of(driven, asked)
+
+
 def main() -> int:
-    parser = argparse.ArgumentParser(description=__doc__.splitlines()[0])
-    program.add_program(parser)
-    words = [parser.parse_args().program, "run", "-"]
-    try:
-        asked = rows()
-        with program.Driven(words, SECONDS) as driven:
-            return program.print_checks(checks_of(driven, asked))
-    except (OSError, program.Broken) as fault:
-        parser.error(str(fault))
+    """Prints each line; returns the exit status."""
+    return program.run_checks(__doc__, "python3 tools/check.py conversation", all_checks)

@@ -141,10 +141,12 @@ def checks_of(built: str, page: Path) -> Iterator[tuple[str, str]]:
         yield name, str(fault)
 
 
+def all_checks(given: argparse.Namespace) -> Iterator[tuple[str, str]]:
+    """The answers of all lessons, each with what is wrong with it, or nothing."""
+    for page in sorted(LESSONS.glob("[0-9]*.md")):
+        yield from checks_of(given.program, page)
+
+
 def main() -> int:
     """Runs the answers of all lessons; returns the exit status."""
-    parser = argparse.ArgumentParser(description=__doc__.splitlines()[0])
-    program.add_program(parser)
-    built = parser.parse_args().program
-    pages = sorted(LESSONS.glob("[0-9]*.md"))
-    return program.print_checks(check for page in pages for check in checks_of(built, page))
+    return program.run_checks(__doc__, "python3 tools/check.py exercises", all_checks)

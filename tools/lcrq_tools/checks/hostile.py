@@ -11,7 +11,6 @@ differs. The timed ones say how time and memory grow with the text. Like schema.
 `jsonschema`: python3-jsonschema of Debian, or jsonschema of pip.
 """
 
-import argparse
 import copy
 import json
 import os
@@ -22,6 +21,7 @@ from collections.abc import Callable, Iterator, Sequence
 from typing import Any, TypeGuard
 
 from lcrq_tools import manual, program, schema
+from lcrq_tools.faults import Fault
 from lcrq_tools.program import SECONDS, peak_of
 
 START_KIB = 8 * 1024  # more than a start takes
@@ -62,7 +62,7 @@ def form_of(form: str) -> tuple[re.Pattern[bytes], list[int | None]]:
             ranges.append(None)
             pattern += "([!-~]+)"
         elif part.isupper():
-            raise SystemExit(f"no range for the {part} of {form}")
+            raise Fault(f"no range for the {part} of {form}")
         else:
             pattern += re.escape(part)
     return re.compile(pattern.encode()), ranges
@@ -701,6 +701,5 @@ def all_checks(built: str) -> Checks:
 
 
 def main() -> int:
-    parser = argparse.ArgumentParser(description=__doc__.splitlines()[0])
-    program.add_program(parser)
-    return program.print_checks(all_checks(parser.parse_args().program))
+    """Prints each check; returns the exit status."""
+    return program.run_checks(__doc__, "python3 tools/check.py hostile", lambda given: all_checks(given.program))

@@ -20,6 +20,7 @@ from xml.etree import ElementTree
 
 from lcrq_tools import model, program
 from lcrq_tools.draw import figure, picture
+from lcrq_tools.faults import Fault
 
 SVG = "{http://www.w3.org/2000/svg}"
 
@@ -76,7 +77,7 @@ def trace_of(session: figure.Session) -> Trace:
     built, command, *others = session.words
     ended = program.run([built, command, "--trace", *others], session.script)
     if ended.status:
-        raise figure.Fault(ended.errors.strip())
+        raise Fault(ended.errors.strip())
     trace: Trace = json.loads(ended.output.splitlines()[-1])
     return trace
 
@@ -93,7 +94,7 @@ class Loaded:
         """The replies to these lines."""
         ended = program.run(self.words, "".join(f"{line}\n" for line in lines).encode("ascii"))
         if ended.status:
-            raise figure.Fault(ended.errors.strip())
+            raise Fault(ended.errors.strip())
         return ended.output.decode("ascii").splitlines()
 
     def about(self, word: str, places: Iterable[str]) -> dict[str, str]:

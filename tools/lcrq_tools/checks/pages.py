@@ -27,6 +27,7 @@ from pathlib import Path
 from typing import ParamSpec
 
 from lcrq_tools import manual, model
+from lcrq_tools.faults import Parser
 from lcrq_tools.look import contracts, definitions
 from lcrq_tools.program import CRATES, TOP
 
@@ -294,4 +295,5 @@ def check_numbers() -> int:
 
 def main() -> int:
     """Runs all checks of the pages; returns the exit status."""
+    Parser(__doc__, "python3 tools/check.py pages").parse_args()
     return max(check_blocks(), check_names(), check_numbers())

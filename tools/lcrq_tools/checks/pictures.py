@@ -31,6 +31,7 @@ from types import ModuleType
 from lcrq_tools import dependence, program
 from lcrq_tools.checks import moments, runs
 from lcrq_tools.draw import figure, moment, picture
+from lcrq_tools.faults import Fault, Parser, status_of
 from lcrq_tools.program import TOP
 
 EXAMPLES = Path("crates/lessons/data")
@@ -222,7 +223,7 @@ def options_of(chance: random.Random, records: list[str], live: int) -> list[str
     return [*words, asked, str(chance.randint(1, live))] if live and chance.random() < 0.7 else words
 
 
-def is_right(fault: figure.Fault, run: runs.Run) -> bool:
+def is_right(fault: Fault, run: runs.Run) -> bool:
     """Whether a picture is refused since it would have no row or too many, or not those that are
     asked about."""
     drawn, asked = run.drawn(), run.arguments.undo or run.arguments.roll
@@ -244,7 +245,7 @@ def run_fault(seed: int, folder: Path, given: argparse.Namespace, is_short: bool
     run = runs.run_of(arguments, session, records)
     try:
         fault = runs.faults_of(picture.drawn_of(arguments)[0], run, session)
-    except figure.Fault as refusal:
+    except Fault as refusal:
         fault = "" if is_right(refusal, run) else str(refusal)
     return f"{' '.join(options)}: {fault}" if fault else ""
 
@@ -305,12 +306,9 @@ def refusal_fault(tool: ModuleType, script: str, options: str, wanted: str, give
     words = [str(path_of(script)), "--program", given.program]
     words += [str(path_of(word)) if path_of(word).exists() else word for word in shlex.split(options)]
     told = io.StringIO()
-    try:
-        with contextlib.redirect_stderr(told), contextlib.redirect_stdout(io.StringIO()):
-            status = tool.main(words)
-        text = told.getvalue()
-    except SystemExit as ended:
-        status, text = 1, f"{ended}\n"
+    with contextlib.redirect_stderr(told), contextlib.redirect_stdout(io.StringIO()):
+        status = status_of(tool.main, words)
+    text = told.getvalue()
     return "" if status == 1 and wanted in text and text.count("\n") == 1 else f"it ended with {status} and {text!r}"
 
 
@@ -339,7 +337,7 @@ def long_run_fault(given: argparse.Namespace) -> str:
     try:
         odd_fault(LONG, "", given)
         return "it is drawn"
-    except figure.Fault as fault:
+    except Fault as fault:
         return "" if "choose at most 200 of them" in str(fault) else str(fault)
 
 
@@ -356,13 +354,13 @@ def checks(given: argparse.Namespace) -> Iterator[tuple[str, str]]:
         yield name, odd_fault(script, options, given)
     yield "a run of more than 200 steps", long_run_fault(given)
     for tool, script, options, wanted in REFUSED:
-        name = f"{tool.__name__}.py refuses {script} {options!r}".strip()
+        name = f"{tool.__name__.rpartition('.')[2]}.py refuses {script} {options!r}".strip()
         yield name, refusal_fault(tool, script, options, wanted, given)
 
 
 def main() -> int:
     """Prints the checks; returns the exit status."""
-    parser = argparse.ArgumentParser(description="Compares the pictures of the pages with those drawn anew.")
+    parser = Parser(__doc__, "python3 tools/check.py pictures --store")
     parser.add_argument("--store", action="store_true", help="store the pictures in place of comparing them")
     program.add_program(parser)
     return program.print_checks(checks(parser.parse_args()))

@@ -13,6 +13,7 @@ from pathlib import Path
 from typing import Any
 
 from lcrq_tools import program
+from lcrq_tools.faults import status_of
 from lcrq_tools.port import conform
 from lcrq_tools.port.port_log import Record, read_logs
 from lcrq_tools.program import TOP
@@ -52,10 +53,7 @@ class Bench:
         """What the tool says by these words of its command line."""
         output = io.StringIO()
         with contextlib.redirect_stdout(output), contextlib.redirect_stderr(output):
-            try:
-                status = conform.main([*map(str, words), "--program", self.program])
-            except SystemExit as ended:
-                status = int(ended.code or 0)
+            status = status_of(conform.main, [*map(str, words), "--program", self.program])
         return status, output.getvalue()
 
     def told_by(self, tool: str, *words: object, given: bytes = b"") -> Told:

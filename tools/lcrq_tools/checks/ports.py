@@ -198,6 +198,5 @@ def checks(given: argparse.Namespace) -> Iterator[tuple[str, str]]:
 
 
 def main() -> int:
-    parser = argparse.ArgumentParser(description="Compares the worked port with the model.")
-    program.add_program(parser)
-    return program.print_checks(checks(parser.parse_args()))
+    """Prints each check; returns the exit status."""
+    return program.run_checks(__doc__, "python3 tools/check.py ports", checks)

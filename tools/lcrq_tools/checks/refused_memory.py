@@ -37,6 +37,7 @@ from pathlib import Path
 from typing import NamedTuple, Protocol
 
 from lcrq_tools import program
+from lcrq_tools.faults import Parser
 from lcrq_tools.program import run
 
 HERE = Path(__file__).resolve().parent
@@ -512,7 +513,7 @@ def print_part(part: str, outcomes: Outcomes) -> int:
 
 
 def main() -> int:
-    parser = argparse.ArgumentParser(description="Refuses memory at each point in turn, and looks at what is answered.")
+    parser = Parser(__doc__, "python3 tools/check.py refused_memory tests none")
     about = f"{', '.join(PARTS)}; all if none is named"
     parser.add_argument("parts", nargs="*", choices=[[], *PARTS], metavar="PART", help=about)
     program.add_program(parser)

@@ -14,7 +14,6 @@ Each check prints a line; the status is 1 if one of them fails. It needs pandoc,
 does. What isn't installed here (man, column, rlwrap, a printer of PDF) is named, and passed over.
 """
 
-import argparse
 import os
 import re
 import shutil
@@ -497,11 +496,5 @@ def all_checks(built: str) -> Iterator[tuple[str, str]]:
 
 def main() -> int:
     """Runs all checks."""
-    parser = argparse.ArgumentParser(description="Tries the archives that tools/release.py makes.")
-    program.add_program(parser)
-    built = str(Path(parser.parse_args().program).resolve())
-    try:
-        return program.print_checks(all_checks(built))
-    except (program.Broken, OSError, subprocess.TimeoutExpired) as fault:
-        print(f"release.py: {fault}", file=sys.stderr)
-        return 1
+    example = "python3 tools/check.py release"
+    return program.run_checks(__doc__, example, lambda given: all_checks(str(Path(given.program).resolve())))

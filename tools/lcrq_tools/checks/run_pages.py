@@ -26,6 +26,7 @@ from typing import Any
 from lcrq_tools import program
 from lcrq_tools.checks import moments, pictures
 from lcrq_tools.draw import figure
+from lcrq_tools.faults import Fault
 from lcrq_tools.page import page, page_parts, run_rows, run_states
 
 RUNS, STEPS = 20, 60  # how many runs at random, and the lines of each
@@ -302,7 +303,7 @@ def long_fault(given: argparse.Namespace) -> str:
         try:
             page.page_of(page.parser().parse_args(words))
             return "401 lines have a page"
-        except figure.Fault as fault:
+        except Fault as fault:
             if "--lines A:B" not in str(fault):
                 return str(fault)
         return page_fault(page.parser().parse_args([*words, "--lines", "390:401"]))
@@ -319,6 +320,4 @@ def checks(given: argparse.Namespace) -> Iterator[tuple[str, str]]:
 
 def main() -> int:
     """Prints each check; returns the exit status."""
-    parser = argparse.ArgumentParser(description="Compares the pages of runs with the program's replies.")
-    program.add_program(parser)
-    return program.print_checks(checks(parser.parse_args()))
+    return program.run_checks(__doc__, "python3 tools/check.py run_pages", checks)

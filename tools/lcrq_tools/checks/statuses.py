@@ -7,7 +7,6 @@ The gate can't start the program more than once, with one command line; this doe
 status is 1 if anything differs. Only Python's standard library is used.
 """
 
-import argparse
 import os
 import re
 import subprocess
@@ -322,6 +321,5 @@ def all_checks(built: str) -> Iterator[tuple[str, str]]:
 
 
 def main() -> int:
-    parser = argparse.ArgumentParser(description=__doc__.splitlines()[0])
-    program.add_program(parser)
-    return program.print_checks(all_checks(parser.parse_args().program))
+    """Prints each check; returns the exit status."""
+    return program.run_checks(__doc__, "python3 tools/check.py statuses", lambda given: all_checks(given.program))

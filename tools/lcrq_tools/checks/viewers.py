@@ -12,11 +12,11 @@ held.
 `rt` has to be on the PATH. Only Python's standard library is used.
 """
 
-import argparse
 import re
 import sys
 
 from lcrq_tools import program
+from lcrq_tools.faults import Parser
 
 USES = "rd_step rd_journal rd_marks rd_lock rd_desk".split()
 BELOW = "rd_cell rd_ring rd_actor rd_segments rd_inverse rd_depend rd_origin".split() + USES
@@ -148,7 +148,7 @@ fn main(rt: HostRuntime) -> io::Result<()> {
 
 
 def main() -> int:
-    parser = argparse.ArgumentParser(description="Puts a stress on a desk.")
+    parser = Parser(__doc__, "python3 tools/check.py viewers --runs 3")
     parser.add_argument("--runs", type=int, default=9, help="how often the 64 viewers ask (9)")
     runs = parser.parse_args().runs
     source = PROGRAM.replace("RUNS", str(runs)).replace("CALLS", "1_560")

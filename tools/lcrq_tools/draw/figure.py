@@ -11,6 +11,7 @@ from collections.abc import Callable, Iterable, Sequence
 from pathlib import Path
 from xml.sax.saxutils import escape
 
+from lcrq_tools.faults import Fault, Parser, say
 from lcrq_tools.program import add_program, add_refused, refusals_of, run, world_of
 
 # The colours of Okabe and Ito: of an actor's dots and lines, and darker for its words. Their
@@ -35,10 +36,6 @@ MOST_ACTORS, MOST_CELLS = 16, 64  # that a world may have
 # How wide a letter is, as a part of the size, in a wide font; other letters are as wide as NORMAL.
 WIDTHS = {"ijl.,:;|'! ": 0.34, "frt-()": 0.44, "mwMW→": 0.98, "ABCDEGHNOQRSTUV": 0.75}
 NORMAL, BOLD = 0.64, 1.1
-
-
-class Fault(Exception):
-    """Why there is no picture."""
 
 
 # ---- What the program replies ---------------------------------------------------------------------
@@ -186,9 +183,9 @@ def number_above_0(text: str) -> int:
     return int(text)
 
 
-def parser_of(about: str, out: str = "OUT.svg") -> argparse.ArgumentParser:
+def parser_of(about: str, example: str, out: str = "OUT.svg") -> Parser:
     """The command line, as far as the tools share it."""
-    it = argparse.ArgumentParser(description=about)
+    it = Parser(about, example)
     it.add_argument("script", metavar="SCRIPT", help="the script; - is standard input")
     it.add_argument("-o", dest="out", metavar=out, default="-", help="the file that is written; - is standard output")
     it.add_argument("--trace", metavar="FILE", help="the trace over which the script is run")
@@ -205,24 +202,15 @@ def script_name(arguments: argparse.Namespace) -> str:
     return "a script" if script == "-" else Path(script).name
 
 
-def write_drawn(
-    tool: str, arguments: argparse.Namespace, drawn_of: Callable[[argparse.Namespace], tuple[str, str]]
-) -> int:
+def write_drawn(arguments: argparse.Namespace, drawn_of: Callable[[argparse.Namespace], tuple[str, str]]) -> int:
     """Writes the text that `drawn_of` makes of a command line, which comes with what to say of the
     script's refused lines; returns the exit status."""
     out: str = arguments.out
-    try:
-        drawn, refused = drawn_of(arguments)
-        if out == "-":
-            sys.stdout.write(drawn)
-        else:
-            Path(out).write_text(drawn, encoding="utf-8")
-    except Fault as fault:
-        print(f"{tool}: {fault}", file=sys.stderr)
-        return 1
-    except OSError as fault:
-        print(f"{tool}: {fault.filename}: {fault.strerror}", file=sys.stderr)
-        return 1
+    drawn, refused = drawn_of(arguments)
+    if out == "-":
+        sys.stdout.write(drawn)
+    else:
+        Path(out).write_text(drawn, encoding="utf-8")
     if refused:
-        print(f"{tool}: {refused}", file=sys.stderr)
+        say(refused)
     return 0

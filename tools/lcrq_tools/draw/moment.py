@@ -30,8 +30,9 @@ from collections.abc import Iterable, Iterator, Sequence
 from dataclasses import dataclass, field
 
 from lcrq_tools import model
-from lcrq_tools.draw.figure import Fault, Session, number_above_0, parser_of, script_name, segment_of, write_drawn
+from lcrq_tools.draw.figure import Session, number_above_0, parser_of, script_name, segment_of, write_drawn
 from lcrq_tools.draw.queue_drawing import draw
+from lcrq_tools.faults import Fault
 
 SLOTS = 64
 AT_ONCE = 16  # of how many segments of a maker one run asks
@@ -291,7 +292,7 @@ def moment_of(arguments: argparse.Namespace) -> tuple[Moment, str]:
 
 def parser() -> argparse.ArgumentParser:
     """The command line."""
-    it = parser_of("Draws the queue at one moment of a run.")
+    it = parser_of("Draws the queue at one moment of a run.", "moment.py session.script --line 7 -o moment.svg")
     about = "the moment after line N, in place of the last one"
     it.add_argument("--line", dest="lines", metavar="N", type=number_above_0, help=about)
     return it
@@ -306,4 +307,4 @@ def drawn_of(arguments: argparse.Namespace) -> tuple[str, str]:
 
 def main(words: Sequence[str] | None = None) -> int:
     """Draws the moment that a command line asks for; returns the exit status."""
-    return write_drawn("moment.py", parser().parse_args(words), drawn_of)
+    return write_drawn(parser().parse_args(words), drawn_of)

@@ -45,8 +45,9 @@ from pathlib import Path
 from typing import TypedDict
 
 from lcrq_tools.draw.drawing import draw
-from lcrq_tools.draw.figure import Fault, Session, number_above_0, parser_of, script_name, segment_of, write_drawn
+from lcrq_tools.draw.figure import Session, number_above_0, parser_of, script_name, segment_of, write_drawn
 from lcrq_tools.draw.lanes import Call, Picture, Row, actor_lane, dot_of, order_of
+from lcrq_tools.faults import Fault
 from lcrq_tools.program import Broken, Driven
 
 MOST_ROWS = 200
@@ -443,7 +444,7 @@ def title_of(arguments: argparse.Namespace, session: Session, picture: Picture) 
 
 def parser() -> argparse.ArgumentParser:
     """The command line."""
-    it = parser_of("Draws the run of a script as a picture.")
+    it = parser_of("Draws the run of a script as a picture.", "picture.py session.script --undo 8 -o run.svg")
     asked = it.add_mutually_exclusive_group()
     asked.add_argument("--undo", metavar="K", type=number_above_0, help="show what the line `undo K` is answered")
     asked.add_argument("--roll", metavar="K", type=number_above_0, help="shade the steps that `roll K` takes")
@@ -466,4 +467,4 @@ def drawn_of(arguments: argparse.Namespace) -> tuple[str, str]:
 
 def main(words: Sequence[str] | None = None) -> int:
     """Writes the picture that the command line asks for; returns the exit status."""
-    return write_drawn("picture.py", parser().parse_args(words), drawn_of)
+    return write_drawn(parser().parse_args(words), drawn_of)

@@ -21,16 +21,15 @@ these names reach in turn is not listed. With `--text` standard output gets the 
 themselves, in this order. Only Python's standard library is used.
 """
 
-import argparse
 import collections
 import functools
 import re
 import signal
-import sys
 from collections.abc import ItemsView, Iterable, Iterator, Sequence
 from pathlib import Path
 from typing import NamedTuple
 
+from lcrq_tools.faults import Fault, Parser
 from lcrq_tools.look.contracts import (
     GHOST_FIELD, Clause, Function, blocks_of, code_of, crate_of, functions_of, imports_of, lines_of, parts_of,
     without_ghosts,
@@ -47,7 +46,7 @@ NAMED_FIELD = re.compile(r"\.(\w+)|[{;]\s(\w+) = ")
 FROM_CRATE = re.compile(r"^use (\w+)::([^;]*);", re.MULTILINE)
 
 
-class Unknown(Exception):
+class Unknown(Fault):
     """What is asked for is not there."""
 
 
@@ -323,17 +322,14 @@ def print_texts(reached: Reached) -> None:
 
 def main() -> int:
     """Prints what the command line asks for; returns the exit status."""
-    parser = argparse.ArgumentParser(description="Which definitions and types a contract reaches.")
+    example = "python3 tools/definitions.py rd_marks/src/books/obeying.rt apply_all.headline"
+    parser = Parser("Which definitions and types a contract reaches.", example)
     parser.add_argument("--text", action="store_true", help="print the definitions themselves")
     words = "a source file, from crates/, and functions of it, with or without a label; else the headline's"
     parser.add_argument("words", nargs="*", metavar="FILE FUNCTION[.LABEL]", help=words)
     given = parser.parse_args()
     asked: list[str] = given.words or HEADLINE
     signal.signal(signal.SIGPIPE, signal.SIG_DFL)  # who reads the output may stop
-    try:
-        reached = reached_from(asked)
-    except Unknown as fault:
-        print(f"definitions.py: {fault}", file=sys.stderr)
-        return 2
+    reached = reached_from(asked)
     (print_texts if given.text else print_table)(reached)
     return 0

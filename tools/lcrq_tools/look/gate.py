@@ -14,7 +14,6 @@ process number of an `rt ci`, so that checks by hand at the same time don't. The
 of rd_step alone. Only Python's standard library is used.
 """
 
-import argparse
 import os
 import re
 import time
@@ -22,6 +21,7 @@ from collections import defaultdict
 from collections.abc import Sequence
 from typing import NamedTuple, NoReturn
 
+from lcrq_tools.faults import Parser
 from lcrq_tools.program import print_head, print_row
 
 UNIT = ("rd_step", "proofs")
@@ -134,18 +134,15 @@ def show(times: Times) -> None:
 
 def main() -> int:
     """Watches, or prints the tables, as the command line asks; returns the exit status."""
-    parser = argparse.ArgumentParser(description="Where the processor minutes of a gate go.")
+    parser = Parser("Where the processor minutes of a gate go.", "python3 tools/gate.py --watch times")
     parser.add_argument("times", nargs="+", help="the files of times; with --watch the one to append to")
     parser.add_argument("--watch", action="store_true", help="watch the checker's processes until stopped")
     about = "count only calls of this `rt ci`, by its process number"
     parser.add_argument("--run", action="append", default=[], help=about)
     given = parser.parse_args()
     times: list[str] = given.times
-    try:
-        if given.watch:
-            watch(times[0])
-        for path in times:
-            show(times_of(path, given.run))
-    except OSError as fault:
-        raise SystemExit(f"gate.py: {fault.filename}: {fault.strerror}") from fault
+    if given.watch:
+        watch(times[0])
+    for path in times:
+        show(times_of(path, given.run))
     return 0

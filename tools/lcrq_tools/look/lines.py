@@ -11,10 +11,10 @@ all that the crates of several crates' tests and `test_kit` have. Which definiti
 A line counts if it is neither blank nor a comment alone. Only Python's standard library is used.
 """
 
-import argparse
 from collections.abc import Sequence
 from pathlib import Path
 
+from lcrq_tools.faults import Parser
 from lcrq_tools.program import CRATES, TOP, print_head, print_row
 
 KINDS = ("code", "definitions", "proofs", "tests")
@@ -82,6 +82,6 @@ def print_crates() -> None:
 
 def main() -> int:
     """Prints the table; returns the exit status."""
-    argparse.ArgumentParser(description="Lines by crate and kind.").parse_args()
+    Parser("Lines by crate and kind.", "python3 tools/lines.py").parse_args()
     print_crates()
     return 0

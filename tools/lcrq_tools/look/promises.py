@@ -9,14 +9,13 @@ the crate's `lib.rt` names. Which promises carry the guarantees is in docs/PROVE
 words of a clause mean is printed by `definitions.py`. Only Python's standard library is used.
 """
 
-import argparse
 import functools
 import re
 import signal
-import sys
 from collections.abc import Iterator, Sequence
 from pathlib import Path
 
+from lcrq_tools.faults import Fault, Parser
 from lcrq_tools.look.contracts import blocks_of, functions_of, ghosts_of, lines_of
 from lcrq_tools.look.lines import KIT, crate_names
 from lcrq_tools.program import CRATES, print_head, print_row
@@ -63,13 +62,13 @@ def print_promises(crates: Sequence[str]) -> None:
 
 def main() -> int:
     """Prints the table that the command line asks for; returns the exit status."""
-    parser = argparse.ArgumentParser(description="What each crate promises.")
+    parser = Parser("What each crate promises.", "python3 tools/promises.py rd_ring")
     parser.add_argument("crates", nargs="*", metavar="CRATE", help="a crate; else all of them")
     given = parser.parse_args()
     signal.signal(signal.SIGPIPE, signal.SIG_DFL)  # who reads the output may stop
     crates: list[str] = given.crates
-    for name in set(crates) - set(crate_names()):
-        print(f"promises.py: no crate {name} in crates.txt", file=sys.stderr)
-        return 2
+    for name in crates:
+        if name not in crate_names():
+            raise Fault(f"no crate {name} in crates.txt")
     print_promises(crates or [name for name in crate_names() if name != KIT])
     return 0

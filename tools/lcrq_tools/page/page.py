@@ -32,7 +32,8 @@ from pathlib import Path
 from string import Template
 
 from lcrq_tools import model
-from lcrq_tools.draw.figure import ACTORS, Fault, parser_of, script_name, write_drawn
+from lcrq_tools.draw.figure import ACTORS, parser_of, script_name, write_drawn
+from lcrq_tools.faults import Fault
 from lcrq_tools.page import page_lanes, page_moments, page_parts
 from lcrq_tools.page.run_rows import Rows, filled_rows
 from lcrq_tools.page.run_states import Asked, State, states_of
@@ -196,7 +197,7 @@ def part_of(text: str) -> tuple[int, int]:
 def parser() -> argparse.ArgumentParser:
     """The command line."""
     about = "Makes a run a page. A script of viewers has none: a view's report doesn't give the order of its history."
-    it = parser_of(about, "OUT.html")
+    it = parser_of(about, "page.py session.script -o run.html", "OUT.html")
     it.usage = "page.py SCRIPT [-o OUT.html] [--lines A:B] [--actors A] [--ring R] [--trace FILE] [--program P]"
     it.add_argument("--lines", dest="part", metavar="A:B", type=part_of, help="the lines A to B in place of all")
     return it
@@ -204,4 +205,4 @@ def parser() -> argparse.ArgumentParser:
 
 def main(words: list[str] | None = None) -> int:
     """Writes the page that a command line asks for; returns the exit status."""
-    return write_drawn("page.py", parser().parse_args(words), page_of)
+    return write_drawn(parser().parse_args(words), page_of)

@@ -11,8 +11,9 @@ import copy
 import itertools
 from dataclasses import dataclass, field
 
-from lcrq_tools.draw.figure import Fault, Session, segment_of
+from lcrq_tools.draw.figure import Session, segment_of
 from lcrq_tools.draw.moment import SLOTS, in_order, names_of
+from lcrq_tools.faults import Fault
 from lcrq_tools.program import run
 
 MOST_KEPT = 6  # linked segments that a queue may have before some of them are left out

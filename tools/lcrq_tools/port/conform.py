@@ -10,10 +10,11 @@ access, the answer, the reply of the call, and words of the actor. What a record
 compared. A run may be longer than the most live steps: it is frozen then, and goes on.
 
 The status is 0 if all agree, in one line; 1 if something differs, and then the first difference is
-told; 2 if a log can't be read, with the record. With -o the folder DIR gets a script to there, the
-start before it, a picture, and a page where tools/page.py is there. With --go-on the port's side is
-taken at each difference, and all are listed, by label and kind. At the end come values that were
-put and never taken, taken more often than put, or never put, and calls that never ended.
+told; 2 if a log can't be read, with the record, and for any other fault. With -o the folder DIR gets
+a script to there, the start before it, a picture, and a page where tools/page.py is there. With
+--go-on the port's side is taken at each difference, and all are listed, by label and kind. At the end
+come values that were put and never taken, taken more often than put, or never put, and calls that
+never ended.
 """
 
 import argparse
@@ -24,7 +25,8 @@ import time
 from collections.abc import Iterator
 from pathlib import Path
 
-from lcrq_tools import model, program
+from lcrq_tools import program
+from lcrq_tools.faults import FAULTS, Fault, Parser, say, text_of
 from lcrq_tools.port.port_compare import Comparison, Difference
 from lcrq_tools.port.port_log import Record, Unreadable, read_logs
 from lcrq_tools.port.port_replay import Replay
@@ -41,7 +43,8 @@ SECONDS = 0.2  # between two lines of progress
 
 def parser() -> argparse.ArgumentParser:
     """The command line."""
-    it = argparse.ArgumentParser(description="Compares the log of a port of the queue with the model.")
+    about = "Compares the log of a port of the queue with the model."
+    it = Parser(about, "conform.py port.log --ring 2 -o difference")
     it.add_argument("logs", metavar="LOG", nargs="+", help="a log; - is standard input")
     it.add_argument("--ring", type=int, choices=(2, 4, 8), help="cells of a ring (4)")
     it.add_argument("--trace", metavar="TRACE", help="the trace over which the port began")
@@ -198,7 +201,7 @@ def compare(given: argparse.Namespace, folder: Path) -> int:
     records, actors = read_logs(given.logs)
     if actors:
         named = ", ".join(f"{name} is {at}" for at, name in enumerate(actors, 1))
-        print(f"the actors of the logs: {named}", file=sys.stderr)
+        say(f"the actors of the logs: {named}")
     replay = Replay(given.program, folder, options_of(given, records))
     try:
         most = max(record.actor for record in records)
@@ -231,14 +234,10 @@ def compare_records(given: argparse.Namespace, comparison: Comparison) -> int:
 
 
 def main(words: list[str] | None = None) -> int:
-    """Compares what a command line names; returns the exit status."""
-    given = parser().parse_args(words)
+    """Compares the logs of a command line. Its status is 1 where they differ, and so 2 for a fault."""
     try:
+        given = parser().parse_args(words)
         with tempfile.TemporaryDirectory() as folder:
             return compare(given, Path(folder))
-    except (Unreadable, model.Unreadable) as fault:
-        print(f"conform.py: {fault}", file=sys.stderr)
-        return 2
-    except (program.Broken, OSError) as fault:
-        print(f"conform.py: {fault}", file=sys.stderr)
-        return 2
+    except FAULTS as fault:
+        raise Fault(text_of(fault), 2) from fault

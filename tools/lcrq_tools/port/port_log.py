@@ -13,6 +13,7 @@ from dataclasses import dataclass
 from pathlib import Path
 
 from lcrq_tools import model
+from lcrq_tools.faults import Fault
 
 MOST_ACTORS = 16
 MOST_NUMBER = 2**64 - 1
@@ -31,7 +32,7 @@ NUMBER = re.compile(r"[0-9]+|0x[0-9a-fA-F]+")
 NOTHING = ("none", "(nil)", "0x0", "NULL", "null")  # how C and others write that a name or a value is absent
 
 
-class Unreadable(ValueError):
+class Unreadable(Fault, ValueError):
     """What of a log can't be read: the record, and why."""
 
 

@@ -12,21 +12,20 @@ and so is larger and slower than the proved program. The status is 1, with the r
 if nothing is built.
 """
 
-import argparse
 import os
 import shutil
 import subprocess
-import sys
 import tempfile
 import time
 from pathlib import Path
 
+from lcrq_tools.faults import Fault, Parser, say
 from lcrq_tools.program import BUILT, CRATES, ELF, is_unproved
 
 LOOK_EVERY = 0.2  # seconds between two looks at the pipe
 
 
-class Fault(Exception):
+class NotBuilt(Fault):
     """Why nothing is built."""
 
 
@@ -39,7 +38,7 @@ def opened(pipe: Path, build: subprocess.Popen[bytes]) -> int:
             time.sleep(LOOK_EVERY)
     assert build.stderr  # a pipe
     said = build.stderr.read().decode(errors="replace").strip()
-    raise Fault(f"`rt try` ended before the program ran: {said.splitlines()[-1] if said else build.returncode}")
+    raise NotBuilt(f"`rt try` ended before the program ran: {said.splitlines()[-1] if said else build.returncode}")
 
 
 def program_in(folder: Path) -> Path:
@@ -47,7 +46,7 @@ def program_in(folder: Path) -> Path:
     files = [path for path in folder.rglob("*") if path.is_file() and os.access(path, os.X_OK)]
     found = [path for path in files if path.read_bytes().startswith(ELF)]
     if len(found) != 1:
-        raise Fault(f"{len(found)} programs are where `rt try` builds, so this kit builds in another way")
+        raise NotBuilt(f"{len(found)} programs are where `rt try` builds, so this kit builds in another way")
     return found[0]
 
 
@@ -74,20 +73,16 @@ def build_into(out: Path) -> None:
 
 def main() -> int:
     """Builds the program where that takes the place of no other one."""
-    parser = argparse.ArgumentParser(description="Builds the program without any proof, and keeps it.")
+    parser = Parser("Builds the program without any proof, and keeps it.", "python3 tools/quick_build.py -o lcrqdb")
     parser.add_argument("-o", dest="out", type=Path, default=BUILT, metavar="FILE", help=f"where it goes ({BUILT})")
     out: Path = parser.parse_args().out
     begin = time.monotonic()
     try:
         if out.exists() and not is_unproved(out.read_bytes()):
-            raise Fault("a file that was not built so is there; -o names another place")
-        print("building without any proof, which takes one to three minutes", file=sys.stderr)
+            raise NotBuilt("a file that was not built so is there; -o names another place")
+        say("building without any proof, which takes one to three minutes")
         build_into(out)
-    except (Fault, OSError, KeyboardInterrupt) as fault:
-        name, what = out, str(fault) or "stopped"
-        if isinstance(fault, OSError):
-            name, what = fault.filename, fault.strerror
-        print(f"quick_build.py: {name}: {what}", file=sys.stderr)
-        return 1
+    except (NotBuilt, KeyboardInterrupt) as fault:
+        raise Fault(f"{out}: {str(fault) or 'stopped'}") from fault
     print(f"{out}: not proved, built in {time.monotonic() - begin:.0f} s")
     return 0

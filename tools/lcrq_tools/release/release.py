@@ -32,6 +32,7 @@ from dataclasses import dataclass
 from pathlib import Path
 
 from lcrq_tools import program
+from lcrq_tools.faults import Fault, Parser, say
 from lcrq_tools.program import TOP
 from lcrq_tools.release.release_pages import (
     DOCS, EXAMPLES, HANDED_OUT, LESSONS, PORT, SCHEMA, Choice, Part, is_chosen, man_page, page_of,
@@ -115,7 +116,7 @@ def output_of(words: list[str], given: bytes = b"") -> bytes:
     """What a command writes, which has to succeed."""
     ended = program.run(words, given)
     if ended.status:
-        raise SystemExit(f"`{' '.join(words)}` ended with status {ended.status}: {ended.errors.strip()}")
+        raise Fault(f"`{' '.join(words)}` ended with status {ended.status}: {ended.errors.strip()}")
     return ended.output
 
 
@@ -188,7 +189,7 @@ def scripts_of(texts: list[str]) -> dict[str, bytes]:
         if name in found:
             continue
         if not path.is_file():
-            raise SystemExit(f"a page names {name}, which is not there")
+            raise Fault(f"a page names {name}, which is not there")
         found[name] = path.read_bytes()
         left += needed_by(path) if path.suffix == ".py" else []
     return found
@@ -209,7 +210,7 @@ def printer() -> list[str]:
     if not browser and shutil.which("weasyprint"):
         return ["weasyprint"]
     if not browser:
-        raise SystemExit("a PDF takes Chromium or weasyprint (packages of Debian, too): neither is there")
+        raise Fault("a PDF takes Chromium or weasyprint (packages of Debian, too): neither is there")
     sandbox = ["--no-sandbox"] if os.geteuid() == 0 else []
     return [browser, "--headless", "--disable-gpu", *sandbox, "--no-pdf-header-footer"]
 
@@ -223,7 +224,7 @@ def pdf_of(page: bytes) -> bytes:
         given = [str(html), str(out)] if words[0] == "weasyprint" else [f"--print-to-pdf={out}", html.as_uri()]
         output_of([*words, *given])
         if not out.is_file():
-            raise SystemExit(f"{words[0]} has printed no PDF")
+            raise Fault(f"{words[0]} has printed no PDF")
         return out.read_bytes()
 
 
@@ -243,7 +244,7 @@ def version_of(built: str) -> str:
     ended = program.run([built, "--version"])
     name, _, version = ended.output.decode(errors="replace").strip().partition(" ")
     if ended.status or name != "lcrqdb" or not version:
-        raise SystemExit(f"{built} is not lcrqdb: --version writes {ended.output[:40]!r}")
+        raise Fault(f"{built} is not lcrqdb: --version writes {ended.output[:40]!r}")
     return version
 
 
@@ -323,7 +324,8 @@ def lessons_in(text: str) -> tuple[int, ...]:
 
 def read_options() -> argparse.Namespace:
     """The command line."""
-    parser = argparse.ArgumentParser(description="Makes the archive that is handed out.")
+    example = "python3 tools/release.py --lessons 5,14,15 --answers apart"
+    parser = Parser("Makes the archive that is handed out.", example)
     parser.add_argument("-o", dest="folder", default=".", metavar="FOLDER", help="where it goes (this folder)")
     lessons = "these lessons alone"
     parser.add_argument("--lessons", type=lessons_in, default=tuple(LESSONS), metavar="N,N..", help=lessons)
@@ -350,16 +352,13 @@ def main() -> int:
     """Makes the archive that the command line asks for."""
     given = read_options()
     if not shutil.which("pandoc"):
-        raise SystemExit("the pages are made by pandoc: install Debian's package pandoc")
+        raise Fault("the pages are made by pandoc: install Debian's package pandoc")
     if given.pdf:
         printer()
     built: str = given.program
     version, seconds = version_of(built), last_commit()
-    try:
-        files = files_of(built, version, seconds, Choice(given.lessons, given.answers), given.pdf)
-        if program.is_unproved(files["bin/lcrqdb"]):
-            print(f"{built} is not proved: this archive is to try out", file=sys.stderr)
-        write(given, version, files, seconds)
-    except OSError as fault:
-        raise SystemExit(f"{fault.filename}: {fault.strerror}") from fault
+    files = files_of(built, version, seconds, Choice(given.lessons, given.answers), given.pdf)
+    if program.is_unproved(files["bin/lcrqdb"]):
+        say(f"{built} is not proved: this archive is to try out")
+    write(given, version, files, seconds)
     return 0

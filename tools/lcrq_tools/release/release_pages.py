@@ -25,6 +25,7 @@ from pathlib import Path
 from typing import Any, NotRequired, TypedDict
 
 from lcrq_tools import program
+from lcrq_tools.faults import Fault
 from lcrq_tools.program import TOP
 
 DOCS, EXAMPLES = TOP / "docs", program.CRATES / "lessons" / "data"
@@ -108,18 +109,18 @@ def read_for(choice: Choice, source: Path) -> str:
     try:
         text = source.read_text(encoding="utf-8")
     except OSError as fault:
-        raise SystemExit(f"{source} can't be read: {fault.strerror}") from fault
+        raise Fault(f"{source} can't be read: {fault.strerror}") from fault
     names = "|".join([*MARKS, *MARKS.values()])
     if begins := re.search(rf"^ *(?:<!-- (?:{names})\b.*?)?-->.*\S", text, re.MULTILINE):
-        raise SystemExit(f"{source}: a mark begins this line of text: {begins[0]}")
+        raise Fault(f"{source}: a mark begins this line of text: {begins[0]}")
     if parted := re.search(rf"\S.*<!-- (?:{names}):(?:(?!-->).|\n(?!\n))*\n\n", text):
-        raise SystemExit(f"{source}: a mark in a line of text has an empty line in it: {parted[0].splitlines()[0]}")
+        raise Fault(f"{source}: a mark in a line of text has an empty line in it: {parted[0].splitlines()[0]}")
     for first, second in MARKS.items():
         taken = 1 if first == "all lessons" and choice.is_all else 2
         pair = re.compile(rf"<!-- {first} -->((?:(?!<!-- {first} ).)*?)<!-- {second}:\s?(.*?)\s?-->", re.DOTALL)
         text = pair.sub(rf"\{taken}", text)
     if left := re.search(rf"<!-- ({names})\b", text):
-        raise SystemExit(f"{source}: the mark {left[0]} --> has no other")
+        raise Fault(f"{source}: the mark {left[0]} --> has no other")
     return text
 
 
@@ -145,7 +146,7 @@ def pandoc(words: list[str], given: bytes) -> bytes:
     """What pandoc writes."""
     ended = program.run(["pandoc", *words], given)
     if ended.status:
-        raise SystemExit(f"pandoc {' '.join(words)}: {ended.errors.strip()}")
+        raise Fault(f"pandoc {' '.join(words)}: {ended.errors.strip()}")
     return ended.output
 
 
@@ -295,7 +296,7 @@ class Part:
         try:
             data = base64.b64encode((self.source.parent / url).read_bytes()).decode()
         except OSError as fault:
-            raise SystemExit(f"{self.source}: its picture {url} can't be read: {fault.strerror}") from fault
+            raise Fault(f"{self.source}: its picture {url} can't be read: {fault.strerror}") from fault
         inside = f"data:{mimetypes.guess_type(url)[0]};base64,{data}"
         return {"t": "Image", "c": [attributes, inlines, [inside, title]]}
 
@@ -366,7 +367,7 @@ def bounds_of_answer(blocks: list[Element]) -> tuple[int, int]:
     """Where the folded answer of a lesson begins and ends."""
     html = [it["c"][1].strip() if it["t"] == "RawBlock" else "" for it in blocks]
     if html.count(ANSWER) != 1:
-        raise SystemExit(f"{text_in(blocks[0])}: it has {html.count(ANSWER)} folded answers")
+        raise Fault(f"{text_in(blocks[0])}: it has {html.count(ANSWER)} folded answers")
     begin = html.index(ANSWER)
     return begin, html.index("</details>", begin)
 

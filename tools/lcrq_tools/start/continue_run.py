@@ -21,6 +21,7 @@ from collections.abc import Iterator
 from pathlib import Path
 
 from lcrq_tools import program
+from lcrq_tools.faults import Fault, Parser
 from lcrq_tools.program import Broken, Driven
 
 MOST_STEPS = 20_000  # of a continuation
@@ -120,7 +121,8 @@ def go_on(given: argparse.Namespace) -> None:
 
 def main() -> int:
     """Makes the continuations that the command line asks for; returns the exit status."""
-    parser = argparse.ArgumentParser(description="Goes on from a trace at random until all actors are idle.")
+    about = "Goes on from a trace at random until all actors are idle."
+    parser = Parser(about, "continue_run.py start.trace --runs 1000")
     parser.add_argument("trace", metavar="TRACE", help="the trace from which it goes on")
     parser.add_argument("--runs", type=int, default=100, metavar="N", help="how many continuations (100)")
     parser.add_argument("--seed", type=int, default=1, metavar="S", help="the seed of the first one (1)")
@@ -133,6 +135,6 @@ def main() -> int:
         if ended.status:
             raise Broken(ended.errors.strip())
         go_on(given)
-    except (Broken, OSError) as fault:
-        raise SystemExit(f"{given.trace}: {fault}") from fault
+    except Broken as fault:
+        raise Fault(f"{given.trace}: {fault}") from fault
     return 0

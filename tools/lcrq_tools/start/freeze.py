@@ -16,7 +16,7 @@ refused. The status is 1, with the reason in one line, if a file can't be read o
 program does not run the script, or if a line is refused that makes a step or is no command, unless
 `--refused` is given. `--check` says instead whether the program takes the start of a trace: of a
 `Flaw N` it names the first part and the condition, which it finds by trying parts through the
-program (`tools/flaws.py`), with status 1. Only Python's standard library is needed; where
+program (`flaws.py`), with status 1. Only Python's standard library is needed; where
 `jsonschema` is there too, the start is checked against docs/trace.schema.json.
 """
 
@@ -31,6 +31,7 @@ from pathlib import Path
 from typing import Protocol, TypeVar, cast
 
 from lcrq_tools import program
+from lcrq_tools.faults import Fault, Parser, say
 from lcrq_tools.program import Broken, Driven
 from lcrq_tools.start import flaws
 
@@ -181,7 +182,7 @@ def read(name: str) -> bytes:
     try:
         return sys.stdin.buffer.read() if name == "-" else Path(name).read_bytes()
     except OSError as fault:
-        raise SystemExit(f"{name} can't be read: {fault.strerror}") from fault
+        raise Fault(f"{name}: {fault.strerror}") from fault
 
 
 def write(name: str, text: str) -> None:
@@ -192,20 +193,20 @@ def write(name: str, text: str) -> None:
         else:
             Path(name).write_text(text, encoding="ascii")
     except OSError as fault:
-        raise SystemExit(f"{name} can't be written: {fault.strerror}") from fault
+        raise Fault(f"{name}: {fault.strerror}") from fault
 
 
 def look_for_refusals(words: list[str], script: bytes, takes_refused: bool) -> None:
     """Runs a script, and says how many of its lines are refused; a refused event ends it."""
     ended = program.run(words, script)
     if ended.status:
-        raise SystemExit(f"`{' '.join(words)}` ended with status {ended.status}: {ended.errors.strip()}")
+        raise Fault(f"`{' '.join(words)}` ended with status {ended.status}: {ended.errors.strip()}")
     replies = ended.output.decode().splitlines()
     said, has_fault = program.refusals_of(script, replies)
     if has_fault and not takes_refused:
-        raise SystemExit(f"{said}; --refused writes the start all the same")
+        raise Fault(f"{said}; --refused writes the start all the same")
     if said:
-        print(said, file=sys.stderr)
+        say(said)
 
 
 def start_after(words: list[str], script: bytes) -> str:
@@ -228,7 +229,7 @@ def schema_fault(text: str) -> str:
 
 def read_options() -> argparse.Namespace:
     """The command line."""
-    parser = argparse.ArgumentParser(description="Writes the world at a script's end as a start.")
+    parser = Parser("Writes the world at a script's end as a start.", "freeze.py session.script -o start.trace")
     parser.add_argument("script", metavar="SCRIPT", nargs="?", help="the script; - is standard input")
     output = "the file to write; - is standard output"
     parser.add_argument("-o", dest="output", metavar="START.trace", help=output)
@@ -275,11 +276,11 @@ def main() -> int:
         look_for_refusals(words, script, given.refused)
         start = start_after(words, script)
     except (Broken, OSError, subprocess.TimeoutExpired) as fault:
-        raise SystemExit(f"the script can't be run: {fault}") from fault
+        raise Fault(f"the script can't be run: {fault}") from fault
     if wrong := schema_fault(start):
-        raise SystemExit(f"the schema of traces refuses this start: {wrong}")
+        raise Fault(f"the schema of traces refuses this start: {wrong}")
     write(given.output, start)
     trace: flaws.Trace = json.loads(start)
     world = program.world_of(len(trace["start"]["actors"]), trace["ring"])
-    print(f"a start with {world}", file=sys.stderr)
+    say(f"a start with {world}")
     return 0
