@@ -91,12 +91,13 @@ def run(
     stdout: int | IO[bytes] = subprocess.PIPE,
     timeout: float = SECONDS,
     env: Mapping[str, str] | None = None,
+    cwd: Path | None = None,
     preexec_fn: Callable[[], None] | None = None,
 ) -> Ended:
     """What a run gives: its status, its output as bytes, and its standard error as text."""
     ended = subprocess.run(
-        words, input=given, stdout=stdout, stderr=subprocess.PIPE, timeout=timeout, env=env, preexec_fn=preexec_fn,
-        check=False,
+        words, input=given, stdout=stdout, stderr=subprocess.PIPE, timeout=timeout, env=env, cwd=cwd,
+        preexec_fn=preexec_fn, check=False,
     )
     return Ended(ended.returncode, ended.stdout, ended.stderr.decode(errors="replace"))
 

@@ -7,7 +7,8 @@ And it looks up what docs/PROVED.md and the READMEs of the crates name in backti
 clauses, definitions, types and files. A name that is not in the tree, or not in the file that is
 named for it, is a fault too. So is a number on docs/PROVED.md or docs/ARCHITECTURE.md that is not
 what `tools/definitions.py` gives: how many definitions and lines a guarantee reaches, and in which
-files. Such a fault names the right number.
+files. Such a fault names the right number. On every page a script of tools/ has to be there, and
+the check or measurement that it runs; and .ci/run has to be the README's test command.
 
 The gate's programs see the files of their own folders alone. So the session of the README and the
 examples of the manual are in `examples/`, each a script beside its report, and the program
@@ -29,6 +30,7 @@ from typing import ParamSpec
 from lcrq_tools import manual, model
 from lcrq_tools.faults import Parser
 from lcrq_tools.look import contracts, definitions
+from lcrq_tools.named import named_in
 from lcrq_tools.program import CRATES, TOP
 
 EXAMPLES = TOP / "crates" / "lessons" / "data"
@@ -217,6 +219,47 @@ def check_names() -> int:
     return 1 if wrong else 0
 
 
+# ---- Tools ---------------------------------------------------------------------------------------
+
+# A script with the name of what it runs, or a file that is in tools/ or was in a folder of its own.
+RUN = re.compile(r"(?:python3 |`)tools/(check|bench)\.py ([a-z]\w*)")
+OF_TOOLS = re.compile(r"(?<![\w/.-])(?:tools|checks|bench)/[\w/]+\.(?:py|js|css|html|c)\b")
+FOLDERS = {"check": "checks", "bench": "bench"}  # of the package, by the script that runs what is there
+COMMAND = re.compile(r"^```sh\n(python3 tools/check\.py .*?)^```$", re.MULTILINE | re.DOTALL)
+
+
+def unknown_tools(text: str) -> Iterator[str]:
+    """The scripts that a text names, and what they run, as far as that is not there."""
+    yield from (file for file in OF_TOOLS.findall(text) if not (TOP / file).is_file())
+    for script, name in RUN.findall(text):
+        if name not in named_in(FOLDERS[script]):
+            yield f"{name} for tools/{script}.py"
+
+
+def gate_fault() -> str:
+    """What is wrong with the gate, or nothing: its commands are those of the README."""
+    said = COMMAND.search((TOP / "README.md").read_text(encoding="utf-8"))
+    wanted = re.split(r"\s*&&\s*", said[1].strip()) if said else []
+    run = (TOP / ".ci" / "run").read_text(encoding="utf-8").splitlines()
+    first = next((at for at, line in enumerate(run) if line.startswith("cd ")), 0) + 1
+    return "" if run[first:] == wanted else "it is not the README's test command"
+
+
+def check_tools() -> int:
+    """Prints each script that a page names and that is not there, and what is wrong with the gate;
+    returns the exit status."""
+    pages = sorted({*TOP.glob("*.md"), *TOP.glob("docs/*.md"), *CRATES.glob("*/README.md"), *EXAMPLES.glob("*.md")})
+    pages.remove(TOP / "CHANGELOG.md")  # which may name what was there
+    texts = [(page.relative_to(TOP), page.read_text(encoding="utf-8")) for page in pages]
+    faults = [f"{page}: no {name}" for page, text in texts for name in unknown_tools(text)]
+    faults += [f".ci/run: {gate_fault()}"] if gate_fault() else []
+    for fault in faults:
+        print(f"WRONG {fault}")
+    if not faults:
+        print(f"ok    the scripts of {len(pages)} pages, and the gate")
+    return 1 if faults else 0
+
+
 # ---- Numbers -------------------------------------------------------------------------------------
 
 PROVED = TOP / "docs" / "PROVED.md"
@@ -296,4 +339,4 @@ def check_numbers() -> int:
 def main() -> int:
     """Runs all checks of the pages; returns the exit status."""
     Parser(__doc__, "python3 tools/check.py pages").parse_args()
-    return max(check_blocks(), check_names(), check_numbers())
+    return max(check_blocks(), check_names(), check_tools(), check_numbers())

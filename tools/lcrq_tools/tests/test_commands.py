@@ -1,0 +1,167 @@
+"""The command line of each tool: its help with an example, and how it says a fault."""
+
+import argparse
+import importlib
+import shlex
+import subprocess
+import sys
+import tempfile
+import unittest
+from collections.abc import Callable, Sequence
+from pathlib import Path
+from unittest import mock
+
+from lcrq_tools import faults, named
+from lcrq_tools.draw import moment, picture
+from lcrq_tools.page import page
+from lcrq_tools.port import conform
+from lcrq_tools.program import TOP
+from lcrq_tools.start import continue_run, freeze
+from lcrq_tools.tests.stubs import NO_PROGRAM, told, with_program
+
+TOOLS = TOP / "tools"
+RUNNERS = {"check.py": "checks", "bench.py": "bench"}
+SCRIPTS = sorted(path.name for path in TOOLS.glob("*.py") if path.name not in RUNNERS)
+
+
+def module_of(script: str) -> str:
+    """The module whose `main` a script of tools/ calls."""
+    lines = (TOOLS / script).read_text(encoding="utf-8").splitlines()
+    return next(line.split()[1] for line in lines if line.endswith(" import main"))
+
+
+def mains() -> dict[str, Callable[..., int]]:
+    """The `main` of each script, of each check and of each measurement, by the words that call it."""
+    modules = {script: module_of(script) for script in SCRIPTS}
+    for runner, folder in RUNNERS.items():
+        modules |= {f"{runner} {name}": f"lcrq_tools.{folder}.{name}" for name in named.named_in(folder)}
+    return {words: importlib.import_module(module).main for words, module in modules.items()}
+
+
+def example_of(text: str) -> list[str]:
+    """The words of the example at the end of a help."""
+    head, example = text.rstrip("\n").splitlines()[-2:]
+    return shlex.split(example) if head == "example:" else []
+
+
+class Parsed(Exception):
+    """A command line has been read."""
+
+
+def stop(parser: argparse.ArgumentParser, words: Sequence[str] | None = None) -> argparse.Namespace:
+    """Reads a command line in place of `parse_args`, and goes no further."""
+    argparse.ArgumentParser.parse_known_args(parser, words)
+    raise Parsed
+
+
+class Helps(unittest.TestCase):
+    """What --help says."""
+
+    def test_each_ends_with_an_example_that_can_be_read(self) -> None:
+        for words, main in mains().items():
+            with self.subTest(words):
+                status, output, errors = told(main, words, "--help")
+                self.assertEqual((status, errors), (0, ""))
+                example = example_of(output)
+                example = example[1:] if example[0].endswith("python3") else example
+                script, *rest = words.split(" ")
+                self.assertEqual([Path(example[0]).name, *example[1:len(rest) + 1]], [script, *rest])
+                self.check_reads(main, words, example[len(rest) + 1:])
+
+    def check_reads(self, main: Callable[..., int], words: str, example: list[str]) -> None:
+        """That the command line of an example has no fault."""
+        with with_program(), mock.patch.object(faults.Parser, "parse_args", stop), self.assertRaises(Parsed):
+            with mock.patch.object(sys, "argv", [words, *example]):
+                main()
+
+
+class Faults(unittest.TestCase):
+    """How a fault is said: `name: what`, with status 1."""
+
+    def check_fault(self, main: Callable[..., int], tool: str, words: list[str], said: str, status: int = 1) -> None:
+        """That this command line has this fault, in one line."""
+        self.assertEqual(told(main, tool, *words), (status, "", f"{tool}: {said}\n"))
+
+    def test_an_option_that_is_not_there(self) -> None:
+        for words, main in mains().items():
+            with self.subTest(words), with_program():
+                status, output, errors = told(main, words, "--nowhere")
+                self.assertEqual((status, output), (2 if words == "conform.py" else 1, ""))
+                self.assertRegex(errors, rf"^{words}: .*; --help shows what may be given\n\Z")
+
+    def test_a_file_that_is_not_there(self) -> None:
+        nowhere = "nowhere: No such file or directory"
+        for main, tool in ((picture.main, "picture.py"), (moment.main, "moment.py"), (page.main, "page.py")):
+            self.check_fault(main, tool, ["nowhere", "--program", NO_PROGRAM], nowhere)
+        self.check_fault(freeze.main, "freeze.py", ["nowhere", "-o", "a", "--program", NO_PROGRAM], nowhere)
+        self.check_fault(conform.main, "conform.py", ["nowhere", "--program", NO_PROGRAM], nowhere, 2)
+
+    def test_a_program_that_is_not_there(self) -> None:
+        tools: list[tuple[Callable[..., int], str]] = [
+            (picture.main, "picture.py"), (continue_run.main, "continue_run.py")
+        ]
+        for main, tool in tools:
+            status, output, errors = told(main, tool, "a.script", "--program", "nowhere")
+            self.assertEqual((status, output, errors.count("\n")), (1, "", 1))
+            self.assertTrue(errors.startswith(f"{tool}: no program at nowhere: at the top of the repository"), errors)
+
+    def test_a_program_that_is_not_lcrqdb(self) -> None:
+        said = f"{NO_PROGRAM} does not reply as lcrqdb does"
+        with tempfile.TemporaryDirectory() as folder:
+            script = Path(folder) / "a.script"
+            script.write_text("enq 1 7\n", encoding="ascii")
+            for main, tool in ((picture.main, "picture.py"), (moment.main, "moment.py"), (page.main, "page.py")):
+                self.check_fault(main, tool, [str(script), "--program", NO_PROGRAM], said)
+
+    def test_a_window_that_is_none(self) -> None:
+        wrong = "argument --lines: 9:3 is not A:B, two numbers of lines; --help shows what may be given"
+        self.check_fault(page.main, "page.py", ["a", "--lines", "9:3", "--program", NO_PROGRAM], wrong)
+        wrong = "argument --from: 0 is no number from 1 on; --help shows what may be given"
+        self.check_fault(picture.main, "picture.py", ["a", "--from", "0", "--program", NO_PROGRAM], wrong)
+        wrong = "argument --line: x is no number from 1 on; --help shows what may be given"
+        self.check_fault(moment.main, "moment.py", ["a", "--line", "x", "--program", NO_PROGRAM], wrong)
+
+    def test_options_that_exclude_each_other(self) -> None:
+        words = ["a", "-o", "b", "--trace", "c", "--ring", "2", "--program", NO_PROGRAM]
+        self.check_fault(freeze.main, "freeze.py", words,
+                         "a trace has its own actors and ring; --help shows what may be given")
+
+    def test_an_error_of_a_file_is_its_name_and_why(self) -> None:
+        self.assertEqual(faults.text_of(FileNotFoundError(2, "No such file", "a.log")), "a.log: No such file")
+        self.assertEqual(faults.text_of(faults.Fault("what is wrong")), "what is wrong")
+
+
+class Runners(unittest.TestCase):
+    """`check.py` and `bench.py`."""
+
+    def test_without_a_name_all_are_listed(self) -> None:
+        for runner, folder in RUNNERS.items():
+            status, output, _ = told(lambda folder=folder: named.main(folder), runner)
+            names = [line.split()[0] for line in output.splitlines()[2:] if line[0] != " "]
+            self.assertEqual((status, names), (0, [*named.named_in(folder)]))
+            self.assertTrue(all(named.named_in(folder).values()))
+
+    def test_a_wrong_name_is_a_fault(self) -> None:
+        said = "check.py: nowhere: no such name; without one they are listed\n"
+        self.assertEqual(told(lambda: named.main("checks"), "check.py", "nowhere"), (1, "", said))
+
+    def test_a_module_of_parts_is_none(self) -> None:
+        self.assertIn("pictures", named.named_in("checks"))
+        self.assertNotIn("runs", named.named_in("checks"))
+
+
+class Scripts(unittest.TestCase):
+    """The scripts of tools/."""
+
+    def test_they_run_in_another_folder(self) -> None:
+        with tempfile.TemporaryDirectory() as folder:
+            for script in ("picture.py", "check.py", "lines.py"):
+                words = [sys.executable, str(TOOLS / script), "--help"]
+                ended = subprocess.run(words, cwd=folder, capture_output=True, text=True, check=False)
+                self.assertEqual((ended.returncode, ended.stderr), (0, ""), script)
+                self.assertTrue(ended.stdout.startswith(f"usage: {script}"))
+
+    def test_no_module_edits_where_modules_are_looked_for(self) -> None:
+        for path in TOOLS.rglob("*.py"):
+            if path.parent.name != "tests":
+                self.assertNotIn("sys.path", path.read_text(encoding="utf-8"), path.name)

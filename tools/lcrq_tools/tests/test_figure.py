@@ -1,0 +1,78 @@
+"""The parts of figures: how wide texts are, elements of SVG, and what is read of a script."""
+
+import argparse
+import tempfile
+import unittest
+from pathlib import Path
+from xml.etree import ElementTree
+
+from lcrq_tools.draw import figure
+from lcrq_tools.faults import Fault
+
+
+class Widths(unittest.TestCase):
+    """How wide a text may be."""
+
+    def test_each_letter_has_its_width(self) -> None:
+        self.assertAlmostEqual(figure.width_of("il", 10), 2 * 0.34 * 10)
+        self.assertAlmostEqual(figure.width_of("MW", 10), 2 * 0.98 * 10)
+        self.assertAlmostEqual(figure.width_of("ab", 10), 2 * figure.NORMAL * 10)
+        self.assertEqual(figure.width_of("", 10), 0)
+
+    def test_bold_is_wider(self) -> None:
+        self.assertAlmostEqual(figure.width_of("value", 11, True), figure.BOLD * figure.width_of("value", 11))
+
+
+class Elements(unittest.TestCase):
+    """Elements of SVG."""
+
+    def test_values_and_text_are_escaped(self) -> None:
+        made = figure.element("text", "a < b & c", data_place='cell "0"', fill=None)
+        read = ElementTree.fromstring(made)
+        self.assertEqual((read.text, read.attrib), ("a < b & c", {"data-place": 'cell "0"'}))
+
+    def test_a_number_has_one_digit_after_the_point(self) -> None:
+        self.assertEqual([figure.number(it) for it in (3.0, 2.25, 7, "x")], ["3", "2.2", "7", "x"])
+
+    def test_colours_mix_by_their_parts(self) -> None:
+        self.assertEqual(figure.mixed("#ff0000", "#0000ff", 0.5), "#800080")
+        self.assertEqual(figure.mixed("#123456", "#ffffff", 1.0), "#123456")
+
+    def test_a_figure_is_well_formed_and_titled(self) -> None:
+        root = ElementTree.fromstring(figure.svg("A title", "About <it>", 40, 20, []))
+        self.assertEqual([it.text for it in root][:2], ["A title", "About <it>"])
+        self.assertEqual((root.get("width"), root.get("viewBox")), ("40", "0 0 40 20"))
+
+
+class Scripts(unittest.TestCase):
+    """What is read of a script."""
+
+    def test_the_last_line_gets_its_line_feed(self) -> None:
+        with tempfile.TemporaryDirectory() as folder:
+            script = Path(folder) / "a.script"
+            script.write_bytes(b"enq 1 7\ngo 1\ngo 1")
+            self.assertEqual(figure.script_of(str(script), None), b"enq 1 7\ngo 1\ngo 1\n")
+            self.assertEqual(figure.script_of(str(script), 2), b"enq 1 7\ngo 1\n")
+            script.write_bytes(b"")
+            self.assertEqual(figure.script_of(str(script), None), b"")
+
+    def test_a_missing_script_is_named(self) -> None:
+        with self.assertRaisesRegex(Fault, "^nowhere.script: No such file or directory$"):
+            figure.script_of("nowhere.script", None)
+
+    def test_a_trace_has_its_own_world(self) -> None:
+        given = argparse.Namespace(program="lcrqdb", trace="a.trace", actors=None, ring="2")
+        with self.assertRaisesRegex(Fault, "--trace comes without --actors and --ring"):
+            figure.words_of(given)
+        given.ring = None
+        self.assertEqual(figure.words_of(given), ["lcrqdb", "load", "--", "a.trace"])
+
+    def test_a_number_of_a_command_line_is_1_at_least(self) -> None:
+        self.assertEqual(figure.number_above_0("12"), 12)
+        for word in ("0", "-1", "x", ""):
+            with self.subTest(word), self.assertRaises(argparse.ArgumentTypeError):
+                figure.number_above_0(word)
+
+    def test_a_place_is_in_its_segment(self) -> None:
+        places = ["tail 0.0", "cell 2.1 3", "qhead", "acell 4", "whole 1.0"]
+        self.assertEqual([figure.segment_of(it) for it in places], ["0.0", "2.1", "", "", "1.0"])

@@ -1,0 +1,54 @@
+"""What `tools/check.py pages` finds on a page."""
+
+import unittest
+
+from lcrq_tools.checks import pages
+from lcrq_tools.program import CRATES
+
+
+class Blocks(unittest.TestCase):
+    """Blocks of lines and replies."""
+
+    def test_a_block_of_a_list_is_read_without_its_indent(self) -> None:
+        page = "1. A step:\n   ```text\n   go 1    ok 3\n   ```\n"
+        self.assertEqual([*pages.blocks_of(page)], [("text", ["go 1    ok 3"])])
+
+    def test_what_is_after_a_reply_is_left_out(self) -> None:
+        self.assertEqual(pages.rows_of(["go 1    ok 3     reads the tail"]), [["go 1", "ok 3"]])
+        self.assertIsNone(pages.rows_of(["go 1    done 3"]))
+        self.assertIsNone(pages.rows_of(["go 1"]))
+
+    def test_a_trace_is_compared_by_its_value(self) -> None:
+        self.assertEqual(pages.value_of('{"b": [1], "a": 2}'), pages.value_of('{"a":2,"b":[1]}'))
+        self.assertNotEqual(pages.value_of("[1]"), pages.value_of("[true]"))
+        self.assertIsNone(pages.value_of("{"))
+
+
+class Tools(unittest.TestCase):
+    """The scripts that a page names."""
+
+    def test_what_is_there_is_no_fault(self) -> None:
+        text = "`tools/check.py pages`, `python3 tools/bench.py lock --runs 3`, `tools/lcrq_tools/page/page.js`"
+        self.assertEqual([*pages.unknown_tools(text)], [])
+
+    def test_what_is_not_there_is_named(self) -> None:
+        text = "`checks/pages.py`, python3 tools/check.py nowhere, `tools/nowhere.py`, `tools/bench.py runs`"
+        wanted = ["checks/pages.py", "tools/nowhere.py", "nowhere for tools/check.py", "runs for tools/bench.py"]
+        self.assertEqual([*pages.unknown_tools(text)], wanted)
+
+    def test_a_name_that_is_a_word_of_a_sentence_is_none(self) -> None:
+        self.assertEqual([*pages.unknown_tools("`tools/check.py` runs a check by its name")], [])
+
+
+class Numbers(unittest.TestCase):
+    """Numbers on pages."""
+
+    def test_a_row_has_its_numbers_with_commas(self) -> None:
+        self.assertEqual(pages.in_row([3, 1234]), "3 | 1,234")
+        self.assertEqual(pages.said_in(pages.MINUTES, "in all\n 95 minutes in all"), "95")
+        self.assertEqual(pages.said_in(pages.MINUTES, "none"), "no such sentence")
+
+    def test_only_one_list_has_a_file(self) -> None:
+        one, other = CRATES / "a" / "b.rt", CRATES / "c.rt"
+        self.assertEqual(pages.only_in([one, one, other], [one]), "a/b.rt, c.rt")
+        self.assertEqual(pages.only_in([one], [one, other]), "no other file")

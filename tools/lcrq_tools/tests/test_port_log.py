@@ -1,0 +1,136 @@
+"""The log of a port: the grammar of its records, the order of several logs, and names."""
+
+import tempfile
+import unittest
+from pathlib import Path
+
+from lcrq_tools import model
+from lcrq_tools.port import port_log
+from lcrq_tools.port.port_log import Names, Record, Unreadable
+
+LABELS = set(model.read(model.PAGE.read_text(encoding="utf-8"))[0])
+
+
+def record(text: str) -> Record:
+    """The record of a line."""
+    return port_log.record_of("a.log:1", text, LABELS)
+
+
+class Records(unittest.TestCase):
+    """One record."""
+
+    def test_a_call_has_its_value(self) -> None:
+        one = record("1 T0 enq 0x10")
+        self.assertEqual((one.stamp, one.name, one.kind, one.call), (1, "T0", "call", "enq 16"))
+        one.actor = 3
+        self.assertEqual(one.line(), "enq 3 16")
+        self.assertEqual(record("2 T0 deq").call, "deq")
+
+    def test_a_step_by_its_label(self) -> None:
+        one = record("7 2 E8 cell 0.0 1; wrote; won; enqueued")
+        self.assertEqual((one.kind, one.label, one.place, one.access), ("step", "E8", ("cell", "0.0", "1"), "wrote"))
+        self.assertEqual((one.answer, one.reply), (("won",), ("enqueued",)))
+        one.actor = 2
+        self.assertEqual(one.line(), "go 2")
+
+    def test_a_step_by_its_place_alone(self) -> None:
+        one = record("7 2 tail 0.0; read; open 3; t 3 closed no")
+        self.assertEqual((one.label, one.place, one.answer), ("", ("tail", "0.0"), ("open", "3")))
+        self.assertEqual(one.words, ("t", "3", "closed", "no"))
+
+    def test_what_is_left_out_is_empty(self) -> None:
+        one = record("7 2 - qtail; -; -")
+        self.assertEqual((one.label, one.place, one.access, one.answer), ("", ("qtail",), "", ()))
+
+    def test_the_choice_of_the_schedule(self) -> None:
+        for text in ("9 1 E10 yes", "9 1 starve yes"):
+            one = record(text)
+            one.actor = 1
+            self.assertEqual((one.choice, one.line()), ("yes", "starve 1 yes"))
+
+    def test_a_reply_of_a_call(self) -> None:
+        self.assertEqual((record("9 1 value 7").kind, record("9 1 value 7").reply), ("reply", ("value", "7")))
+        self.assertEqual(record("9 1 empty").reply, ("empty",))
+
+    def test_a_wrong_record_is_refused(self) -> None:
+        number = 2**64
+        for text, said in (
+            ("1 T0", "a record is a stamp"),
+            ("x T0 deq", "a record is a stamp"),
+            ("1 T0 enq", "a call is enq X, deq"),
+            (f"1 T0 enq {number}", "with X up to 18446744073709551615"),
+            ("1 T0 deq 4", "a call is enq X, deq"),
+            ("1 T0 starve maybe", "the choice is yes or no"),
+            ("1 T0 E99 cell 0.0 1", "no call, label, place or reply"),
+            ("1 T0 tail 0.0; read; open 3; t 3 closed", "should be words of an actor, each with its value"),
+        ):
+            with self.subTest(text), self.assertRaisesRegex(Unreadable, said):
+                record(text)
+
+    def test_a_number_is_written_as_the_program_writes_it(self) -> None:
+        words = ["0x1F", "007", "18446744073709551615", "18446744073709551616", "-1", "1_0", ""]
+        self.assertEqual([port_log.number_of(it) for it in words], ["31", "7", "18446744073709551615", "", "", "", ""])
+
+
+class Logs(unittest.TestCase):
+    """Several logs."""
+
+    def read(self, *logs: str) -> tuple[list[Record], list[str]]:
+        """What is read of these logs."""
+        with tempfile.TemporaryDirectory() as folder:
+            names = [str(Path(folder) / f"{at}.log") for at in range(len(logs))]
+            for name, log in zip(names, logs):
+                Path(name).write_text(log, encoding="ascii")
+            return port_log.read_logs(names)
+
+    def test_logs_are_merged_by_stamp(self) -> None:
+        records, actors = self.read("# a comment\n1 a deq\n\n4 a Q1\n", "2 b enq 7\n3 b E1\n")
+        self.assertEqual([(it.stamp, it.actor) for it in records], [(1, 1), (2, 2), (3, 2), (4, 1)])
+        self.assertEqual(actors, ["a", "b"])
+
+    def test_numbers_of_actors_stay(self) -> None:
+        records, actors = self.read("1 3 deq\n2 16 deq\n")
+        self.assertEqual(([it.actor for it in records], actors), ([3, 16], []))
+
+    def test_a_fault_names_file_line_and_text(self) -> None:
+        with self.assertRaisesRegex(Unreadable, r"0\.log:2: `2 a nowhere 1`: no call, label, place or reply"):
+            self.read("1 a deq\n2 a nowhere 1\n")
+
+    def test_two_actors_share_no_stamp(self) -> None:
+        with self.assertRaisesRegex(Unreadable, r"1\.log:1: `1 b deq`: .*0\.log:1 has the same stamp"):
+            self.read("1 a deq\n", "1 b deq\n")
+
+    def test_a_world_has_sixteen_actors(self) -> None:
+        with self.assertRaisesRegex(Unreadable, "^the logs have 17 actors, and a world has 16 at most$"):
+            self.read("".join(f"{at} T{at} deq\n" for at in range(17)))
+
+    def test_an_empty_or_missing_log_is_a_fault(self) -> None:
+        with self.assertRaisesRegex(Unreadable, "no record$"):
+            self.read("# nothing\n")
+        with self.assertRaisesRegex(Unreadable, "^nowhere.log: No such file or directory$"):
+            port_log.read_logs(["nowhere.log"])
+
+
+class Meanings(unittest.TestCase):
+    """Which names of a port mean which segments."""
+
+    def test_a_name_is_learned_when_it_is_seen(self) -> None:
+        names = Names()
+        self.assertTrue(names.agree(["0x55aa", "3"], ["0.0", "3"]))
+        self.assertTrue(names.agrees("0x55aa", "0.0"))
+        self.assertFalse(names.agrees("0x55aa", "1.0"))
+        self.assertFalse(names.agrees("0x66bb", "0.0"))
+        self.assertEqual(names.meant(["0x55aa", "NULL", "7"]), "0.0 none 7")
+
+    def test_a_name_may_come_to_mean_another_segment(self) -> None:
+        names = Names()
+        names.learn("p", "0.0")
+        names.learn("p", "1.0")
+        self.assertEqual((names.segment_of("p"), names.names), ("1.0", {"1.0": "p"}))
+
+    def test_nothing_is_no_name(self) -> None:
+        names = Names()
+        self.assertTrue(names.agrees("(nil)", "none"))
+        self.assertFalse(names.agrees("(nil)", "0.0"))
+        self.assertTrue(names.agrees("0x10", "16"))
+        self.assertFalse(names.agree(["1"], ["1", "2"]))

@@ -1,0 +1,74 @@
+"""What the archive takes of the scripts, and passages that read otherwise there."""
+
+import subprocess
+import sys
+import tempfile
+import unittest
+from pathlib import Path
+
+from lcrq_tools.faults import Fault
+from lcrq_tools.program import TOP
+from lcrq_tools.release import release
+from lcrq_tools.release.release_pages import LESSONS, Choice, read_for
+
+ALL, ONE = Choice(tuple(LESSONS), "with"), Choice((1,), "with")
+
+
+class Scripts(unittest.TestCase):
+    """The scripts that pages name, with what they take."""
+
+    def test_a_script_runs_with_what_is_taken_alone(self) -> None:
+        files = release.scripts_of(["`page.py s.script -o s.html`, and conform.py"])
+        files |= {name: (TOP / name).read_bytes() for name in ("docs/MANUAL.md", "docs/MODEL.md")}
+        with tempfile.TemporaryDirectory() as folder:
+            for name, data in files.items():
+                path = Path(folder) / name
+                path.parent.mkdir(parents=True, exist_ok=True)
+                path.write_bytes(data)
+            for script in ("page.py", "conform.py"):
+                words = [sys.executable, str(Path(folder) / "tools" / script), "--help"]
+                ended = subprocess.run(words, cwd=folder, capture_output=True, text=True, check=False)
+                self.assertEqual((ended.returncode, ended.stderr), (0, ""))
+
+    def test_a_module_brings_its_other_files(self) -> None:
+        files = release.scripts_of(["page.py"])
+        for name in ("page.css", "page.html", "page.js", "__init__.py"):
+            self.assertIn(f"tools/lcrq_tools/page/{name}", files)
+        self.assertFalse([name for name in files if "/checks/" in name or "/tests/" in name or "/port/" in name])
+
+    def test_a_script_that_is_not_there_is_a_fault(self) -> None:
+        with self.assertRaisesRegex(Fault, "^a page names tools/nowhere.py, which is not there$"):
+            release.scripts_of(["tools/nowhere.py"])
+        self.assertEqual(release.scripts_of(["nowhere.py"]), {})
+
+    def test_lessons_are_by_number(self) -> None:
+        self.assertEqual(release.lessons_in("3,1,3"), (1, 3))
+        for text in ("99", "x", "", "1,,2"):
+            with self.subTest(text), self.assertRaisesRegex(Exception, "no lesson has the number"):
+                release.lessons_in(text)
+
+
+class Passages(unittest.TestCase):
+    """Marks of passages with two readings."""
+
+    def read(self, text: str, choice: Choice = ALL) -> str:
+        """What the archive has of a page with this text."""
+        with tempfile.TemporaryDirectory() as folder:
+            page = Path(folder) / "a.md"
+            page.write_text(text, encoding="utf-8")
+            return read_for(choice, page)
+
+    def test_the_archive_has_the_second_reading(self) -> None:
+        self.assertEqual(self.read("in <!-- repository -->`a/b/`<!-- archive: `b/` --> here"), "in `b/` here")
+
+    def test_chosen_lessons_have_theirs(self) -> None:
+        text = "Here: <!-- all lessons -->Sixteen lessons<!-- chosen lessons: Lessons -->.\n"
+        self.assertEqual((self.read(text), self.read(text, ONE)), ("Here: Sixteen lessons.\n", "Here: Lessons.\n"))
+
+    def test_a_mark_without_its_other_is_a_fault(self) -> None:
+        with self.assertRaisesRegex(Fault, "the mark <!-- repository --> has no other"):
+            self.read("in <!-- repository -->`a/b/` here")
+
+    def test_a_missing_page_is_a_fault(self) -> None:
+        with self.assertRaisesRegex(Fault, "^nowhere.md can't be read: No such file or directory$"):
+            read_for(ALL, Path("nowhere.md"))
