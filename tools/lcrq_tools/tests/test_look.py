@@ -8,7 +8,7 @@ from collections.abc import Callable
 from pathlib import Path
 from unittest import mock
 
-from lcrq_tools.look import contracts, definitions, kit, lines, promises
+from lcrq_tools.look import clause_counts, contracts, definitions, kit, lines, promises
 from lcrq_tools.look.definitions import Unknown
 
 COUNTER = """\
@@ -66,6 +66,20 @@ limit count = 10
 abbrev pub IsUnused : Bool → Prop
 IsUnused is = is ≡ true
 """
+VIEWED = f"""\
+//! Counters that are looked at.
+ghost use Rattle.low.specs.Counts.{{state, room as room_of_all}};
+
+pub fn idle() {{}}
+
+pub fn look(it: &mut Counter)
+    ensures ok {{ state it.new ≡ state it.old }}
+    ensures room {{ room_of_all (it.old) 1 }}
+    ensures length {{ length it.now ≡ 1 }}
+    ensures wide {{ {'IsIdle ' * 13}}}
+{{
+}}
+"""
 FILES = {
     "crates.txt": "low\nhigh: low\nlow_tests: low\n",
     "crates/low/src/lib.rt": "//! Counters.\nmod counter;\n\npub use counter::Counter;\n",
@@ -89,7 +103,7 @@ class Tree(unittest.TestCase):
             path.parent.mkdir(parents=True, exist_ok=True)
             path.write_text(text, encoding="utf-8")
         crates = self.top / "crates"
-        places = [(it, "CRATES", crates) for it in (contracts, definitions, lines, promises)]
+        places = [(it, "CRATES", crates) for it in (clause_counts, contracts, definitions, lines, promises)]
         for module, name, value in [*places, (lines, "TOP", self.top), (kit, "has_kit", lambda: False)]:
             patch = mock.patch.object(module, name, value)
             patch.start()
@@ -223,3 +237,16 @@ class Promises(Tree):
         self.assertRegex(text, r"Counter \| keeps small")
         self.assertRegex(text, r"add.* \| .*ok, same")
         self.assertNotIn("idle", text)
+
+
+class ClauseCounts(Tree):
+    """How many clauses the crates have."""
+
+    def test_each_crate_has_a_row_before_the_sum(self) -> None:
+        (self.top / "crates/high/src/lib.rt").write_text(VIEWED, encoding="utf-8")
+        told = io.StringIO()
+        with contextlib.redirect_stdout(told):
+            clause_counts.print_counts()
+        rows = [[cell.strip() for cell in row.split("|")[1:-1]] for row in told.getvalue().splitlines()]
+        wanted = [["low", "2", "4", "0", "0"], ["high", "1", "4", "1", "2"], ["all", "3", "8", "1", "2"]]
+        self.assertEqual(rows[2:], wanted)

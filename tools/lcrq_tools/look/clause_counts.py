@@ -1,0 +1,80 @@
+"""How many clauses the contracts of each crate have, and how many are wide or cite a view by a function.
+
+    python3 tools/contracts.py
+
+Standard output gets a Markdown table in the order of crates.txt, a row a crate, without those that
+have `test` in their names: functions with clauses; clauses; clauses with a line wider than 100
+columns; and clauses that apply a function of `VIEWS` to a value before or after a call, or to a part
+of it, as in `state self.old`. The last row is the sum. Tests in `src/` don't count. Only Python's
+standard library is used.
+"""
+
+import re
+from pathlib import Path
+from typing import NamedTuple
+
+from lcrq_tools.faults import Parser
+from lcrq_tools.look.contracts import functions_of, imports_of
+from lcrq_tools.look.lines import crate_names, kind_of
+from lcrq_tools.program import CRATES, print_head, print_row
+
+WIDTH = 100  # columns: a clause with a longer line is wide
+
+# The functions of the crates' definitions that give what a value of the code stands for, or a part or a
+# size of that; and the kit's `view`. A file may import one under another name, which counts too.
+VIEWS = (
+    "actor_capacity", "ahead_entries", "any_state", "array_part", "book_state", "capacity", "contents",
+    "entries_capacity", "here_in", "index", "journal", "kept_entries", "list_capacity", "lists", "lists_in",
+    "live_entries", "making_count", "model", "name_room", "part", "pending_bytes", "position_count",
+    "probe_count", "room", "session_of", "spare", "state", "track", "view",
+)
+
+
+class Counts(NamedTuple):
+    """How many functions with clauses a crate has, and clauses; of these wide ones, and ones with a view."""
+
+    functions: int
+    clauses: int
+    wide: int
+    views: int
+
+
+def view_in(path: Path) -> re.Pattern[str]:
+    """What applies a view to a value before or after a call, by the names that a file has for views."""
+    renamed = {name for name, (_, original) in imports_of(path).items() if original in VIEWS}
+    return re.compile(rf"(?<![\w.])(?:{'|'.join(sorted({*VIEWS, *renamed}))}) \(*\w+(?:\.\w+)*\.(?:old|new|now)\b")
+
+
+def counts_in(path: Path) -> Counts:
+    """The counts of a source file."""
+    view, functions = view_in(path), [it for it in functions_of(path) if it.clauses]
+    texts = [clause.text for function in functions for clause in function.clauses]
+    wide = sum(any(len(line) > WIDTH for line in text.splitlines()) for text in texts)
+    return Counts(len(functions), len(texts), wide, sum(bool(view.search(text)) for text in texts))
+
+
+def sum_of(counts: list[Counts]) -> Counts:
+    """The sum of counts."""
+    return Counts(*(sum(column) for column in zip(Counts(0, 0, 0, 0), *counts)))
+
+
+def counts_of(crate: str) -> Counts:
+    """The counts of a crate."""
+    folder = CRATES / crate
+    paths = sorted((folder / "src").rglob("*.rt"))
+    return sum_of([counts_in(path) for path in paths if kind_of(path.relative_to(folder).parts) == "code"])
+
+
+def print_counts() -> None:
+    """Prints the table."""
+    print_head("Crate", "Functions with clauses", "Clauses", f"Wider than {WIDTH} columns", "Cite a view by a function")
+    rows = {name: counts_of(name) for name in crate_names() if "test" not in name}
+    for name, counts in [*rows.items(), ("all", sum_of([*rows.values()]))]:
+        print_row(name, *(f"{count:,}" for count in counts))
+
+
+def main() -> int:
+    """Prints the table; returns the exit status."""
+    Parser("How many clauses the contracts of each crate have.", "python3 tools/contracts.py").parse_args()
+    print_counts()
+    return 0
