@@ -1,10 +1,11 @@
--- What moves, events and marks are answered, from what the calls say of their results.
+-- The answers to undos, redos and events, from the results of the calls.
 use Rattle.rd_marks.proofs.Prelude.{◌≡◌, ◌⊎◌, ℕ, inl, inr, refl, sym, ap, ◌∙◌, subst, List, length, Option, Result, Ok, Err, OnOk, IfErr, Refusal, OpReply, World, Event, Entry, Begins, Session, state, track, Journal, State, MayLackMemory, state_of, apply, reply_to, lists_in, here_in, AreRuns, events, Mark, BookState, with_session, Answered, answer_with, move_answer, Happened, length-map, result_map, AnswersAs, GoesAlong, step_counts, as_reply, Reply, Applied, Book, IsErrAnd}
 use Rattle.rd_marks.specs.declared.replies.EventReply.{EventReply}
 use Rattle.rd_marks.proofs.Starts.{answers_start}
 use Rattle.rd_cell.specs.declared.refusal.Refusal.TheVariants as refusal
 
--- what a move along the track leaves of the bookmarks
+-- after a move along the track, the bookmarks are still runs from the start, and `here` still
+-- begins the track
 pub kept_along : {R : ℕ} (book : Book R) (new : Session R) (done : Result (Unit {0}) Refusal) (moved : Result State Refusal)
     → ((t : State) → moved ≡ Ok t → t.start ≡ (state book.session).start) → AnswersAs moved done book.session new → GoesAlong book.session new
     → AreRuns (state new).start (lists_in book.bookmarks) × Begins (events (here_in book.bookmarks)) (track new)
@@ -13,7 +14,7 @@ kept_along book new done moved starts answers along = (
   subst (λ (es : List Event). Begins (events (here_in book.bookmarks)) es) (sym along.track) book.stands,
 )
 
--- the answer to a move, and what it leaves
+-- a move, done or refused, has the answer and leaves the state that `move_answer` defines
 pub move_answered : {R : ℕ} (old new : Session R) (marks after : List Mark) (answer : Result Reply Refusal) (done : Result (Unit {0}) Refusal) (moved : Result State Refusal)
     → AnswersAs moved done old new → after ≡ marks → OnOk done (answer ≡ Ok (step_counts (state new))) → IfErr done (λ refusal. answer ≡ Err refusal)
     → record { answer = answer; state = record { session = state new; marks = after } } ≡ move_answer (record { session = state old; marks = marks }) moved
@@ -25,24 +26,24 @@ move_answered old new marks after answer (Err e) moved answers kept counts refus
     (λ i. record { answer = its i; state = record { session = state (answers.1 i); marks = kept i } })
     ∙ sym (ap (move_answer (record { session = state old; marks = marks })) answers.0)
 
--- the answer to a move that was made, and what it leaves
+-- a move that was done has the answer and leaves the state that `move_answer` defines
 pub move_made : (b : BookState) (new : State) (after : List Mark) (reply : Reply) (moved : Result State Refusal) → moved ≡ Ok new → after ≡ b.marks → reply ≡ step_counts new
     → record { answer = Ok reply; state = record { session = new; marks = after } } ≡ move_answer b moved
 move_made b new after reply moved made kept counts =
     (λ i. record { answer = Ok (counts i); state = record { session = new; marks = kept i } }) ∙ sym (ap (move_answer b) made)
 
--- what is passed up is the answer
+-- an error that is passed up is the answer
 passed_up : {X : Type 0} (refusal : Refusal) (answer : Result X Refusal) → IsErrAnd answer (λ e. e ≡ refusal) → answer ≡ Err refusal
 passed_up refusal (Ok x) is = absurd is
 passed_up refusal (Err e) is = ap (λ (x : Refusal). Err x) is
 
--- the answer to a move that was refused, and what it leaves
+-- a move whose refusal was passed up has the answer and leaves the state that `move_answer` defines
 pub move_refused : {R : ℕ} (old new : Session R) (marks : List Mark) (refusal : Refusal) (answer : Result Reply Refusal) (moved : Result State Refusal)
     → AnswersAs moved (Err refusal) old new → IsErrAnd answer (λ e. e ≡ refusal)
     → record { answer = answer; state = record { session = state new; marks = marks } } ≡ move_answer (record { session = state old; marks = marks }) moved
 move_refused old new marks refusal answer moved answers is = move_answered old new marks marks answer (Err refusal) moved answers refl tt (passed_up refusal answer is)
 
--- what an event is answered is passed up as the reply to its command
+-- passing up the refusal of an event keeps what `Happened` states of it
 pub event_passed_up : (b after : BookState) (e : Event) (refusal : Refusal) (answer : Result Reply Refusal) → IsErrAnd answer (λ x. x ≡ refusal)
     → Happened b e (record { answer = Err refusal; state = after }) → Happened b e (record { answer = answer; state = after })
 event_passed_up b after e refusal answer is happened =
@@ -55,7 +56,7 @@ module _ (old new : Journal) (marks : List Mark) (e : Event) where
   abbrev of_step : Result State Refusal → Answered
   of_step r = answer_with before (λ s. Applied (length s.live) (reply_to (state_of old) e)) (with_session before) r
 
-  -- the answer to an event that made a step
+  -- an event that made a step is answered as `Happened` allows
   pub event_made : (after : List Mark) (n : ℕ) (reply : Option OpReply) → apply (state_of old) e ≡ Ok (state_of new) → n ≡ length new.live
       → reply_to (state_of old) e ≡ reply → after ≡ marks
       → Happened before e (record { answer = Ok (Applied n reply); state = record { session = state_of new; marks = after } })
@@ -63,7 +64,7 @@ module _ (old new : Journal) (marks : List Mark) (e : Event) where
       let count : n ≡ length (state_of new).live = number ∙ sym (length-map new.live (λ (x : Entry). x.event)) in
       inl ((λ i. record { answer = Ok (Applied (count i) (sym its i)); state = record { session = state_of new; marks = kept i } }) ∙ sym (ap of_step made))
 
-  -- the answer to an event that was refused
+  -- an event that was refused is answered as `Happened` allows
   pub event_refused : (answer : Result EventReply Refusal) (cause : Refusal) → new ≡ old → IsErrAnd answer (λ e. e ≡ cause)
       → (apply (state_of old) e ≡ Err cause) ⊎ ((cause ≡ refusal.NoMemory) × MayLackMemory (state_of old) e)
       → Happened before e (record { answer = result_map as_reply answer; state = record { session = state_of new; marks = marks } })

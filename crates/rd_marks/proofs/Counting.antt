@@ -1,5 +1,5 @@
--- The entries of the stretches are as many as the lists that begin the events of a bookmark, the
--- empty one apart.
+-- The number of entries in the stretches is the number of different lists, except the empty one,
+-- that begin the events of some bookmark.
 use Rattle.rd_marks.proofs.Prelude.{◌≡◌, ℕ, zero, suc, ◌+◌, ◌-◌, ◌<◌, ◌≤◌, inl, inr, refl, sym, ap, ◌∙◌, subst, List, [], ◌∷◌, ◌++◌, length, take, map, sum_by, Contains, length-append, length-take, arith, range_with_len, take-length, cases_lt, cases_eq, nat_tests, get_or-map, length-map, length-take-le, take-map, take-take, sum_by-cons, Contains-append_left, Contains-append_right, Contains-append_cases, Event, Entry, Begins, MarkName, Stretch, Node, marks_of, named_lists, stretch_list, shared_at, entries_at, AreNested, AreFresh, number_if_in, greatest_in, AreNeeded, IsAlong, IsDeepest, count_of, events}
 use Rattle.std.proofs.lemmas.List.FromFn.{length-map-range_with_len, get_or-map-range_with_len}
 use Rattle.rd_marks.specs.Beginnings.{IsBeginning, AreDistinct, CountsBeginnings, NeedsNoEntry}
@@ -7,7 +7,7 @@ use Rattle.rd_marks.proofs.MarkLemmas.{mark_of}
 use Rattle.rd_marks.proofs.StretchLists.{own_at, list_past, shared_past, shared_within, total, begins_shared}
 use Rattle.rd_marks.proofs.Fresh.{along_less, along_within, not_both}
 
--- Elements
+-- Elements of lists
 
 contains_first : {X : Type 0} (x : X) (xs : List X) → Contains (x ∷ xs) x
 contains_first x xs = (0, omega arith, refl)
@@ -30,7 +30,7 @@ distinct_joined (x ∷ xs) ys h k apart = (
   distinct_joined xs ys h.1 k (λ y first second. apart y (contains_later x y xs first) second),
 )
 
--- n beginnings of a list, the first of which has a elements
+-- the beginnings of a list with a, a + 1, .. events, n of them
 abbrev levels : List Event → ℕ → ℕ → List (List Event)
 levels fs a n = map (λ (m : ℕ). take m fs) (range_with_len a n)
 
@@ -48,7 +48,7 @@ levels_distinct fs a (suc n) h = (
   levels_distinct fs (a + 1) n (omega (arith, h)),
 )
 
--- The beginnings that are a stretch's own, for each stretch below this number
+-- Each stretch's own beginnings, and those of all stretches below a number
 
 abbrev own_lists : List Stretch → ℕ → List (List Event)
 own_lists ss i = levels (events (stretch_list ss i)) (suc (shared_at ss i)) (length (own_at ss i))
@@ -68,7 +68,7 @@ lists_counted : (ss : List Stretch) → length (lists_to ss (length ss)) ≡ cou
 lists_counted [] = refl
 lists_counted (s ∷ ss) = omega (arith, lists_more s ss (length ss), lists_counted ss)
 
--- the list is one of those
+-- the list begins the list of a stretch below n, and has more events than this stretch shares
 abbrev IsListed : List Stretch → ℕ → List Event → Type 0
 IsListed ss n es = (at : ℕ) × (at < n) × (shared_at ss at < length es) × Begins es (events (stretch_list ss at))
 
@@ -78,11 +78,11 @@ along_begun ss i es b = record { enough = omega arith; alike = b ∙ sym (take-l
 begun_within : (ss : List Stretch) (i : ℕ) (es : List Event) → Begins es (events (stretch_list ss i)) → length es ≤ length (stretch_list ss i)
 begun_within ss i es b = along_within ss i (length es) es (along_begun ss i es b)
 
--- lists that begin alike are begun by the same
+-- if two lists begin alike, what begins the one begins the other
 begun_taken : (es : List Event) (xs ys : List Entry) → take (length es) xs ≡ take (length es) ys → Begins es (events xs) → Begins es (events ys)
 begun_taken es xs ys same b = grind (arith, take-map)
 
--- what begins the events of a bookmark begins those of a stretch's list
+-- what begins the events of a bookmark begins the events of some stretch's list
 begins_list : (ss : List Stretch) (ms : List (MarkName × Node)) (es : List Event) → IsBeginning (marks_of (named_lists ss ms)) es → (i : ℕ) × Begins es (events (stretch_list ss i))
 begins_list ss ms es h =
     let found = mapped_contains (λ (x : MarkName × List Entry). mark_of x) (named_lists ss ms) h.mark h.kept in
@@ -94,7 +94,7 @@ begins_list ss ms es h =
     let short : length es ≤ p.number = omega (arith, length-take (length es) (events (entries_at ss p)), ap length b, its) in
     (p.stretch, begun_taken es (entries_at ss p) (stretch_list ss p.stretch) (take-take (length es) p.number (stretch_list ss p.stretch) short) b)
 
--- where a bookmark needs no new entry, some list begins with all of its events
+-- if a bookmark needs no new entry, the search for its events finds all of them
 pub all_along : (ss : List Stretch) (ms : List (MarkName × Node)) (at n : ℕ) (es : List Event) → IsAlong ss at n es → IsDeepest ss n es
     → NeedsNoEntry (marks_of (named_lists ss ms)) es → n ≡ length es
 all_along ss ms at n es along deepest none =
@@ -146,7 +146,8 @@ module _ (ss : List Stretch) (rule : AreNested ss) where
       (omega (arith, fits n)))
       (λ es first second. grind (arith, h, fits n, listed n es first, level_of (events (stretch_list ss n)) (suc (shared_at ss n)) (length (own_at ss n)) es, second, not_both ss rule fresh n, along_begun))
 
-  -- a list that begins that of a stretch is one stretch's own
+  -- a non-empty list that begins the list of a stretch is one stretch's own beginning, of this or
+  -- an earlier one
   owner : (i : ℕ) (es : List Event) → 0 < length es → Begins es (events (stretch_list ss i)) → IsListed ss (suc i) es
   owner zero es some b = (0, omega arith, omega (arith, shared_within ss rule 0, some), b)
   owner (suc i) es some b =
@@ -180,7 +181,7 @@ module _ (ss : List Stretch) (rule : AreNested ss) where
               ]
         ]
 
-    -- each beginning of the list of a stretch begins the entries of a bookmark
+    -- each beginning of a stretch's list begins the entries of some bookmark
     pub begins_one : (i n : ℕ) → i < length ss → n ≤ length (stretch_list ss i) → (m : MarkName × Node) × Contains ms m × (take n (entries_at ss m.1) ≡ take n (stretch_list ss i))
     begins_one i n inside h = reached (length ss) i n (omega arith) inside h
 
@@ -212,13 +213,13 @@ module _ (ss : List Stretch) (rule : AreNested ss) where
             let l = owner b.0 es h.some b.1 in
             grind (arith, l.2, l.3, is_listed (length ss) l.0 es, list_past ss l.0, begun_within ss l.0 es)
 
--- The entries are no more than those of the nodes together
+-- There are no more entries than all nodes have together
 
 abbrev greatest_to : List Node → ℕ → ℕ
 greatest_to ps zero = 0
 greatest_to ps (suc n) = greatest_to ps n + greatest_in n ps
 
--- a node counts in its stretch alone
+-- another node adds at most its number to the sum, and nothing below its stretch
 greatest_one : (p : Node) (ps : List Node) (n : ℕ)
     → (greatest_to (p ∷ ps) n ≤ p.number + greatest_to ps n) × (n ≤ p.stretch → greatest_to (p ∷ ps) n ≤ greatest_to ps n)
 greatest_one p ps zero = (omega arith, λ h. omega arith)

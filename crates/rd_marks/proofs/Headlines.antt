@@ -1,4 +1,4 @@
--- What a book keeps, as the headline has it.
+-- Each book keeps the run of its live events, as the headline states.
 use Rattle.rd_marks.proofs.Prelude.{◌≡◌, ◌↔◌, ◌-◌, ◌≤◌, ℕ, refl, length, sym, subst, Option, Some, None, Result, Ok, Err, IsOk, arith, Refusal, Entry, State, state_of, undo_at, Journal, BookState, journal, numbered, first_dependant, and_then, IsRun, unless_depended, event_of_entry, book_state, session_of, Book}
 use Rattle.rd_journal.proofs.Ahead.{is_session}
 use Rattle.rd_journal.proofs.Finding.{numbered_in}
@@ -7,7 +7,7 @@ use Rattle.rd_journal.proofs.LoneUndo.{undo_at_found, undo_at_missing}
 use Rattle.rd_marks.specs.Headline.{IsRunOfLive}
 use Rattle.rd_cell.specs.declared.refusal.Refusal.TheVariants as refusal
 
--- undoing a step alone names just the dependant that is found, and is done where none is found
+-- a lone undo is refused with `Depended n` exactly if n is the dependant that is found
 names : {X : Type 0} (x : X) (n : ℕ) (found : Option ℕ) → (and_then (unless_depended found) (λ _. Ok x) ≡ Err (refusal.Depended n)) ↔ (found ≡ Some n)
 names x n None = grind arith
 names x n (Some j) = grind arith
@@ -16,7 +16,8 @@ frees : {X : Type 0} (x : X) (found : Option ℕ) → IsOk (and_then (unless_dep
 frees x None = grind arith
 frees x (Some j) = grind arith
 
--- a lone undo is refused exactly where there is a dependant, and names the first
+-- a lone undo of the k-th live step is refused with `Depended n` exactly if n is its first
+-- dependant
 refused : (j : Journal) → IsRun j → (k n : ℕ) → (undo_at (state_of j) k ≡ Err (refusal.Depended n)) ↔ (first_dependant j.live k ≡ Some n)
 refused j runs k n = by (numbered j.live k) refl
   where
@@ -26,7 +27,7 @@ refused j runs k n = by (numbered j.live k) refl
         subst (λ (r : Result State Refusal). (r ≡ Err (refusal.Depended n)) ↔ (first_dependant j.live k ≡ Some n)) (sym (undo_at_found j k x runs here))
         (names _ n (first_dependant j.live k))
 
--- and is done exactly where there is none
+-- a lone undo of a live step is done exactly if the step has no dependant
 free : (j : Journal) → IsRun j → (k : ℕ) → 1 ≤ k → k ≤ length j.live → IsOk (undo_at (state_of j) k) ↔ (first_dependant j.live k ≡ None)
 free j runs k some within =
     let x = nth j.live (k - 1) (omega arith) in
@@ -34,7 +35,7 @@ free j runs k some within =
     subst (λ (r : Result State Refusal). IsOk r ↔ (first_dependant j.live k ≡ None)) (sym (undo_at_found j k x.0 runs here))
     (frees _ (first_dependant j.live k))
 
--- a book over this journal, whatever its marks
+-- the fact of the headline holds of every state over a journal that is a run, whatever its marks
 pub run_of_live : (j : Journal) (b : BookState) → b.session ≡ state_of j → IsRun j → IsRunOfLive b j
 run_of_live j b is runs = record {
   is_run = runs;
@@ -44,6 +45,6 @@ run_of_live j b is runs = record {
   missing = rw is (λ k none. (undo_at_missing j (length j.live) k refl none).0);
 }
 
--- each book is the run of its live events
+-- each book keeps the run of its live events
 pub book_runs : {R : ℕ} (b : Book R) → IsRunOfLive (book_state b) (journal (session_of b))
 book_runs b = run_of_live (journal b.session) (book_state b) refl (is_session b.session).runs

@@ -1,9 +1,9 @@
--- Where the session's track lies among the bookmarks' entries, and what each call leaves of that.
+-- How each call keeps the fact that the events of `here` begin the session's track.
 use Rattle.rd_marks.proofs.Prelude.{◌≡◌, ℕ, zero, suc, ◌-◌, ◌≤◌, refl, ap, List, [], ◌∷◌, ◌++◌, length, take, drop, Ok, arith, take-append_seam, take-length, take-map, take-take, take-append-le, length-map, length-take, closure, items_where_false, Event, Entry, Begins, Session, Journal, ahead_entries, state, track, State, undo_at, roll, Node, Stretch, stretch_list, entries_at, IsWithin, IsAlong, events, live_event, is_live, went_through}
 use Rattle.rd_journal.specs.Moves.{IsLengthened, IsUndoneAlone, IsRolledBack}
 use Rattle.rd_marks.proofs.Starting.{begins_events, begins_shorter, begins_trans, events_length, events_of_first, fewer_begin, entries_length}
 
--- What a call leaves of the first live entries
+-- How many of the first live entries each call keeps
 
 without_leaves : {X : Type 0} (m k : ℕ) (xs : List X) → m ≤ k → take m (take m xs ++ drop k xs) ≡ take m xs
 without_leaves zero k xs h = refl
@@ -25,7 +25,7 @@ roll_leaves k n old new its rolled = grind (arith, closure_leaves)
 pub added_leaves : (n : ℕ) (x : Entry) (old new : Journal) → n ≡ length old.live → IsLengthened x old new → take n new.live ≡ take n old.live
 added_leaves n x old new all more = grind (arith, take-append_seam, take-length)
 
--- What was undone by its number was there
+-- A step that was undone by its number was live
 
 pub undone_within : (s : State) (k : ℕ) (t : State) → undo_at s k ≡ Ok t → k ≤ length s.live
 undone_within s k t h = let live = went_through (live_event s k) _ t h in (is_live s k live.0 live.1).1
@@ -34,11 +34,12 @@ pub rolled_within : (s : State) (k : ℕ) (t : State) → roll s k ≡ Ok t → 
 rolled_within s k t h = let live = went_through (live_event s k) _ t h in (is_live s k live.0 live.1).1
 
 module _ (here there : List Entry) (begins : Begins there here) where
-  -- what begins it begins the same track
+  -- if `here` begins the track, so does every beginning of it
   pub still_begins : (steps : List Event) → Begins (events here) steps → Begins (events there) steps
   still_begins steps stands = begins_trans (events there) (events here) steps (begins_events there here begins) stands
 
-  -- where the first n live steps stayed, whatever is ahead
+  -- if the first n live steps stayed, a beginning of `here` with at most n entries begins the new
+  -- track, whatever is ahead
   pub track_cut : (n : ℕ) (old new : Journal) (old_ahead new_ahead : List Event) → Begins (events here) (events old.live ++ old_ahead)
       → length there ≤ n → n ≤ length old.live → take n new.live ≡ take n old.live → Begins (events there) (events new.live ++ new_ahead)
   track_cut n old new old_ahead new_ahead stands short within same =
@@ -50,14 +51,15 @@ module _ (here there : List Entry) (begins : Begins there here) where
       let fact_6 = take-append-le n (events new.live) new_ahead in
       grind (arith, stands, short, within, same, length-map, length-take, fact_3, fact_4, fact_5, fact_6, fact, fact_2, still_begins (events old.live ++ old_ahead))
 
--- entries with the events of the live steps begin the track
+-- entries whose events are the live ones begin the track
 pub live_begin : {R : ℕ} (session : Session R) (xs : List Entry) → events xs ≡ (state session).live → Begins (events xs) (track session)
 live_begin session xs its = grind (arith, take-append_seam)
 
--- The node of the entries of a list with which the live steps begin
+-- Nodes whose events begin the live ones or the track
 
 module _ (ss : List Stretch) where
-  -- where they are: no further than they are, at the node where their track lies
+  -- a node of the same stretch as `here`, with no more entries than it and the live steps have,
+  -- begins the live events
   pub live_along : {R : ℕ} (session : Session R) (here at : Node) (xs : List Entry) → events xs ≡ (state session).live → IsWithin ss here
       → Begins (events (entries_at ss here)) (track session) → at.stretch ≡ here.stretch → at.number ≤ here.number → at.number ≤ length xs
       → IsWithin ss at × IsAlong ss at.stretch at.number (events xs)
@@ -68,7 +70,7 @@ module _ (ss : List Stretch) where
       let still = still_begins (entries_at ss here) (entries_at ss at) first.1 (track session) stands in
       (first.0, grind (arith, its, few, all, seam, still, events_length ss at first.0, events_of_first at.number (stretch_list ss at.stretch)))
 
-  -- so its steps are the first ones of the track
+  -- if `here` begins with the entries of a node, these are the first steps of the track
   pub along_to : (at here : Node) (steps : List Event) → IsWithin ss at → IsWithin ss here → Begins (events (entries_at ss here)) steps → (n : ℕ) → n ≡ at.number → n ≤ here.number
       → take n (entries_at ss here) ≡ take n (entries_at ss at) → (n ≤ length steps) × (take n steps ≡ events (entries_at ss at))
   along_to at here steps is within stands n all fewer alike =

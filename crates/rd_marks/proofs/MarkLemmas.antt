@@ -1,26 +1,25 @@
--- The marks that a list of names with entries is: looking one up, putting one last, taking one
--- away.
+-- The marks of a list of names with entries: looking one up, adding one and removing one.
 use Rattle.rd_marks.proofs.Prelude.{inr, is_ok, ◌⊎◌, ◌≢◌, suc, Result, Ok, Err, IsOk, IfErr, ne_eqb, ◌≡◌, ℕ, Bool, true, false, cond, map, refl, sym, ap, ◌∙◌, subst, List, [], ◌∷◌, ◌++◌, length, is_some, option_map, ok_or, Option, Some, All, slice_get, arith, lookup, remove_entry, remove_key, All-cons, All-head, All-tail, Entry, Event, MarkName, mark_name_eq, eq-eqb, false≢true, length-map, get_or_from_slice_get, slice_get-map, slice_get_within, Refusal, World, MOST_MARKS, Begins, Mark, BookState, marked_events, mark, drop_mark, goto_mark, mark_at, mark_events, result_map, MakesSteps, AnswersSame, marks_of, events, Node, book_state, entries_in, LacksRoomFor, MayRefuseToGo, IsInPieces, Book}
 use Rattle.rd_cell.specs.declared.refusal.Refusal.TheVariants as refusal
 
--- the mark of a name with its entries
+-- the mark with a name and the events of its entries
 abbrev pub mark_of : MarkName × List Entry → Mark
 mark_of l = record { name = l.0; events = events l.1 }
 
--- its name, and how many events it has
+-- a mark's name, and the number of its events
 abbrev pub name_and_length : Mark → MarkName × ℕ
 name_and_length m = (m.name, length m.events)
 
--- the book with these marks, and its session as it is
+-- the book with these marks and its old session
 abbrev pub with_marks : BookState → List Mark → BookState
 with_marks b ms = record { session = b.session; marks = ms }
 
--- taking an entry away, whatever is made of the values
+-- removing an entry commutes with a map over the values
 pub removed_mapped : {K V W : Type 0} (f : V → W) (test : K → Bool) (ms : List (K × V)) → map (λ m. (m.0, f m.1)) (remove_entry test ms) ≡ remove_entry test (map (λ m. (m.0, f m.1)) ms)
 removed_mapped f test [] = refl
 removed_mapped f test (m ∷ ms) = grind (arith, cond, removed_mapped f test ms)
 
--- what holds of each entry holds of each other one, and of the one that is found
+-- a fact about all entries holds of those that are left after a removal
 pub all_without : {K V : Type 0} (test : K → Bool) (P : K × V → Type 0) (ms : List (K × V)) → All P ms → All P (remove_entry test ms)
 all_without test P [] h = h
 all_without test P (m ∷ ms) h = grind (arith, cond, All-tail P m ms h, All-cons P m (remove_entry test ms) (All-head P m ms h) (all_without test P ms (All-tail P m ms h)))
@@ -36,31 +35,31 @@ is_some_map : {X Y : Type 0} (f : X → Y) (o : Option X) → is_some (option_ma
 is_some_map f o = grind arith
 
 module _ (name : MarkName) where
-  -- what is found under a name is the events of its mark
+  -- looking up a name finds the events of its mark
   pub found_events : (ls : List (MarkName × List Entry)) → marked_events (marks_of ls) name ≡ option_map (λ xs. events xs) (lookup (mark_name_eq name) ls)
   found_events [] = refl
   found_events (l ∷ ls) = grind (arith, option_map, cond, found_events ls)
 
-  -- something is found exactly if there is a mark of that name
+  -- the lookup of a name finds something exactly if there is a mark of that name
   pub found_marked : (ls : List (MarkName × List Entry)) → is_some (marked_events (marks_of ls) name) ≡ is_some (lookup (mark_name_eq name) ls)
   found_marked ls = ap is_some (found_events ls) ∙ is_some_map (λ xs. events xs) (lookup (mark_name_eq name) ls)
 
-  -- without the entry of a name, the marks are without its mark
+  -- without the entry of a name, there are just the marks without its mark
   pub marks_without : (ls : List (MarkName × List Entry)) → marks_of (remove_entry (mark_name_eq name) ls) ≡ remove_key (λ m. mark_name_eq name m.name) (marks_of ls)
   marks_without [] = refl
   marks_without (l ∷ ls) = grind (arith, cond, marks_without ls)
 
--- whether something is found
+-- What the result of a lookup tells of the marks
 module _ {X : Type 0} (f : X → List Entry) (name : MarkName) (ls : List (MarkName × List Entry)) (o : Option X) (b : Bool) (found : option_map f o ≡ lookup (mark_name_eq name) ls) (is : b ≡ is_some o) where
   pub found_at : is_some (marked_events (marks_of ls) name) ≡ b
   found_at = found_marked name ls ∙ ap is_some (sym found) ∙ is_some_map f o ∙ sym is
 
--- a mark is set if its name is new and there is room
+-- a mark is set if its name is new and there are fewer than MOST_MARKS
 pub mark_goes : (b : BookState) (name : MarkName) → is_some (marked_events b.marks name) ≡ false → length b.marks ≢ MOST_MARKS
     → mark b name ≡ Ok (with_marks b (b.marks ++ record { name = name; events = b.session.live } ∷ []))
 mark_goes b name new few = rw (new, ne_eqb (length b.marks) MOST_MARKS few) refl
 
--- a mark is dropped if it is there
+-- a mark is dropped if there is one of that name
 pub drop_goes : (b : BookState) (name : MarkName) (ls left : List (MarkName × List Entry)) → b.marks ≡ marks_of ls → is_some (lookup (mark_name_eq name) ls) ≡ true
     → left ≡ remove_entry (mark_name_eq name) ls → drop_mark b name ≡ Ok (with_marks b (marks_of left))
 drop_goes b name ls left same there e =
@@ -70,12 +69,12 @@ pub drop_missing : (b : BookState) (name : MarkName) (ls : List (MarkName × Lis
 drop_missing b name ls same none =
     rw (same, found_marked name ls, none) refl
 
--- which leaves all as it is
+-- if nothing is found, a removal leaves the list as it is
 pub none_removed : {K V : Type 0} (test : K → Bool) (ms : List (K × V)) → is_some (lookup test ms) ≡ false → remove_entry test ms ≡ ms
 none_removed test [] h = refl
 none_removed test (m ∷ ms) h = grind (arith, cond, none_removed test ms)
 
--- which only memory for its steps can refuse
+-- going to a mark that exists can only be refused with NoMemory, and only if it makes steps
 pub goto_not_done : {X : Type 0} (P : Type 0) (r : Result X Refusal) (b : BookState) (name : MarkName) (es : List Event) → marked_events b.marks name ≡ Some es
     → IfErr r (λ cause. (cause ≡ refusal.NoMemory) × P) → (Begins es b.session.live → IsOk r)
     → IfErr r (λ cause. (goto_mark b name ≡ Err cause) ⊎ ((cause ≡ refusal.NoMemory) × MakesSteps b name))
@@ -89,7 +88,7 @@ module _ (w : World) (o p : Option (List Event)) where
 
 -- The mark of a number
 
--- what is there
+-- looking up a position finds the mark of the entry there
 mark_there : (b : BookState) (ls : List (MarkName × List Entry)) (j : ℕ) (o : Option (MarkName × List Entry)) → b.marks ≡ marks_of ls → slice_get ls j ≡ o
     → slice_get b.marks j ≡ option_map mark_of o
 mark_there b ls j o same h = ap (λ (xs : List Mark). slice_get xs j) same ∙ slice_get-map mark_of ls j ∙ ap (option_map mark_of) h
@@ -105,29 +104,29 @@ events_said b ls i j o same e h = ap (mark_events b) e ∙ ap (option_map (λ (m
 pub length_said : (name : MarkName) (n : ℕ) (xs : List Entry) → length xs ≡ n → Ok (name, n) ≡ result_map name_and_length (ok_or (Some (mark_of (name, xs))) refusal.NoMark)
 length_said name n xs long = ap (λ (k : ℕ). Ok (name, k)) (sym long ∙ sym (length-map xs (λ x. x.event)))
 
--- a mark whose name is taken, or one too many
+-- a mark is refused with MarkTaken if its name is taken
 pub mark_taken : (b : BookState) (name : MarkName) → is_some (marked_events b.marks name) ≡ true → mark b name ≡ Err refusal.MarkTaken
 mark_taken b name h = rw h refl
 
 pub mark_too_many : (b : BookState) (name : MarkName) → is_some (marked_events b.marks name) ≡ false → length b.marks ≡ MOST_MARKS → mark b name ≡ Err refusal.TooManyMarks
 mark_too_many b name new h = rw (new, eq-eqb (length b.marks) MOST_MARKS h) refl
 
--- what is refused does not go
+-- a mark isn't both refused and set
 pub mark_refused : {P : Type 0} (b : BookState) (name : MarkName) (refusal : Refusal) → mark b name ≡ Err refusal → IsOk (mark b name) → P
 mark_refused b name refusal h goes = absurd (false≢true (sym (ap is_ok h) ∙ goes))
 
--- going to a mark that is there is refused memory where room is missing
+-- a refusal with NoMemory on the way to a mark is one that `MayRefuseToGo` allows
 pub goto_lacks : {R : ℕ} {X : Type 0} (r : Result X Refusal) (b : Book R) (name : MarkName) (node : Node) → marked_events (book_state b).marks name ≡ Some (events (entries_in b.bookmarks node))
     → IfErr r (λ cause. (cause ≡ refusal.NoMemory) × (LacksRoomFor b.session (events (entries_in b.bookmarks node)) ⊎ IsInPieces b.bookmarks node)) → IfErr r (MayRefuseToGo b name)
 goto_lacks (Ok x) b name node its h = tt
 goto_lacks (Err cause) b name node its h = inr (h.0, record { node = node; its = its; lacks = h.1 })
 
--- what is said of an error, where there is one
+-- a fact about the error of a result holds of the error that it has
 pub if_then_for : {X : Type 0} (r : Result X Refusal) (P : Refusal → Type 0) → IfErr r P → (refusal : Refusal) → r ≡ Err refusal → P refusal
 if_then_for (Ok x) P h refusal is = absurd (cc)
 if_then_for (Err e) P h refusal is = subst P (let same : e ≡ refusal = cc in same) h
 
--- What reads a bookmark by its index, and what goes to one or compares two by their names
+-- Rules for reading a bookmark by its index, and for going to one or comparing two by name
 pub ruleset at_steps = (option_map, slice_get-map, all_at)
 
 pub ruleset goto_steps = (option_map, found_events, both_there, goto_lacks)

@@ -12,7 +12,7 @@ are_ascii (b ∷ bs) h =
     let p = and_parts (is_name_byte b) (list_all is_name_byte bs) h in
     IsAscii-cons b bs (name_byte_small b p.0) (are_ascii bs p.1)
 
--- what spells a name is UTF-8
+-- bytes that spell a name are UTF-8
 pub name_is_text : (bs : List ℕ) → is_mark_name bs ≡ true → IsUtf8 bs
 name_is_text bs h =
     let p = and_parts (not (length bs == 0) && not (nat_lt MOST_NAME_BYTES (length bs))) (list_all is_name_byte bs) h in

@@ -1,10 +1,10 @@
--- No command moves the start, and a refused one changes nothing.
+-- No command changes the start, and a refused one changes nothing.
 use Rattle.rd_marks.proofs.Prelude.{◌≡◌, ℕ, sym, subst, List, [], ◌∷◌, ◌++◌, length, Some, None, Result, Ok, Err, OnErr, IfErr, ◌∙◌, arith, same_Some, MayRefuse, Refusal, Event, Session, State, apply, reply_to, undo_at, roll, back, forward, Command, BookState, MarkName, with_session, goto_mark, Answered, answer_with, Happened, IsAsDefined, IsObeyed, AreObeyed, Reply, Applied, step_counts, as_event}
 use Rattle.rd_marks.specs.declared.commands.Command.TheVariants as command
 use Rattle.rd_actor.specs.declared.actors.Act.TheVariants as act
 use Rattle.rd_marks.proofs.Starts.{apply_start, undo_at_start, roll_start, back_start, forward_start}
 
--- what an answer leaves: the start, and everything if it is a refusal
+-- the answer leaves the start as it was, and a refusal leaves everything
 pub record LeavesStart (b : BookState) (a : Answered) : Type 0 where
   pub start : a.state.session.start ≡ b.session.start
   pub unchanged : OnErr a.answer (a.state ≡ b)
@@ -18,7 +18,7 @@ goto_start b name t h = grind arith
 query_leaves : (b : BookState) (a : Answered) → a.state ≡ b → LeavesStart b a
 query_leaves b a same = grind arith
 
--- an answer that is this one leaves what this one leaves
+-- equal answers leave the same things
 as_this : (b : BookState) (a c : Answered) → LeavesStart b c → a ≡ c → LeavesStart b a
 as_this b a c leaves h = subst (λ (x : Answered). LeavesStart b x) (sym h) leaves
 
@@ -47,7 +47,7 @@ obeyed_leaves b (command.DropMark name) a h = grind (arith, as_this)
 obeyed_leaves b (command.GotoMark name) a h = made_leaves b _ (goto_mark b name) _ a (goto_start b name) h
 obeyed_leaves b _ a h = grind (arith, query_leaves)
 
--- a command that is an event is answered as the event is
+-- a command that is an event may be answered as the event may
 pub event_obeyed : (b : BookState) (c : Command) (e : Event) (a : Answered) → as_event c ≡ Some e → Happened b e a → IsObeyed b c a
 event_obeyed b (command.Enq actor value) e a is h = subst (λ (x : Event). Happened b x a) (sym (same_Some _ e is)) h
 event_obeyed b (command.Deq actor) e a is h = subst (λ (x : Event). Happened b x a) (sym (same_Some _ e is)) h
@@ -57,7 +57,7 @@ event_obeyed b (command.Go actor) e a is h = subst (λ (x : Event). Happened b x
 event_obeyed b (command.Starve actor choice) e a is h = subst (λ (x : Event). Happened b x a) (sym (same_Some _ e is)) h
 event_obeyed b _ e a is h = cc
 
--- One more command of a list
+-- One more command of a list is done
 
 pub one_more_obeyed : (b m t : BookState) (cs : List Command) (answers : List (Result Reply Refusal)) (c : Command) (answer : Result Reply Refusal)
     → AreObeyed b cs answers m → IsObeyed m c (record { answer = answer; state = t }) → AreObeyed b (cs ++ c ∷ []) (answers ++ answer ∷ []) t
@@ -66,7 +66,7 @@ one_more_obeyed b m t [] (y ∷ ys) c answer h k = absurd h
 one_more_obeyed b m t (x ∷ xs) [] c answer h k = absurd h
 one_more_obeyed b m t (x ∷ xs) (y ∷ ys) c answer h k = (h.0, h.1, one_more_obeyed h.0 m t xs ys c answer h.2 k)
 
--- Memory refused to a command that is an event, and to no other
+-- Why a command may lack memory, if it is an event, and if it is none
 
 pub refused_event : {R : ℕ} {X : Type 0} (r : Result X Refusal) (s : Session R) (c : Command) (e : Event) → as_event c ≡ Some e → IfErr r (MayRefuse s e)
     → IfErr r (λ refusal. (f : Event) → as_event c ≡ Some f → MayRefuse s f refusal)

@@ -1,15 +1,15 @@
--- What the bookmarks are after one was put, and after stretches were shrunk.
+-- The bookmarks after one was added, and after stretches were cut.
 use Rattle.rd_marks.proofs.Prelude.{◌≡◌, ℕ, zero, suc, ◌^◌, ◌<◌, ◌≤◌, inl, inr, refl, sym, ap, ◌∙◌, subst, List, [], ◌∷◌, ◌++◌, map, length, take, drop, length-append, option_map, Option, None, All, arith, cases_lt, sum_by-le, length-map, map-append, take-append-drop, All-push, All-contains, All-head, All-map, All-nil, All-tail, World, MOST_STEPS, Event, Entry, Begins, MarkName, Node, Stretch, Shift, shifted, Stays, IsGrown, IsShrunk, KeepsItsSteps, MOST_MARKS, AreEntriesOfRun, AreRuns, IsKept, IsPruned, named_lists, nodes_of, count_of, stretch_list, entries_at, greatest_in, needed_at, IsWithin, IsAlong, AreNested, AreNeeded, AreNeededFrom, nat_tests, events, IsRunFrom, run}
 use Rattle.rd_marks.specs.declared.stretches.changes.Grown.{Grown}
 use Rattle.rd_marks.proofs.Counting.{begins_one, contains_mapped, count_bounded}
 use Rattle.rd_marks.proofs.EntryLemmas.{begin_alike}
 use Rattle.rd_marks.proofs.Starting.{begins_itself, begins_trans, events_of_first, fewer_begin, stretch_within}
 
--- the names with where their nodes moved
+-- the names with their nodes, renumbered as the shift says
 abbrev pub names_shifted : Shift → List (MarkName × Node) → List (MarkName × Node)
 names_shifted shift ms = map (λ (m : MarkName × Node). (m.0, shifted shift m.1)) ms
 
--- the names of the lists
+-- the lists of the names have just the names
 pub names_same : (ss : List Stretch) (ms : List (MarkName × Node)) → map (λ (l : MarkName × List Entry). l.0) (named_lists ss ms) ≡ map (λ (m : MarkName × Node). m.0) ms
 names_same ss [] = refl
 names_same ss (m ∷ ms) = ap (λ (names : List MarkName). m.0 ∷ names) (names_same ss ms)
@@ -19,7 +19,7 @@ nodes_shifted shift [] = refl
 nodes_shifted shift (m ∷ ms) = ap (λ (ps : List Node). shifted shift m.1 ∷ ps) (nodes_shifted shift ms)
 
 module _ (old new : List Stretch) (shift : Shift) where
-  -- what each name has stays
+  -- each name keeps its entries if its node does
   pub lists_shifted : (ms : List (MarkName × Node)) → All (λ (m : MarkName × Node). Stays old new shift m.1) ms → named_lists new (names_shifted shift ms) ≡ named_lists old ms
   lists_shifted [] h = refl
   lists_shifted (m ∷ ms) h =
@@ -29,7 +29,7 @@ module _ (old new : List Stretch) (shift : Shift) where
   within_shifted ms h =
       All-map (λ (m : MarkName × Node). IsWithin new m.1) (λ (m : MarkName × Node). (m.0, shifted shift m.1)) ms (λ k d inside. (h k d inside).within)
 
--- what holds of each node that is there
+-- if one fact about nodes implies another, it does so for the nodes of all names
 pub each : (P Q : Node → Type 0) (ms : List (MarkName × Node)) → ((p : Node) → P p → Q p) → All (λ (m : MarkName × Node). P m.1) ms → All (λ (m : MarkName × Node). Q m.1) ms
 each P Q ms f h = λ k d inside. f _ (h k d inside)
 
@@ -54,7 +54,7 @@ module _ (old new : List Stretch) (at : Node) (live : List Entry) (grown : Grown
   needed_put needed =
       rw (map-append (λ (m : MarkName × Node). m.1) (names_shifted grown.shift ms) ((name, grown.node) ∷ []), nodes_shifted grown.shift ms) (grows.needed (nodes_of ms) needed)
 
-  -- the rule is kept
+  -- the invariant of the bookmarks holds with the new one
   pub kept_put : (here there : Node) → IsKept old ms here → length ms < MOST_MARKS → (es : List (MarkName × Node)) → es ≡ put → IsWithin new there → IsKept new es there
   kept_put here there kept fewer es its lies =
       subst (λ (fs : List (MarkName × Node)). IsKept new fs there) (sym its) (record {
@@ -65,7 +65,7 @@ module _ (old new : List Stretch) (at : Node) (live : List Entry) (grown : Grown
         lies = lies;
       })
 
-  -- and the track begins with the entries of where it lies
+  -- `here` is within the new stretches, and its events still begin the track
   here_put : (here there : Node) (n : ℕ) (steps : List Event) → IsWithin old here → Begins (events (entries_at old here)) steps → Begins (events (entries_at new grown.node)) steps
       → (here.number ≤ n → there ≡ grown.node) → (n < here.number → there ≡ shifted grown.shift here) → IsWithin new there × Begins (events (entries_at new there)) steps
   here_put here there n steps lies stands begins near far =
@@ -74,7 +74,7 @@ module _ (old new : List Stretch) (at : Node) (live : List Entry) (grown : Grown
         | inr short ↦ rw (near short) (grows.within, begins)
       ]
 
--- Nothing was put
+-- No bookmark was added
 
 module _ (old new : List Stretch) (unchanged : KeepsItsSteps old new) where
   lists_same : (ms : List (MarkName × Node)) → All (λ (m : MarkName × Node). IsWithin old m.1) ms → named_lists new ms ≡ named_lists old ms
@@ -86,7 +86,7 @@ module _ (old new : List Stretch) (unchanged : KeepsItsSteps old new) where
       → IsKept new es here × (named_lists new es ≡ named_lists old ms) × (entries_at new here ≡ entries_at old here)
   kept_same ms es here its kept = grind (arith, its, kept, each, lists_same ms kept.within, unchanged.stays here kept.lies, unchanged.needed)
 
--- The entries of a node with which the live steps begin are theirs
+-- A node whose events begin the live ones has the first live entries
 
 pub same_entries : (w : World) (ss : List Stretch) → AreNested ss → (ms : List (MarkName × Node)) → AreNeeded ss (nodes_of ms) → AreRuns w (named_lists ss ms)
     → (at : Node) → IsWithin ss at → (live : List Entry) → IsRunFrom w live → IsAlong ss at.stretch at.number (events live) → entries_at ss at ≡ take at.number live
@@ -100,7 +100,7 @@ same_entries w ss rule ms needed runs at within live run along = by at.number re
         (contains_mapped (λ (m : MarkName × Node). (m.0, entries_at ss m.1)) ms r.0 r.1) in
         grind (arith, r.2, along, events_of_first at.number (entries_at ss r.0.1), events_of_first at.number (stretch_list ss at.stretch), begin_alike at.number w (entries_at ss r.0.1) live all.ran run)
 
--- Shrinking
+-- Cutting stretches
 
 pub greatest_of : (i : ℕ) (ms : List (MarkName × Node)) → All (λ (m : MarkName × Node). m.1.stretch ≡ i → m.1.number ≤ greatest_in i (nodes_of ms)) ms
 greatest_of i [] = All-nil (λ (m : MarkName × Node). m.1.stretch ≡ i → m.1.number ≤ 0)
@@ -111,7 +111,7 @@ module _ (old new : List Stretch) (i n : ℕ) (shift : Shift) (shrunk : IsShrunk
   stay_left : All (λ (m : MarkName × Node). Stays old new shift m.1) ms
   stay_left = λ k d inside. shrunk.stays _ (within k d inside) (λ here. omega (arith, greatest_of i ms k d inside here, its))
 
-  -- what the bookmarks and a node are then
+  -- after the i-th stretch was cut, the bookmarks and `here` are as `IsPruned` states
   pub pruned : (here kept : Node) → IsWithin old here → kept.stretch ≡ here.stretch → kept.number ≤ here.number → (kept.stretch ≡ i → kept.number ≤ n)
       → IsPruned i old new ms (names_shifted shift ms) here (shifted shift kept)
   pruned here kept lies same fewer left =
@@ -125,7 +125,7 @@ module _ (old new : List Stretch) (i n : ℕ) (shift : Shift) (shrunk : IsShrunk
         begins = subst (λ (xs : List Entry). Begins xs (entries_at old here)) (sym stays.same) first.1;
       }
 
--- nothing pruned yet, and once more
+-- before any stretch is cut, `IsPruned` holds after the last one; and cuts in a row compose
 pub not_pruned : (ss : List Stretch) (ms : List (MarkName × Node)) (here : Node) → All (λ (m : MarkName × Node). IsWithin ss m.1) ms → IsWithin ss here
     → IsPruned (length ss) ss ss ms ms here here
 not_pruned ss ms here within lies = grind (arith, begins_itself)
@@ -133,31 +133,32 @@ not_pruned ss ms here within lies = grind (arith, begins_itself)
 pub pruned_on : (i k : ℕ) (a b c : List Stretch) (ms ns ls : List (MarkName × Node)) (p q r : Node) → IsPruned k a b ms ns p q → IsPruned i b c ns ls q r → IsPruned i a c ms ls p r
 pruned_on i k a b c ms ns ls p q r first second = grind (arith, begins_trans)
 
--- The number of all entries
+-- The number of all entries fits in 64 bits
 
 number_few : (ss : List Stretch) → AreNested ss → (p : Node) → IsWithin ss p → p.number ≤ MOST_STEPS
 number_few ss rule p within = grind (arith, stretch_within)
 
--- it is a number of a machine
+-- the number of all entries is below 2^64
 pub count_fits : (ss : List Stretch) → AreNested ss → (ms : List (MarkName × Node)) → AreNeeded ss (nodes_of ms) → All (λ (m : MarkName × Node). IsWithin ss m.1) ms
     → length ms ≤ MOST_MARKS → count_of ss < 2 ^ 64
 count_fits ss rule ms needed within few =
     let all = All-map (λ (p : Node). p.number ≤ MOST_STEPS) (λ (m : MarkName × Node). m.1) ms (λ k d inside. number_few ss rule _ (within k d inside)) in
     omega (arith, count_bounded ss rule (nodes_of ms) needed, sum_by-le (λ (p : Node). p.number) MOST_STEPS (nodes_of ms) all, length-map ms (λ (m : MarkName × Node). m.1), few)
 
--- The entries of the new list are those of a run as well
+-- The entries of the added bookmark are those of a run, as all others are
 
 pub runs_put : (w : World) (ls ms : List (MarkName × List Entry)) (name : MarkName) (xs : List Entry) → AreRuns w ls → AreEntriesOfRun w xs → ms ≡ ls ++ (name, xs) ∷ [] → AreRuns w ms
 runs_put w ls ms name xs runs run its =
     rw its (All-push (λ (l : MarkName × List Entry). AreEntriesOfRun w l.1) ls (name, xs) runs run)
 
--- a name that none of the lists has is none of the names
+-- a name that is not in the lists isn't among the names
 pub none_named : (f : Node → List Entry) (o : Option Node) → option_map f o ≡ None → o ≡ None
 none_named f o h = grind arith
 
--- Setting a bookmark
+-- Adding a bookmark
 
--- what the bookmarks and the node where the track lies are then
+-- after a bookmark was added at the live entries, the invariant holds (`kept`), it is the last one
+-- (`lists`), all are runs (`runs`), and `here` begins the track (`stands`)
 pub record IsSet (w : World) (old new : List Stretch) (ms es : List (MarkName × Node)) (name : MarkName) (live : List Entry) (steps : List Event) (there : Node) : Type 0 where
   pub kept : IsKept new es there
   pub lists : named_lists new es ≡ named_lists old ms ++ (name, live) ∷ []

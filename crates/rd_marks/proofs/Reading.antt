@@ -1,4 +1,4 @@
--- Reading the entries of a node, and what the stretches have in common with other entries.
+-- Reading the entries of a node, and comparing the stretches with other entries.
 use Rattle.rd_marks.proofs.Prelude.{◌≡◌, ◌⊎◌, ℕ, zero, suc, ◌+◌, ◌-◌, ◌<◌, ◌≤◌, length-drop, refl, sym, ap, ◌∙◌, List, [], ◌∷◌, ◌++◌, length, take, drop, get_or, reverse, slice_get, option_map, Some, arith, drop-cons, take-add, cases_lt, append_assoc, drop-map, drop-take, length-map, reverse-append, take-take, slice_get-map, slice_get_read, Event, Entry, Node, Stretch, count_of, stretch_list, list_before, shared_at, entries_at, IsWithin, IsOwn, IsAlong, AreNested, AreFresh, events, numbered}
 use Rattle.rd_marks.proofs.StretchLists.{own_at, stretch_there, total, shared_within, begins_shared, behind_shared, list_past}
 use Rattle.rd_marks.proofs.Fresh.{Follows, follows_compared, follows_skipped, along_itself, along_within, between}
@@ -17,7 +17,7 @@ slice_get_drop xs zero n = ap (slice_get xs) (let e : n ≡ 0 + n = omega arith 
 slice_get_drop [] (suc m) n = refl
 slice_get_drop (x ∷ xs) (suc m) n = slice_get_drop xs m n ∙ ap (slice_get (x ∷ xs)) (let e : suc (m + n) ≡ suc m + n = omega arith in e)
 
--- one more element
+-- one more element of a beginning is the next one of the list
 pub one_more : {X : Type 0} (xs : List X) (n : ℕ) (x : X) → slice_get xs n ≡ Some x → take (suc n) xs ≡ take n xs ++ x ∷ []
 one_more [] n x h = cc
 one_more {X} (y ∷ xs) zero x h = (let same : y ≡ x = cc in ap (λ (z : X). z ∷ []) same)
@@ -28,37 +28,37 @@ there_is [] n h = absurd (omega (arith, h))
 there_is (x ∷ xs) zero h = (x, refl)
 there_is (x ∷ xs) (suc n) h = there_is xs n (omega (arith, h))
 
--- lists that begin alike and do not go on alike
+-- two lists don't agree on n + m + 1 elements if they differ at the m-th one after the first n
 alike_no_further : {X : Type 0} (n m : ℕ) (xs ys : List X) → suc (n + m) ≤ length ys → take (suc (n + m)) xs ≡ take (suc (n + m)) ys
     → ((x : X) → slice_get (drop n xs) m ≡ Some x → slice_get (drop n ys) m ≡ Some x → ⊥) → ⊥
 alike_no_further n m xs ys long same apart =
     let found = there_is ys (n + m) long in
     grind (arith, same, slice_get_drop, slice_get_take xs (suc (n + m)) (n + m), slice_get_take ys (suc (n + m)) (n + m), found, apart found.0)
 
--- From the last one up
+-- Reading from the last entry to the first
 
--- one more entry read
+-- one more entry was read, in front of those that were read before
 pub read_on : {X : Type 0} (ps qs rs xs : List X) (x : X) → ps ≡ qs ++ x ∷ [] → xs ≡ ps ++ reverse rs → xs ≡ qs ++ reverse (rs ++ x ∷ [])
 read_on {X} ps qs rs xs x h k = grind (arith, reverse, append_assoc, reverse-append)
 
--- the last entry of a beginning is of the event whose number is its length
+-- the last of the first n entries has the event of number n
 pub event_there : (xs : List Entry) (m n k : ℕ) (x : Entry) → 1 ≤ n → m ≡ n → k ≡ m - 1 → slice_get (take m xs) k ≡ Some x → (l : ℕ) → n ≤ l → Some x.event ≡ numbered (events (take l xs)) n
 event_there xs m n k x some same at h l fewer = grind (arith, slice_get, slice_get_take, slice_get-map, option_map)
 
--- events after the first are those of the entries after the first
+-- dropping k entries and then taking the events is dropping k events
 pub events_behind : (k : ℕ) (xs : List Entry) → events (drop k xs) ≡ drop k (events xs)
 events_behind k xs = sym (drop-map (λ (x : Entry). x.event) k xs)
 
--- a stretch that was read
+-- a stretch that was read at index i shares and keeps what the i-th one does
 pub stretch_at : (ss xs : List Stretch) (i : ℕ) (s : Stretch) → xs ≡ ss → i < length xs → s ≡ get_or xs i s → (i < length ss) × (shared_at ss i ≡ s.shared) × (own_at ss i ≡ s.entries.items)
 stretch_at ss xs i s same inside its = grind (arith, stretch_there)
 
--- one stretch of those that are counted
+-- counting the entries of one more stretch
 pub count_on : (ss : List Stretch) (i : ℕ) (s : Stretch) → i < length ss → s ≡ get_or ss i s → count_of (drop i ss) ≡ length s.entries.items + count_of (drop (suc i) ss)
 count_on ss i s inside its = grind (arith, drop-cons)
 
 module _ (ss : List Stretch) (rule : AreNested ss) where
-  -- a node none of whose entries is its stretch's own, and that in the stretch before
+  -- if the next stretch shares the first n entries, the list before it has them too
   pub one_down : (k n : ℕ) → n ≤ shared_at ss (suc k) → (n ≤ length (stretch_list ss k)) × (take n (stretch_list ss k) ≡ take n (stretch_list ss (suc k)))
   one_down k n h = (omega (arith, h, shared_within ss rule (suc k)), sym (begins_shared ss rule (suc k) n h))
 
@@ -66,7 +66,7 @@ module _ (ss : List Stretch) (rule : AreNested ss) where
       → IsWithin ss (record { stretch = p.stretch - 1; number = p.number }) × (entries_at ss (record { stretch = p.stretch - 1; number = p.number }) ≡ entries_at ss p)
   down p some h = grind (arith, one_down (p.stretch - 1) p.number)
 
-  -- what the lists from one stretch to the next but one have in common
+  -- if the lists from stretch `one` to i begin alike, so does the next one, as far as it shares
   pub common_on : (one i c d : ℕ) → d ≤ c → d ≤ shared_at ss (suc i) → take c (stretch_list ss i) ≡ take c (stretch_list ss one) → take d (stretch_list ss (suc i)) ≡ take d (stretch_list ss one)
   common_on one i c d less shared same =
       begins_shared ss rule (suc i) d shared ∙ sym (take-take d c (stretch_list ss i) less) ∙ ap (take d) same ∙ take-take d c (stretch_list ss one) less
@@ -74,14 +74,14 @@ module _ (ss : List Stretch) (rule : AreNested ss) where
   pub own_cases : (p : Node) → IsOwn ss p → (p.stretch ≡ 0) ⊎ (shared_at ss p.stretch < p.number)
   own_cases p own = grind arith
 
-  -- the number of a node in its own stretch is no less than what is shared
+  -- a node whose last entry is its stretch's own has no fewer entries than the stretch shares
   pub own_number : (p : Node) → IsOwn ss p → shared_at ss p.stretch ≤ p.number
   own_number p own = grind (arith, shared_within)
 
   pub own_less : (p : Node) → IsOwn ss p → 0 < p.number → shared_at ss p.stretch < p.number
   own_less p own some = grind (arith, shared_within)
 
-  -- a node has one entry more than that of one fewer
+  -- a node has the entries of the node with one fewer, and its own last one
   pub without_last : (p : Node) (x : Entry) → 0 < p.number → slice_get (entries_at ss p) (p.number - 1) ≡ Some x
       → entries_at ss p ≡ entries_at ss (record { stretch = p.stretch; number = p.number - 1 }) ++ x ∷ []
   without_last p x some its =
@@ -89,19 +89,19 @@ module _ (ss : List Stretch) (rule : AreNested ss) where
       ap (λ (n : ℕ). take n (stretch_list ss p.stretch)) parts
       ∙ one_more (stretch_list ss p.stretch) (p.number - 1) x (sym (slice_get_take (stretch_list ss p.stretch) p.number (p.number - 1) (omega (arith, some))) ∙ its)
 
-  -- the entries after the first n, where they are the stretch's own
+  -- if the stretch shares at most n entries, a node's entries after the first n are all its own
   pub lent : (p : Node) (n : ℕ) → IsWithin ss p → shared_at ss p.stretch ≤ n → n ≤ p.number
       → take (p.number - shared_at ss p.stretch - (n - shared_at ss p.stretch)) (drop (n - shared_at ss p.stretch) (own_at ss p.stretch)) ≡ drop n (entries_at ss p)
   lent p n within shared fewer = grind (arith, behind_shared ss rule p.stretch n shared, drop-take n (p.number - n) (stretch_list ss p.stretch))
 
-  -- the last one
+  -- if a node has more entries than its stretch shares, its last one is its stretch's own
   pub last_own : (p : Node) (x : Entry) → shared_at ss p.stretch < p.number → slice_get (own_at ss p.stretch) (p.number - shared_at ss p.stretch - 1) ≡ Some x
       → slice_get (entries_at ss p) (p.number - 1) ≡ Some x
   last_own p x less its =
       let fact = slice_get_drop (stretch_list ss p.stretch) (shared_at ss p.stretch) (p.number - shared_at ss p.stretch - 1) in
       grind (arith, its, behind_shared ss rule p.stretch (shared_at ss p.stretch), slice_get_take (stretch_list ss p.stretch) p.number (p.number - 1), fact)
 
-  -- how many of other events a list begins with
+  -- how many events of another list a stretch's list begins with
   module _ (i n m : ℕ) (es : List Event) (shared : shared_at ss i ≤ n) (along : IsAlong ss i n es) where
     own_events : drop n (events (stretch_list ss i)) ≡ events (drop (n - shared_at ss i) (own_at ss i))
     own_events = sym (events_behind n (stretch_list ss i)) ∙ ap events (behind_shared ss rule i n shared)
@@ -114,7 +114,7 @@ module _ (ss : List Stretch) (rule : AreNested ss) where
         alike_no_further n m (events (stretch_list ss i)) es further.enough further.alike
         (λ e here there. apart e (ap (λ (fs : List Event). slice_get fs m) (sym own_events) ∙ here) there)
 
--- Following
+-- Following the stretches along events
 
 module _ (ss : List Stretch) (rule : AreNested ss) (fresh : AreFresh ss) (es : List Event) (k : ℕ) (at : Node) (f : Follows ss es k at.stretch at.number) (high : at.stretch ≤ k) where
   pub step_compared : (at.stretch ≡ k) ⊎ (at.number ≤ shared_at ss k) → shared_at ss k ≤ at.number → (m : ℕ) → at.number ≤ m → IsAlong ss k m es → (IsAlong ss k (suc m) es → ⊥)
@@ -124,7 +124,7 @@ module _ (ss : List Stretch) (rule : AreNested ss) (fresh : AreFresh ss) (es : L
   pub step_skipped : (at.stretch ≡ k → shared_at ss k ≤ at.number) → at.number < shared_at ss k → Follows ss es (suc k) at.stretch at.number × (at.stretch ≤ k)
   step_skipped own more = grind (arith, own, more, high, follows_skipped ss rule fresh es k at.stretch at.number f)
 
--- What two nodes have in common
+-- The entries with which both nodes begin
 
 module _ (ss : List Stretch) (rule : AreNested ss) (fresh : AreFresh ss) (one other : Node) (within : IsWithin ss one) (within_too : IsWithin ss other) where
   pub common_most : (n : ℕ) → n ≤ one.number → n ≤ other.number → take n (events (entries_at ss one)) ≡ take n (events (entries_at ss other))
@@ -136,9 +136,9 @@ module _ (ss : List Stretch) (rule : AreNested ss) (fresh : AreFresh ss) (one ot
       (record { enough = omega (arith, length-map (stretch_list ss other.stretch) (λ (x : Entry). x.event), within_too, l); alike = sym (first_events ss one (suc n) h) ∙ same ∙ first_events ss other (suc n) l })
       (along_itself ss other.stretch (suc n) (omega (arith, within_too, l))) k low high
 
--- The next stretch that no longer goes on as a node's does
+-- The next number at which a stretch can be inserted
 
--- the list before a stretch begins with the entries of the node
+-- the list before the i-th stretch begins with the entries of the node
 pub record Reaches (ss : List Stretch) (at : Node) (i : ℕ) : Type 0 where
   pub enough : at.number ≤ length (list_before ss i)
   pub same : take at.number (list_before ss i) ≡ entries_at ss at
@@ -147,11 +147,11 @@ module _ (ss : List Stretch) (rule : AreNested ss) (at : Node) (within : IsWithi
   pub reaches_on : (i : ℕ) → (at.stretch ≡ i) ⊎ (at.number < shared_at ss i) → (at.stretch < i → Reaches ss at i) → at.stretch ≤ i → Reaches ss at (suc i)
   reaches_on i h before high = grind (arith, total, begins_shared)
 
-  -- after the last one
+  -- after the last stretch, the list before begins with the entries of the node
   pub reaches_end : (i n : ℕ) → n ≡ length ss → (at.stretch < length ss → i ≡ n) → (at.stretch < i → Reaches ss at i) → Reaches ss at n
   reaches_end i n all end before = grind (arith, list_past, cases_lt at.stretch (length ss), end, before)
 
--- What reads the last entry of a node, and what counts how far a stretch goes along others
+-- Rules for reading the last entry of a node, and for counting how far a list agrees with others
 pub ruleset last_steps = (stretch_within, stretch_at, own_less, last_own, slice_get, slice_get_read, total)
 
 pub ruleset along_steps = (stretch_at, along_within, along_further, along_no_further, slice_get, length-drop, length-map, events_behind, total)

@@ -1,8 +1,8 @@
--- The rules that the bookmarks of a book keep, from how it keeps them.
+-- Why the bookmarks of a book keep the rules of `Rules.antt`.
 use Rattle.rd_marks.proofs.Prelude.{◌≡◌, ◌≤◌, refl, sym, ap, subst, List, [], ◌∷◌, map, length, Result, Ok, IsOk, arith, IsDistinct, length-map, All-head, All-tail, World, Refusal, run, Ran, Entry, MarkName, MOST_MARKS, mark_name_eq, Mark, BookState, AreRuns, AreEntriesOfRun, marks_of, run_entries, events, GoThrough, MarksGoThrough, KeepsRules}
 use Rattle.rd_marks.proofs.MarkLemmas.{mark_of}
 
--- a run that leaves entries goes through
+-- a run that leaves entries has no refusal
 went : (ran : Result Ran Refusal) (xs : List Entry) → run_entries ran ≡ Ok xs → IsOk ran
 went ran xs h = grind arith
 

@@ -1,4 +1,5 @@
--- Lists of which one begins the other are equivalent only if they are one.
+-- Equivalent lists are equally long. If one list begins another, they are equivalent exactly if
+-- they are equally long.
 use Rattle.rd_marks.proofs.Prelude.{◌≡◌, ℕ, ◌⊎◌, Bool, ◌==◌, refl, sym, ap, List, [], ◌∷◌, ◌++◌, length, take, drop, ◌≤◌, length-append, arith, eqb-true, eq-eqb, take_all, World, IsEquivalent, Event, Entry, Begins, DecidesEquivalence, events, IsRunFrom}
 use Rattle.rd_depend.proofs.Exactness.{right_behind}
 use Rattle.rd_marks.proofs.EntryLemmas.{began, to_the_end}
@@ -25,16 +26,17 @@ equivalent_itself w (x ∷ xs) h =
     }
 
 module _ (ones others : List Entry) (m n c : ℕ) (long : length ones ≡ m) (long_too : length others ≡ n) (alike : take c ones ≡ take c others) where
-  -- lists that are alike up to the end of one are equivalent exactly if they are equally long
+  -- if one list begins the other, they are equivalent exactly if they are equally long
   pub decided_by_length : (c ≡ m) ⊎ (c ≡ n) → (same : Bool) → same ≡ (m == n) → DecidesEquivalence ones others same
   decided_by_length meets same tested w p q = grind (arith, eqb-true, take_all, equivalent_itself, event_length, equivalent_length, eq-eqb)
 
-  -- an answer for what is after what they have in common is one for the lists
+  -- the answer for the lists without their common beginning is the answer for the lists
   pub decided_behind : c ≤ m → c ≤ n → (same : Bool) (xs ys : List Entry) → xs ≡ drop c ones → ys ≡ drop c others → DecidesEquivalence xs ys same → DecidesEquivalence ones others same
   decided_behind first second same xs ys one other decided =
       right_behind ones others c same (omega (arith, long, first)) (omega (arith, long_too, second)) (ap events alike) (rw (to_the_end c ones, to_the_end c others) (rw (one, other) at decided))
 
--- a list that begins the other has all of its events in common with it
+-- if two lists have at most c first events in common, and the first has more than c, it doesn't
+-- begin the other
 pub not_begun : (xs ys : List Entry) (c : ℕ)
     → ((n : ℕ) → n ≤ length xs → n ≤ length ys → take n (events xs) ≡ take n (events ys) → n ≤ c) → c ≤ length xs → (c ≡ length xs → ⊥)
     → Begins (events xs) (events ys) → ⊥

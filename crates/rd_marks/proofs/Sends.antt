@@ -1,4 +1,4 @@
--- A book may cross threads, since its session does.
+-- A book may be sent to another thread, since its session may be.
 use Rattle.rd_marks.proofs.Prelude.{RattleType, IsSend, sendable, recorded_send, struct_send, shape, crosses}
 use Rattle.rd_journal.proofs.Sends.{session_field_send}
 use Rattle.rd_marks.specs.contracts.books.Book as Book

@@ -1,4 +1,4 @@
--- Lists that begin others, and the entries up to a node.
+-- Lists that begin other lists, and the entries of a node.
 use Rattle.rd_marks.proofs.Prelude.{◌≡◌, ℕ, ◌<◌, ◌≤◌, sym, ap, ◌∙◌, List, length, take, length-take, arith, take-length, length-map, length-take-le, take-map, take-take, Entry, Begins, Node, Stretch, stretch_list, entries_at, IsWithin, events}
 use Rattle.rd_marks.proofs.StretchLists.{list_past}
 
@@ -14,34 +14,34 @@ begins_trans xs ys zs h k = sym (take-take (length xs) (length ys) zs (begins_sh
 pub event_length : (xs : List Entry) → length (events xs) ≡ length xs
 event_length xs = length-map xs (λ (x : Entry). x.event)
 
--- the events of entries that begin others begin theirs
+-- if entries begin others, so do their events
 pub begins_events : (xs ys : List Entry) → Begins xs ys → Begins (events xs) (events ys)
 begins_events xs ys h = ap (λ (n : ℕ). take n (events ys)) (event_length xs) ∙ take-map (λ (x : Entry). x.event) (length xs) ys ∙ ap events h
 
--- the first events are those of the first entries
+-- the first n events are the events of the first n entries
 pub events_of_first : (n : ℕ) (xs : List Entry) → take n (events xs) ≡ events (take n xs)
 events_of_first n xs = take-map (λ (x : Entry). x.event) n xs
 
 module _ (ss : List Stretch) where
-  -- up to a node there are as many as its number says
+  -- a node has as many entries as its number says
   pub entries_length : (p : Node) → IsWithin ss p → length (entries_at ss p) ≡ p.number
   entries_length p within = length-take-le p.number (stretch_list ss p.stretch) within
 
   pub events_length : (p : Node) → IsWithin ss p → length (events (entries_at ss p)) ≡ p.number
   events_length p within = event_length (entries_at ss p) ∙ entries_length p within
 
-  -- it is in a stretch if it has any
+  -- a node with entries is in a stretch
   pub stretch_within : (p : Node) → IsWithin ss p → 0 < p.number → p.stretch < length ss
   stretch_within p within some = grind (arith, list_past)
 
-  -- the first of them are the first of the list
+  -- the first entries of a node are the first ones of its stretch's list
   pub first_entries : (p : Node) (n : ℕ) → n ≤ p.number → take n (entries_at ss p) ≡ take n (stretch_list ss p.stretch)
   first_entries p n h = take-take n p.number (stretch_list ss p.stretch) h
 
   pub first_events : (p : Node) (n : ℕ) → n ≤ p.number → take n (events (entries_at ss p)) ≡ take n (events (stretch_list ss p.stretch))
   first_events p n h = events_of_first n (entries_at ss p) ∙ ap events (first_entries p n h) ∙ sym (events_of_first n (stretch_list ss p.stretch))
 
-  -- those up to a node of the same list with no greater number begin them
+  -- a node of the same stretch with no more entries begins the entries of the node
   pub fewer_begin : (p q : Node) → IsWithin ss p → q.stretch ≡ p.stretch → q.number ≤ p.number → IsWithin ss q × Begins (entries_at ss q) (entries_at ss p)
   fewer_begin p q within same fewer =
       let is : IsWithin ss q = omega (arith, within, fewer, ap (λ (i : ℕ). length (stretch_list ss i)) same) in (

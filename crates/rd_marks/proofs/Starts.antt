@@ -1,4 +1,4 @@
--- No call of a session moves its start, so the marks of a book stay runs from there.
+-- No call of a session changes its start, so the bookmarks stay runs from it.
 use Rattle.rd_marks.proofs.Prelude.{◌≡◌, ℕ, ap, List, [], Result, Ok, Err, OnOk, OnErr, arith, AnswersAs, Refusal, World, Event, Entry, Session, state, Journal, State, state_of, apply, undo_at, roll, MarkName, AreRuns}
 pub use Rattle.rd_journal.proofs.Calls.{back_start, forward_start}
 
@@ -11,7 +11,7 @@ undo_at_start s k t l = grind arith
 pub roll_start : (s : State) (k : ℕ) (t : State) → roll s k ≡ Ok t → t.start ≡ s.start
 roll_start s k t l = grind arith
 
--- the start stays, whatever a call answered
+-- the start stays, whether the call was done or refused
 pub start_stays : {X : Type 0} (r : Result X Refusal) (i j : Journal) (moved : Result State Refusal)
     → ((u : State) → moved ≡ Ok u → u.start ≡ i.start) → OnOk r (moved ≡ Ok (state_of j)) → OnErr r (j ≡ i) → j.start ≡ i.start
 start_stays r i j moved starts h g = grind arith
@@ -21,10 +21,10 @@ pub answers_start : {R : ℕ} (moved : Result State Refusal) (done : Result (Uni
 answers_start {R} moved (Ok tt) old new starts answers = starts (state new) answers
 answers_start {R} moved (Err e) old new starts answers = ap (λ (s : Session R). (state s).start) answers.1
 
--- going somewhere leaves it as well
+-- going to other events keeps the start too
 pub start_kept : {X : Type 0} (r : Result X Refusal) (i j : Journal) (es : List Event) → OnOk r (state_of j ≡ record { start = i.start; live = es; undone = [] }) → OnErr r (j ≡ i) → j.start ≡ i.start
 start_kept r i j es h g = grind arith
 
--- so the bookmarks' entries stay runs from it
+-- the bookmarks' entries stay runs from the start
 pub runs_stay : (v w : World) (lists kept : List (MarkName × List Entry)) → w ≡ v → kept ≡ lists → AreRuns v lists → AreRuns w kept
 runs_stay v w lists kept e same runs = rw (e, same) runs

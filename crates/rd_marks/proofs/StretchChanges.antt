@@ -1,12 +1,11 @@
--- The rule of the stretches is kept, and each node keeps its entries, where a stretch comes, goes
--- or changes.
+-- Inserting, removing and changing a stretch keeps the invariant, and each node keeps its entries.
 use Rattle.rd_marks.proofs.Prelude.{◌≡◌, ◌⊎◌, ℕ, zero, suc, ◌+◌, ◌-◌, ◌<◌, ◌≤◌, inl, inr, refl, sym, ap, ◌∙◌, subst, List, [], ◌∷◌, ◌++◌, map, length, take, length-take, arith, cases_lt, cases_eq, cases_order, nat_tests, length-map, take-append-le, take-take, take-map, MOST_STEPS, Event, Entry, Stretch, Node, stretch_list, list_before, shared_at, entries_at, IsWithin, AreNested, AreFresh, greatest_in, needed_at, AreNeeded, AreNeededFrom, IsAlong, IsDeepest, after_insertion, after_removal, events}
 use Rattle.rd_marks.proofs.StretchLists.{shared_within, goes_back, IsChanged, IsInserted, IsReplaced}
 use Rattle.rd_marks.proofs.Fresh.{along_taken, along_itself, along_both, later_apart}
 
--- The nodes
+-- Nodes
 
--- the nodes, and one more
+-- the nodes, and then the one of the first n entries of the i-th list
 abbrev pub with_node : List Node → ℕ → ℕ → List Node
 with_node ps i n = ps ++ record { stretch = i; number = n } ∷ []
 
@@ -27,9 +26,10 @@ greatest_after_removal : (i j : ℕ) (ps : List Node) → j ≤ i → greatest_i
 greatest_after_removal i j [] h = omega arith
 greatest_after_removal i j (p ∷ ps) h = grind (arith, nat_tests, greatest_after_removal i j ps h)
 
--- What a change leaves
+-- All stretches but the changed one
 
--- what is of one number in the second stretches is of this other one in the first
+-- the i-th new stretch has the list of the k-th old one, and shares as many entries; the stretch
+-- after it shares no fewer than before
 record IsMoved (old new : List Stretch) (j more i k : ℕ) : Type 0 where
   inside : k < length old
   list : stretch_list new i ≡ stretch_list old k
@@ -56,7 +56,8 @@ module _ (old new : List Stretch) (j more : ℕ) (change : IsChanged old new j m
       within zero h = grind (arith, cases_order 0 j, change.below 0, change.there, shared_within old rule 0)
       within (suc i) h = (every i (omega (arith, h))).2
 
-  -- if no earlier list opens as the changed one, and it opens as no later one
+  -- `AreFresh` stays if two things hold. No earlier list begins with the changed one up to its
+  -- first own event. The changed one begins with no later list up to that list's first own event
   fresh_changed : AreFresh old → ((m : ℕ) → m < j → IsAlong new j (suc (shared_at new j)) (events (stretch_list old m)) → ⊥)
       → ((k : ℕ) → j < more + k → k < length old → IsAlong old k (suc (shared_at old k)) (events (stretch_list new j)) → ⊥) → AreFresh new
   fresh_changed fresh own later i m h l a =
@@ -72,18 +73,18 @@ module _ (old new : List Stretch) (j more : ℕ) (change : IsChanged old new j m
             ]
       ]
 
-  -- if the changed list is needed, and the nodes count for no less
+  -- all lists stay needed if the changed one is, and if nodes in the others count for no less
   needed_changed : (ps qs : List Node) (i : ℕ) → i < length new → ((k : ℕ) → IsMoved old new j more i k → length (stretch_list old k) ≤ needed_at old ps k)
       → length (stretch_list new j) ≤ needed_at new qs j → ((k : ℕ) → IsMoved old new j more i k → greatest_in k ps ≤ greatest_in i qs) → length (stretch_list new i) ≤ needed_at new qs i
   needed_changed ps qs i h needed own nodes = grind (arith, own, cases_eq i j, moved i, needed, nodes)
 
--- A stretch comes or goes
+-- A stretch is inserted or removed
 
 module _ (old new : List Stretch) (j : ℕ) (s : Stretch) (change : IsInserted old new j s) where
   pub nested_inserted : AreNested old → s.shared < length (stretch_list new j) → length (stretch_list new j) ≤ MOST_STEPS → AreNested new
   nested_inserted rule some few = grind (arith, nested_changed old new j 1 change.changed rule, change.changed.above (suc j) j, change.changed.less, change.here)
 
-  -- the new list goes on as none did after what it shares
+  -- `AreFresh` stays if no list went on as the new one does after the entries that it shares
   pub fresh_inserted : AreNested old → AreFresh old → (at : ℕ) (es : List Event) → events (stretch_list new j) ≡ es → (0 < length old → at < j)
       → IsAlong old at s.shared es → IsDeepest old s.shared es → AreFresh new
   fresh_inserted rule fresh at es its low along deepest =
@@ -93,14 +94,14 @@ module _ (old new : List Stretch) (j : ℕ) (s : Stretch) (change : IsInserted o
       (along_both old new m j _ _ (along_itself old m _ (omega (arith, a.enough, length-map (stretch_list old m) (λ (x : Entry). x.event)))) a))))
       (λ k high there a. later_apart old rule fresh es at s.shared k (omega (arith, low (omega (arith, there)), high)) there along deepest (rw its at a))
 
-  -- the end of the new one is needed by a node there
+  -- a node at the end of the new list needs all of it
   pub needed_inserted : (ps : List Node) (n : ℕ) → length (stretch_list new j) ≤ n → AreNeeded old ps → AreNeeded new (with_node (map (after_insertion j) ps) j n)
   needed_inserted ps n all needed i h =
       needed_changed old new j 1 change.changed ps (with_node (map (after_insertion j) ps) j n) i h (λ k m. needed k m.inside)
       (omega (arith, greatest_last j n (map (after_insertion j) ps), all))
       (λ k m. grind (arith, m.node, greatest_after_insertion k j ps (record { stretch = j; number = n } ∷ [])))
 
-  -- the other way round
+  -- the new stretch that has the list of the k-th old one
   up : (k : ℕ) → k < length old
       → (i : ℕ) × (i < length new) × (stretch_list new i ≡ stretch_list old k) × (shared_at new i ≡ shared_at old k) × (((k < j) × (i ≡ k)) ⊎ ((j ≤ k) × (i ≡ suc k)))
   up k h =
@@ -128,7 +129,7 @@ module _ (old new : List Stretch) (j : ℕ) (s : Stretch) (change : IsInserted o
       let above = λ (i : ℕ). change.changed.above (suc i) i (omega arith) in
       grind (arith, needed (suc k), change.changed.count, above k, above (suc k), greatest_after_removal k j ps high)
 
-  -- each node has its entries
+  -- each node, renumbered, has the entries that it had
   pub entries_after_insertion : (p : Node) → entries_at new (after_insertion j p) ≡ entries_at old p
   entries_after_insertion p = grind (arith, nat_tests, change.changed.below p.stretch, change.changed.above (suc p.stretch) p.stretch (omega arith))
 
@@ -142,19 +143,20 @@ module _ (old new : List Stretch) (j : ℕ) (s : Stretch) (change : IsInserted o
           (let down : q ≡ suc q - 1 = omega arith in
           grind (arith, down, cases_order (suc q) j, own, change.here.0, goes_back (list_before old j) s n, change.changed.there, change.here.1, change.changed.above (suc q) q (omega arith)))
 
--- a node with the same entries is within
+-- a node with the same number and the same entries is within the new stretches
 pub within_at : (old new : List Stretch) (p q : Node) → q.number ≡ p.number → entries_at new q ≡ entries_at old p → IsWithin old p → IsWithin new q
 within_at old new p q same entries h =
     omega (arith, length-take q.number (stretch_list new q.stretch), ap length entries, length-take p.number (stretch_list old p.stretch), same, h)
 
--- A stretch has more entries, or fewer
+-- A stretch gets or loses entries at its end
 
 module _ (old new : List Stretch) (j : ℕ) (change : IsReplaced old new j) where
   pub nested_replaced : AreNested old → shared_at old j < length (stretch_list new j) → shared_at old (suc j) ≤ length (stretch_list new j) → length (stretch_list new j) ≤ MOST_STEPS
       → AreNested new
   nested_replaced rule some next few = grind (arith, nested_changed old new j 0 change.changed rule, change.shared, change.changed.above (suc j) (suc j))
 
-  -- if it begins as before up to the first entry of its own, and opens as no later one
+  -- `AreFresh` stays if the list is as before up to its first own event, and begins with no later
+  -- list up to that list's first own event
   fresh_replaced : AreFresh old → take (suc (shared_at old j)) (stretch_list old j) ≡ take (suc (shared_at old j)) (stretch_list new j)
       → ((k : ℕ) → j < k → k < length old → IsAlong old k (suc (shared_at old k)) (events (stretch_list new j)) → ⊥) → AreFresh new
   fresh_replaced fresh opening later =

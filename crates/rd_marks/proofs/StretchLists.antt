@@ -1,15 +1,15 @@
--- The lists of stretches: how each goes on from the one before, and what stays when a stretch
--- comes, goes or changes.
+-- The lists of stretches: how each one continues the list before it, and which stay the same if a
+-- stretch is inserted, removed or changed.
 use Rattle.rd_marks.proofs.Prelude.{◌≡◌, ℕ, zero, suc, ◌+◌, ◌-◌, ◌<◌, ◌≤◌, refl, sym, ap, ◌∙◌, subst, List, [], ◌∷◌, ◌++◌, length, take, drop, get_or, set, insert, remove, length-append, length-set, arith, take-append-add, drop-append-add, cases_lt, cases_eq, append_assoc, take-append-le, take-take, length-take-le, Entry, Stretch, continued, list_after, stretch_list, list_before, shared_at, AreNested}
 use Rattle.std.proofs.lemmas.List.Edits.{length-insert}
 
--- the entries of the stretch of this number; none after the last
+-- the entries that the i-th stretch keeps itself; empty if there is no i-th stretch
 abbrev pub own_at : List Stretch → ℕ → List Entry
 own_at [] i = []
 own_at (s ∷ ss) zero = s.entries.items
 own_at (s ∷ ss) (suc i) = own_at ss i
 
--- the list before the stretch of this number, where the first comes after this list
+-- the list before the i-th stretch, where x is the list before the first one
 abbrev before_after : List Entry → List Stretch → ℕ → List Entry
 before_after x ss zero = x
 before_after x ss (suc i) = list_after x ss i
@@ -43,7 +43,7 @@ past_after x [] i h = refl
 past_after x (s ∷ ss) zero h = absurd (omega (arith, h))
 past_after x (s ∷ ss) (suc i) h = past_after (continued x s) ss i (omega (arith, h))
 
--- after the last stretch there is nothing
+-- after the last stretch, the list is empty
 pub list_past : (ss : List Stretch) (i : ℕ) → length ss ≤ i → stretch_list ss i ≡ []
 list_past ss i h = past_after [] ss i h
 
@@ -57,27 +57,28 @@ module _ (ss : List Stretch) (rule : AreNested ss) where
   pub total : (i : ℕ) → length (stretch_list ss i) ≡ shared_at ss i + length (own_at ss i)
   total i = omega (arith, ap length (splits ss i), length-append (take (shared_at ss i) (list_before ss i)) (own_at ss i), front_length i)
 
-  -- what is shared
+  -- the first entries, up to the number that is shared, are those of the list before
   pub begins_shared : (i n : ℕ) → n ≤ shared_at ss i → take n (stretch_list ss i) ≡ take n (list_before ss i)
   begins_shared i n h =
       ap (take n) (splits ss i) ∙ take-append-le n (take (shared_at ss i) (list_before ss i)) (own_at ss i) (omega (arith, front_length i, h))
       ∙ take-take n (shared_at ss i) (list_before ss i) h
 
-  -- what comes after it
+  -- the entries after the shared ones are the stretch's own
   pub behind_shared : (i n : ℕ) → shared_at ss i ≤ n → drop n (stretch_list ss i) ≡ drop (n - shared_at ss i) (own_at ss i)
   behind_shared i n h =
       let front = take (shared_at ss i) (list_before ss i) in
       let parts : n ≡ length front + (n - shared_at ss i) = omega (arith, front_length i, h) in
       ap (drop n) (splits ss i) ∙ ap (λ (m : ℕ). drop m (front ++ own_at ss i)) parts ∙ drop-append-add front (own_at ss i) (n - shared_at ss i)
 
-  -- lists begin alike where all stretches from the one to the other share as much
+  -- two lists begin with the same n entries if all stretches after the first one, up to the second,
+  -- share at least n
   pub shared_entries : (i m n : ℕ) → i ≤ m → ((k : ℕ) → i < k → k ≤ m → n ≤ shared_at ss k) → take n (stretch_list ss m) ≡ take n (stretch_list ss i)
   shared_entries i zero n h all = let same : 0 ≡ i = omega (arith, h) in ap (λ (k : ℕ). take n (stretch_list ss k)) same
   shared_entries i (suc m) n h all =
       let earlier = λ (low : i ≤ m). shared_entries i m n low (λ k low high. all k low (omega (arith, high))) in
       grind (arith, cases_eq (suc m) i, all (suc m), begins_shared (suc m) n, earlier)
 
--- Lists that differ after what the first stretch shares are followed by the same lists
+-- Changing a list only after the entries that the next stretch shares changes no later list
 
 pub lists_common : (ss : List Stretch) (x y : List Entry) (i : ℕ) → take (shared_at ss 0) x ≡ take (shared_at ss 0) y → list_after x ss i ≡ list_after y ss i
 lists_common [] x y i h = refl
@@ -87,10 +88,11 @@ lists_common (s ∷ ss) x y (suc i) h = ap (λ (z : List Entry). list_after (z +
 pub goes_back : (x : List Entry) (s : Stretch) (n : ℕ) → n ≤ s.shared → s.shared ≤ length x → take n (continued x s) ≡ take n x
 goes_back x s n h there = grind (arith, take-append-le, length-take-le, take-take)
 
--- One stretch more, or one changed
+-- A stretch is inserted or changed
 
--- the second stretches are the first ones but for that of this number: it is one more, or stands
--- for one. It shares no less than the one there did, and no more than there is
+-- the new stretches are the old ones except at number j. There one was inserted (`more` is 1), or
+-- one stands for the old one (`more` is 0). It shares no fewer entries than the old one there, and
+-- no more than the list before it has
 pub record IsChanged (old new : List Stretch) (j more : ℕ) : Type 0 where
   pub small : more ≤ 1
   pub count : length new ≡ more + length old
@@ -100,12 +102,12 @@ pub record IsChanged (old new : List Stretch) (j more : ℕ) : Type 0 where
   pub below : (i : ℕ) → i < j → (stretch_list new i ≡ stretch_list old i) × (shared_at new i ≡ shared_at old i)
   pub above : (i k : ℕ) → i ≡ more + k → j < i → (stretch_list new i ≡ stretch_list old k) × (shared_at new i ≡ shared_at old k)
 
--- it is this one more
+-- stretch s was inserted with number j
 pub record IsInserted (old new : List Stretch) (j : ℕ) (s : Stretch) : Type 0 where
   pub changed : IsChanged old new j 1
   pub here : (stretch_list new j ≡ continued (list_before old j) s) × (shared_at new j ≡ s.shared)
 
--- it stands for one that shares as many
+-- the j-th stretch was replaced by one that shares as many entries
 pub record IsReplaced (old new : List Stretch) (j : ℕ) : Type 0 where
   pub changed : IsChanged old new j 0
   pub inside : j < length old
@@ -135,9 +137,9 @@ above_inserted x (r ∷ ss) (suc j) s (suc i) h k less there =
 pub inserted_at : (ss : List Stretch) (j : ℕ) (s : Stretch) → j ≤ length ss → shared_at ss j ≤ s.shared → s.shared ≤ length (list_before ss j) → IsInserted ss (insert ss j s) j s
 inserted_at ss j s within less there = grind (arith, length-insert, before_is, here_inserted [] ss j s, above_inserted [] ss j s, below_inserted [] ss j s)
 
--- One stretch less
+-- A stretch is removed
 
--- the stretch that goes, put back
+-- inserting the removed stretch again gives back the stretches
 put_back : (ss : List Stretch) (j : ℕ) → j < length ss → (s : Stretch) × (insert (remove ss j) j s ≡ ss) × (s.shared ≡ shared_at ss j)
 put_back [] j h = absurd (omega (arith, h))
 put_back (s ∷ ss) zero h = (s, refl, refl)
@@ -151,7 +153,7 @@ left_after x [] j h = absurd (omega (arith, h))
 left_after x (s ∷ ss) zero h = (refl, refl, refl)
 left_after x (r ∷ ss) (suc j) h = grind (arith, one_on, remove, left_after (continued x r) ss j (omega (arith, h)))
 
--- removing is inserting, the other way round
+-- the old stretches are those that are left, with the removed one inserted
 pub removed_at : (ss : List Stretch) (j : ℕ) → AreNested ss → j < length ss → shared_at ss (suc j) ≤ shared_at ss j
     → (s : Stretch) × (s.shared ≡ shared_at ss j) × IsInserted (remove ss j) ss j s
 removed_at ss j rule h less =
@@ -187,7 +189,7 @@ module _ (ss : List Stretch) (rule : AreNested ss) (j : ℕ) (h : j < length ss)
       → IsReplaced ss (set ss j t) j × (stretch_list (set ss j t) j ≡ ys)
   replaced_at ys its same = grind (arith, shared_replaced, length-set, here_replaced, before_is, set, others_replaced)
 
-  -- with more entries after its own
+  -- if entries are appended to a stretch's own, they are appended to its list
   pub appended_at : (rest : List Entry) → t.entries.items ≡ own_at ss j ++ rest → IsReplaced ss (set ss j t) j × (stretch_list (set ss j t) j ≡ stretch_list ss j ++ rest)
   appended_at rest its =
       replaced_at (stretch_list ss j ++ rest)
@@ -195,7 +197,7 @@ module _ (ss : List Stretch) (rule : AreNested ss) (j : ℕ) (h : j < length ss)
       ∙ ap (λ (ys : List Entry). ys ++ rest) (sym (splits ss j)))
       (take-append-le (shared_at ss (suc j)) (stretch_list ss j) rest (shared_within ss rule (suc j)))
 
-  -- with no more than the first of its own
+  -- if a stretch's own entries are cut, so is its list
   pub cut_at : (n : ℕ) → shared_at ss j ≤ n → shared_at ss (suc j) ≤ n → t.entries.items ≡ take (n - shared_at ss j) (own_at ss j)
       → IsReplaced ss (set ss j t) j × (stretch_list (set ss j t) j ≡ take n (stretch_list ss j))
   cut_at n less next its =

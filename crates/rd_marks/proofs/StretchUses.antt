@@ -1,4 +1,4 @@
--- What growing a list and shrinking a stretch leave, in the words of their contracts.
+-- The contracts of adding entries to the stretches and of cutting a stretch.
 use Rattle.rd_marks.proofs.Prelude.{◌≡◌, ℕ, zero, suc, ◌-◌, ◌<◌, ◌≤◌, ◌^◌, refl, sym, ap, ◌∙◌, subst, List, [], ◌∷◌, ◌++◌, length, take, drop, set, insert, remove, length-take, arith, drop-length, nat_tests, append-nil, length-map, map-append, map-id, take-append-drop, take-map, take_all, MOST_STEPS, Entry, Node, Stretch, Shift, greatest_in, stretch_list, list_before, shared_at, entries_at, IsWithin, IsEnd, IsAlong, IsDeepest, AreNested, AreFresh, IsLow, IsGrown, IsShrunk, KeepsItsSteps, events, cases_order}
 use Rattle.rd_marks.specs.declared.stretches.changes.Shift.TheVariants.{Same, Up, Down}
 use Rattle.rd_marks.proofs.StretchLists.{own_at, shared_within, inserted_at, removed_at, appended_at, cut_at}
@@ -6,17 +6,17 @@ use Rattle.rd_marks.proofs.Fresh.{along_taken}
 use Rattle.rd_marks.proofs.StretchChanges.{greatest_left, within_at, nested_inserted, nested_removed, fresh_inserted, fresh_removed, needed_inserted, needed_removed, entries_after_insertion, entries_after_removal, nested_replaced, fresh_appended, fresh_cut, needed_appended, needed_cut, entries_appended, entries_cut}
 use Rattle.rd_marks.proofs.Starting.{stretch_within}
 
--- a node in few stretches has a next number
+-- if there are fewer than 2^64 stretches, every node is low
 pub is_low : (ss : List Stretch) → length ss < 2 ^ 64 → (p : Node) → IsWithin ss p → IsLow p
 is_low ss few p within some = omega (arith, few, stretch_within ss p within some)
 
--- the events of a list with those of others after it
+-- if xs have the first n events of ys, xs and the rest of ys have all events of ys
 joined_events : (xs ys zs : List Entry) (n : ℕ) → zs ≡ xs ++ drop n ys → events xs ≡ take n (events ys) → events zs ≡ events ys
 joined_events xs ys zs n its same =
     let fact = map-append (λ (x : Entry). x.event) (take n ys) (drop n ys) in
     grind (arith, its, same, take-map (λ (x : Entry). x.event) n ys, map-append (λ (x : Entry). x.event) xs (drop n ys), fact, take-append-drop n ys)
 
--- all that is put is there
+-- if the node has all entries already, nothing changes
 pub all_there : (ss : List Stretch) (few : length ss < 2 ^ 64) (at : Node) (live : List Entry) → IsWithin ss at → at.number ≡ length live
     → IsGrown ss ss at live (record { node = at; shift = Same })
 all_there ss few at live within all = record {
@@ -28,7 +28,7 @@ all_there ss few at live within all = record {
       omega (arith, needed i inside, ap (greatest_in i) (ap (λ (ps : List Node). ps ++ at ∷ []) (map-id nodes)), greatest_left i nodes (at ∷ []));
 }
 
--- what a change leaves
+-- the invariants of the new stretches, and what `IsGrown` states of them
 pub record Grows (old new : List Stretch) (at : Node) (entries : List Entry) (shift : Shift) (node : Node) : Type 0 where
   pub nested : AreNested new
   pub fresh : AreFresh new
@@ -36,7 +36,7 @@ pub record Grows (old new : List Stretch) (at : Node) (entries : List Entry) (sh
 
 module _ (ss : List Stretch) (few : length ss < 2 ^ 64) (rule : AreNested ss) (fresh : AreFresh ss) (live : List Entry) (most : length live ≤ MOST_STEPS) (at : Node)
     (more : at.number < length live) (along : IsAlong ss at.stretch at.number (events live)) (deepest : IsDeepest ss at.number (events live)) where
-  -- at the end of a stretch
+  -- appending the entries to the stretch whose list ends at the node
   pub extended : IsEnd ss at → (t : Stretch) → t.shared ≡ shared_at ss at.stretch → t.entries.items ≡ own_at ss at.stretch ++ drop at.number live
       → Grows ss (set ss at.stretch t) at live Same (record { stretch = at.stretch; number = length live })
   extended end t shared its =
@@ -67,7 +67,7 @@ module _ (ss : List Stretch) (few : length ss < 2 ^ 64) (rule : AreNested ss) (f
         };
       }
 
-  -- in a new one
+  -- inserting a stretch with the entries, which shares those of the node
   pub branched : IsWithin ss at → (j : ℕ) → j ≤ length ss → (0 < length ss → 0 < j) → shared_at ss j ≤ at.number → at.number ≤ length (list_before ss j)
       → take at.number (list_before ss j) ≡ entries_at ss at → (s : Stretch) → s.shared ≡ at.number → s.entries.items ≡ drop at.number live
       → Grows ss (insert ss j s) at live (Up j) (record { stretch = j; number = length live })
@@ -96,7 +96,7 @@ module _ (ss : List Stretch) (few : length ss < 2 ^ 64) (rule : AreNested ss) (f
         };
       }
     where
-      -- the list before it begins with them
+      -- the list before the new stretch begins with the events of the node
       before : (j : ℕ) → (0 < length ss → 0 < j) → take at.number (list_before ss j) ≡ entries_at ss at
           → {X : Type 0} → ((k : ℕ) → (0 < length ss → k < j) → IsAlong ss k at.number (events live) → X) → X
       before zero first begins go = go 0 (λ some. omega (arith, first some)) (none begins)
@@ -111,7 +111,7 @@ pub record Shrinks (old new : List Stretch) (i n : ℕ) (shift : Shift) : Type 0
   pub shrunk : IsShrunk old new i n shift
 
 module _ (ss : List Stretch) (few : length ss < 2 ^ 64) (rule : AreNested ss) (fresh : AreFresh ss) (j : ℕ) (inside : j < length ss) where
-  -- a stretch that goes
+  -- removing a stretch none of whose own entries is left
   pub gone : (n : ℕ) → shared_at ss (suc j) ≤ n → n ≤ shared_at ss j → Shrinks ss (remove ss j) j n (Down j)
   gone n next none =
       let found = removed_at ss j rule inside (omega (arith, next, none)) in
@@ -127,7 +127,7 @@ module _ (ss : List Stretch) (few : length ss < 2 ^ 64) (rule : AreNested ss) (f
         };
       }
 
-  -- one whose entries stay
+  -- a stretch whose entries stay, in other room
   pub same_left : (t : Stretch) → t.shared ≡ shared_at ss j → t.entries.items ≡ own_at ss j → AreNested (set ss j t) × AreFresh (set ss j t) × KeepsItsSteps ss (set ss j t)
   same_left t shared its =
       let new = set ss j t in
@@ -140,7 +140,7 @@ module _ (ss : List Stretch) (few : length ss < 2 ^ 64) (rule : AreNested ss) (f
       let nested : AreNested new = grind (arith, rule.some j inside, rule.few j inside, shared_within ss rule (suc j), list, nested_replaced ss new j change rule) in
       (nested, fresh_cut ss new j change fresh (length (stretch_list ss j)) (rule.some j inside) all, grind (arith, within_at))
 
-  -- one of which some are left
+  -- cutting a stretch some of whose own entries are left
   pub left : (n : ℕ) → shared_at ss (suc j) ≤ n → shared_at ss j < n → (t : Stretch) → t.shared ≡ shared_at ss j → t.entries.items ≡ take (n - shared_at ss j) (own_at ss j) → Shrinks ss (set ss j t) j n Same
   left n next some t shared its =
       let new = set ss j t in

@@ -1,31 +1,31 @@
--- How many different lists begin the events of some mark, and which need no entry that is not
--- there.
+-- The different lists that begin the events of some mark, and the marks that need no new entry.
 use Rattle.std.specs.Prelude.{◌≡◌, ◌↔◌, ℕ, ◌<◌, List, [], ◌∷◌, length}
 use Rattle.std.specs.List.{Contains}
 use Rattle.rd_step.specs.declared.entries.Event.{Event}
 use Rattle.rd_depend.specs.Beginnings.{Begins}
 use Rattle.rd_marks.specs.BookState.{Mark}
 
--- the list is not empty and begins the events of some mark
+-- the list is not empty, and some mark's events begin with it
 pub record IsBeginning (marks : List Mark) (es : List Event) : Type 0 where
   pub some : 0 < length es
   pub mark : Mark
   pub kept : Contains marks mark
   pub begins : Begins es mark.events
 
--- no element comes twice
+-- no element occurs twice
 abbrev pub AreDistinct : {X : Type 0} → List X → Type 0
 AreDistinct [] = Unit {0}
 AreDistinct (x ∷ xs) = (Contains xs x → ⊥) × AreDistinct xs
 
--- this is the number of different lists, except the empty one, that begin the events of some mark
+-- `count` is the number of different lists, except the empty one, with which the events of some
+-- mark begin; `lists` has each of these lists once
 pub record CountsBeginnings (marks : List Mark) (count : ℕ) : Type 0 where
   pub lists : List (List Event)
   pub distinct : AreDistinct lists
   pub all : (es : List Event) → Contains lists es ↔ IsBeginning marks es
   pub counted : count ≡ length lists
 
--- setting a mark at these events needs no new entry: if there are any, they begin those of some
--- mark
+-- setting a mark at these events needs no new entry: there are no events, or some mark's events
+-- begin with them
 abbrev pub NeedsNoEntry : List Mark → List Event → Type 0
 NeedsNoEntry marks es = 0 < length es → IsBeginning marks es

@@ -1,4 +1,4 @@
--- The code's book as its state: what public clauses cite.
+-- The views of a book that public contracts use, and when going to a bookmark may lack memory.
 use Rattle.std.specs.Prelude.{◌≡◌, ◌⊎◌, ℕ, Some, Err}
 use Rattle.indexmap.specs.IndexMap.{spare}
 use Rattle.rd_step.specs.Prelude.{Refusal}
@@ -18,31 +18,33 @@ use Rattle.rd_cell.specs.declared.refusal.Refusal.TheVariants as refusal
 abbrev pub book_state : {R : ℕ} → Book R → BookState
 book_state b = record { session = state b.session; marks = marks_of (lists_in b.bookmarks) }
 
--- the session of a book, of which contracts cite the room and the index too
+-- the session of a book; contracts also use its room and its index
 abbrev pub session_of : {R : ℕ} → Book R → Session R
 session_of b = b.session
 
--- for how many more names of bookmarks there is room
+-- the number of names of bookmarks that can be added before memory is asked for
 abbrev pub name_room : {R : ℕ} → Book R → ℕ
 name_room b = spare b.bookmarks.names
 
--- how many entries a book keeps for its bookmarks
+-- the number of entries that a book keeps for its bookmarks
 abbrev pub mark_entries : {R : ℕ} → Book R → ℕ
 mark_entries b = entries_kept b.bookmarks
 
--- a book lacks room for going to the mark of this name: in its session, or for a copy of the mark's
--- entries, which are not all in one stretch
+-- the events of the mark of this name are those of a node (`its`), and going there may need memory
+-- (`lacks`): the session lacks room for the steps, or the node's entries lie in more than one
+-- stretch, so that a copy is needed
 pub record LacksRoomToGo {R : ℕ} (b : Book R) (name : MarkName) : Type 0 where
   pub node : Node
   pub its : marked_events (book_state b).marks name ≡ Some (events (entries_in b.bookmarks node))
   pub lacks : LacksRoomFor b.session (events (entries_in b.bookmarks node)) ⊎ IsInPieces b.bookmarks node
 
--- a book may refuse to go to a mark so: as that is refused in its state, or for lack of memory where
--- room is missing
+-- the book may refuse to go to the mark with this cause: with the refusal of `goto_mark`, or with
+-- NoMemory if it lacks room
 abbrev pub MayRefuseToGo : {R : ℕ} → Book R → MarkName → Refusal → Type 0
 MayRefuseToGo b name cause = (goto_mark (book_state b) name ≡ Err cause) ⊎ ((cause ≡ refusal.NoMemory) × LacksRoomToGo b name)
 
--- a book may refuse a command so, if it is to go to a mark
+-- if the command goes to a mark, the book may refuse it with this cause; of other commands this
+-- states nothing
 abbrev pub MayRefuseAsGoing : {R : ℕ} → Book R → Command → Refusal → Type 0
 MayRefuseAsGoing b (GotoMark name) cause = MayRefuseToGo b name cause
 MayRefuseAsGoing b _ _ = Unit {0}

@@ -1,5 +1,5 @@
--- How a book keeps its bookmarks: the node of the entries of each, which are those of a run from
--- the session's start; and no entry is kept that no bookmark needs.
+-- How a book keeps its bookmarks: each name has the node of its entries, which are those of a run
+-- from the session's start, and every entry that is kept is needed by some bookmark.
 use Rattle.std.specs.Prelude.{◌≡◌, ℕ, ◌≤◌, List, map, length}
 use Rattle.std.specs.List.{All}
 use Rattle.rd_step.specs.Prelude.{World, MOST_STEPS}
@@ -12,33 +12,35 @@ use Rattle.rd_marks.specs.declared.stretches.Stretch.{Stretch}
 use Rattle.rd_marks.specs.NameBytes.{MOST_MARKS}
 use Rattle.rd_marks.specs.Stretches.{entries_at, IsWithin, AreNeeded, AreNeededFrom}
 
--- the entries are those of the run of their events from the start, no more than may be live
+-- there are at most MOST_STEPS entries, and they are those of the run of their events from the
+-- start
 pub record AreEntriesOfRun (start : World) (entries : List Entry) : Type 0 where
   pub few : length entries ≤ MOST_STEPS
   pub ran : IsRunFrom start entries
 
--- each name with its entries
+-- each name with the entries of its node
 abbrev pub named_lists : List Stretch → List (MarkName × Node) → List (MarkName × List Entry)
 named_lists ss names = map (λ m. (m.0, entries_at ss m.1)) names
 
--- the entries of each name are those of a run from the start
+-- for each name, there are at most MOST_STEPS entries, which are those of a run from the start
 abbrev pub AreRuns : World → List (MarkName × List Entry) → Type 0
 AreRuns start lists = All (λ l. AreEntriesOfRun start l.1) lists
 
--- the nodes of the names
+-- the node of each name, in order
 abbrev pub nodes_of : List (MarkName × Node) → List Node
 nodes_of names = map (λ m. m.1) names
 
--- how bookmarks are kept: they are no more than there may be, the entries of each are there, as are
--- those with which the session's track begins, and no entry is kept that no bookmark needs
+-- there are at most MOST_MARKS names (`few`); the stretches have the entries of each name's node
+-- (`within`) and of `here` (`lies`); every entry is needed by some name (`needed`)
 pub record IsKept (ss : List Stretch) (names : List (MarkName × Node)) (here : Node) : Type 0 where
   pub few : length names ≤ MOST_MARKS
   pub within : All (λ m. IsWithin ss m.1) names
   pub needed : AreNeeded ss (nodes_of names)
   pub lies : IsWithin ss here
 
--- stretches from this one on were shrunk to what is needed: the bookmarks have their entries, and
--- any other node has a beginning of the entries that it had
+-- the stretches from number `from` on were cut to what is needed. The names have the entries that
+-- they had, though at other nodes (`left`). The node `here` became `there`, whose entries begin
+-- those that it had
 pub record IsPruned (from : ℕ) (old new : List Stretch) (names left : List (MarkName × Node)) (here there : Node) : Type 0 where
   pub lists : named_lists new left ≡ named_lists old names
   pub within : All (λ m. IsWithin new m.1) left

@@ -1,4 +1,4 @@
--- What a change of the stretches leaves.
+-- How the nodes and their entries come through a change of the stretches.
 use Rattle.std.specs.Prelude.{◌≡◌, ℕ, suc, ◌<◌, ◌≤◌, ◌^◌, List, [], ◌∷◌, ◌++◌, map, drop, length}
 use Rattle.rd_step.specs.declared.entries.Entry.{Entry}
 use Rattle.rd_marks.specs.declared.stretches.Node.{Node}
@@ -8,27 +8,29 @@ use Rattle.rd_marks.specs.declared.stretches.changes.Shift.{Shift}
 use Rattle.rd_marks.specs.declared.stretches.changes.Shift.TheVariants.{Same, Up, Down}
 use Rattle.rd_marks.specs.Stretches.{entries_at, needed_at, IsWithin, AreNeeded, AreNeededFrom, after_insertion, after_removal}
 
--- the node of the same entries after the stretches got other numbers
+-- the node after the stretches were renumbered
 abbrev pub shifted : Shift → Node → Node
 shifted Same p = p
 shifted (Up i) p = after_insertion i p
 shifted (Down i) p = after_removal i p
 
--- the number of a node's stretch, if the node has entries, has a successor below 2^64
+-- if the node has entries, its stretch's number has a successor below 2^64
 abbrev pub IsLow : Node → Type 0
 IsLow p = 0 < p.number → suc p.stretch < 2 ^ 64
 
--- a node, shifted as its stretch was, has the entries that it had
+-- the node, renumbered as `shift` says, is in the new stretches and has the entries that it had
 pub record Stays (old new : List Stretch) (shift : Shift) (p : Node) : Type 0 where
   pub within : IsWithin new (shifted shift p)
   pub same : entries_at new (shifted shift p) ≡ entries_at old p
 
--- all nodes have the entries that they had, and stretches that were needed are still needed
+-- every node has the entries that it had, and nodes that needed all entries still need all
 pub record KeepsItsSteps (old new : List Stretch) : Type 0 where
   pub stays : (p : Node) → IsWithin old p → Stays old new Same p
   pub needed : (nodes : List Node) → AreNeeded old nodes → AreNeeded new nodes
 
--- the stretches grew: the entries of a node are there, with the new entries after them
+-- entries were added: `grown.node` has the entries of `at`, and then the given ones after the first
+-- `at.number`. All old nodes are low; renumbered as `grown.shift` says, they have the entries that
+-- they had. Nodes that needed all entries need all now, together with the new node
 pub record IsGrown (old new : List Stretch) (at : Node) (entries : List Entry) (grown : Grown) : Type 0 where
   pub within : IsWithin new grown.node
   pub put : entries_at new grown.node ≡ entries_at old at ++ drop at.number entries
@@ -36,7 +38,10 @@ pub record IsGrown (old new : List Stretch) (at : Node) (entries : List Entry) (
   pub stays : (p : Node) → IsWithin old p → Stays old new grown.shift p
   pub needed : (nodes : List Node) → AreNeeded old nodes → AreNeeded new (map (shifted grown.shift) nodes ++ grown.node ∷ [])
 
--- stretch i was cut to the first n entries of its list, or taken away
+-- the i-th stretch was cut to the first n entries of its list, or removed; there are still i
+-- stretches or more. All old nodes are low. Renumbered as `shift` says, they have the entries that
+-- they had, except those with more than n entries of this stretch's list. If all entries after this
+-- stretch were needed, and n of its own list, all entries from it on are needed now
 pub record IsShrunk (old new : List Stretch) (i n : ℕ) (shift : Shift) : Type 0 where
   pub below : i ≤ length new
   pub low : (p : Node) → IsWithin old p → IsLow p

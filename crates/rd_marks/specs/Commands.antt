@@ -1,5 +1,5 @@
--- What each command answers and leaves, by the state of the book alone. The queries look at the run
--- of the live events; there is no inverse and no old content here.
+-- What each command answers and leaves, from the state of the book alone. A query is answered from
+-- the run of the live events. No definition here uses an inverse or an old content.
 use Rattle.std.specs.Prelude.{◌≡◌, ℕ, ◌<◌, ◌⊎◌, Bool, List, [], ◌∷◌, length, ok_or, Result, Ok, Err, IsOk}
 use Rattle.rd_step.specs.Prelude.{Refusal, content_at, Ran, numbered, and_then, result_map}
 use Rattle.rd_actor.specs.declared.actors.Act.TheVariants as act
@@ -15,12 +15,12 @@ use Rattle.rd_marks.specs.Beginnings.{NeedsNoEntry}
 use Rattle.rd_marks.specs.BookState.{BookState, with_session, marked_events, mark, drop_mark, goto_mark, mark_at, MakesSteps, AnswersSame}
 use Rattle.rd_cell.specs.declared.refusal.Refusal.TheVariants as refusal
 
--- what a command answers, and the state after it
+-- the answer to a command, and the state after it
 pub record Answered : Type 0 where
   pub answer : Result Reply Refusal
   pub state : BookState
 
--- what a refused command leaves: the state as it is
+-- the answer to a refused command: this refusal, and the state as it was
 abbrev pub refused : BookState → Refusal → Answered
 refused b cause = record { answer = Err cause; state = b }
 
@@ -28,41 +28,40 @@ refused b cause = record { answer = Err cause; state = b }
 abbrev pub step_counts : State → Reply
 step_counts s = reply.At (length s.live) (length s.undone)
 
--- the answer to a command that makes something, from which its reply and the state after it follow,
--- or that is refused and changes nothing
+-- the answer to a command with this result: from x, `reply_of` gives the reply and `after` the
+-- state; a refusal leaves the state as it was
 abbrev pub answer_with : {X : Type 0} → BookState → (X → Reply) → (X → BookState) → Result X Refusal → Answered
 answer_with b reply_of after (Err cause) = refused b cause
 answer_with b reply_of after (Ok x) = record { answer = Ok (reply_of x); state = after x }
 
--- the answer to a move through the run: the numbers of live and undone steps after it, or its
--- refusal
+-- the answer to an undo or redo: the numbers of live and undone steps after it, or its refusal
 abbrev pub move_answer : BookState → Result State Refusal → Answered
 move_answer b moved = answer_with b step_counts (with_session b) moved
 
--- the reply to a query of the run of the live events: what `look` finds there, as `reply_of` says it,
--- or a refusal
+-- the reply to a query of the run of the live events: `look` finds the answer in the run, or
+-- refuses, and `reply_of` makes a reply of it
 abbrev pub query_reply : {X : Type 0} → BookState → (X → Reply) → (Ran → Result X Refusal) → Result Reply Refusal
 query_reply b reply_of look = result_map reply_of (and_then (run_of b.session) look)
 
--- a command may be answered so and leave this state: as it is defined, or, only where memory may be
--- refused to it, by NoMemory with nothing changed
+-- the command was answered as `defined`, or it was refused with NoMemory and changed nothing, which
+-- requires `MayAskForMemory`
 abbrev pub IsAsDefined : BookState → Answered → Type 0 → Answered → Type 0
 IsAsDefined b defined MayAskForMemory answered = (answered ≡ defined) ⊎ (MayAskForMemory × (answered ≡ refused b refusal.NoMemory))
 
--- an event may be answered so and leave this state, as it happens in the last world of the live
--- events: by the number of its step, the last live one, and the reply of the call that it ends, if
--- it ends one
+-- the event may be answered so. Either it happens after the live events: the reply has the number
+-- of its step, and the result of the call that it ends, if it ends one. Or it is refused, with
+-- NoMemory only where the session may lack memory
 abbrev pub Happened : BookState → Event → Answered → Type 0
 Happened b e answered =
     IsAsDefined b (answer_with b (λ s. reply.Applied (length s.live) (reply_to b.session e)) (with_session b) (apply b.session e)) (MayLackMemory b.session e) answered
 
--- a command to set a mark needs no memory: nothing else refuses it, there is room for this many
--- more names, of which it takes one, and it needs no new entry
+-- the command sets a mark and needs no memory: the mark is not refused, there is room for its name
+-- (`room` counts the names that fit), and it needs no new entry. False for all other commands
 abbrev pub NeedsNoMemory : BookState → ℕ → Command → Type 0
 NeedsNoMemory b room (command.Mark name) = IsOk (mark b name) × (0 < room) × NeedsNoEntry b.marks b.session.live
 NeedsNoMemory b room _ = ⊥
 
--- a query may be answered so; no other command is a query
+-- the query may be answered so; false for a command that is no query
 abbrev pub AnswersQuery : BookState → Command → Result Reply Refusal → Type 0
 AnswersQuery b command.Marks answer = answer ≡ Ok (reply.Marks (length b.marks))
 AnswersQuery b (command.MarkAt i) answer = answer ≡ result_map (λ m. reply.Mark m.0 m.1) (mark_at b i)
@@ -76,7 +75,7 @@ AnswersQuery b (command.Step k) answer = answer ≡ query_reply b (reply.Step k)
 AnswersQuery b command.Len answer = answer ≡ Ok (step_counts b.session)
 AnswersQuery b _ answer = ⊥
 
--- a command may be answered so, and leave this state; a query leaves the state as it is
+-- the command may be answered so and leave this state; a query leaves the state as it was
 abbrev pub IsObeyed : BookState → Command → Answered → Type 0
 IsObeyed b (command.Enq actor value) answered = Happened b (record { actor = actor; act = act.Enq value }) answered
 IsObeyed b (command.Deq actor) answered = Happened b (record { actor = actor; act = act.Deq }) answered
@@ -95,7 +94,8 @@ IsObeyed b (command.DropMark name) answered = answered ≡ answer_with b (λ c. 
 IsObeyed b (command.GotoMark name) answered = IsAsDefined b (answer_with b (λ c. step_counts c.session) (λ c. c) (goto_mark b name)) (MakesSteps b name) answered
 IsObeyed b query answered = AnswersQuery b query answered.answer × (answered.state ≡ b)
 
--- commands, one after another, may be answered so, and leave this last state
+-- the commands, done one after another, may have these answers, one each, and leave the state
+-- `last`
 abbrev pub AreObeyed : BookState → List Command → List (Result Reply Refusal) → BookState → Type 0
 AreObeyed b [] [] last = last ≡ b
 AreObeyed b (c ∷ cs) (answer ∷ answers) last = (next : BookState) × IsObeyed b c (record { answer = answer; state = next }) × AreObeyed next cs answers last

@@ -1,5 +1,5 @@
-//! The bookmarks: their names in the order in which they were set, each with where its entries are,
-//! and where the session's track lies among those.
+//! The bookmarks in the order in which they were set, each a name with the node of its entries. One
+//! more node, `here`, is where their entries are known to agree with the session's track.
 
 ghost use Rattle.std.specs.Prelude.{◌≡◌, ◌<◌, ◌≤◌, ◌++◌, [], ◌∷◌, None, map, length, slice_get, is_some, option_map, IsOk, IfOk, IfSome, OnOk, OnErr};
 ghost use Rattle.std.specs.List.{IsDistinct};
@@ -26,14 +26,15 @@ use rd_journal::Session;
 use rd_step::Event;
 use std::alloc::{AllocError, Global};
 
-/// The bookmarks.
+/// All bookmarks of a book.
 #[derive(Drop)]
 pub(crate) struct Bookmarks {
-    /// The node of each bookmark's entries.
+    /// The names in the order in which they were set, each with the node of its entries.
     names: IndexMap<MarkName, Node>,
+    /// The entries of all bookmarks.
     stretches: Stretches,
-    /// The node of entries whose steps begin the session's track, which is the live steps with
-    /// those ahead of them. Setting a bookmark and going to one begin there, and not at the start.
+    /// A node whose events begin the session's track: the live steps and those ahead of them.
+    /// Setting a bookmark and going to one search from there, and not from the start.
     here: Node,
     ghost kept: { IsKept stretches.list.items names.entries here },
 }
@@ -44,7 +45,7 @@ impl Bookmarks {
     ghost use Rattle.rd_marks.specs.BookmarksFields.{AreRuns};
     ghost use Rattle.rd_marks.specs.Names.{mark_name_eq};
 
-    /// Returns bookmarks with none in them. It takes no memory.
+    /// Returns an empty list of bookmarks. It takes no memory.
     pub(crate) fn new(alloc: Global) -> Bookmarks
         ensures lists { lists_in result ≡ [] }
         ensures here { here_in result ≡ [] }
@@ -56,7 +57,7 @@ impl Bookmarks {
         }
     }
 
-    /// Returns how many bookmarks there are.
+    /// Returns the number of bookmarks.
     #[tactic(auto, using(crate::proofs::Putting::names_same))]
     pub(crate) fn len(&self) -> usize
         ensures count { result ≡ length (lists_in self.now) }
@@ -66,7 +67,7 @@ impl Bookmarks {
         self.names.len()
     }
 
-    /// Returns how many entries are kept for all bookmarks.
+    /// Returns the number of entries that are kept for all bookmarks together.
     #[tactic(auto, using(crate::proofs::Counting::counts, crate::proofs::Putting::count_fits))]
     pub(crate) fn nodes(&self) -> usize
         ensures counts { CountsBeginnings (marks_of (lists_in self.now)) result }
@@ -75,7 +76,8 @@ impl Bookmarks {
         self.stretches.entries()
     }
 
-    /// Returns the node of the entries of the bookmark of this name, if there is one.
+    /// Returns the node of the entries of the bookmark of this name, or `None` if no bookmark has
+    /// it.
     pub(crate) fn find(&self, name: &MarkName) -> Option<Node>
         ensures found { option_map (λ node. entries_in self.now node) result
             ≡ lookup (mark_name_eq name.now) (lists_in self.now) }
@@ -87,8 +89,8 @@ impl Bookmarks {
         }
     }
 
-    /// Returns the name of the bookmark at this index, from 0, and the node of its entries, if
-    /// there is one.
+    /// Returns the name and the node of the bookmark at this index, counted from 0, or `None` if
+    /// there is none.
     #[tactic(auto, using(crate::proofs::MarkLemmas::at_steps))]
     pub(crate) fn at(&self, index: usize) -> Option<(MarkName, Node)>
         ensures found { option_map (λ m. (m.0, entries_in self.now m.1)) result
@@ -101,7 +103,8 @@ impl Bookmarks {
         }
     }
 
-    /// Returns the event of this number, from 1, of the entries of a node, if there is one.
+    /// Returns the event of this number, counted from 1, among the entries of a node. `None` if the
+    /// node has no such entry.
     pub(crate) fn event_at(&self, of: Node, n: u64) -> Option<Event>
         requires { IsNodeIn self.now of }
         ensures { result ≡ numbered (events (entries_in self.now of)) n }
@@ -109,11 +112,11 @@ impl Bookmarks {
         self.stretches.event_at(of, n)
     }
 
-    /// Returns the events of the entries of a node.
+    /// Returns the events of the entries of a node, in a list of their own.
     ///
     /// # Errors
     ///
-    /// `AllocError` if memory was refused for them, which never happens if there are none.
+    /// `AllocError` if memory was refused, which never happens if the node has no entries.
     pub(crate) fn events(&self, alloc: Global, of: Node) -> Result<Vec<Event>, AllocError>
         requires { IsNodeIn self.now of }
         ensures ok { IfOk result (λ list. list.items ≡ events (entries_in self.now of)) }
@@ -122,14 +125,14 @@ impl Bookmarks {
         self.stretches.events(alloc, of)
     }
 
-    /// Sets a bookmark of this name, which none has, at the live steps. It is the last one. Those
-    /// of its entries that are kept already stay. All memory for the others is asked for before the
-    /// first is put.
+    /// Sets a bookmark of this name, which none may have, at the live steps, after all others. It
+    /// adds only the entries that aren't kept yet, and asks for all memory before it adds the
+    /// first.
     ///
     /// # Errors
     ///
-    /// `AllocError` if the room for the others or for its name was refused, which is asked for only
-    /// where it is missing. The bookmarks stay.
+    /// `AllocError` if memory for the added entries or for the name was refused. This never happens
+    /// if there is room for another name and all entries are kept already. The bookmarks stay then.
     pub(crate) fn set<const R: usize>(
         &mut self,
         alloc: Global,
@@ -157,8 +160,9 @@ impl Bookmarks {
         Ok(())
     }
 
-    /// Drops the bookmark of this name, and gives back the entries that no other one has. The
-    /// others keep their order. Returns whether there was one. It takes no memory.
+    /// Drops the bookmark of this name, if there is one, and removes the entries that no other
+    /// bookmark needs. The others keep their order. Returns whether there was one. It takes no
+    /// memory.
     pub(crate) fn drop(&mut self, name: &MarkName) -> bool
         ensures found { result ≡ is_some (lookup (mark_name_eq name.now) (lists_in self.old)) }
         ensures lists { lists_in self.new ≡ remove_entry (mark_name_eq name.now)
@@ -175,12 +179,12 @@ impl Bookmarks {
         }
     }
 
-    /// Returns whether the entries of two nodes are of equivalent events. What they have in common
-    /// is not looked at.
+    /// Returns whether the events of two nodes are causally equivalent. It skips the entries with
+    /// which both begin.
     ///
     /// # Errors
     ///
-    /// `AllocError` if memory was refused for the comparison, which never happens if one list
+    /// `AllocError` if memory for the comparison was refused, which never happens if one list
     /// begins the other.
     pub(crate) fn are_same(&self, alloc: Global, one: Node, other: Node) -> Result<bool, AllocError>
         requires one { IsNodeIn self.now one }
@@ -199,7 +203,8 @@ impl Bookmarks {
         are_equivalent(alloc, &ones, &others)
     }
 
-    /// Notes that all steps of the track after the first `n` may have changed.
+    /// Records that steps of the session's track after the first `n` may have changed, so that
+    /// later searches start at the `n`-th step at the latest.
     pub(crate) fn cut_here(&mut self, n: usize)
         ensures lists { lists_in self.new ≡ lists_in self.old }
         ensures begins { Begins (here_in self.new) (here_in self.old) }

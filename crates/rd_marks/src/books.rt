@@ -1,11 +1,11 @@
 //! A book: a session with bookmarks, in the order in which they were set.
 //!
-//! A mark keeps the entries of the steps that were live when it was set, which are those of a run
+//! A bookmark keeps the entries of the steps that were live when it was set: the entries of a run
 //! from the session's start. Nothing outside this crate depends on that.
 //!
-//! The calls of a book are here; what each command answers is in `books/`: `obeying` has the
-//! commands, with the answers to queries, `moves` the undos and redos, and `bookmarks` the
-//! bookmarks; `saving` has what saves a book and loads it again.
+//! The methods of a book are here. `books/obeying` does commands and answers queries, `books/moves`
+//! undoes and redoes, `books/bookmarks` does the commands on bookmarks, and `books/saving` has what
+//! saving and loading a book need.
 
 mod bookmarks;
 mod moves;
@@ -31,15 +31,18 @@ use std::alloc::Global;
 
 /// A session with bookmarks.
 pub struct Book<const R: usize> {
+    /// The live and undone steps over the start.
     session: Session<R>,
+    /// The bookmarks, and where the session's steps agree with theirs.
     bookmarks: Bookmarks,
+    /// Where the book asks for memory.
     alloc: Global,
     ghost runs: { AreRuns (state session).start (lists_in bookmarks) },
     ghost stands: { Begins (events (here_in bookmarks)) (track session) },
 }
 
-/// Written out and not derived, so that a proof of a function in which a book ends has one step for
-/// that, and not one for each list inside.
+/// Written by hand rather than derived. A proof of a function in which a book goes out of scope
+/// then has one step for that, and not one for each list inside.
 impl<const R: usize> Drop for Book<R> {
     /// Frees all memory of the book.
     fn drop(self) {
@@ -59,7 +62,7 @@ impl<const R: usize> Book<R> {
     ghost use Rattle.rd_marks.specs.Events.{as_reply};
     ghost use Rattle.rd_marks.specs.BookState.{marked_events, mark, drop_mark, goto_mark, mark_at, MakesSteps, AnswersSame};
 
-    /// Returns a book over a session, without bookmarks. It takes no memory.
+    /// Returns a book of this session, without bookmarks. It takes no memory.
     pub fn open(alloc: Global, session: Session<R>) -> Book<R>
         ensures session { (book_state result).session ≡ state session.entry }
         ensures marks { (book_state result).marks ≡ [] }
@@ -79,12 +82,13 @@ impl<const R: usize> Book<R> {
         &self.session
     }
 
-    /// Makes an event happen as the last live step, and discards what was undone. Returns the
-    /// step's number, and the reply of the call that it ends, if it ends one. The bookmarks stay.
+    /// Makes an event happen as the last live step, and discards the undone steps. The bookmarks
+    /// stay. Returns the step's number, and the result of the call that the step ends, if it ends
+    /// one.
     ///
     /// # Errors
     ///
-    /// The refusal of `Session::apply`. Nothing has changed then.
+    /// The refusal of `Session::apply`. A refused event changes nothing.
     pub fn apply(&mut self, event: Event) -> Result<EventReply, Refusal>
         ensures answer { Happened (book_state self.old) event
             (record { answer = result_map as_reply result; state = book_state self.new }) }
@@ -100,14 +104,14 @@ impl<const R: usize> Book<R> {
         })
     }
 
-    /// Sets a bookmark of this name at the live steps. It is the last one.
+    /// Sets a bookmark of this name at the live steps, after all others.
     ///
     /// # Errors
     ///
-    /// In this order: `MarkTaken` if there is one of that name; `TooManyMarks` if there are
-    /// `MOST_MARKS`; `NoMemory` if the room for its entries or for its name was refused, so not if
-    /// there is room for a name, and the live steps are none or begin those of a bookmark. Nothing
-    /// has changed then.
+    /// In this order: `MarkTaken` if a bookmark has this name; `TooManyMarks` if there are
+    /// `MOST_MARKS`; `NoMemory` if memory for its entries or its name was refused. `NoMemory` can't
+    /// happen if there is room for another name and some bookmark's steps begin with the live ones,
+    /// or no step is live. A refusal changes nothing.
     pub fn mark(&mut self, name: MarkName) -> Result<(), Refusal>
         ensures ok { OnOk result (mark (book_state self.old) name ≡ Ok (book_state self.new)) }
         ensures err { IfErr result (λ refusal. (mark (book_state self.old) name ≡ Err refusal)
@@ -129,12 +133,12 @@ impl<const R: usize> Book<R> {
         }
     }
 
-    /// Drops the bookmark of this name. The others keep their order. It takes no memory, and no
-    /// room for names.
+    /// Drops the bookmark of this name. The others keep their order. It takes no memory, and the
+    /// room for names doesn't shrink.
     ///
     /// # Errors
     ///
-    /// `NoMark` if there is none of that name. Nothing has changed then.
+    /// `NoMark` if no bookmark has this name. Nothing has changed then.
     pub fn drop_mark(&mut self, name: MarkName) -> Result<(), Refusal>
         ensures ok { OnOk result (drop_mark (book_state self.old) name ≡ Ok (book_state self.new)) }
         ensures err { IfErr result (λ refusal. drop_mark (book_state self.old) name ≡ Err refusal) }
@@ -148,15 +152,15 @@ impl<const R: usize> Book<R> {
         }
     }
 
-    /// Goes to the bookmark of this name: its steps are live, and none is undone. The steps that
-    /// the live ones begin with in common with it stay; the others are undone, and the rest of the
-    /// bookmark's steps are made again.
+    /// Makes the steps of this bookmark the live ones, and leaves no undone step. The steps with
+    /// which both lists begin stay. The other live steps are undone, and the rest of the bookmark's
+    /// steps are made again.
     ///
     /// # Errors
     ///
-    /// In this order: `NoMark` if there is none of that name; `NoMemory` if room for the steps that
-    /// are made again was refused, or for a copy of their entries, which never happens if the live
-    /// steps begin with the bookmark's. Nothing has changed then.
+    /// In this order: `NoMark` if no bookmark has this name; `NoMemory` if memory was refused for
+    /// the steps that are made again, or for a copy of their entries. `NoMemory` can't happen if
+    /// the live steps begin with the bookmark's. A refusal changes nothing.
     #[tactic(auto, using(crate::proofs::MarkLemmas::goto_steps))]
     pub fn goto_mark(&mut self, name: MarkName) -> Result<(), Refusal>
         ensures ok { OnOk result (goto_mark (book_state self.old) name ≡ Ok (book_state self.new)) }
@@ -171,14 +175,13 @@ impl<const R: usize> Book<R> {
         self.bookmarks.go_to(self.alloc, &mut self.session, node)
     }
 
-    /// Returns whether the steps of two bookmarks are causally equivalent: one list is the other up
-    /// to the order of steps that do not depend on each other. Equivalent lists lead to the same
-    /// world.
+    /// Returns whether the steps of two bookmarks are causally equivalent: the two lists differ
+    /// only in the order of independent steps. Equivalent lists lead to the same world.
     ///
     /// # Errors
     ///
-    /// `NoMark` if one of the bookmarks is not there; `NoMemory` if memory was refused for the
-    /// comparison, which lists of which one begins the other do not ask for.
+    /// `NoMark` if one of the bookmarks doesn't exist; `NoMemory` if memory for the comparison was
+    /// refused, which never happens if one list begins the other.
     #[tactic(auto, using(crate::proofs::MarkLemmas::goto_steps))]
     pub fn same(&self, one: MarkName, other: MarkName) -> Result<bool, Refusal>
         ensures { AnswersSame (book_state self.now).session.start
@@ -197,8 +200,8 @@ impl<const R: usize> Book<R> {
         }
     }
 
-    /// Returns how many bookmarks there are: at most `MOST_MARKS`, with different names, each at
-    /// events that can run from the session's start.
+    /// Returns the number of bookmarks: at most `MOST_MARKS`, with different names, each at events
+    /// that can run from the session's start.
     pub fn marks(&self) -> u64
         ensures count { result ≡ length (book_state self.now).marks }
         ensures rules { KeepsRules (book_state self.now) }
@@ -207,7 +210,7 @@ impl<const R: usize> Book<R> {
     }
 
     /// Returns the number of different lists, except the empty one, that begin the steps of some
-    /// bookmark. This many entries are kept for the bookmarks. It takes no memory.
+    /// bookmark. The book keeps this many entries for its bookmarks. It takes no memory.
     pub fn nodes(&self) -> u64
         ensures counts { CountsBeginnings (book_state self.now).marks result }
         ensures entries { result ≡ mark_entries self.now }
@@ -215,8 +218,8 @@ impl<const R: usize> Book<R> {
         self.bookmarks.nodes() as u64
     }
 
-    /// Returns the name of the bookmark of this number, from 1, and how many steps were live when
-    /// it was set.
+    /// Returns the name of the bookmark of this number, counted from 1, and the number of steps
+    /// that were live when it was set.
     ///
     /// # Errors
     ///

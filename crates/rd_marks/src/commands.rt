@@ -21,9 +21,9 @@ pub enum Command {
     ArrayDeq(u8),
     /// `go A`: the actor makes the step of the control point where it is.
     Go(u8),
-    /// `starve A yes`, `starve A no`: the actor chooses whether it starves.
+    /// `starve A yes`, `starve A no`: the actor chooses whether it starves (E10).
     Starve(u8, bool),
-    /// `undo`: the last live step is undone.
+    /// `undo`: the last live step is undone. It is refused if there is none.
     Undo,
     /// `undo K`: the live step of this number is undone alone, if no later one depends on it.
     UndoAt(u64),
@@ -36,34 +36,37 @@ pub enum Command {
     Redo,
     /// `forward N`: the N steps that were undone last are made again, all or none.
     Forward(u64),
-    /// `mark NAME`: the live steps get a bookmark of this name.
+    /// `mark NAME`: a bookmark of this name is set at the live steps.
     Mark(MarkName),
-    /// `drop NAME`: the bookmark of this name goes.
+    /// `drop NAME`: the bookmark of this name is dropped.
     DropMark(MarkName),
-    /// `goto NAME`: the live steps are those of the bookmark of this name, and none is undone.
+    /// `goto NAME`: the steps of the bookmark of this name become the live ones, and no undone step
+    /// is left.
     GotoMark(MarkName),
-    /// `marks`: how many bookmarks there are.
+    /// `marks`: the number of bookmarks.
     Marks,
-    /// `markat I`: the name and the length of the I-th bookmark.
+    /// `markat I`: the name of the I-th bookmark, and the number of steps that were live when it
+    /// was set.
     MarkAt(u64),
     /// `same NAME NAME`: whether the steps of two bookmarks are causally equivalent.
     Same(MarkName, MarkName),
-    /// `origin K`: where the value came from that the live step of this number took.
+    /// `origin K`: the origin of the value that the live step of this number took.
     Origin(u64),
-    /// `writer PLACE`: the live step that last wrote the place, or one of the places that it names.
+    /// `writer PLACE`: the number of the last live step that wrote the place or a place that it
+    /// names, if there is one.
     Writer(Place),
-    /// `show PLACE`: what is at the place.
+    /// `show PLACE`: the content of the place.
     Show(Place),
-    /// `actor A`: the words of the actor.
+    /// `actor A`: the record of the actor.
     Actor(u8),
     /// `step K`: the entry of the live step of this number.
     Step(u64),
-    /// `len`: how many steps are live and how many are undone.
+    /// `len`: the numbers of live and undone steps.
     Len,
 }
 
 impl Command {
-    /// Returns the event that the command is, if it is one.
+    /// Returns the event that the command makes happen, or `None` if it is no event.
     pub fn as_event(&self) -> Option<Event>
         ensures { result ≡ as_event self.now }
     {

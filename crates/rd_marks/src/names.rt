@@ -9,10 +9,11 @@ use rd_cell::Refusal;
 use rd_cell::limits::MOST_NAME_BYTES;
 use std::str;
 
-/// The name of a bookmark: 1 to 16 bytes of a-z, 0-9 and `-`. Two names are equal if their bytes
-/// are.
+/// The name of a bookmark: 1 to 16 bytes of a-z, 0-9 and `-`. Two names are equal exactly if their
+/// bytes are.
 #[derive(Clone, Copy, Debug, PartialEq, Eq, Hash)]
 pub struct MarkName {
+    /// The bytes of the name.
     text: ArrayString<MOST_NAME_BYTES>,
     ghost valid: { is_mark_name text.bytes ≡ true },
 }
@@ -53,21 +54,21 @@ impl MarkName {
     }
 }
 
-/// Returns whether these bytes are 1 to 16 of a-z, 0-9 and `-`.
+/// Whether these bytes spell a name: 1 to 16 bytes of a-z, 0-9 and `-`.
 fn is_mark_name(text: &[u8]) -> bool
     ensures { result ≡ is_mark_name text.now }
 {
     !text.is_empty() && text.len() <= MOST_NAME_BYTES && are_name_bytes(text)
 }
 
-/// Returns whether each of these bytes may be in a name.
+/// Whether each of these bytes may be in a name.
 fn are_name_bytes(text: &[u8]) -> bool
     ensures { result ≡ list_all is_name_byte text.now }
 {
     text.iter().all(|b| is_name_byte(*b))
 }
 
-/// Returns whether this byte may be in a name.
+/// Whether this byte may be in a name: a-z, 0-9 or `-`.
 fn is_name_byte(byte: u8) -> bool
     ensures { result ≡ is_name_byte byte }
 {

@@ -1,4 +1,4 @@
-//! What a book replies to a command that is not refused.
+//! The reply to a command that is not refused.
 
 use super::names::MarkName;
 use rd_actor::{Actor, OpReply};
@@ -6,26 +6,26 @@ use rd_cell::Content;
 use rd_origin::Origin;
 use rd_step::Entry;
 
-/// What an event that happened is answered. It is plain data: copying it takes no memory.
+/// The reply to an event that happened. It is plain data: copying it takes no memory.
 #[derive(Clone, Copy, Debug, PartialEq, Eq)]
 pub struct EventReply {
     /// The number of its step, the last live one.
     pub step: u64,
-    /// What the call replied that the step ended, if it ended one.
+    /// The result of the call that the step ended, or `None` if it ended no call.
     pub reply: Option<OpReply>,
 }
 
-/// A reply. It is plain data: copying it takes no memory.
+/// The reply to a command. It is plain data: copying it takes no memory.
 #[derive(Clone, Copy, Debug, PartialEq, Eq)]
 pub enum Reply {
     /// An event happened.
     Applied {
         /// The number of its step, the last live one.
         step: u64,
-        /// What the call replied that the step ended, if it ended one.
+        /// The result of the call that the step ended, or `None` if it ended no call.
         reply: Option<OpReply>,
     },
-    /// This many steps are live and this many undone.
+    /// The numbers of live and undone steps, after a move or when asked for.
     At {
         /// The number of live steps.
         live: u64,
@@ -34,26 +34,26 @@ pub enum Reply {
     },
     /// A bookmark was set at this many live steps.
     Marked(u64),
-    /// A bookmark went.
+    /// A bookmark was dropped.
     Dropped,
-    /// There are this many bookmarks.
+    /// The number of bookmarks.
     Marks(u64),
-    /// A bookmark.
+    /// One bookmark of the list.
     Mark {
         /// Its name.
         name: MarkName,
-        /// How many steps were live when it was set.
+        /// The number of steps that were live when it was set.
         len: u64,
     },
     /// Whether the steps of two bookmarks are causally equivalent.
     Same(bool),
-    /// Where a value that was taken came from.
+    /// The origin of a value that was taken.
     Origin(Origin),
-    /// The number of the live step that last wrote a place, or none.
+    /// The number of the live step that last wrote a place, or `None` if none wrote it.
     Writer(Option<u64>),
-    /// What is at a place.
+    /// The content of a place.
     Content(Content),
-    /// The words of an actor.
+    /// The record of an actor.
     Actor(Actor),
     /// A live step.
     Step {

@@ -1,10 +1,10 @@
-//! The entries of the bookmarks, by front coding: each stretch has the number of entries that its
-//! list shares with the list of the stretch before it, and the rest. So lists that begin alike
-//! share what they have in common.
+//! The entries of the bookmarks, by front coding. Each stretch stands for a list of entries. It
+//! keeps the number of entries that its list shares with the list of the stretch before it, and the
+//! entries after these. So lists that begin alike share what they have in common.
 //!
-//! A node is a number of entries from the start, of the list of one stretch. No list goes on as
-//! one before it does where it no longer shares, so what two nodes have in common is known by the
-//! numbers that the stretches between them share.
+//! A node is the first so many entries of one stretch's list. No earlier list begins with the same
+//! events as a stretch's list, up to the first entry of its own. So the numbers of shared entries
+//! between two nodes tell how many entries both begin with.
 
 ghost use Rattle.std.specs.Prelude.{◌≡◌, ◌<◌, ◌≤◌, ◌^◌, ℕ, [], length, take, min};
 ghost use Rattle.rd_step.specs.Run.{events};
@@ -19,34 +19,34 @@ mod lending;
 use rd_step::Entry;
 use std::alloc::Global;
 
-/// The part of a list that is not shared with the one before it.
+/// A list of entries, as the number that it shares with the list before it and the rest.
 #[derive(Drop)]
 struct Stretch {
-    /// How many entries its list shares with the list of the stretch before it; the first one
-    /// shares none.
+    /// The number of entries that its list shares with the list of the stretch before it; 0 in the
+    /// first stretch.
     shared: usize,
-    /// The entries after those.
+    /// The entries after the shared ones.
     entries: Vec<Entry>,
 }
 
-/// This many entries from the start, of the list of a stretch: a node of the tree that all lists
-/// make. Where no stretch is, they are none.
+/// The first `number` entries of a stretch's list: a node of the tree that all lists make. A node
+/// without entries needs no stretch.
 #[derive(Clone, Copy, PartialEq, Eq)]
 pub(crate) struct Node {
     /// The number of the stretch, from 0.
     pub(crate) stretch: usize,
-    /// How many entries.
+    /// The number of entries.
     pub(crate) number: usize,
 }
 
 impl Node {
-    /// The node of no entries.
+    /// The node without entries.
     pub(crate) const START: Node = Node {
         stretch: 0,
         number: 0,
     };
 
-    /// Returns the node of the first `n` entries of this one, or this one if it has no more.
+    /// Returns the node of the first `n` entries of this one, or this one if it has at most `n`.
     pub(crate) fn cut(self, n: usize) -> Node
         ensures stretch { result.stretch ≡ self.stretch }
         ensures number { result.number ≡ min n self.number }
@@ -58,7 +58,7 @@ impl Node {
     }
 }
 
-/// The stretches.
+/// All stretches, in order.
 #[derive(Drop)]
 pub(crate) struct Stretches {
     list: Vec<Stretch>,
@@ -69,7 +69,7 @@ pub(crate) struct Stretches {
 impl Stretches {
     ghost use Rattle.rd_marks.specs.Stretches.{shared_at, entries_at, count_of, IsWithin, IsOwn};
 
-    /// Returns stretches with none in them. It takes no memory.
+    /// Returns an empty list of stretches. It takes no memory.
     pub(crate) fn new(alloc: Global) -> Stretches
         ensures { result.list.items ≡ [] }
     {
@@ -78,14 +78,14 @@ impl Stretches {
         }
     }
 
-    /// Returns how many stretches there are.
+    /// Returns the number of stretches.
     pub(crate) fn len(&self) -> usize
         ensures { result ≡ length self.now.list.items }
     {
         self.list.len()
     }
 
-    /// Returns how many entries the stretches have in all.
+    /// Returns the number of entries that the stretches keep, all together.
     #[tactic(auto, using(crate::proofs::Reading::count_on))]
     pub(crate) fn entries(&self) -> usize
         requires { count_of self.now.list.items < 2 ^ 64 }
@@ -98,8 +98,8 @@ impl Stretches {
         count
     }
 
-    /// Returns how many entries the list of this stretch shares with that of the one before it; 0
-    /// after the last stretch.
+    /// Returns the number of entries that the list of stretch `i` shares with the list before it.
+    /// It is 0 if there is no such stretch.
     #[tactic(auto, using(crate::proofs::Reading::stretch_at, crate::proofs::StretchLists::shared_past))]
     pub(crate) fn shared(&self, i: usize) -> usize
         ensures { result ≡ shared_at self.now.list.items i }
@@ -110,8 +110,8 @@ impl Stretches {
         }
     }
 
-    /// Returns the node of the same entries in the first stretch that has them, where the last one
-    /// is that stretch's own.
+    /// Returns the node that has the same entries and is in the stretch that keeps the last one, or
+    /// in the first stretch if it has no entries.
     pub(crate) fn own_node(&self, of: Node) -> Node
         requires within { IsWithin self.now.list.items of }
         ensures number { result.number ≡ of.number }
@@ -126,7 +126,7 @@ impl Stretches {
         at
     }
 
-    /// Returns how many entries two nodes have in common from the start.
+    /// Returns the number of entries with which both nodes begin.
     pub(crate) fn common(&self, one: Node, other: Node) -> usize
         requires one { IsWithin self.now.list.items one }
         requires other { IsWithin self.now.list.items other }
@@ -145,8 +145,8 @@ impl Stretches {
         }
     }
 
-    /// Returns how many entries two nodes have in common from the start, where the second is in the
-    /// first one's stretch or a later one.
+    /// Returns the number of entries with which both nodes begin. The node `other` must be in the
+    /// same stretch as `one` or a later one.
     fn common_up(&self, one: Node, other: Node) -> usize
         requires one { IsWithin self.now.list.items one }
         requires other { IsWithin self.now.list.items other }

@@ -16,14 +16,15 @@ use std::alloc::Global;
 impl Bookmarks {
     ghost use Rattle.rd_marks.specs.Bookmarks.{lists_in, entries_in, here_in, IsNodeIn, IsInPieces};
 
-    /// Makes the steps of a node the live ones, with none undone. If they are on the session's
-    /// track, the session goes along it. Else the live steps with which they begin stay, and the
-    /// track becomes that of these steps.
+    /// Makes the steps of a node the live ones, and leaves no undone step. If the session's track
+    /// is known to have these steps, the session moves along it. Otherwise it keeps the live steps
+    /// with which both lists begin, and makes the rest of the node's steps again.
     ///
     /// # Errors
     ///
-    /// `NoMemory` if room for the others, or for a copy of them where they are not all in one
-    /// stretch, was refused, which never happens if there are none. Nothing has changed then.
+    /// `NoMemory` if memory was refused for the steps that are made again, or for a copy of their
+    /// entries if the node's entries lie in more than one stretch. This never happens if the live
+    /// steps begin with the node's. A refusal changes nothing.
     #[tactic(auto, using(rd_step::proofs::PassedUp::error_passed_up))]
     pub(crate) fn go_to<const R: usize>(
         &mut self,
@@ -61,14 +62,14 @@ impl Bookmarks {
     }
 }
 
-/// Makes the steps of a node the live ones, with none undone, wherever they are. The search for
-/// what the live ones have in common with the bookmarks begins where the session's track is known
-/// to be among those. The others are copied if they can't be lent.
+/// Makes the steps of a node the live ones, and leaves no undone step. It keeps the live steps with
+/// which both lists begin, and makes the rest of the node's steps again. The search for the kept
+/// ones starts at `here`, whose events must begin the session's track.
 ///
 /// # Errors
 ///
-/// `NoMemory` if room for the others or for a copy of them was refused, which never happens if there
-/// are none. Nothing has changed then.
+/// `NoMemory` if memory was refused for the steps that are made again, or for a copy of their
+/// entries. This never happens if the live steps begin with the node's. Nothing has changed then.
 fn switch_to<const R: usize>(
     stretches: &Stretches,
     alloc: Global,

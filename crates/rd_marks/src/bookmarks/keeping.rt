@@ -1,5 +1,5 @@
-//! Putting a bookmark last, giving back the entries that no bookmark has, and keeping nodes where
-//! their entries are.
+//! Adding a bookmark after all others, removing the entries that no bookmark needs, and moving each
+//! node to where its entries are.
 
 ghost use Rattle.std.specs.Prelude.{◌≡◌, ◌<◌, ◌≤◌, ◌++◌, [], ◌∷◌, None, suc, map, length};
 ghost use Rattle.std.specs.List.{All};
@@ -14,7 +14,8 @@ use super::super::names::MarkName;
 use super::super::stretches::{Grown, Node, Shift, Stretches};
 use indexmap::IndexMap;
 
-/// Puts a bookmark of this name, which none has, last, in the room that was made.
+/// Adds a bookmark of this name, which none may have, after all others, in room that was made
+/// before. The nodes of the others move as the stretches were renumbered.
 pub(super) fn put(names: &mut IndexMap<MarkName, Node>, name: MarkName, grown: Grown)
     requires new { lookup (mark_name_eq name) names.old.entries ≡ None }
     requires room { 0 < spare names.old }
@@ -29,8 +30,8 @@ pub(super) fn put(names: &mut IndexMap<MarkName, Node>, name: MarkName, grown: G
     }
 }
 
-/// Returns the node with which the session's track begins after this many live steps were put:
-/// that one, or the old one if that goes further.
+/// Returns where `here` is after the first `len` live entries were added: at the node of these, or,
+/// if `here` has more entries, at its old node as the stretches were renumbered.
 pub(super) fn here_after(here: Node, len: usize, grown: Grown) -> Node
     requires { IsLow here }
     ensures near { here.number ≤ len → result ≡ grown.node }
@@ -43,8 +44,9 @@ pub(super) fn here_after(here: Node, len: usize, grown: Grown) -> Node
     }
 }
 
-/// Takes away the entries that no bookmark needs, and the stretches that have none left, from the
-/// last stretch down. What lay on an entry that goes lies at the last one before it that is left.
+/// Removes the entries that no bookmark needs, and stretches without entries of their own, from the
+/// last stretch down. The bookmarks keep their entries, and `here` keeps a beginning of the entries
+/// that it had.
 pub(super) fn prune(
     stretches: &mut Stretches,
     names: &mut IndexMap<MarkName, Node>,
@@ -63,8 +65,8 @@ pub(super) fn prune(
     }
 }
 
-/// Takes away the entries of one stretch that no bookmark needs, where all entries of the stretches
-/// after it are needed.
+/// Removes the entries of stretch `i` that neither a bookmark nor the next stretch needs. All
+/// entries of the stretches after it must be needed.
 fn trim(stretches: &mut Stretches, names: &mut IndexMap<MarkName, Node>, here: &mut Node, i: usize)
     requires there { i < length stretches.old.list.items }
     requires within { All (λ m. IsWithin stretches.old.list.items m.1) names.old.entries }
@@ -81,7 +83,8 @@ fn trim(stretches: &mut Stretches, names: &mut IndexMap<MarkName, Node>, here: &
     *here = shift.shifted(kept_of(*here, i, needed));
 }
 
-/// Returns what is left of a node if the first `n` entries of this stretch's list are left.
+/// Returns a node cut to its first `n` entries if it is in stretch `i`, otherwise the node as it
+/// is.
 fn kept_of(node: Node, i: usize, n: usize) -> Node
     ensures stretch { result.stretch ≡ node.stretch }
     ensures number { result.number ≤ node.number }
@@ -90,8 +93,8 @@ fn kept_of(node: Node, i: usize, n: usize) -> Node
     if node.stretch == i { node.cut(n) } else { node }
 }
 
-/// Returns the greatest number of entries of a bookmark's node in this stretch; 0 if no node is
-/// in it.
+/// Returns the greatest number of entries of a bookmark's node in stretch `i`, or 0 if no
+/// bookmark's node is in it.
 fn greatest_in(names: &IndexMap<MarkName, Node>, i: usize) -> usize
     ensures { result ≡ greatest_in i (nodes_of names.now.entries) }
 {
@@ -105,15 +108,14 @@ fn greatest_in(names: &IndexMap<MarkName, Node>, i: usize) -> usize
     greatest
 }
 
-/// Returns the number of entries of a node if it is in this stretch, else 0.
+/// Returns the number of entries of a node if it is in stretch `i`, otherwise 0.
 fn number_if_in(i: usize, node: Node) -> usize
     ensures { result ≡ number_if_in i node }
 {
     if node.stretch == i { node.number } else { 0 }
 }
 
-/// Changes the node of each bookmark to that of the same entries after the stretches got other
-/// numbers.
+/// Moves the node of each bookmark to where its entries are after the stretches were renumbered.
 fn move_all(names: &mut IndexMap<MarkName, Node>, shift: Shift)
     requires { All (λ m. IsLow m.1) names.old.entries }
     ensures room { spare names.new ≡ spare names.old }

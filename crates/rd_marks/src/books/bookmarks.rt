@@ -1,4 +1,4 @@
-//! The commands on bookmarks: the call of the book, and its answer.
+//! The commands on bookmarks: each calls the method of the book, and replies.
 
 ghost use Rattle.std.specs.Prelude.{IsOk, IfErr};
 
@@ -12,7 +12,7 @@ impl<const R: usize> Book<R> {
     ghost use Rattle.rd_marks.specs.Commands.{IsObeyed, NeedsNoMemory};
     ghost use Rattle.rd_marks.specs.declared.commands.Command.TheVariants as command;
 
-    /// Sets a bookmark. Returns how many steps are live.
+    /// Sets a bookmark, and returns the number of live steps. Fails as `mark` does.
     pub(super) fn answer_mark(&mut self, name: MarkName) -> Result<Reply, Refusal>
         ensures answer { IsObeyed (book_state self.old) (command.Mark name)
             (record { answer = result; state = book_state self.new }) }
@@ -23,7 +23,7 @@ impl<const R: usize> Book<R> {
         Ok(Reply::Marked(self.session.len()))
     }
 
-    /// Drops a bookmark. Returns the reply that it was dropped.
+    /// Drops a bookmark, and returns that it was dropped. Fails only if no bookmark has this name.
     pub(super) fn answer_drop_mark(&mut self, name: MarkName) -> Result<Reply, Refusal>
         ensures { IsObeyed (book_state self.old) (command.DropMark name)
             (record { answer = result; state = book_state self.new }) }
@@ -32,7 +32,8 @@ impl<const R: usize> Book<R> {
         Ok(Reply::Dropped)
     }
 
-    /// Goes to a bookmark. Returns how many steps are live and undone then.
+    /// Goes to a bookmark, and returns the numbers of live and undone steps then. Fails as
+    /// `goto_mark` does.
     #[tactic(auto, using(rd_step::proofs::PassedUp::error_passed_up))]
     pub(super) fn answer_goto_mark(&mut self, name: MarkName) -> Result<Reply, Refusal>
         ensures answer { IsObeyed (book_state self.old) (command.GotoMark name)

@@ -1,4 +1,4 @@
-//! Undos and redos as commands: the call of the session, and its answer.
+//! Undos and redos as commands: each calls the method of the session, and replies.
 
 ghost use Rattle.std.specs.Prelude.{◌≡◌, Ok, Err, OnOk, IfErr};
 
@@ -11,7 +11,8 @@ impl<const R: usize> Book<R> {
     ghost use Rattle.rd_marks.specs.Commands.{IsObeyed, step_counts};
     ghost use Rattle.rd_marks.specs.declared.commands.Command.TheVariants as command;
 
-    /// Undoes the live step of this number alone. Returns how many steps are live and undone then.
+    /// Undoes the live step of this number alone, and returns the numbers of live and undone steps
+    /// then. Fails as `Session::undo_at` does, and changes nothing then.
     pub(super) fn answer_undo_at(&mut self, k: u64) -> Result<Reply, Refusal>
         ensures { IsObeyed (book_state self.old) (command.UndoAt k)
             (record { answer = result; state = book_state self.new }) }
@@ -21,8 +22,9 @@ impl<const R: usize> Book<R> {
         Ok(self.step_counts())
     }
 
-    /// Undoes the live step of this number and just the later ones that depend on it. Returns how
-    /// many steps are live and undone then.
+    /// Rolls back the live step of this number, which undoes its causal closure, and returns the
+    /// numbers of live and undone steps then. Fails as `Session::roll` does, and changes nothing
+    /// then.
     pub(super) fn answer_roll(&mut self, k: u64) -> Result<Reply, Refusal>
         ensures { IsObeyed (book_state self.old) (command.Roll k)
             (record { answer = result; state = book_state self.new }) }
@@ -32,8 +34,8 @@ impl<const R: usize> Book<R> {
         Ok(self.step_counts())
     }
 
-    /// Undoes the last `n` live steps, all or none. Returns how many steps are live and undone
-    /// then.
+    /// Undoes the last `n` live steps, and returns the numbers of live and undone steps then. Fails
+    /// only if fewer steps are live, and changes nothing then.
     pub(super) fn answer_back(&mut self, n: u64) -> Result<Reply, Refusal>
         ensures { IsObeyed (book_state self.old) (command.Back n)
             (record { answer = result; state = book_state self.new }) }
@@ -42,8 +44,8 @@ impl<const R: usize> Book<R> {
         self.counts_after(done)
     }
 
-    /// Makes the `n` steps again that were undone last, all or none. Returns how many steps are
-    /// live and undone then.
+    /// Makes the `n` steps again that were undone last, and returns the numbers of live and undone
+    /// steps then. Fails only if fewer steps are undone, and changes nothing then.
     pub(super) fn answer_forward(&mut self, n: u64) -> Result<Reply, Refusal>
         ensures { IsObeyed (book_state self.old) (command.Forward n)
             (record { answer = result; state = book_state self.new }) }
@@ -52,7 +54,7 @@ impl<const R: usize> Book<R> {
         self.counts_after(done)
     }
 
-    /// Returns how many steps are live and how many are undone.
+    /// Returns the reply with the numbers of live and undone steps.
     pub(super) fn step_counts(&self) -> Reply
         ensures { result ≡ step_counts (book_state self.now).session }
     {
@@ -62,7 +64,8 @@ impl<const R: usize> Book<R> {
         }
     }
 
-    /// Returns the answer to a move through the run, after the move.
+    /// Returns the answer to a move that was tried: the numbers of live and undone steps now, or
+    /// the move's refusal.
     fn counts_after(&self, done: Result<(), Refusal>) -> Result<Reply, Refusal>
         ensures ok { OnOk done (result ≡ Ok (step_counts (book_state self.now).session)) }
         ensures err { IfErr done (λ refusal. result ≡ Err refusal) }

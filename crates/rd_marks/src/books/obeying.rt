@@ -1,4 +1,4 @@
-//! A book obeys commands: each call of a book and of its session as one value, and lists of them.
+//! How a book does a command, and lists of commands.
 
 ghost use Rattle.std.specs.Prelude.{◌≡◌, [], None, Some, IsOk, OnErr, IfOk, IfErr};
 ghost use Rattle.rd_step.specs.declared.entries.Event.{Event as Happening};
@@ -21,12 +21,12 @@ impl<const R: usize> Book<R> {
     ghost use Rattle.rd_marks.specs.Headline.{Headline};
     ghost use Rattle.rd_marks.specs.Events.{as_event};
 
-    /// Obeys a command, and returns the answer.
+    /// Does a command, and returns its reply.
     ///
     /// # Errors
     ///
-    /// The refusal of the call of a book or of its session that the command is. Nothing has changed
-    /// then.
+    /// The refusal of the method that the command calls, or `NoSuchPlace` or `NoActor` if the world
+    /// doesn't have the place or actor that the command shows. A refused command changes nothing.
     #[tactic(auto, using(crate::proofs::ObeyLemmas::no_event_refused))]
     pub fn obey(&mut self, command: Command) -> Result<Reply, Refusal>
         ensures answer { IsObeyed (book_state self.old) command
@@ -76,13 +76,13 @@ impl<const R: usize> Book<R> {
         }
     }
 
-    /// Obeys commands one after another, and answers each. A refused command changes nothing, and
-    /// the next one is obeyed.
+    /// Does commands one after another, and returns the reply or refusal of each. A refused command
+    /// changes nothing, and the next one is done.
     ///
     /// # Errors
     ///
-    /// `NoMemory` if the room for the answers was refused, which never happens if there is no
-    /// command. No command was obeyed then.
+    /// `NoMemory` if memory for the list of answers was refused, which never happens if there is no
+    /// command. No command is done then.
     pub fn apply_all(
         &mut self,
         alloc: Global,
@@ -107,7 +107,8 @@ impl<const R: usize> Book<R> {
         Ok(answers)
     }
 
-    /// Makes an event of this actor happen, and returns the reply to its command.
+    /// Makes an event of this actor happen, and replies with the step's number and the result of
+    /// the call that the step ends, if it ends one. Fails as `apply` does.
     #[tactic(auto, using(rd_step::proofs::PassedUp::error_passed_up, rd_step::proofs::PassedUp::fact_passed_up, crate::proofs::AnswerLemmas::event_passed_up))]
     fn answer_event(&mut self, actor: u8, act: Act) -> Result<Reply, Refusal>
         ensures happens { Happened (book_state self.old) (record { actor = actor; act = act })

@@ -1,4 +1,4 @@
-//! The events of a book's bookmarks, and going back, which saving and loading a book need.
+//! What saving and loading a book need: the events of its bookmarks, and going back.
 
 ghost use Rattle.std.specs.Prelude.{◌≡◌, ◌≤◌, length, take, Ok};
 ghost use Rattle.rd_journal.specs.State.{back};
@@ -12,9 +12,9 @@ impl<const R: usize> Book<R> {
     ghost use Rattle.rd_marks.specs.Book.{book_state};
     ghost use Rattle.rd_marks.specs.BookState.{mark_events, mark_event, at_events, to_start, AnswersEvents};
 
-    /// Returns the event of this number, from 1, of the bookmark of this number, from 1, if there
-    /// is one. It takes no memory, and looks at each stretch once at most; `mark_events` gives all
-    /// of them at once.
+    /// Returns event `n` of bookmark `i`, both counted from 1, or `None` if there is no such
+    /// bookmark or event. It takes no memory, and looks at each stretch at most once. To read all
+    /// events, use `mark_events`.
     pub fn mark_event(&self, i: u64, n: u64) -> Option<Event>
         ensures { result ≡ mark_event (book_state self.now) i n }
     {
@@ -27,13 +27,13 @@ impl<const R: usize> Book<R> {
         }
     }
 
-    /// Returns the events of the bookmark of this number, from 1: those that were live when it was
-    /// set. It takes time that grows with their number.
+    /// Returns the events of bookmark `i`, counted from 1: those that were live when it was set. It
+    /// takes time that grows with their number.
     ///
     /// # Errors
     ///
-    /// `NoMark` if `i` is not from 1 to the number of bookmarks; else `NoMemory` if memory was
-    /// refused for the events, which never happens if there are none.
+    /// In this order: `NoMark` if `i` is not from 1 to the number of bookmarks; `NoMemory` if
+    /// memory was refused for the events, which never happens if there are none.
     pub fn mark_events(&self, alloc: Global, i: u64) -> Result<Vec<Event>, Refusal>
         ensures { AnswersEvents (mark_events (book_state self.now) i) result }
     {
@@ -49,7 +49,7 @@ impl<const R: usize> Book<R> {
         }
     }
 
-    /// Goes to the start: no step is live, and none is undone. The bookmarks stay. It takes no
+    /// Goes to the start, where no step is live and none is undone. The bookmarks stay. It takes no
     /// memory.
     pub fn to_start(&mut self)
         ensures { book_state self.new ≡ to_start (book_state self.old) }
@@ -57,8 +57,8 @@ impl<const R: usize> Book<R> {
         self.session.go_along(0);
     }
 
-    /// Goes back to the first `n` live steps, and none is undone then: 0 is the start. The bookmarks
-    /// stay. It takes no memory.
+    /// Goes back to the first `n` live steps, and leaves no undone step. With 0 it goes to the
+    /// start. The bookmarks stay. It takes no memory.
     pub fn keep_first(&mut self, n: u64)
         requires within { n ≤ length (book_state self.old).session.live }
         ensures { book_state self.new ≡ at_events (book_state self.old)

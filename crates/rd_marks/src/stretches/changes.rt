@@ -1,4 +1,4 @@
-//! Growing a list, and taking away what no node needs.
+//! Adding entries to the stretches, and removing entries that no node needs.
 
 ghost use Rattle.std.specs.Prelude.{◌≡◌, ◌↔◌, ◌<◌, ◌≤◌, ◌+◌, ◌++◌, suc, take, length, vec_capacity, IsTrue, OnOk, OnErr, IfOk, IsOk};
 ghost use Rattle.rd_marks.specs.Changes.{IsLow};
@@ -11,21 +11,23 @@ use rd_journal::EntryList;
 use rd_step::Entry;
 use std::alloc::{AllocError, Global};
 
-/// What became of the numbers of the stretches.
+/// How a change renumbered the stretches.
 #[derive(Clone, Copy)]
 pub(crate) enum Shift {
-    /// Each has its own.
+    /// Each stretch kept its number.
     Same,
-    /// A stretch was put before that of this number, so those from there on are one further.
+    /// A stretch was inserted with this number. The numbers of the stretches from there on grew by
+    /// 1.
     Up(usize),
-    /// The stretch of this number went, so those after it are one nearer.
+    /// The stretch of this number was removed. The numbers of the stretches after it fell by 1.
     Down(usize),
 }
 
 impl Shift {
     ghost use Rattle.rd_marks.specs.Changes.{shifted, IsLow};
 
-    /// Returns the node of the same entries after the shift.
+    /// Returns the node that has the same entries after the stretches were renumbered. If a stretch
+    /// was removed, the node must have none of this stretch's own entries.
     pub(crate) fn shifted(self, node: Node) -> Node
         requires { IsLow node }
         ensures { result ≡ shifted self node }
@@ -38,7 +40,8 @@ impl Shift {
     }
 }
 
-/// Returns the node that has the same entries after a stretch was inserted at this number.
+/// Returns the node that has the same entries after a stretch was inserted with number `i`. A node
+/// without entries stays as it is.
 fn after_insertion(i: usize, node: Node) -> Node
     requires { IsLow node }
     ensures { result ≡ after_insertion i node }
@@ -52,8 +55,8 @@ fn after_insertion(i: usize, node: Node) -> Node
     }
 }
 
-/// Returns the node that has the same entries after the stretch of this number was removed, none of
-/// whose own entries it had.
+/// Returns the node that has the same entries after stretch `i` was removed. The node must have
+/// none of this stretch's own entries.
 fn after_removal(i: usize, node: Node) -> Node
     ensures { result ≡ after_removal i node }
 {
@@ -66,10 +69,12 @@ fn after_removal(i: usize, node: Node) -> Node
     }
 }
 
-/// Where entries were put, and what became of the numbers of the stretches.
+/// Where the added entries are, and how the stretches were renumbered.
 #[derive(Clone, Copy)]
 pub(crate) struct Grown {
+    /// The node of the old entries with the added ones after them.
     pub(crate) node: Node,
+    /// How the stretches were renumbered.
     pub(crate) shift: Shift,
 }
 
@@ -77,14 +82,15 @@ impl Stretches {
     ghost use Rattle.rd_marks.specs.Stretches.{list_before, shared_at, entries_at, IsWithin, IsEnd, IsAlong, IsDeepest};
     ghost use Rattle.rd_marks.specs.Changes.{IsGrown, IsShrunk, KeepsItsSteps};
 
-    /// Adds to the entries of a node, with which the live steps begin, those of the other live
-    /// steps, where no list has the next of these: at the end of the node's stretch, or in a new
-    /// one.
+    /// Inserts the live entries after those of node `at`: at the end of its stretch if `at` has all
+    /// entries of the stretch's list, otherwise in a new stretch. The events of `at` must begin the
+    /// live ones, and no list may begin with one live event more. Returns the node of the entries
+    /// of `at` with the inserted ones after them, and how the stretches were renumbered.
     ///
     /// # Errors
     ///
-    /// `AllocError` if the room was refused, which never happens if there are no others. The lists
-    /// stay.
+    /// `AllocError` if memory was refused, which never happens if there is nothing to insert. All
+    /// nodes keep their entries then.
     pub(crate) fn grow(
         &mut self,
         alloc: Global,
@@ -113,7 +119,7 @@ impl Stretches {
         }
     }
 
-    /// Returns whether a node is the end of the list of its stretch.
+    /// Whether a node has all entries of its stretch's list. False if there is no such stretch.
     #[tactic(auto, using(crate::proofs::Reading::stretch_at, crate::proofs::StretchLists::total))]
     fn is_end(&self, at: Node) -> bool
         ensures { IsTrue result ↔ IsEnd self.now.list.items at }
@@ -124,12 +130,12 @@ impl Stretches {
         }
     }
 
-    /// Puts the other entries of the live steps at the end of the stretch whose list ends at a
-    /// node.
+    /// Appends the live entries after those of node `at` to its stretch, whose list must end there.
+    /// Returns the node of the longer list, and that no stretch was renumbered.
     ///
     /// # Errors
     ///
-    /// `AllocError` if the room was refused. The lists stay.
+    /// `AllocError` if memory was refused. All nodes keep their entries then.
     fn extend(&mut self, at: Node, live: &EntryList) -> Result<Grown, AllocError>
         requires end { IsEnd self.old.list.items at }
         requires more { at.number < length live.now }
@@ -151,11 +157,12 @@ impl Stretches {
         })
     }
 
-    /// Puts the other entries of the live steps into a new stretch, which shares those of a node.
+    /// Puts the live entries after those of node `at` into a new stretch, which shares the entries
+    /// of `at`. Returns the node of the new stretch's list, and how the stretches were renumbered.
     ///
     /// # Errors
     ///
-    /// `AllocError` if the room was refused. The lists stay.
+    /// `AllocError` if memory was refused. All nodes keep their entries then.
     fn branch_off(&mut self, alloc: Global, at: Node, live: &EntryList) -> Result<Grown, AllocError>
         requires within { IsWithin self.old.list.items at }
         requires more { at.number < length live.now }
@@ -186,8 +193,9 @@ impl Stretches {
         }
     }
 
-    /// Returns the first stretch after that of a node whose list shares, with the list before it,
-    /// at most as many entries as the node has; the number of stretches if there is none.
+    /// Returns the number with which a stretch that shares the entries of node `at` can be
+    /// inserted. It belongs to the first later stretch that shares at most as many entries as `at`
+    /// has. If there is none, it is the number of stretches.
     fn next_off(&self, at: Node) -> usize
         requires { IsWithin self.now.list.items at }
         ensures there { result ≤ length self.now.list.items }
@@ -205,9 +213,9 @@ impl Stretches {
         self.list.len()
     }
 
-    /// Takes away the entries of a stretch's list after the first `n`, none of which is shared by
-    /// the next one, and gives their room back; the whole stretch goes if none of its entries are
-    /// left. Returns what became of the numbers of the stretches.
+    /// Removes the entries after the first `n` from the list of stretch `i`, and gives their room
+    /// back. The next stretch must share none of them. The whole stretch goes if none of its own
+    /// entries is left. Returns how the stretches were renumbered.
     #[tactic(auto, using(crate::proofs::Reading::stretch_at, crate::proofs::StretchUses::left))]
     pub(crate) fn shrink(&mut self, i: usize, n: usize) -> Shift
         requires there { i < length self.old.list.items }
@@ -224,11 +232,12 @@ impl Stretches {
     }
 }
 
-/// Appends these entries to others.
+/// Appends the entries `more` to `entries`.
 ///
 /// # Errors
 ///
-/// `AllocError` if the room was refused. The entries stay.
+/// `AllocError` if memory was refused, which never happens if there is room already. The entries
+/// stay then.
 fn append(entries: &mut Vec<Entry>, more: &EntryList) -> Result<(), AllocError>
     ensures ok { OnOk result (entries.new.items ≡ entries.old.items ++ more.now) }
     ensures err { OnErr result (entries.new.items ≡ entries.old.items) }
@@ -242,7 +251,7 @@ fn append(entries: &mut Vec<Entry>, more: &EntryList) -> Result<(), AllocError>
     Ok(())
 }
 
-/// Keeps the first `n` entries, and gives the room of the others back.
+/// Keeps the first `n` entries, and gives back the room of the others.
 fn cut(entries: &mut Vec<Entry>, n: usize)
     ensures { entries.new.items ≡ take n entries.old.items }
 {

@@ -1,4 +1,4 @@
-//! Following a list from the start as far as the stretches have it.
+//! Finding how far the lists of the stretches agree with the live steps.
 
 ghost use Rattle.std.specs.Prelude.{◌≡◌, ◌<◌, ◌≤◌, suc, length, drop};
 ghost use Rattle.rd_step.specs.Run.{events};
@@ -10,8 +10,8 @@ use rd_step::{Entry, common_beginning};
 impl Stretches {
     ghost use Rattle.rd_marks.specs.Stretches.{shared_at, IsWithin, IsAlong, IsDeepest};
 
-    /// Returns the node with the most entries with which the live steps begin, found from a node
-    /// with whose entries they begin.
+    /// Returns the node with the most entries among those whose events begin the live ones. The
+    /// search starts at `from`, which must be such a node.
     pub(crate) fn follow(&self, from: Node, live: &EntryList) -> Node
         requires within { IsWithin self.now.list.items from }
         requires along { IsAlong self.now.list.items from.stretch from.number (events live.now) }
@@ -32,8 +32,8 @@ impl Stretches {
         at
     }
 
-    /// Returns how many of the live steps the list of a stretch begins with; the first `n` are
-    /// known, and the entries after them are the stretch's own.
+    /// Returns the number of live steps with which the list of stretch `i` begins. It must begin
+    /// with the first `n`, and its entries after these must be the stretch's own.
     #[tactic(auto, using(crate::proofs::Reading::along_steps))]
     fn along(&self, i: usize, n: usize, live: &EntryList) -> usize
         requires there { i < length self.now.list.items }
@@ -51,7 +51,7 @@ impl Stretches {
     }
 }
 
-/// Returns the node of `number` entries in this stretch if that is more than `at` has, else `at`.
+/// Returns the node of the first `number` entries of stretch `i`, or `at` if that has as many.
 fn farther(at: Node, i: usize, number: usize) -> Node
     requires { at.number ≤ number }
     ensures more { at.number < number → result ≡ record { stretch = i; number = number } }

@@ -1,4 +1,4 @@
-//! The entries of a node, lent and copied.
+//! Reading a node: one event, all events, or the entries after the first `n`.
 
 ghost use Rattle.std.specs.Prelude.{◌≡◌, ◌<◌, ◌≤◌, ◌-◌, Some, drop, slice_get, IsOk, IsSome, IfOk, IfSome, OnErr};
 ghost use Rattle.std.specs.Cow.{cow_slice_items};
@@ -13,7 +13,8 @@ use std::borrow::CowSlice;
 impl Stretches {
     ghost use Rattle.rd_marks.specs.Stretches.{entries_at, shared_at, IsWithin, IsOwn, AreInPieces};
 
-    /// Returns the event of this number, from 1, of the entries of a node, if there is one.
+    /// Returns the event of this number, counted from 1, among the entries of a node. `None` if the
+    /// node has no such entry.
     pub(crate) fn event_at(&self, of: Node, n: u64) -> Option<Event>
         requires { IsWithin self.now.list.items of }
         ensures { result ≡ numbered (events (entries_at self.now.list.items of)) n }
@@ -24,7 +25,7 @@ impl Stretches {
         Some(self.last(self.own_node(of.cut(n as usize))).event)
     }
 
-    /// Returns the last entry of a node, which must be its stretch's own.
+    /// Returns the last entry of a node. There must be one, and it must be its stretch's own.
     #[tactic(auto, using(crate::proofs::Reading::last_steps))]
     fn last(&self, of: Node) -> &Entry
         requires within { IsWithin self.now.list.items of }
@@ -36,13 +37,13 @@ impl Stretches {
         &stretch.entries[of.number - stretch.shared - 1]
     }
 
-    /// Returns the entries of a node after the first `n`: lent if they are of one stretch, as for
-    /// most nodes, else copied.
+    /// Returns the entries of a node after the first `n`: lent if they all lie in one stretch,
+    /// otherwise copied.
     ///
     /// # Errors
     ///
-    /// `AllocError` if memory was refused for a copy, which never happens if there are no such
-    /// entries, or all entries of the node are of one stretch.
+    /// `AllocError` if memory for a copy was refused. This never happens if there are no such
+    /// entries, or if all entries of the node lie in one stretch.
     pub(crate) fn entries_after(
         &self,
         alloc: Global,
@@ -63,7 +64,8 @@ impl Stretches {
         Ok(CowSlice::Owned(self.copy(alloc, own, n)?))
     }
 
-    /// Returns the entries of a node after the first `n`, if they are all of the node's stretch.
+    /// Returns the entries of a node after the first `n`, or `None` if the node's stretch shares
+    /// one of them or there is no such stretch.
     #[tactic(auto, using(crate::proofs::Reading::stretch_at, crate::proofs::Reading::lent, crate::proofs::StretchLists::total, crate::proofs::Starting::stretch_within))]
     fn slice(&self, of: Node, n: usize) -> Option<&[Entry]>
         requires present { IsWithin self.now.list.items of }
@@ -85,7 +87,8 @@ impl Stretches {
     ///
     /// # Errors
     ///
-    /// `AllocError` if memory was refused for them, which never happens if there are none.
+    /// `AllocError` if memory for the copy was refused, which never happens if there is nothing to
+    /// copy.
     #[tactic(auto, using(crate::proofs::Reading::without_last, crate::proofs::Reading::read_on))]
     fn copy(&self, alloc: Global, of: Node, n: usize) -> Result<Vec<Entry>, AllocError>
         requires present { IsWithin self.now.list.items of }
@@ -105,11 +108,11 @@ impl Stretches {
         Ok(entries)
     }
 
-    /// Returns the events of the entries of a node.
+    /// Returns the events of the entries of a node, in a list of their own.
     ///
     /// # Errors
     ///
-    /// `AllocError` if memory was refused for them, which never happens if there are none.
+    /// `AllocError` if memory was refused, which never happens if the node has no entries.
     pub(crate) fn events(&self, alloc: Global, of: Node) -> Result<Vec<Event>, AllocError>
         requires { IsWithin self.now.list.items of }
         ensures ok { IfOk result (λ list. list.items ≡ events (entries_at self.now.list.items of)) }
