@@ -1,10 +1,11 @@
--- One more call of a history.
+-- What one more call makes of a history, and of the room of its list.
 use Rattle.rd_desk.proofs.Prelude.{BookState, Call, Command, IsCapacity, IsLeftBy, IsLegal, IsObeyed, Refusal, book_state, Reply, viewer_entry, ∥∥₁_map, session_of, AreObeyed, ◌≡◌, ◌+◌, ◌*◌, ◌^◌, ◌⊎◌, inl, inr, max, suc, arith, Ok, Err, OnOk, OnErr, ℕ, List, [], ◌∷◌, ◌++◌, refl, sym, ap, map, ◌∙◌, subst, Result, journal}
 use Rattle.rd_marks.specs.declared.books.Book.{Book}
 use Rattle.rd_marks.proofs.Headlines.{book_runs}
 use Rattle.std.proofs.lemmas.Nat.{pow_pos}
 
--- the commands of these entries are answered as they record, one after another
+-- the commands of these entries, done one after another, have the recorded answers and lead to
+-- `last`
 abbrev Obeys : BookState → List (ℕ × Call) → BookState → Type 0
 Obeys b es last = AreObeyed b (map (λ e. e.1.command) es) (map (λ e. e.1.answer) es) last
 
@@ -20,7 +21,7 @@ nothing_yet b book es none same = ∣ record {
   is_run = book_runs book;
 } ∣₁
 
--- one more call is recorded
+-- if the entries led to the book, they also do with one more call that it answered as recorded
 pub one_recorded : {R : ℕ} (viewer : ℕ) (b : BookState) (before after : Book R) (old new : List (ℕ × Call)) (c : Command) (answer : Result Reply Refusal)
     → IsLeftBy b old before → IsObeyed (book_state before) c (record { answer = answer; state = book_state after })
     → (book_state after).session.start ≡ (book_state before).session.start → new ≡ old ++ viewer_entry viewer c answer ∷ [] → IsLeftBy b new after
@@ -36,12 +37,13 @@ one_recorded viewer b before after old new c answer h k start is =
 pub is_legal : {R : ℕ} (b : BookState) (book : Book R) (es : List (ℕ × Call)) → IsLeftBy b es book → IsLegal b es
 is_legal b book es h = ∥∥₁_map h (λ l. (book_state book, journal (session_of book), l))
 
--- a list that is full at one of its capacities has the next of them once it has grown
+-- a list that is full at one of the capacities of `IsCapacity` has the next one after it has grown
 next_capacity : (n : ℕ) → (n ≡ 0) ⊎ ((k : ℕ) × (n ≡ 4 * 2 ^ k)) → (n + max n 4 ≡ 0) ⊎ ((k : ℕ) × (n + max n 4 ≡ 4 * 2 ^ k))
 next_capacity n (inl none) = inr (0, omega arith)
 next_capacity n (inr (k, is)) = let some = pow_pos k in inr (suc k, omega arith)
 
--- whether a full list grew, or was refused its growth, it has one of the capacities
+-- the capacity of a full list is one of those of `IsCapacity`, whether it grew or memory was
+-- refused
 pub grown_capacity : {E : Type 0} (r : Result (Unit {0}) E) (old len new : ℕ) → IsCapacity old → len ≡ old
     → OnOk r (new ≡ max old (len + max len 4)) → OnErr r (new ≡ old) → IsCapacity new
 grown_capacity (Ok x) old len new is full ok err = ∥∥₁_map is (λ s. let e : new ≡ old + max old 4 = omega arith in subst (λ n. (n ≡ 0) ⊎ ((k : ℕ) × (n ≡ 4 * 2 ^ k))) (sym e) (next_capacity old s))

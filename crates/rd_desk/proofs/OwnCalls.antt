@@ -1,4 +1,4 @@
--- A viewer's own calls, after one call more.
+-- How a viewer's own calls grow by an answered call, and stay at a refused one.
 use Rattle.rd_desk.proofs.Prelude.{◌≡◌, ℕ, ◌+◌, List, [], ◌∷◌, ◌++◌, cond, length, refl, ap, ◌∙◌, Result, Ok, Err, arith, eq-eqb, length-append, BookState, Busy, Call, Command, DeskRefusal, HistoryFull, SeesAfter, NotRecorded, Refusal, Reply, TicketsEnded, put_by, own_grows, own_same, viewer_entry}
 
 module _ (opened : BookState) (viewer : ℕ) (old new : List (ℕ × Call)) (command : Command) where

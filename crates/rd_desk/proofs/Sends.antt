@@ -1,5 +1,5 @@
--- What a desk guards may cross threads. Rattle shows of each type of plain data that it does, in the
--- module `TheSendSync` beside the type's.
+-- A desk may be shared between threads, since what it guards may be sent. For types of plain data,
+-- Rattle itself shows this, in the module `TheSendSync` beside the type's.
 use Rattle.rd_desk.proofs.Prelude.{RattleType, IsSend, IsSync, part_keyless, sendable, recorded_send, recorded_sync, struct_send, struct_sync, shape, crosses, frees}
 use denote.Struct.Struct.{Struct}
 use denote.Struct.Owning.{shape as owning_shape}
@@ -22,30 +22,30 @@ use Rattle.rd_marks.proofs.Sends.{book_send}
 use Rattle.rd_desk.proofs.histories.History.TheSendSync as history
 use Rattle.rd_desk.specs.contracts.recording.BookWithHistoryRecorded.TheImpl as Recorded
 
--- a seat crosses if what the slots hold does
+-- a seat may be sent if what the slots hold may be
 pub seat_send : (S V : RattleType) → IsSend S → IsSend (Seat.the_row S V)
 seat_send S V s = record { owned = λ d vs. ((λ vss. (tt, ((λ uss. (tt, tt)), tt))), seat_keyless S s V.coded.code d.table_id d.id d.me); leaving = λ k f vs. tt }
 
--- and so does a reference to the table's shared part
+-- a reference to a table's shared part may be sent if what the slots hold may be
 pub shared_sync : (S V K P : RattleType) (g : Ghosts P.Denot S.Denot V.Denot K.Denot) → IsSend S → IsSync (Shared.the_row S V K P g)
 shared_sync S V K P g s =
     let fields : IsSync (Struct (owning_shape (Shared.the_type S V K P g))) = search sendable depth 20 in
     record { shared = λ d b o ν. (fields.shared (d.words, (d.slots, (tt, tt))) b o ν, shares_keyless S s V.coded.code d.table_id (g.holds d.key) d.words d.slots ν) }
 
--- a book with its history crosses
+-- a book with its history may be sent
 pub book_with_history_send : (R : RattleType) → IsSend (BookWithHistory.the_row R)
 book_with_history_send R = recorded_send _ _ _ (BookWithHistory.the_type R).to_one
     (struct_send (shape (BookWithHistory.the_type R)) (search (book_send, sendable, crosses) depth 60 fits 100000, (history.the_field_send, (search (book_send, sendable, crosses) depth 60 fits 100000, tt))))
 
--- a reference to a lease crosses
+-- a reference to a lease may be sent
 pub lease_sync : (T : RattleType) → IsSync (SendLease.the_row T Heap.the_row heap_ghosts)
 lease_sync T = record { shared = λ d b o ν q. part_keyless (SendLease.the_row T Heap.the_row heap_ghosts) (right_send T Heap.the_row heap_ghosts (record { frees = frees.frees })) q d b o }
 
--- a reference to a table crosses if what its slots hold does
+-- a reference to a table may be sent if what its slots hold may be
 pub table_sync : (S V K P : RattleType) (g : Ghosts P.Denot S.Denot V.Denot K.Denot) → IsSend S → IsSync (Table.the_field S V K P Heap.the_row g heap_ghosts).row
 table_sync S V K P g s = struct_sync (shape (Table.the_type S V K P Heap.the_row g heap_ghosts)) (shared_sync S V K P g s, (search sendable depth 20, (search sendable depth 20, (lease_sync _, (lease_sync _, (search (sendable, crosses) depth 20, tt))))))
 
--- what the slot of the lock holds crosses
+-- what the slot of the lock holds may be sent
 pub kept_send : (R : RattleType) → IsSend (Option.the_row (BookWithHistory.the_row R))
 kept_send R = search (book_with_history_send, sendable, crosses) depth 60 fits 100000
 

@@ -12,16 +12,16 @@ use Rattle.rd_desk.specs.declared.gates.DeskRefusal.TheVariants.{TicketsEnded, B
 use Rattle.rd_desk.specs.declared.histories.Call.{Call}
 use Rattle.rd_desk.specs.Histories.{Answer, IsLegal, LeavesHistory}
 
--- the refusal is not `Busy`, with which only a call that never waits is refused
+-- the refusal is not `Busy`, which only a call that never waits returns
 abbrev pub IsNotBusy : DeskRefusal → Type 0
 IsNotBusy (Busy words) = ⊥
 IsNotBusy _ = Unit {0}
 
 module _ (opened : BookState) where
-  -- the viewer of this number had seen the old history, is answered this, and has then seen the new
-  -- one. If the lock was not taken, that is the old one. If it was, the history that was found goes
-  -- on from the old one by calls of others alone, and what the call made of it is a legal history of
-  -- the book that was opened.
+  -- what a call adds to the history that the viewer of this number has seen, from `old` to `new`. A
+  -- refusal without the lock adds nothing. Otherwise the call found `old` followed by calls of
+  -- other viewers only, `new` is what the call left of that, and `new` is a legal history of the
+  -- opened book
   abbrev pub SeesAfter : ℕ → List (ℕ × Call) → Command → Answer → List (ℕ × Call) → Type 0
   SeesAfter viewer old command (Err TicketsEnded) new = new ≡ old
   SeesAfter viewer old command (Err (Busy words)) new = new ≡ old
@@ -29,23 +29,26 @@ module _ (opened : BookState) where
       (found : List (ℕ × Call)) × Continues viewer old found × LeavesHistory viewer found command answer new × IsLegal opened new
 
 module _ {T O : Type 0} {K : Ghosts T Call O} where
-  -- what a refusal without the lock tells of the two words: at `TicketsEnded` the next ticket is
-  -- beyond the last, and `Busy` has the greatest words that the viewer has seen, which differ
+  -- what a refusal without the lock tells of its two words. At `TicketsEnded` the viewer knows that
+  -- `next` has reached 2^63. `Busy` has the greatest words that the viewer has seen, and they
+  -- differ. Any other answer tells nothing of them
   abbrev pub KnowsWords : Pass T Call O K → Answer → Type 0
   KnowsWords pass (Err TicketsEnded) = IsMissed pass missed.TicketsEnded
   KnowsWords pass (Err (Busy words)) = IsMissed pass (missed.Busy words)
   KnowsWords pass answer = Unit {0}
 
   module _ (opened : BookState) (old new : Pass T Call O K) (command : Command) (answer : Answer) where
-    -- what a viewer knows after a call
+    -- what a viewer knows after a call: its pass has the same number (`same_number`) and has seen
+    -- the history that `SeesAfter` allows (`has_seen`). What it knows of the lock's words has only
+    -- grown (`grown`), and agrees with a refusal that tells of them (`words`)
     pub record KnowsOutcome : Type 0 where
       pub same_number : number new ≡ number old
       pub has_seen : SeesAfter opened (number old) (seen old) command answer (seen new)
       pub grown : KnowsMore old new
       pub words : KnowsWords new answer
 
-    -- what a viewer knows after a call that may wait, which is never `Busy`; a viewer that had seen
-    -- all tickets drawn is answered nothing but that the tickets have ended
+    -- what a viewer knows after a call that may wait. The answer is never `Busy` (`waits`). A
+    -- viewer that had seen all tickets drawn gets `TicketsEnded` (`ended`)
     pub record KnowsAfterCall : Type 0 where
       pub outcome : KnowsOutcome
       pub waits : IfErr answer IsNotBusy

@@ -1,5 +1,5 @@
--- What contracts state of a desk and of its passes. A pass is one of the lock, and what it has seen
--- and asked are the lock's `seen` and `own`.
+-- What contracts state of a desk and its passes. A pass of a desk is one of its lock; what it has
+-- seen and asked are the lock's `seen` and `own`.
 use Rattle.std.specs.Prelude.{ℕ}
 use Rattle.rd_lock.specs.declared.views.Recorded.{Ghosts}
 use Rattle.rd_lock.specs.declared.passes.Pass.{Pass}
@@ -13,19 +13,19 @@ use Rattle.rd_desk.specs.declared.histories.Call.{Call}
 use Rattle.rd_desk.specs.declared.recording.BookWithHistory.{BookWithHistory}
 
 module _ {R : ℕ} where
-  -- how many viewers the desk was opened for
+  -- the number of viewers that the desk was opened for
   abbrev pub viewers : Desk R → ℕ
   viewers desk = seats desk.lock
 
-  -- the state of the book that the desk was opened with
+  -- the state in which the desk's book was opened
   abbrev pub opened_state : Desk R → BookState
   opened_state desk = book_state (opened_origin (λ kept. kept.opened.value) desk.lock)
 
   module _ {K : Ghosts (BookWithHistory R) Call (Book R)} where
-    -- the pass is one of this desk's, and is in no call
+    -- the pass belongs to this desk, and is in no call
     abbrev pub IsViewerOf : Desk R → Pass (BookWithHistory R) Call (Book R) K → Type 0
     IsViewerOf desk pass = IsPassOf desk.lock pass × IsOut pass
 
-    -- a pass of a desk that was just opened, with both words of its lock at 0
+    -- the pass belongs to a desk that was just opened, with both words of its lock at 0
     abbrev pub IsNewViewer : Desk R → Pass (BookWithHistory R) Call (Book R) K → Type 0
     IsNewViewer desk pass = IsNewPass desk.lock 0 pass

@@ -1,4 +1,4 @@
--- The history of a desk: what its entries are, which of them are legal, and what they leave.
+-- The history of a desk: its entries, when these are legal, and what a call adds.
 use Rattle.std.specs.Prelude.{◌≡◌, ◌⊎◌, ◌<◌, ◌*◌, ◌^◌, ℕ, List, [], ◌∷◌, ◌++◌, map, length, Result, Ok, Err}
 use Rattle.rd_cell.specs.declared.refusal.Refusal.{Refusal}
 use Rattle.rd_journal.specs.Journal.{Journal}
@@ -15,40 +15,41 @@ use Rattle.rd_desk.specs.declared.histories.Call.{Call}
 use Rattle.rd_desk.specs.declared.histories.History.{History}
 pub use Rattle.rd_desk.specs.declared.histories.TheConstants.{MOST_CALLS}
 
--- what a viewer is answered: the book's answer, or the desk's refusal
+-- the answer to a viewer's call: the book's answer to the command, or the desk's refusal
 abbrev pub Answer : Type 0
 Answer = Result (Result Reply Refusal) DeskRefusal
 
--- the entries of a history, each with the number of its viewer
+-- the calls of a history in order, each with the number of its viewer
 abbrev pub entries : History → List (ℕ × Call)
 entries history = history.entries.items
 
--- the entry of a history for a viewer's command and the answer to it
+-- the entry for this viewer's command and the book's answer to it
 abbrev pub viewer_entry : ℕ → Command → Result Reply Refusal → ℕ × Call
 viewer_entry viewer command answer = (viewer, record { command = command; answer = answer })
 
--- the entries lead from a book in this state to one in the last, which keeps this: the headline
--- holds of their commands, with the answers that they record
+-- the headline holds between a book in state b and one in state `last` that keeps `kept`, for the
+-- commands of these entries and the answers that they record
 abbrev pub Leaves : BookState → List (ℕ × Call) → BookState → Journal → Type 0
 Leaves b es last kept = Headline b (map (λ e. e.1.command) es) (map (λ e. e.1.answer) es) last kept
 
--- the entries are a legal history of a book in this state: they lead to some last state (the bars
--- mean that there are states between the commands, but not which)
+-- the entries are a legal history of a book in state b: they lead to some state (the bars mean that
+-- it exists, but not which it is)
 abbrev pub IsLegal : BookState → List (ℕ × Call) → Type 0
 IsLegal b es = ∥ ((last : BookState) × (kept : Journal) × Leaves b es last kept) ∥₁
 
--- the entries are a legal history of a book in this state, and lead to this book
+-- the entries are a legal history of a book in state b, and lead to just this book
 abbrev pub IsLeftBy : {R : ℕ} → BookState → List (ℕ × Call) → Book R → Type 0
 IsLeftBy b es book = ∥ Leaves b es (book_state book) (journal (session_of book)) ∥₁
 
--- how many calls a desk's list may have room for: none at first, then 4, and then twice as many each
--- time that it has to grow (the bars mean that there is such a case, but not which)
+-- a desk's list may have room for this many calls: for none at first, then for 4, and for twice as
+-- many each time that it grows (the bars mean that there is such a case, but not which)
 abbrev pub IsCapacity : ℕ → Type 0
 IsCapacity n = ∥ (n ≡ 0) ⊎ ((k : ℕ) × (n ≡ 4 * 2 ^ k)) ∥₁
 
--- what a call under the lock leaves of the history that it finds: an answered call of this viewer is
--- added to it; a refused one is not, since the history has the most calls, or since it has one of the
--- lengths at which its list is full, where the room for one more may be refused
+-- what a call under the lock makes of the history that it found. If it is answered, the viewer's
+-- call is added. `HistoryFull` means that there are MOST_CALLS calls. `NotRecorded` means that
+-- there are fewer, at a length at which the list may be full. Both leave the history as it was, and
+-- there is no other refusal
 abbrev pub LeavesHistory : ℕ → List (ℕ × Call) → Command → Answer → List (ℕ × Call) → Type 0
 LeavesHistory viewer found command (Ok answer) new = (length found < MOST_CALLS) × (new ≡ found ++ viewer_entry viewer command answer ∷ [])
 LeavesHistory viewer found command (Err HistoryFull) new = (length found ≡ MOST_CALLS) × (new ≡ found)

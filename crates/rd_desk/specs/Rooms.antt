@@ -1,7 +1,7 @@
--- The room for a viewer's answers.
+-- The room that is made for a viewer's answers.
 use Rattle.std.specs.Prelude.{◌≡◌, [], length, Vec, vec_capacity}
 
--- the list for a viewer's answers is empty, and has just the room for one answer to each of its
+-- the list for this viewer's answers is empty, and has room for just one answer to each of its
 -- commands
 abbrev pub IsRoomFor : {P C A Z Y : Type 0} → P × Vec C Z → Vec A Y → Type 0
 IsRoomFor viewer room = (room.items ≡ []) × (vec_capacity room ≡ length viewer.1.items)

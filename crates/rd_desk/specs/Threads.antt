@@ -1,4 +1,4 @@
--- What the handle of a viewer's thread promises, and what becomes of the viewer then.
+-- What the handle of a viewer's thread promises, and what the viewer gives back.
 use Rattle.std.specs.Prelude.{◌≡◌, Option, Result, Ok, Err, Vec}
 use Rattle.std.specs.declared.alloc.Global.{Global}
 use Rattle.std.specs.declared.thread.PromisedHandle.{PromisedHandle}
@@ -7,12 +7,14 @@ use Rattle.rd_desk.specs.declared.threads.Asked.{Asked}
 use Rattle.rd_desk.specs.Histories.{Answer}
 use Rattle.rd_desk.specs.Viewers.{IsDone}
 
--- the viewer's handle promises to ask these commands of this gate with this pass; or its thread was
--- refused, and this is what its closure gave back
+-- the viewer's thread was started, and its handle promises to ask this gate the viewer's commands
+-- with the viewer's pass. Or the thread was refused, and the viewer's closure gave back what
+-- `IsDone` allows
 abbrev pub IsStarted : {G P : Type 0} → (G → P → Type 0) → (G → P → Command → Answer → P → Type 0) → G → P × Vec Command Global → Result (PromisedHandle (P × Option (Vec Answer Global)) (Asked G P)) (P × Option (Vec Answer Global)) → Type 0
 IsStarted takes told gate viewer (Err done) = IsDone (takes gate) (told gate) viewer.0 viewer.1.items done
 IsStarted takes told gate viewer (Ok handle) = (handle.promise.gate.value ≡ gate) × (handle.promise.pass.value ≡ viewer.0) × (handle.promise.commands.value ≡ viewer.1)
 
--- whichever viewer was so started at whichever gate gave this back
+-- for each gate and viewer for which this handle may have been started, `done` is what the viewer
+-- gives back
 abbrev pub IsJoined : {G P : Type 0} → (G → P → Type 0) → (G → P → Command → Answer → P → Type 0) → Result (PromisedHandle (P × Option (Vec Answer Global)) (Asked G P)) (P × Option (Vec Answer Global)) → P × Option (Vec Answer Global) → Type 0
 IsJoined {G = G} {P = P} takes told handle done = (gate : G) (viewer : P × Vec Command Global) → IsStarted takes told gate viewer handle → IsDone (takes gate) (told gate) viewer.0 viewer.1.items done

@@ -1,4 +1,4 @@
--- What becomes of viewers that each ask a list of commands.
+-- How the runs of viewers end that each ask a list of commands.
 use Rattle.std.specs.Prelude.{◌≡◌, List, [], ◌∷◌, Option, Some, None, Vec}
 use Rattle.std.specs.declared.alloc.Global.{Global}
 use Rattle.rd_marks.specs.declared.commands.Command.{Command}
@@ -7,27 +7,28 @@ use Rattle.rd_desk.specs.declared.viewers.Ran.{Ran}
 use Rattle.rd_desk.specs.declared.viewers.Ran.TheVariants as outcome
 
 module _ {P : Type 0} where
-  -- the commands were asked one after another, and these are their answers: each leads, by the
-  -- relation, from what the one before left to what it leaves itself
+  -- the commands were asked one after another, with one answer each. R relates the pass before a
+  -- command, the command, its answer and the pass after it; the passes lead from `first` to `last`
   abbrev pub IsChain : (P → Command → Answer → P → Type 0) → P → List Command → List Answer → P → Type 0
   IsChain R first [] [] last = last ≡ first
   IsChain R first [] (answer ∷ answers) last = ⊥
   IsChain R first (c ∷ cs) [] last = ⊥
   IsChain R first (c ∷ cs) (answer ∷ answers) last = (next : P) × R first c answer next × IsChain R next cs answers last
 
-  -- what a viewer's closure gives back: its pass as it was, which asked nothing, or the pass with the
-  -- answers to its commands, which were asked one after another; the gate takes the pass
+  -- what a viewer's closure gives back: the pass as it was, with None, if it asked nothing;
+  -- otherwise the pass after all commands, with their answers. The gate takes this pass in both
+  -- cases
   abbrev pub IsDone : {Z : Type 0} → (P → Type 0) → (P → Command → Answer → P → Type 0) → P → List Command → P × Option (Vec Answer Z) → Type 0
   IsDone takes told first commands (last, None) = takes last × (last ≡ first)
   IsDone takes told first commands (last, Some answers) = takes last × IsChain told first commands answers.items last
 
-  -- what became of a viewer: its thread was refused, or its commands were asked one after another
-  -- with these answers, and the gate takes the pass that it has then
+  -- how the run of a viewer ended: its thread was refused; or its commands were asked one after
+  -- another with these answers, and the gate takes the pass that it has then
   abbrev pub IsRan : {Z : Type 0} → (P → Type 0) → (P → Command → Answer → P → Type 0) → P × Vec Command Z → Ran P → Type 0
   IsRan takes told viewer outcome.NoMemory = Unit {0}
   IsRan takes told viewer (outcome.Answered pass answers) = takes pass × IsChain told viewer.0 viewer.1.items answers.items pass
 
-  -- what became of a viewer, by what it gave back
+  -- how the run of a viewer ended, from what it gave back
   abbrev pub ran_of : P × Option (Vec Answer Global) → Ran P
   ran_of (pass, Some answers) = outcome.Answered pass answers
   ran_of (pass, None) = outcome.NoMemory

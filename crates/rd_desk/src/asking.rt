@@ -1,7 +1,8 @@
-//! The calls of a desk: a viewer asks one command.
+//! The calls of a desk: how a viewer asks a command.
 //!
-//! A call takes the lock, lets the book obey the command and record the call, and puts the book
-//! back. The call happens as it is put back, at the one add to the word `served`.
+//! A call takes the lock, lets the book do the command, records the command with its answer, and
+//! puts the book back. It takes effect where it puts the book back, with the one fetch-and-add on
+//! the lock's word `served`.
 
 ghost use Rattle.std.specs.Prelude.{◌≡◌, ◌^◌, Err, IfErr};
 ghost use Rattle.rd_lock.specs.Locks.{next_seen, IsPassOf, IsTaken};
@@ -18,13 +19,14 @@ use std::sync::Wait;
 impl<const R: usize> Desk<R> {
     ghost use Rattle.rd_desk.specs.declared.gates.DeskRefusal.TheVariants.{TicketsEnded};
 
-    /// Asks one command and returns the answer. It waits for the viewers before it.
+    /// Asks one command and returns the book's answer. It waits for the viewers that drew a ticket
+    /// before.
     ///
     /// # Errors
     ///
-    /// `TicketsEnded` if this pass saw that all tickets of the lock are drawn. Under the lock, in
-    /// this order: `HistoryFull` if the history has `MOST_CALLS` calls; `NotRecorded` if it fills its
-    /// list and the room for more was refused. The book is then unchanged.
+    /// `TicketsEnded` if this pass saw that all tickets of the lock are drawn. Otherwise, in this
+    /// order: `HistoryFull` if the history has `MOST_CALLS` calls; `NotRecorded` if its list is
+    /// full and memory for a longer one was refused. The book doesn't do a refused command.
     pub fn ask<W: Wait>(&self, rt: &W, pass: &mut DeskPass<R>, command: Command) -> Answer
         requires own { IsViewerOf self.now pass.old }
         ensures own { IsViewerOf self.now pass.new }
@@ -36,11 +38,12 @@ impl<const R: usize> Desk<R> {
         }
     }
 
-    /// Asks one command if the lock is free, and returns the answer. It never waits.
+    /// Asks one command if the lock is free, and returns the book's answer. It never waits.
     ///
     /// # Errors
     ///
-    /// `Busy` if the lock isn't free; otherwise those of `ask`.
+    /// `Busy` if the lock isn't free; otherwise those of `ask`. The book doesn't do a refused
+    /// command.
     pub fn try_ask(&self, pass: &mut DeskPass<R>, command: Command) -> Answer
         requires own { IsViewerOf self.now pass.old }
         ensures own { IsViewerOf self.now pass.new }
@@ -55,8 +58,9 @@ impl<const R: usize> Desk<R> {
         }
     }
 
-    /// Lets the book that the pass took obey a command, records the call if there is room, puts the
-    /// book back, and returns the answer, or why the call was not recorded.
+    /// Lets the book do the command, records the call, puts the book back into the lock, and
+    /// returns the book's answer. Fails with `HistoryFull` or `NotRecorded` if the call can't be
+    /// recorded; the book doesn't do the command then, and is put back too.
     fn record_and_put_back(
         &self,
         pass: &mut DeskPass<R>,

@@ -1,5 +1,5 @@
-//! The desk: a book with its history under the ticket lock. Opening, meeting and closing; the calls
-//! are in `asking`.
+//! The desk: a book with its history under the ticket lock. Here are opening, comparing passes and
+//! closing; the calls are in `asking`.
 
 ghost use Rattle.std.specs.Prelude.{◌≡◌, ◌<◌, ◌≤◌, ◌^◌, map, IfOk, IfErr, IsOk};
 ghost use Rattle.rd_lock.specs.Histories.{AreAll, AreComparable};
@@ -15,7 +15,7 @@ use rd_lock::{Busy, NoMemory, Pass, TicketLock};
 use rd_marks::Book;
 use std::alloc::Global;
 
-/// How many viewers a desk may have.
+/// The greatest number of viewers of a desk.
 pub const MOST_VIEWERS: u64 = 64;
 
 /// A viewer's right to ask: a pass of the desk's lock. Its number is the viewer's, from 1.
@@ -24,16 +24,17 @@ pub type DeskPass<const R: usize> = Pass<BookWithHistory<R>>;
 /// One debugger that several viewers share.
 #[derive(Drop)]
 pub struct Desk<const R: usize> {
+    /// The ticket lock that guards the book and its history.
     pub(crate) lock: TicketLock<BookWithHistory<R>>,
 }
 
 impl<const R: usize> Desk<R> {
-    /// Returns a desk over the book, with an empty history, and a pass for each viewer, numbered
-    /// from 1.
+    /// Returns a desk over the book, with an empty history, and one pass for each viewer. The
+    /// passes are numbered from 1.
     ///
     /// # Errors
     ///
-    /// `NoMemory` with the book if memory was refused.
+    /// `NoMemory` if memory was refused. It gives the book back.
     pub fn open(
         alloc: Global,
         book: Book<R>,
@@ -58,9 +59,9 @@ impl<const R: usize> Desk<R> {
         }
     }
 
-    /// Lets two passes learn that what one of them has seen is a beginning of what the other has
-    /// seen. Returns the ticket that is served then, which is at least each that either of the two
-    /// had seen served, and the two passes.
+    /// Compares two passes: the history that one has seen begins with the history that the other
+    /// has seen. Returns the ticket that is served now, and both passes, which have then seen it
+    /// served. Neither had seen a later ticket served.
     pub fn meet(&self, one: DeskPass<R>, other: DeskPass<R>) -> (u64, DeskPass<R>, DeskPass<R>)
         requires own { IsViewerOf self.now one × IsViewerOf self.now other }
         ensures own { IsViewerOf self.now result.1 × IsViewerOf self.now result.2 }
@@ -76,9 +77,9 @@ impl<const R: usize> Desk<R> {
     ///
     /// # Errors
     ///
-    /// `Busy` if the two words of the lock differ, with these words. Neither is below what a pass that
-    /// was handed in has seen. Book and history are then lost. It never happens if all passes are
-    /// handed in; a pass that was dropped inside a call may have kept the book.
+    /// `Busy` with the two words of the lock if they differ. Neither is below what a pass in
+    /// `passes` has seen. The book and the history are lost then. This never happens if all passes
+    /// are handed in; a pass that was dropped inside a call may still hold the book.
     pub fn close(self, passes: Vec<DeskPass<R>>) -> Result<(Book<R>, History), Busy>
         requires own { AllByRecursion (IsViewerOf self) passes.items }
         ensures ok { IfOk result (λ closed. IsClosedOver self.entry.lock passes.entry.items

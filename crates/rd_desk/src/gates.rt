@@ -1,4 +1,4 @@
-//! What viewers ask: a desk, or another type in its place.
+//! What viewers ask: a desk, or another type in its place (a gate).
 
 ghost use Rattle.rd_marks.specs.declared.commands.Command.{Command};
 ghost use Rattle.rd_desk.specs.Histories.{Answer};
@@ -9,12 +9,12 @@ use rd_lock::Busy;
 use rd_marks::{Command, Reply};
 use std::sync::Wait;
 
-/// Why a desk did not let its book obey a command.
+/// Why a desk refused a call, so that its book didn't do the command.
 #[derive(Clone, Copy, Debug, PartialEq, Eq)]
 pub enum DeskRefusal {
-    /// 21: the history has as many calls as it may have.
+    /// 21: the history has `MOST_CALLS` calls.
     HistoryFull,
-    /// 31: the room for one more call in the history was refused.
+    /// 31: memory for one more call in the history was refused.
     NotRecorded,
     /// 29: all tickets of the lock are drawn.
     TicketsEnded,
@@ -22,19 +22,23 @@ pub enum DeskRefusal {
     Busy(Busy),
 }
 
-/// What a viewer is answered: the book's answer, or the desk's refusal.
+/// The answer to a viewer's call: the book's answer to the command, or the desk's refusal.
 pub type Answer = Result<Result<Reply, Refusal>, DeskRefusal>;
 
-/// What viewers can ask, each with its own pass.
+/// Something that viewers can ask, each with its own pass.
 pub trait Gate {
-    /// The right that a viewer needs in order to ask.
+    /// A viewer's right to ask.
     type Pass: Send + Drop;
 
+    /// The pass is one with which this gate can be asked.
     ghost takes: { Self → Self.Pass → Type 0 };
 
+    /// What the gate's contract states of a call: from the pass before, the command, the answer and
+    /// the pass after.
     ghost told: { Self → Self.Pass → Command → Answer → Self.Pass → Type 0 };
 
-    /// Asks one command and returns the answer. It may wait.
+    /// Asks one command and returns the answer. It may wait. The implementing type says which
+    /// refusals it returns.
     fn ask<R: Wait>(&self, rt: &R, pass: &mut Self::Pass, command: Command) -> Answer
         requires own { takes self.now pass.old }
         ensures own { takes self.now pass.new }
@@ -51,7 +55,7 @@ impl<const N: usize> Gate for Desk<N> {
 
     ghost told = { λ desk pass command answer after. KnowsAfterCall (opened_state desk) pass after command answer };
 
-    /// Asks one command as `Desk::ask` does, and returns the answer.
+    /// Asks one command as `Desk::ask` does, with the same refusals.
     fn ask<R: Wait>(&self, rt: &R, pass: &mut DeskPass<N>, command: Command) -> Answer {
         Desk::ask(self, rt, pass, command)
     }

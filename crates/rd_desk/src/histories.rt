@@ -1,26 +1,27 @@
-//! What the viewers did: their calls, in the one order in which the book obeyed them.
+//! What the viewers asked: their calls, in the order in which the book did them.
 
 ghost use Rattle.std.specs.Prelude.{◌≡◌, length};
 
 use rd_cell::Refusal;
 use rd_marks::{Command, Reply};
 
-/// How many calls a history may have.
+/// The greatest number of calls in a history.
 pub const MOST_CALLS: usize = 100_000;
 
-/// One call: a command, and what the book answered. It is plain data: copying it takes no memory.
+/// One call: a command and the book's answer. It is plain data: copying it takes no memory.
 #[derive(Clone, Copy, Debug, PartialEq, Eq)]
 pub struct Call {
     /// The command.
     pub command: Command,
-    /// What the book answered.
+    /// The book's answer to it.
     pub answer: Result<Reply, Refusal>,
 }
 
-/// The calls of all viewers, in the order in which the book obeyed them, each with the number of
-/// its viewer.
+/// The calls of all viewers, in the order in which the book did them, each with the number of its
+/// viewer.
 #[derive(Drop)]
 pub struct History {
+    /// The number of the viewer and the call, for each call.
     pub(crate) entries: Vec<(u64, Call)>,
 }
 
@@ -35,8 +36,8 @@ impl History {
         self.entries.len() as u64
     }
 
-    /// Returns the call of this number, from 1, with the number of its viewer; none if the number
-    /// is 0 or above that of the calls.
+    /// Returns the call of this number, counted from 1, with the number of its viewer. `None` if
+    /// there is no such call.
     pub fn call(&self, number: u64) -> Option<(u64, Call)>
         ensures { result ≡ numbered (entries self.now) number }
     {

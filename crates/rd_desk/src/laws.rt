@@ -1,5 +1,5 @@
-//! What a viewer's own calls are, and that the headline holds of each history: laws, each of which
-//! is the contract of a function that does nothing.
+//! Two laws, each the contract of a function that does nothing: how a viewer's own calls grow, and
+//! that the headline holds of each history.
 
 ghost use Rattle.std.specs.Prelude.{◌≡◌, ℕ, List, [], ◌∷◌, ◌++◌, length, Result, Ok, Err};
 ghost use Rattle.rd_cell.specs.declared.refusal.Refusal.{Refusal};
@@ -15,8 +15,8 @@ ghost use Rattle.rd_desk.specs.Histories.{entries, viewer_entry, IsLeftBy};
 
 use super::recording::BookWithHistory;
 
-/// A viewer's own calls grow by just the call that was answered, which is last in what it has seen,
-/// and by no call that was refused.
+/// A viewer's own calls grow by just the answered call, which is the last one that the viewer has
+/// seen. A refused call leaves them as they are.
 pub fn own_calls_grow_by_the_answered_one()
     ensures answered { (opened : BookState) (viewer : ℕ) (old new : List (ℕ × Call))
         (command : Command) (answer : Result Reply Refusal)
@@ -29,8 +29,8 @@ pub fn own_calls_grow_by_the_answered_one()
         → put_by viewer 1 new ≡ put_by viewer 1 old }
 {}
 
-/// Whenever the lock is taken, the headline holds from the book that was opened to the book that is
-/// there, over the commands of the history and the answers that it records.
+/// Whenever the lock is taken, the headline holds between the opened book and the book that is
+/// there now, for the commands of the history and the answers that it records.
 pub fn the_headline_holds_of_a_history<const R: usize>(kept: &BookWithHistory<R>)
     ensures { IsLeftBy (book_state kept.now.opened.value)
         (entries kept.now.history) kept.now.book.value }

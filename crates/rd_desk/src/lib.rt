@@ -1,7 +1,7 @@
-//! The desk: several viewers share one debugger, and each may rely on what its contract states of
-//! the one history that all of them made.
+//! The desk: several viewers share one debugger. The contract of each viewer's call is about the
+//! one history that all of them make.
 //!
-//! A call is one command that the book obeys under the lock, and one entry of the history. A
+//! A call is one command that the book does under the lock, and one entry of the history. A
 //! viewer's contract states how the history that it has seen grows, whatever the other viewers did
 //! in between.
 #![tactic(auto)]

@@ -1,10 +1,10 @@
 //! What the lock guards: a book, and the history that led to it.
 //!
-//! That the headline holds of the history, from the book that was opened to the book that is there,
-//! is a fact of the type, so it holds whenever the lock is taken. A command is obeyed only where
-//! there is room to record it. For how many calls the list may have room is a fact of the type too,
-//! so that a viewer knows at which lengths a call may be refused for want of it. The book is kept in
-//! a box, so that a call moves a few words into the lock and out of it, and not the book.
+//! The headline holds of the history, from the opened book to the present one. This is an invariant
+//! of the type, so it holds whenever the lock is taken. The book does a command only if there is
+//! room to record it. Another invariant states for how many calls the list may have room, so that a
+//! viewer knows at which lengths memory may be refused. The book is in a box, so a call moves a few
+//! words into the lock and out of it, and not the book.
 
 ghost use Rattle.std.specs.Prelude.{◌≡◌, ◌<◌, ◌≤◌, [], length, vec_len, vec_capacity, IfOk, OnOk, IfErr, OnErr};
 ghost use Rattle.rd_marks.specs.Book.{book_state};
@@ -18,11 +18,14 @@ use rd_marks::{Book, Command};
 use std::alloc::{AllocError, Global};
 use std::snapshot::Snapshot;
 
-/// A book with its history, and, for contracts alone, the book that was opened.
+/// A book with its history. For contracts alone, it also has the book that was opened.
 #[derive(Drop)]
 pub struct BookWithHistory<const R: usize> {
+    /// The book as it is now.
     pub(crate) book: Box<Book<R>>,
+    /// The calls that led from the opened book to this one.
     pub(crate) history: History,
+    /// The book that was opened; it exists for contracts only.
     pub(crate) opened: Snapshot<Book<R>>,
     ghost legal: { IsLeftBy (book_state opened.value) (entries history) book.value },
     ghost few: { length (entries history) ≤ most_calls },
@@ -44,7 +47,7 @@ impl<const R: usize> BookWithHistory<R> {
     ///
     /// # Errors
     ///
-    /// The book comes back if the room for it was refused.
+    /// The book itself, if memory for its box was refused.
     pub(crate) fn new(alloc: Global, book: Book<R>) -> Result<BookWithHistory<R>, Book<R>>
         ensures book { IfOk result (λ kept. kept.book.value ≡ book.entry) }
         ensures opened { IfOk result (λ kept. kept.opened.value ≡ book.entry) }
@@ -64,12 +67,13 @@ impl<const R: usize> BookWithHistory<R> {
         }
     }
 
-    /// Lets the book obey a command, records the call as the viewer's, and returns the answer.
+    /// Lets the book do a command, records the call under the viewer's number, and returns the
+    /// book's answer.
     ///
     /// # Errors
     ///
-    /// In this order: `HistoryFull` if there are `MOST_CALLS` calls; `NotRecorded` if the room for
-    /// one more was refused. Book and history are then unchanged.
+    /// In this order: `HistoryFull` if the history has `MOST_CALLS` calls; `NotRecorded` if its
+    /// list is full and memory for a longer one was refused. Book and history are unchanged then.
     pub(crate) fn record(&mut self, viewer: u64, command: &Command) -> Answer
         ensures recorded { LeavesHistory viewer (entries self.old.history) command.now result
             (entries self.new.history) }
@@ -93,11 +97,11 @@ impl<const R: usize> BookWithHistory<R> {
     }
 }
 
-/// For how many calls the list of a history has room when it has grown once.
+/// The number of calls for which a history's list has room after it has grown once.
 const FIRST_ROOM: usize = 4;
 
-/// Makes room for one more call. Where there is none, the list grows by as many calls as it has, but
-/// by `FIRST_ROOM` at least.
+/// Makes room for one more call, if there is none: the list grows by as many calls as it has, and
+/// at least by `FIRST_ROOM`. Fails only if memory is refused, and the list stays full then.
 fn make_room(calls: &mut Vec<(u64, Call)>) -> Result<(), AllocError>
     requires grown { IsCapacity (vec_capacity calls.old) }
     ensures grown { IsCapacity (vec_capacity calls.new) }

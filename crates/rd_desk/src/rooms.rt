@@ -1,4 +1,4 @@
-//! The room that a run of viewers takes, all of it made before the first command is asked.
+//! The room that a run of viewers needs. All of it is made before the first command is asked.
 
 ghost use Rattle.std.specs.Prelude.{◌≡◌, [], length, vec_capacity, IfOk};
 ghost use Rattle.std.specs.List.{AllZip};
@@ -9,19 +9,19 @@ use super::threads::{Done, Started};
 use rd_marks::Command;
 use std::alloc::{AllocError, Global};
 
-/// The lists that a run of viewers fills, with their room.
+/// The lists that a run of viewers fills, with room for all that they will have.
 pub(crate) struct Room<G: Gate> {
-    /// For the answers of each viewer.
+    /// For each viewer, the list of its answers.
     pub(crate) answers: Vec<Vec<Answer>>,
-    /// For the handles of the threads.
+    /// For each viewer, its thread, or what its closure gave back if the thread was refused.
     pub(crate) started: Vec<Started<G>>,
-    /// For what each viewer gives back.
+    /// For each viewer, what it gave back.
     pub(crate) dones: Vec<Done<G>>,
 }
 
 impl<G: Gate> Room<G> {
-    /// Returns empty lists with just the room that a run of these viewers takes, or fails if memory
-    /// was refused.
+    /// Returns empty lists with just the room that a run of these viewers needs. Fails only if
+    /// memory is refused.
     pub(crate) fn for_viewers(
         alloc: Global,
         work: &Vec<(G::Pass, Vec<Command>)>,

@@ -1,9 +1,8 @@
 //! The threads of a run of viewers.
 //!
-//! What a thread gives back is known by the promise that its handle carries: which pass it was
-//! given, and which commands. Where a thread is refused, the closure that it was to run comes back.
-//! It is then called here, and hands on its pass without asking anything, since the word `refused`
-//! has its viewer's index.
+//! The promise in a thread's handle states which pass and which commands its viewer was given. If a
+//! thread is refused, its closure comes back and is called here. It then gives back its pass
+//! without asking anything, because the word `refused` has its viewer's index.
 
 ghost use Rattle.std.specs.Prelude.{◌≡◌, ◌≤◌, [], length, vec_capacity};
 ghost use Rattle.std.specs.List.{AllByRecursion, AllZip};
@@ -20,18 +19,23 @@ use std::sync::atomic::{AtomicU64, Ordering};
 use std::thread;
 use std::thread::{Promise, PromisedHandle, Scope, Threads};
 
-/// What a viewer's closure gives back: its pass, and the answers, or none if it asked nothing.
+/// What a viewer's closure gives back: its pass and the answers, or its pass and `None` if it asked
+/// nothing.
 pub(crate) type Done<G> = (<G as Gate>::Pass, Option<Vec<Answer>>);
 
-/// A viewer's thread, or, if it was refused, what its closure gave back.
+/// The handle of a viewer's thread, or what the viewer's closure gave back if the thread was
+/// refused.
 pub(crate) type Started<G> = Result<PromisedHandle<Done<G>, Asked<G>>, Done<G>>;
 
-/// The promise that each of these commands was asked, beginning with this pass, or that the pass is
-/// as it was.
+/// The promise that this gate was asked each of these commands in order, first with this pass; or
+/// that nothing was asked, and the pass is as it was.
 #[derive(Drop)]
 pub(crate) struct Asked<G: Gate> {
+    /// The gate that is asked.
     gate: Snapshot<G>,
+    /// The viewer's pass before the first command.
     pass: Snapshot<G::Pass>,
+    /// The commands, in order.
     commands: Snapshot<Vec<Command>>,
 }
 
@@ -39,8 +43,8 @@ impl<G: Gate> Promise<Done<G>> for Asked<G> {
     ghost kept_by = { λ asked done. IsDone (G.takes asked.gate.value) (G.told asked.gate.value) asked.pass.value asked.commands.value.items done };
 }
 
-/// Asks each command in order, and returns the pass and the answers. If `refused` is this viewer, it
-/// asks nothing.
+/// Asks each command in order, and returns the pass with the answers. If the word `refused` has
+/// this viewer's index, it asks nothing and returns the pass as it was, with `None`.
 fn ask_all<R: Wait, G: Gate>(
     rt: &R,
     gate: &G,
@@ -65,8 +69,8 @@ fn ask_all<R: Wait, G: Gate>(
     (pass, Some(answers))
 }
 
-/// Starts a thread for each viewer, in order. A viewer whose thread is refused asks nothing, and has
-/// its pass as it was.
+/// Starts a thread for each viewer, in order, and returns their handles. For a viewer whose thread
+/// is refused, it returns what the closure gives back: the pass as it was, since it asks nothing.
 fn start_all<'s, E: 's, R: Threads + Wait + Sync, G: Gate + Sync>(
     scope: &'s Scope<'s, E>,
     rt: &'s R,
@@ -110,7 +114,8 @@ fn start_all<'s, E: 's, R: Threads + Wait + Sync, G: Gate + Sync>(
     started
 }
 
-/// Waits for each thread, in order, and adds what its viewer gave back to `dones`.
+/// Waits for each thread, in order, and returns what each viewer gave back. The list `dones` must
+/// have room for this.
 fn join_all<R: Threads, G: Gate>(
     rt: &R,
     started: Vec<Started<G>>,
@@ -129,7 +134,8 @@ fn join_all<R: Threads, G: Gate>(
     dones
 }
 
-/// Runs all viewers, each in its own thread of one scope, and returns what each gave back.
+/// Runs all viewers, each in its own thread of one scope, and returns what each gave back. All
+/// lists must have their room.
 pub(crate) fn run_all<R: Threads + Wait + Sync, G: Gate + Sync>(
     rt: &R,
     gate: &G,

@@ -1,7 +1,7 @@
 //! Viewers that each ask a list of commands, in their own threads.
 //!
-//! All room for answers is made before the first command is asked. Then each viewer gets a thread
-//! in one scope, in the viewers' order, and the threads are waited for in that order.
+//! All room for answers is made before the first command is asked. Then one scope starts a thread
+//! for each viewer, in the viewers' order, and waits for the threads in that order.
 
 ghost use Rattle.std.specs.Prelude.{◌≡◌, ◌≤◌, [], length, map, vec_capacity, IfOk, IfErr};
 ghost use Rattle.std.specs.List.{AllByRecursion, AllZip};
@@ -16,7 +16,7 @@ use std::alloc::Global;
 use std::sync::Wait;
 use std::thread::Threads;
 
-/// What became of a viewer.
+/// How the run of one viewer ended.
 #[derive(Drop)]
 pub enum Ran<P> {
     /// Each of its commands was asked.
@@ -26,16 +26,18 @@ pub enum Ran<P> {
         /// The answers, one for each command, in order.
         answers: Vec<Answer>,
     },
-    /// 20: its thread was refused. It asked nothing, and its pass is dropped.
+    /// 20: its thread was refused. It asked nothing, and its pass was dropped.
     NoMemory,
 }
 
-/// Asks each viewer's commands in order, each viewer in its own thread, waits for all of them, and
-/// returns each one's pass with the answers, or with none if its thread was refused.
+/// Asks each viewer's commands in order, each viewer in its own thread, and waits for all threads.
+/// Returns each viewer's pass with its answers. If a viewer's thread was refused, it returns the
+/// pass as it was, with `None`.
 ///
 /// # Errors
 ///
-/// `NoMemory` with the work if the room for the answers was refused. No command was asked then.
+/// `NoMemory` if memory for the answers was refused. It gives the work back, and no command was
+/// asked.
 pub fn ask_viewers<R: Threads + Wait + Sync, G: Gate + Sync>(
     rt: &R,
     alloc: Global,
@@ -54,11 +56,13 @@ pub fn ask_viewers<R: Threads + Wait + Sync, G: Gate + Sync>(
     }
 }
 
-/// Asks each viewer's commands as `ask_viewers` does, and returns what became of each.
+/// Asks each viewer's commands as `ask_viewers` does, and returns how the run of each ended. It
+/// drops the pass of a viewer whose thread was refused.
 ///
 /// # Errors
 ///
-/// `NoMemory` with the work if the room for the answers was refused. No command was asked then.
+/// `NoMemory` if memory for the answers or for the result was refused. It gives the work back, and
+/// no command was asked.
 pub fn run_viewers<R: Threads + Wait + Sync, G: Gate + Sync>(
     rt: &R,
     alloc: Global,
@@ -77,7 +81,8 @@ pub fn run_viewers<R: Threads + Wait + Sync, G: Gate + Sync>(
     Ok(rans_of::<G>(dones, rans))
 }
 
-/// Adds to `rans` what became of each viewer, by what it gave back.
+/// Returns how the run of each viewer ended, from what it gave back. The list `rans` must have room
+/// for this. It drops the pass of a viewer without answers.
 fn rans_of<G: Gate>(dones: Vec<Done<G>>, mut rans: Vec<Ran<G::Pass>>) -> Vec<Ran<G::Pass>>
     requires { (rans.items ≡ []) × (length dones.items ≤ vec_capacity rans) }
     ensures { result.items ≡ map ran_of dones.items }
