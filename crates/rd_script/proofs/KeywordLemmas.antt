@@ -1,5 +1,4 @@
--- The keywords and the kinds of places: each has a text of its own, by which it is found among all
--- of them.
+-- Keywords and kinds of places: each has a text of its own, which finds it among all of them.
 use Rattle.rd_script.proofs.Prelude.{◌≡◌, ◌≢◌, ◌∙◌, ℕ, suc, ◌<◌, Bool, true, false, true≢false, List, [], ◌∷◌, length, Option, Some, None, if◌then◌else◌, nat_eq, slice_index_or, refl, sym, ap, arith, Keyword, PlaceKind, keyword_text, kind_text, unwrap_or, is_some}
 use Rattle.rd_script.specs.declared.reading.keywords.Keyword.TheVariants as keyword
 use Rattle.rd_script.specs.declared.reading.places.PlaceKind.TheVariants as kind
@@ -7,12 +6,12 @@ use Rattle.rd_script.specs.declared.reading.keywords.TheConstants.Keyword.{ALL a
 use Rattle.rd_script.specs.declared.reading.places.TheConstants.PlaceKind.{ALL as kinds}
 use Rattle.std.specs.Cmp.Lexicographic.{pointwise, same_text}
 
--- the first of these that has the text
+-- the first of these whose text is the word
 abbrev first_with : {K : Type 0} → (K → List ℕ) → List ℕ → List K → Option K
 first_with text word [] = None
 first_with text word (k ∷ ks) = if pointwise nat_eq word (text k) then Some k else first_with text word ks
 
--- there is none if no text is the word
+-- if no text is the word, none is found
 none_first : {K : Type 0} (text : K → List ℕ) (word : List ℕ) (d : K) (ks : List K) → ((i : ℕ) → i < length ks → word ≢ text (slice_index_or ks i d)) → first_with text word ks ≡ None
 none_first text word d [] none = refl
 none_first text word d (k ∷ ks) none = go (pointwise nat_eq word (text k)) refl (none_first text word d ks (λ i below. none (suc i) (omega (arith, below)))) where
@@ -20,13 +19,13 @@ none_first text word d (k ∷ ks) none = go (pointwise nat_eq word (text k)) ref
   go true e rest = absurd (none 0 (omega arith) (same_text word (text k) (sym e)))
   go false e rest = rest
 
--- of things that are each found by their text
+-- Things each of which is found by its own text
 module _ {K : Type 0} (text : K → List ℕ) (all : List K) (found : (k : K) → first_with text (text k) all ≡ Some k) where
-  -- two of one text are one
+  -- two things with one text are equal
   one_of_text : (k m : K) → text k ≡ text m → k ≡ m
   one_of_text k m e = ap (λ o. unwrap_or o k) (sym (found k) ∙ ap (λ word. first_with text word all) e ∙ found m)
 
-  -- a word that is the text of none in the list is the text of none
+  -- a word that is no text in the list is the text of no thing
   none_of_text : (word : List ℕ) (d : K) → ((i : ℕ) → i < length all → word ≢ text (slice_index_or all i d)) → (k : K) → word ≢ text k
   none_of_text word d none k e = true≢false (sym (ap is_some (ap (λ w. first_with text w all) e ∙ found k)) ∙ ap is_some (none_first text word d all none))
 
@@ -36,14 +35,14 @@ keyword_is_found k = grind arith
 kind_is_found : (k : PlaceKind) → first_with kind_text (kind_text k) kinds ≡ Some k
 kind_is_found k = grind arith
 
--- so two keywords of one text are one, and a word that is none of them is none
+-- two keywords with one text are equal, and a word that is no text in the list is no keyword's
 pub one_keyword : (k m : Keyword) → keyword_text k ≡ keyword_text m → k ≡ m
 one_keyword k m e = one_of_text keyword_text keywords keyword_is_found k m e
 
 pub none_of_all : (word : List ℕ) → ((i : ℕ) → i < length keywords → word ≢ keyword_text (slice_index_or keywords i keyword.Go)) → (k : Keyword) → word ≢ keyword_text k
 none_of_all word none k = none_of_text keyword_text keywords keyword_is_found word keyword.Go none k
 
--- and kinds of places
+-- two kinds of places with one text are equal, and a word that is no text in the list is no kind's
 pub one_kind : (k m : PlaceKind) → kind_text k ≡ kind_text m → k ≡ m
 one_kind k m e = one_of_text kind_text kinds kind_is_found k m e
 

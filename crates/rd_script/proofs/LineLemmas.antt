@@ -1,8 +1,9 @@
--- A line that is being read.
+-- Reading a line, byte by byte.
 use Rattle.rd_script.proofs.Prelude.{◌≡◌, ◌≢◌, ℕ, ◌+◌, Bool, false, List, [], ◌∷◌, ◌++◌, length, Option, Some, None, sym, ◌∙◌, ap, length-append, arith, Consumes, Line, GivesByte, IsOneLine, Holds, ReadsLast}
 use Rattle.rd_script.proofs.KnownLemmas.{Consumes-join}
 
--- these many bytes were given, all of them before the line feed, and are held by the line
+-- the source has given `count` bytes of a line, none of them a line feed, and the buffer stands for
+-- them
 pub record HasBegun (old now : Option (List ℕ)) (failed : Bool) (line : Line) (count : ℕ) : Type 0 where
   pub text : List ℕ
   pub is_one : IsOneLine text
@@ -11,16 +12,16 @@ pub record HasBegun (old now : Option (List ℕ)) (failed : Bool) (line : Line) 
   pub works : failed ≡ false
   pub counted : length text ≡ count
 
--- no byte is a line feed in a text and one more byte that is none
+-- a text without a line feed stays one with another byte that is none
 pub IsOneLine-more : (text : List ℕ) (byte : ℕ) → IsOneLine text → byte ≢ 10 → IsOneLine (text ++ byte ∷ [])
 IsOneLine-more [] byte h n = (n, tt)
 IsOneLine-more (x ∷ xs) byte h n = (h.0, IsOneLine-more xs byte h.1 n)
 
--- a line that holds nothing is begun
+-- an empty buffer stands for a line of which no byte was given
 pub begins : (old : Option (List ℕ)) (failed : Bool) (line : Line) → Holds line [] → failed ≡ false → HasBegun old old failed line 0
 begins old failed line h works = grind arith
 
--- one more byte
+-- the line goes on with one more byte that is no line feed
 pub goes_on : {old now : Option (List ℕ)} (new : Option (List ℕ)) {failed failed' : Bool} {line line' : Line} {count : ℕ} (byte : ℕ) → HasBegun old now failed line count → GivesByte now new (Some byte) → byte ≢ 10 → ((text : List ℕ) → Holds line text → Holds line' (text ++ byte ∷ [])) → failed' ≡ false → HasBegun old new failed' line' (count + 1)
 goes_on {old} {now} new {count = count} byte b gives n pushes works = record {
   text = b.text ++ byte ∷ [];
@@ -31,11 +32,11 @@ goes_on {old} {now} new {count = count} byte b gives n pushes works = record {
   counted = length-append b.text (byte ∷ []) ∙ ap (λ k. k + 1) b.counted;
 }
 
--- a text of some length is not empty
+-- a text whose length isn't 0 isn't empty
 some_text : (text : List ℕ) → length text ≢ 0 → text ≢ []
 some_text text n e = n (ap length e)
 
--- the end ends a line that has a byte
+-- if at least one byte was given, the end of the source ends the last line
 pub is_last : {old now : Option (List ℕ)} (new : Option (List ℕ)) {failed : Bool} {line : Line} {count : ℕ} → HasBegun old now failed line count → GivesByte now new None → count ≢ 0 → ReadsLast old new line
 is_last {old} {now} new b gives n = record {
   read = record {

@@ -1,28 +1,28 @@
--- The names after a keyword, and what is said where they are missing or bad.
+-- The names after a keyword, and the fault if they are missing or bad.
 use Rattle.rd_script.proofs.Prelude.{common_steps, list_all, and_parts, is_mark_name, Command, LineFault, Keyword, keyword_of, arguments_of, argument_words, names_after, IsInRange, NamesBadly, is_word, AreNoNames, ReadsCommand, ◌≡◌, ℕ, ◌<◌, true, true≢false, List, [], ◌∷◌, length, Err, refl, arith}
 use Rattle.rd_script.proofs.SpellingLemmas.{is_word_of_name}
 
--- names are words
+-- bookmarks' names are words
 are_words : (words : List (List ℕ)) → list_all is_mark_name words ≡ true → list_all is_word words ≡ true
 are_words [] e = refl
 are_words (x ∷ xs) e = let here = and_parts (is_mark_name x) (list_all is_mark_name xs) e in rw (is_word_of_name x here.0, are_words xs here.1) refl
 
--- a command of a keyword with names has as many arguments as names
+-- if names follow its keyword, a command has as many arguments as names
 counted : (c : Command) → 0 < names_after (keyword_of c) → length (argument_words (arguments_of c)) ≡ names_after (keyword_of c)
 counted c some = grind arith
 
--- and where there are as many, they are names
+-- and all of its arguments are bookmarks' names
 are_names : (c : Command) → IsInRange c → length (argument_words (arguments_of c)) ≡ names_after (keyword_of c) → list_all is_mark_name (argument_words (arguments_of c)) ≡ true
 are_names c small count = grind arith
 
--- no command has bad names
+-- the words after a keyword are not both badly named and those of a command
 pub not_badly_named : (k : Keyword) (words : List (List ℕ)) → NamesBadly k words → (c : Command) → IsInRange c → keyword_of c ≡ k → words ≡ argument_words (arguments_of c) → ⊥
 not_badly_named k words bad c small is same = grind arith
 
--- after a keyword without names nothing is a bad name
+-- if no names follow a keyword, no words after it are badly named
 pub none_named : (k : Keyword) (words : List (List ℕ)) → names_after k ≡ 0 → NamesBadly k words → ⊥
 none_named k words none bad = grind (arith, common_steps, true≢false)
 
--- a fault of the names is the command's
+-- the fault of the names is the fault of the command
 pub names_refused : (k : Keyword) (words : List (List ℕ)) (fault : LineFault) → 0 < names_after k → AreNoNames (names_after k) words fault → ReadsCommand k words (Err fault)
 names_refused k words fault some bad = grind (arith, counted, are_words, are_names)

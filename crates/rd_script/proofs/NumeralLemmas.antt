@@ -8,12 +8,12 @@ use Rattle.rd_script.proofs.SplitLemmas.{parts_of_join, join_of_parts, is_free_d
 pub IsUtf8-decimal : (n : ℕ) → n < 2 ^ 64 → IsUtf8 (decimal n)
 IsUtf8-decimal n h = IsUtf8-from_ascii (decimal n) (IsAscii-decimal n h)
 
--- no number begins with a plus sign, or with a zero before another byte
+-- the digits of a number don't begin with a plus sign, or with a zero before another byte
 pub begins_as_number : (n : ℕ) → n < 2 ^ 64 → (get_or (decimal n) 0 0 ≡ 43) ⊎ ((get_or (decimal n) 0 0 ≡ 48) × (1 < length (decimal n))) → ⊥
 begins_as_number zero small begins = grind (arith, decimal_digit zero (omega arith))
 begins_as_number (suc n) small begins = grind (arith, first_decimal (suc n) (omega arith) small)
 
--- a word that begins otherwise is how the number is spelled that std reads from it
+-- if std reads a number from a word that begins with neither, the word is the number's spelling
 pub read_as_spelled : {E : Type 0} (word digits : List ℕ) (r : Result ℕ E) (o : Option ℕ) → digits ≡ word → ParsesUnsigned 64 10 digits r → o ≡ result_ok r → get_or word 0 0 ≢ 43
     → (get_or word 0 0 ≡ 48 → length word ≡ 1) → IfSome o (λ n. word ≡ decimal n)
 read_as_spelled word digits (Err e) o same reads left plain alone = rw left tt
@@ -22,7 +22,7 @@ read_as_spelled {E} word digits (Ok n) o same reads left plain alone =
     let is = parse_plain own {E = E} 64 word (Ok n) (subst (λ (ds : List ℕ). ParsesUnsigned {E = E} 64 10 ds (Ok n)) same reads) plain in
     rw left (sym (decimal-digits_value own word is.0.0 is.0.1 alone is.0.2) ∙ ap decimal (sym is.1))
 
--- and a word from which std reads none spells none
+-- if std reads no number from a word, the word spells none
 pub none_spelled : {E : Type 0} (word digits : List ℕ) (r : Result ℕ E) (o : Option ℕ) → digits ≡ word → ParsesUnsigned 64 10 digits r → o ≡ result_ok r
     → IfNone o ((n : ℕ) → n < 2 ^ 64 → word ≢ decimal n)
 none_spelled word digits (Ok m) o same reads left = rw left tt
@@ -39,12 +39,12 @@ name_parts s small =
     ∙ parts_of_join 46 (decimal s.maker) (decimal s.n ∷ [])
     (is_free_decimal 46 s.maker (omega arith) (omega (arith, small.0)), (is_free_decimal 46 s.n (omega arith) (omega (arith, small.1)), tt))
 
--- what the parts spell, the word spells
+-- if the parts of a word spell a segment's name, so does the word
 pub name_from_parts : (word : List ℕ) (parts : List (List ℕ)) (r : Option SegName) → parts ≡ slice_split (λ byte. byte == 46) word → IfSome r (λ s. parts ≡ decimal s.maker ∷ decimal s.n ∷ []) → IfSome r (λ s. word ≡ name_words s)
 name_from_parts word parts None cut is = tt
 name_from_parts word parts (Some s) cut is = join_of_parts 46 word (decimal s.maker ∷ decimal s.n ∷ []) (sym is ∙ cut) ∙ sym (name_join s)
 
--- where the parts spell no segment's name, the word spells none
+-- if the parts of a word spell no segment's name, neither does the word
 pub no_name_from_parts : (word : List ℕ) (parts : List (List ℕ)) (r : Option SegName) → parts ≡ slice_split (λ byte. byte == 46) word → IfNone r ((s : SegName) → IsSegmentInRange s → parts ≢ decimal s.maker ∷ decimal s.n ∷ []) → IfNone r ((s : SegName) → IsSegmentInRange s → word ≢ name_words s)
 no_name_from_parts word parts r cut is = grind (arith, name_parts)
 

@@ -1,4 +1,5 @@
--- What the words of a line say, the line says; and what is said of a line that spells a command.
+-- What a line spells, from its words; and that a line which spells a command is read as that
+-- command.
 use Rattle.rd_script.proofs.Prelude.{◌≡◌, ◌≢◌, ℕ, ◌<◌, ◌≤◌, ◌==◌, List, [], ◌∷◌, length, drop, Result, Ok, Err, sym, ◌∙◌, ap, subst, arith, slice_index_or, slice_split, IsOkAnd, Command, LineFault, Keyword, keyword_text, keyword_of, arguments_of, argument_words, names_after, most_line_bytes, spelling, IsInRange, AreOne, NamesBadly, IsMisnamed, Says, ReadsCommand}
 use Rattle.rd_script.specs.declared.faults.LineFault.TheVariants as fault
 use Rattle.rd_script.proofs.KeywordLemmas.{one_keyword}
@@ -11,11 +12,11 @@ use Rattle.rd_script.proofs.SplitLemmas.{parts_of_join, join_of_parts}
 abbrev cut : List ℕ → List (List ℕ)
 cut line = slice_split (λ byte. byte == 32) line
 
--- the first word, and the others
+-- the first word, or the empty word if there is none
 abbrev first_word : List (List ℕ) → List ℕ
 first_word words = slice_index_or words 0 []
 
--- a keyword, and words after it that name badly
+-- the words are a keyword and, after it, at most two words that are badly named
 pub record MisnamedWords (words : List (List ℕ)) : Type 0 where
   pub keyword : Keyword
   pub behind : List (List ℕ)
@@ -23,7 +24,7 @@ pub record MisnamedWords (words : List (List ℕ)) : Type 0 where
   pub bad : NamesBadly keyword behind
   pub few : length behind ≤ 2
 
--- the words of a misnamed line
+-- at most two names follow a keyword
 few_names : (k : Keyword) → names_after k ≤ 2
 few_names k = grind arith
 
@@ -36,7 +37,7 @@ misnamed_words line h = record {
   few = omega (arith, h.2.0, few_names h.0);
 }
 
--- a line is bad if its words are those of no command and of no misnamed line
+-- a line is bad if its words are neither those of a command nor those of a misnamed line
 bad_line : (line : List ℕ) → length line ≤ most_line_bytes → ((c : Command) → IsInRange c → cut line ≢ keyword_text (keyword_of c) ∷ argument_words (arguments_of c)) → (MisnamedWords (cut line) → ⊥) → Says line (Err fault.BadLine)
 bad_line line few none good = (few, (λ c small e. none c small (words_of_line line c small e)), (λ bad. good (misnamed_words line bad)))
 
@@ -44,7 +45,7 @@ bad_line line few none good = (few, (λ c small e. none c small (words_of_line l
 pub too_many_words : (line : List ℕ) → length line ≤ most_line_bytes → 4 < length (slice_split (λ byte. byte == 32) line) → Says line (Err fault.BadLine)
 too_many_words line few many = bad_line line few (λ c small e. absurd (omega (arith, many, ap length e, few_arguments c))) (λ bad. absurd (omega (arith, many, ap length bad.whole, bad.few)))
 
--- what the words after the keyword say, the line says
+-- if the words after a keyword read as a command or fault, the line spells or has it
 pub says_words : (line : List ℕ) (k : Keyword) (words : List (List ℕ)) (r : Result Command LineFault) → length line ≤ most_line_bytes → keyword_text k ∷ words ≡ slice_split (λ byte. byte == 32) line → ReadsCommand k words r → Says line r
 says_words line k words (Ok c) few is reads =
     (few, reads.0, join_of_parts 32 line _ (ap (λ word. keyword_text word ∷ argument_words (arguments_of c)) reads.1 ∙ ap (λ ws. keyword_text k ∷ ws) (sym reads.2) ∙ is))
@@ -62,7 +63,7 @@ not_misnamed line bad c small e =
     let same = sym w.whole ∙ words_of_line line c small e in
     not_badly_named w.keyword w.behind w.bad c small (sym (one_keyword w.keyword (keyword_of c) (ap first_word same))) (ap (drop 1) same)
 
--- a line that spells a command says that command
+-- a line that spells a command is read as that command
 pub one_said : (line : List ℕ) (r : Result Command LineFault) → Says line r → (c : Command) → length line ≤ most_line_bytes → IsInRange c → line ≡ spelling c → IsOkAnd r (λ d. AreOne c d)
 one_said line (Ok d) said c few small e =
     let same = sym (words_of_line line c small e) ∙ words_of_line line d said.1 said.2 in

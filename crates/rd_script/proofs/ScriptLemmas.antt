@@ -1,4 +1,4 @@
--- A script that runs: the bytes that were given so far, their lines, and their report.
+-- A script that runs: the bytes that were given so far, their lines and their report.
 use Rattle.rd_script.proofs.Prelude.{◌≡◌, ◌≢◌, ◌⊎◌, ℕ, suc, map, ◌+◌, ◌-◌, ◌^◌, ◌≤◌, Bool, true, false, List, [], ◌∷◌, ◌++◌, length, Option, refl, sym, ◌∙◌, ap, subst, arith, inl, inr, append_assoc, length-append, Result, Ok, Err, flat_map-append, length-map, AllZip, session_of, one_more_obeyed, Unread, map-append, book_state, Command, LineFault, Says, ne_eqb, append-nil, Consumes, Appends, IsAtEnd, IsErrAnd, TakesBeginning, with_first_byte, lines_of, ended_lines_of, IsOneLine, ReadsPart, AnswersSaid, AreObeyedLines, commands_of, line_answer, line_answers, report_of, Devices, Refusal, Journal, journal, AreObeyed, Book, Reply, BookState, LineAnswer, text_of, RanToEnd, StoppedAtRead, StoppedAtWrite, RunsScript}
 use Rattle.rd_marks.proofs.Headlines.{book_runs}
 use Rattle.rd_script.specs.declared.faults.ScriptFault.{ScriptFault}
@@ -6,7 +6,7 @@ use Rattle.rd_script.proofs.ResultLemmas.{Err-from_error}
 use Rattle.rd_script.proofs.TextLemmas.{said_more}
 use Rattle.rd_script.proofs.KnownLemmas.{Consumes-nil, Consumes-join, Appends-nil, Appends-join}
 
--- a line feed ends the first line
+-- a text without a line feed, followed by one, is the first line
 lines-first : (text rest : List ℕ) → IsOneLine text → lines_of (text ++ 10 ∷ rest) ≡ text ∷ lines_of rest
 lines-first [] rest h = refl
 lines-first (x ∷ xs) rest h = rw (ne_eqb x 10 h.0, lines-first xs rest h.1) refl
@@ -15,7 +15,7 @@ ended-first : (text rest : List ℕ) → IsOneLine text → ended_lines_of (text
 ended-first [] rest h = refl
 ended-first (x ∷ xs) rest h = rw (ne_eqb x 10 h.0, ended-first xs rest h.1) refl
 
--- a text without a line feed is one line, and none that is ended
+-- a text without a line feed is one line, which no line feed ended
 lines-only : (x : ℕ) (xs : List ℕ) → IsOneLine (x ∷ xs) → lines_of (x ∷ xs) ≡ (x ∷ xs) ∷ []
 lines-only x [] h = rw (ne_eqb x 10 h.0) refl
 lines-only x (y ∷ ys) h = let rest = lines-only y ys h.1 in rw (ne_eqb x 10 h.0) (ap (with_first_byte x) rest)
@@ -28,7 +28,8 @@ ended-none : (text : List ℕ) → IsOneLine text → ended_lines_of text ≡ []
 ended-none [] h = refl
 ended-none (x ∷ xs) h = rw (ne_eqb x 10 h.0, ended-none xs h.1) refl
 
--- these bytes are these whole lines: whatever follows them is read as if they were not there
+-- `given` splits into just these lines, each ended by a line feed: the lines of any text after it
+-- are the same as without it
 pub record Splits (given : List ℕ) (lines : List (List ℕ)) : Type 0 where
   pub all : (rest : List ℕ) → lines_of (given ++ rest) ≡ lines ++ lines_of rest
   pub ended : (rest : List ℕ) → ended_lines_of (given ++ rest) ≡ lines ++ ended_lines_of rest
@@ -39,15 +40,15 @@ Splits-nil = record { all = λ rest. refl; ended = λ rest. refl }
 Splits-line : (given : List ℕ) (lines : List (List ℕ)) (text : List ℕ) → Splits given lines → IsOneLine text → Splits (given ++ (text ++ 10 ∷ [])) (lines ++ text ∷ [])
 Splits-line given lines text s h = grind (arith, append_assoc, lines-first, ended-first)
 
--- the lines of whole lines alone
+-- such bytes alone have just these lines
 lines-whole : (given : List ℕ) (lines : List (List ℕ)) → Splits given lines → lines_of given ≡ lines
 lines-whole given lines s = ap lines_of (sym (append-nil given)) ∙ (s.all [] ∙ append-nil lines)
 
 ended-whole : (given : List ℕ) (lines : List (List ℕ)) → Splits given lines → ended_lines_of given ≡ lines
 ended-whole given lines s = ap ended_lines_of (sym (append-nil given)) ∙ (s.ended [] ∙ append-nil lines)
 
--- these lines were obeyed one after another from the one state to the other, with these answers:
--- what `AreObeyedLines` says, but for what the book keeps
+-- the lines were done one after another and got these answers, which led from `before` to `now`: as
+-- in `AreObeyedLines`, without what the book keeps
 pub record HaveBeenObeyed (before : BookState) (lines : List (List ℕ)) (answers : List LineAnswer) (now : BookState) : Type 0 where
   pub said : List (Result Command LineFault)
   pub says : AllZip Says lines said
@@ -80,7 +81,7 @@ faults_more (Err e ∷ said) xs f = ap (λ (rest : List LineAnswer). Err (Unread
 faults_more (Ok d ∷ said) [] f = faults_more said [] f
 faults_more (Ok d ∷ said) (y ∷ ys) f = ap (λ (rest : List LineAnswer). y ∷ rest) (faults_more said ys f)
 
--- one line more, with its answer
+-- one more line was done
 module _ (before : BookState) (lines : List (List ℕ)) (answers : List LineAnswer) (mid : BookState) (h : HaveBeenObeyed before lines answers mid) (line : List ℕ) (answer : LineAnswer) (after : BookState) where
   pub one_more_line : (said : Result Command LineFault) → Says line said → AnswersSaid mid said answer after → HaveBeenObeyed before (lines ++ line ∷ []) (answers ++ answer ∷ []) after
   one_more_line (Err fault) says is = record {
@@ -107,7 +108,7 @@ module _ (before : BookState) (lines : List (List ℕ)) (answers : List LineAnsw
             ∙ ap (line_answers (h.said ++ Ok command ∷ [])) (sym (map-append line_answer h.given (given ∷ [])));
       }
 
--- with what the book keeps, the headline holds of them
+-- with what the book keeps now, `AreObeyedLines` holds
 pub with_headline : {R : ℕ} (before : BookState) (lines : List (List ℕ)) (answers : List LineAnswer) (book : Book R) → HaveBeenObeyed before lines answers (book_state book)
     → (book_state book).session.start ≡ before.session.start → AreObeyedLines before lines answers (book_state book) (journal (session_of book))
 with_headline before lines answers book h start = record {
@@ -118,11 +119,11 @@ with_headline before lines answers book h start = record {
   each = h.each;
 }
 
--- the report of one line more
+-- the report with one more line
 report_more : (answers : List LineAnswer) (answer : LineAnswer) → report_of (answers ++ answer ∷ []) ≡ report_of answers ++ text_of answer
 report_more answers answer = flat_map-append text_of answers (answer ∷ []) ∙ ap (λ (t : List ℕ). report_of answers ++ t) (append-nil (text_of answer))
 
--- this many lines were read, obeyed and reported, and both devices work
+-- n whole lines were read, done and reported, and both devices work
 pub record IsGoingOn (before now : BookState) (d : Devices) (n : ℕ) : Type 0 where
   pub in_works : d.input.failed ≡ false
   pub out_works : d.output.failed ≡ false
@@ -137,14 +138,14 @@ pub record IsGoingOn (before now : BookState) (d : Devices) (n : ℕ) : Type 0 w
   pub wrote : Appends d.output.before d.output.after (report_of answers)
   pub start : now.session.start ≡ before.session.start
 
--- the devices before the first line
+-- the devices of a run that has not begun
 abbrev devices_at : Option (List ℕ) → Bool → Option (List ℕ) → Bool → Devices
 devices_at in_now in_failed out_now out_failed = record {
   input = record { before = in_now; after = in_now; failed = in_failed };
   output = record { before = out_now; after = out_now; failed = out_failed };
 }
 
--- before the first line
+-- before the first line, the run has done nothing
 pub starts : (s : BookState) (in_now : Option (List ℕ)) (in_failed : Bool) (out_now : Option (List ℕ)) (out_failed : Bool) → in_failed ≡ false → out_failed ≡ false → IsGoingOn s s (devices_at in_now in_failed out_now out_failed) 0
 starts s in_now in_failed out_now out_failed in_works out_works = record {
   in_works = in_works;
@@ -173,11 +174,11 @@ module _ {R : ℕ} (before : BookState) (book : Book R) (d : Devices) (n : ℕ) 
     output = record d.output { after = out_new; failed = out_failed' };
   }
 
-  -- the lines so far, with the headline
+  -- `AreObeyedLines` of the lines so far
   so_far : AreObeyedLines before g.lines g.answers (book_state book) kept
   so_far = with_headline before g.lines g.answers book g.obeyed g.start
 
-  -- the end
+  -- the source is at its end, so the run came to the end
   pub ran_to_end : (in_new : Option (List ℕ)) (in_failed' : Bool) → Consumes d.input.after in_new [] → IsAtEnd in_new → in_failed' ≡ false → RanToEnd before (book_state book) kept (now_at in_new in_failed' d.output.after d.output.failed) n
   ran_to_end in_new in_failed' keeps ended in_works =
       let all = lines-whole g.given g.lines g.splits in
@@ -193,7 +194,7 @@ module _ {R : ℕ} (before : BookState) (book : Book R) (d : Devices) (n : ℕ) 
         wrote = g.wrote;
       }
 
-  -- the reader failed
+  -- the source failed, so the run stopped
   pub stopped_at_read : (in_new : Option (List ℕ)) (in_failed' : Bool) → ReadsPart d.input.after in_new in_failed' → StoppedAtRead before (book_state book) kept (now_at in_new in_failed' d.output.after d.output.failed)
   stopped_at_read in_new in_failed' part =
       let whole : ended_lines_of (g.given ++ part.text) ≡ g.lines = g.splits.ended part.text ∙ (ap (λ ls. g.lines ++ ls) (ended-none part.text part.is_one) ∙ append-nil g.lines) in
@@ -207,7 +208,7 @@ module _ {R : ℕ} (before : BookState) (book : Book R) (d : Devices) (n : ℕ) 
         wrote = g.wrote;
       }
 
-  -- 2^64 - 1 lines without an end
+  -- 2^64 - 1 lines were read without an end, so the run stopped
   pub stopped_endless : n ≡ 2 ^ 64 - 1 → StoppedAtRead before (book_state book) kept (now_at d.input.after d.input.failed d.output.after d.output.failed)
   stopped_endless most = record {
     out_works = g.out_works;
@@ -219,7 +220,7 @@ module _ {R : ℕ} (before : BookState) (book : Book R) (d : Devices) (n : ℕ) 
     wrote = g.wrote;
   }
 
-  -- one more line was obeyed
+  -- one more line was read and done
   module _ (line : List ℕ) (said : Result Command LineFault) (answer : LineAnswer) (says : Says line said) (after : Book R) (is : AnswersSaid (book_state book) said answer (book_state after)) (start : (book_state after).session.start ≡ (book_state book).session.start) where
     more : HaveBeenObeyed before (g.lines ++ line ∷ []) (g.answers ++ answer ∷ []) (book_state after)
     more = one_more_line before g.lines g.answers (book_state book) g.obeyed line answer (book_state after) said says is
@@ -232,7 +233,7 @@ module _ {R : ℕ} (before : BookState) (book : Book R) (d : Devices) (n : ℕ) 
         subst (λ (t : List ℕ). Appends d.output.before out_new t) (sym (report_more g.answers answer))
         (Appends-join d.output.before d.output.after out_new (report_of g.answers) (text_of answer) g.wrote wrote)
 
-    -- a line feed ended it, and it was reported
+    -- if a line feed ended the line and its answer was written, the run goes on
     pub goes_on : (in_new out_new : Option (List ℕ)) (in_failed' out_failed' : Bool) → IsOneLine line → Consumes d.input.after in_new (line ++ 10 ∷ []) → Appends d.output.after out_new (text_of answer)
         → in_failed' ≡ false → out_failed' ≡ false → IsGoingOn before (book_state after) (now_at in_new in_failed' out_new out_failed') (n + 1)
     goes_on in_new out_new in_failed' out_failed' is_one took wrote in_works out_works = record {
@@ -250,12 +251,12 @@ module _ {R : ℕ} (before : BookState) (book : Book R) (d : Devices) (n : ℕ) 
       start = start ∙ g.start;
     }
 
-    -- the lines with it, where it is the last one and no line feed ended it
+    -- if the end of the source ended the line, the lines are those before and this one
     all_lines : IsOneLine line → line ≢ [] → lines_of (g.given ++ (line ++ [])) ≡ g.lines ++ line ∷ []
     all_lines is_one some =
         ap (λ t. lines_of (g.given ++ t)) (append-nil line) ∙ (g.splits.all line ∙ ap (λ ls. g.lines ++ ls) (lines-last line is_one some))
 
-    -- the last line was reported
+    -- if the end of the source ended the line and its answer was written, the run came to the end
     pub ran_to_last : (in_new out_new : Option (List ℕ)) (in_failed' out_failed' : Bool) → IsOneLine line → line ≢ [] → IsAtEnd in_new → Consumes d.input.after in_new (line ++ [])
         → Appends d.output.after out_new (text_of answer) → in_failed' ≡ false → out_failed' ≡ false
         → RanToEnd before (book_state after) (journal (session_of after)) (now_at in_new in_failed' out_new out_failed') (n + 1)
@@ -273,7 +274,7 @@ module _ {R : ℕ} (before : BookState) (book : Book R) (d : Devices) (n : ℕ) 
           wrote = wrote_more out_new wrote;
         }
 
-    -- the writer failed at its answer
+    -- the sink failed at the answer to the line, so the run stopped
     stopped : (given : List ℕ) (in_new out_new : Option (List ℕ)) (in_failed' out_failed' : Bool) → Consumes d.input.before in_new given → lines_of given ≡ g.lines ++ line ∷ []
         → (ended_lines_of given ≡ lines_of given) ⊎ IsAtEnd in_new → TakesBeginning d.output.after out_new (text_of answer) → in_failed' ≡ false → out_failed' ≡ true
         → StoppedAtWrite before (book_state after) (journal (session_of after)) (now_at in_new in_failed' out_new out_failed')
@@ -291,7 +292,7 @@ module _ {R : ℕ} (before : BookState) (book : Book R) (d : Devices) (n : ℕ) 
       wrote = Appends-join d.output.before d.output.after out_new (report_of g.answers) wrote.part g.wrote wrote.took;
     }
 
-    -- where a line feed ended the line
+    -- if a line feed ended the line
     pub stopped_at_write : (in_new out_new : Option (List ℕ)) (in_failed' out_failed' : Bool) → IsOneLine line → Consumes d.input.after in_new (line ++ 10 ∷ [])
         → TakesBeginning d.output.after out_new (text_of answer) → in_failed' ≡ false → out_failed' ≡ true
         → StoppedAtWrite before (book_state after) (journal (session_of after)) (now_at in_new in_failed' out_new out_failed')
@@ -302,7 +303,7 @@ module _ {R : ℕ} (before : BookState) (book : Book R) (d : Devices) (n : ℕ) 
         stopped given in_new out_new in_failed' out_failed' (Consumes-join d.input.before d.input.after in_new g.given (line ++ 10 ∷ []) g.took took) all
         (inl (ended-whole given (g.lines ++ line ∷ []) splits ∙ sym all)) wrote in_works fails
 
-    -- where it is the last one
+    -- if the end of the source ended the line
     pub stopped_at_last_write : (in_new out_new : Option (List ℕ)) (in_failed' out_failed' : Bool) → IsOneLine line → line ≢ [] → IsAtEnd in_new → Consumes d.input.after in_new (line ++ [])
         → TakesBeginning d.output.after out_new (text_of answer) → in_failed' ≡ false → out_failed' ≡ true
         → StoppedAtWrite before (book_state after) (journal (session_of after)) (now_at in_new in_failed' out_new out_failed')
@@ -310,6 +311,6 @@ module _ {R : ℕ} (before : BookState) (book : Book R) (d : Devices) (n : ℕ) 
         stopped (g.given ++ (line ++ [])) in_new out_new in_failed' out_failed' (Consumes-join d.input.before d.input.after in_new g.given (line ++ []) g.took took)
         (all_lines is_one some) (inr ended) wrote in_works fails
 
--- a script that ended by a fault, of which the result tells
+-- a run that stopped by the fault that its result has
 pub RunsScript-at_fault : (before after : BookState) (kept : Journal) (d : Devices) (fault : ScriptFault) (r : Result ℕ ScriptFault) → IsErrAnd r (λ e. e ≡ fault) → RunsScript before after kept d (Err fault) → RunsScript before after kept d r
 RunsScript-at_fault before after kept d fault r is runs = subst (λ x. RunsScript before after kept d x) (sym (Err-from_error fault r is)) runs

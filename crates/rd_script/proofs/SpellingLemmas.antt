@@ -1,10 +1,10 @@
--- No word of a command has a space, and there are four at most: so the line that spells a command
--- is cut into just its words.
+-- No word of a command has a space, and there are at most four. So a line that spells a command is
+-- cut into just its words.
 use Rattle.rd_script.proofs.Prelude.{◌≡◌, ℕ, ◌≤◌, ◌==◌, Bool, true, not, List, [], ◌∷◌, ◌++◌, length, codes, refl, ◌∙◌, ap, arith, tests, and_parts, decimal, list_all, slice_split, SegName, is_mark_name, is_name_byte, Command, Keyword, PlaceKind, name_words, yes_or_no, Argument, keyword_text, keyword_of, kind_text, word_of, argument_words, arguments_of, IsSegmentInRange, IsArgumentInRange, AreArgumentsInRange, spelling, IsInRange, is_word}
 use Rattle.std.specs.Char.{is_ascii_graphic}
 use Rattle.rd_script.proofs.SplitLemmas.{is_free, AreFree, parts_of_join, is_free_decimal, is_free_both}
 
--- a word has no space
+-- no byte of a word is a space
 graphic_is_no_space : (byte : ℕ) → is_ascii_graphic byte ≡ true → not (byte == 32) ≡ true
 graphic_is_no_space byte graphic = grind (arith, tests)
 
@@ -17,7 +17,7 @@ are_free_of_spaces (x ∷ xs) e =
 pub is_free_word : (word : List ℕ) → is_word word ≡ true → is_free 32 word ≡ true
 is_free_word word e = are_free_of_spaces word (and_parts (not (length word == 0)) (list_all is_ascii_graphic word) e).1
 
--- nor have words
+-- no word has a space
 pub are_free_words : (words : List (List ℕ)) → list_all is_word words ≡ true → AreFree 32 words
 are_free_words [] e = tt
 are_free_words (x ∷ xs) e = let here = and_parts (is_word x) (list_all is_word xs) e in (is_free_word x here.0, are_free_words xs here.1)

@@ -7,7 +7,7 @@ use Rattle.rd_actor.specs.Labels.{label}
 use Rattle.rd_script.specs.Texts.{spaced_number, bit_number}
 use Rattle.rd_script.specs.Contents.{name_words, value_words}
 
--- the words of the call that an actor is in, or `none`
+-- the words of the call that an actor is in, or `none` if it is in none
 abbrev pub op_words : Option Op → List ℕ
 op_words None = codes "none"
 op_words (Some (op.Enq x)) = codes "enq" ++ spaced_number x
@@ -15,19 +15,19 @@ op_words (Some op.Deq) = codes "deq"
 op_words (Some (op.AEnq x)) = codes "aenq" ++ spaced_number x
 op_words (Some op.ADeq) = codes "adeq"
 
--- the words of an actor's control point, and of the call that it is in
+-- `actor`, and the words of an actor's control point and its call
 abbrev pub call_words : Actor → List ℕ
 call_words a = codes "actor " ++ label a.pc ++ codes " " ++ op_words a.op
 
--- the words of the segments that an actor knows
+-- the words of the segments in an actor's record: crq, new and next
 abbrev pub segment_words : Actor → List ℕ
 segment_words a = codes " crq " ++ name_words a.crq ++ codes " new " ++ name_words a.new ++ codes " next " ++ name_words a.next
 
--- the words of the positions that an actor knows, and of the closed bit that it read
+-- the words of the counters in an actor's record, t and h, and of its closed bit
 abbrev pub position_words : Actor → List ℕ
 position_words a = codes " t" ++ spaced_number a.t ++ codes " h" ++ spaced_number a.h ++ codes " closed" ++ spaced_number (bit_number a.closed)
 
--- the words of what an actor read from a cell, and of its pass
+-- the words of an actor's val, safe, idx and pass
 abbrev pub read_words : Actor → List ℕ
 read_words a =
     codes " val " ++ value_words a.val ++ codes " safe" ++ spaced_number (bit_number a.safe) ++ codes " idx" ++ spaced_number a.idx

@@ -1,4 +1,4 @@
--- The words that spell segments' names, and the contents of places.
+-- The words that spell segments' names, values and the contents of places.
 use Rattle.std.specs.Option.{option_map_or}
 use Rattle.std.specs.Prelude.{ℕ, Bool, true, false, List, ◌++◌, codes, Option}
 use Rattle.std.specs.Fmt.{decimal}
@@ -11,15 +11,15 @@ use Rattle.rd_cell.specs.declared.contents.Content.TheVariants as content
 abbrev pub name_words : SegName → List ℕ
 name_words s = decimal s.maker ++ codes "." ++ decimal s.n
 
--- the words of a value, or `none`
+-- the words of a value, or `none` if there is none
 abbrev pub value_words : Option ℕ → List ℕ
 value_words value = option_map_or decimal value (codes "none")
 
--- the words of the name of the segment that follows, or `none`
+-- the words of the next segment's name, or `none` if there is none
 abbrev pub next_words : Option SegName → List ℕ
 next_words next = option_map_or name_words next (codes "none")
 
--- the word for whether a ring is closed for enqueues
+-- the word for the closed bit of a tail
 abbrev pub tail_word : Bool → List ℕ
 tail_word false = codes "open"
 tail_word true = codes "closed"

@@ -7,7 +7,7 @@ use Rattle.rd_marks.specs.declared.commands.Command.{Command}
 use Rattle.rd_marks.specs.declared.commands.Command.TheVariants.{Enq, Deq, ArrayEnq, ArrayDeq, Go, Starve}
 use Rattle.rd_script.specs.Spelling.{spelling}
 
--- the command by which an actor does this act
+-- the command that makes this actor do this act
 abbrev pub command_of : ℕ → Act → Command
 command_of actor (act.Enq x) = Enq actor x
 command_of actor act.Deq = Deq actor
@@ -16,6 +16,6 @@ command_of actor act.ADeq = ArrayDeq actor
 command_of actor act.Go = Go actor
 command_of actor (act.Starve choice) = Starve actor choice
 
--- the words of an event: those of the line that makes it happen
+-- the words of an event: the line that makes it happen, without a line feed
 abbrev pub event_words : Event → List ℕ
 event_words e = spelling (command_of e.actor e.act)

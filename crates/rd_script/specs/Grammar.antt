@@ -1,5 +1,5 @@
--- The grammar of lines: the keyword of each command, and the arguments that follow it, one word
--- each.
+-- The grammar of lines: the keyword of each command and the arguments after it, each of them one
+-- word.
 use Rattle.std.specs.Prelude.{◌≡◌, ℕ, ◌<◌, ◌^◌, Bool, true, List, [], ◌∷◌, codes, map}
 use Rattle.std.specs.Fmt.{decimal}
 use Rattle.rd_step.specs.Prelude.{SegName, Place}
@@ -71,8 +71,8 @@ kind_of place.ArrHead = kind.ArrHead
 kind_of place.ArrTail = kind.ArrTail
 kind_of (place.ArrCell i) = kind.ArrCell
 
--- an argument of a command: an actor's or a cell's number, any other number, a segment, a choice,
--- the bytes of a bookmark's name, or a kind of place
+-- an argument of a command: the number of an actor or cell (`Byte`), any other number (`Long`), a
+-- segment, a choice, the bytes of a bookmark's name, or the kind of a place
 pub data Argument : Type 0 where
   Byte : ℕ → Argument
   Long : ℕ → Argument
@@ -81,7 +81,7 @@ pub data Argument : Type 0 where
   Name : List ℕ → Argument
   Kind : PlaceKind → Argument
 
--- the word of an argument; numbers are decimal without leading zeros
+-- the word of an argument; a number is decimal, without leading zeros
 abbrev pub word_of : Argument → List ℕ
 word_of (Byte n) = decimal n
 word_of (Long n) = decimal n
@@ -90,7 +90,7 @@ word_of (Choice choice) = yes_or_no choice
 word_of (Name name) = name
 word_of (Kind k) = kind_text k
 
--- the arguments of a place after its kind
+-- the arguments that follow the kind of a place
 abbrev pub place_arguments : Place → List Argument
 place_arguments (place.Head s) = Segment s ∷ []
 place_arguments (place.Tail s) = Segment s ∷ []
@@ -102,7 +102,7 @@ place_arguments (place.Whole s) = Segment s ∷ []
 place_arguments (place.ArrCell i) = Byte i ∷ []
 place_arguments _ = []
 
--- the keyword of a command, and the arguments that follow it
+-- the keyword of a command, and the arguments after it
 abbrev pub keyword_and_arguments : Command → Keyword × List Argument
 keyword_and_arguments (command.Enq actor x) = (keyword.Enq, Byte actor ∷ Long x ∷ [])
 keyword_and_arguments (command.Deq actor) = (keyword.Deq, Byte actor ∷ [])
@@ -137,17 +137,17 @@ keyword_of c = (keyword_and_arguments c).0
 abbrev pub arguments_of : Command → List Argument
 arguments_of c = (keyword_and_arguments c).1
 
--- the words of a list of arguments, one of each
+-- the words of these arguments, in order
 abbrev pub argument_words : List Argument → List (List ℕ)
 argument_words arguments = map word_of arguments
 
--- the numbers of a segment's name are in their ranges: its maker's is 0 to 255, and its own 0 to
+-- the numbers in a segment's name are in their ranges: its maker's from 0 to 255, its own from 0 to
 -- 2^32 - 1
 abbrev pub IsSegmentInRange : SegName → Type 0
 IsSegmentInRange s = (s.maker < 256) × (s.n < 2 ^ 32)
 
--- the argument is in its range: an actor's and a cell's number is 0 to 255, any other number 0 to
--- 2^64 - 1, and a bookmark's name is one that a bookmark can have
+-- the argument is in its range: the number of an actor or cell is from 0 to 255, any other number
+-- from 0 to 2^64 - 1, and the bytes of a name are ones that a bookmark can have
 abbrev pub IsArgumentInRange : Argument → Type 0
 IsArgumentInRange (Byte n) = n < 256
 IsArgumentInRange (Long n) = n < 2 ^ 64
@@ -160,7 +160,7 @@ abbrev pub AreArgumentsInRange : List Argument → Type 0
 AreArgumentsInRange [] = Unit {0}
 AreArgumentsInRange (argument ∷ arguments) = IsArgumentInRange argument × AreArgumentsInRange arguments
 
--- how many bookmarks' names follow this keyword in a line
+-- the number of bookmarks' names that follow this keyword in a line
 abbrev pub names_after : Keyword → ℕ
 names_after keyword.Mark = 1
 names_after keyword.Drop = 1

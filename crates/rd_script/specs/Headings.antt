@@ -1,10 +1,10 @@
--- The lines of a view that answer nothing.
+-- Headings: lines of a view's report that answer no line.
 use Rattle.std.specs.Prelude.{ℕ, List, [], ◌∷◌, ◌++◌, codes}
 use Rattle.rd_script.specs.declared.writing.headings.Heading.{Heading}
 use Rattle.rd_script.specs.declared.writing.headings.Heading.TheVariants.{Viewer, History}
 use Rattle.rd_script.specs.Texts.{spaced_number}
 
--- the words of a heading: a viewer's number, or that of recorded calls
+-- the words of a heading: `viewer` with its number, or `history` with the number of recorded calls
 abbrev pub heading_words : Heading → List ℕ
 heading_words (Viewer number) = codes "viewer" ++ spaced_number number
 heading_words (History calls) = codes "history" ++ spaced_number calls

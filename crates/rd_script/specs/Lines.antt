@@ -1,5 +1,4 @@
--- The lines of a text and what they spell, and the reading of one line: which bytes the source gave
--- for it.
+-- The lines of a text, and what the reading of one line does to its source and its buffer.
 use Rattle.std.specs.Prelude.{◌≡◌, ◌≢◌, ℕ, ◌+◌, ◌^◌, ◌<◌, ◌≤◌, ◌⊎◌, ◌==◌, if◌then◌else◌, Bool, true, List, [], ◌∷◌, ◌++◌, length, Option, Result, Ok, Err, MatchBool}
 use Rattle.std.specs.List.{AllByRecursion}
 use Rattle.std.specs.Io.KnownBytes.{Consumes, IsAtEnd}
@@ -9,24 +8,24 @@ use Rattle.rd_script.specs.declared.reading.lines.Reading.TheVariants.{Ended, La
 use Rattle.rd_script.specs.declared.devices.sources.ReadFault.{ReadFault}
 use Rattle.rd_script.specs.Spelling.{most_line_bytes}
 
--- the lines with this byte put at the beginning of the first one; if there is no line, the byte
--- makes one
+-- the lines with this byte added in front of the first one; if there is no line, the byte is a line
+-- of its own
 abbrev pub with_first_byte : ℕ → List (List ℕ) → List (List ℕ)
 with_first_byte byte [] = (byte ∷ []) ∷ []
 with_first_byte byte (line ∷ lines) = (byte ∷ line) ∷ lines
 
--- the lines of a text, without their line feeds; the last line needs none if it isn't empty
+-- the lines of a text, without their line feeds; the last one needs no line feed, unless it is
+-- empty
 abbrev pub lines_of : List ℕ → List (List ℕ)
 lines_of [] = []
 lines_of (byte ∷ bytes) = if byte == 10 then [] ∷ lines_of bytes else with_first_byte byte (lines_of bytes)
 
--- the lines that a line feed ends, with this byte put at the beginning of the first one; if there
--- is no such line, none
+-- the lines with this byte added in front of the first one; if there is no line, still none
 abbrev pub ended_with_first_byte : ℕ → List (List ℕ) → List (List ℕ)
 ended_with_first_byte byte [] = []
 ended_with_first_byte byte (line ∷ lines) = (byte ∷ line) ∷ lines
 
--- those lines of a text that a line feed ends, without the line feeds
+-- the lines of a text that a line feed ends, without their line feeds
 abbrev pub ended_lines_of : List ℕ → List (List ℕ)
 ended_lines_of [] = []
 ended_lines_of (byte ∷ bytes) = if byte == 10 then [] ∷ ended_lines_of bytes else ended_with_first_byte byte (ended_lines_of bytes)
@@ -35,13 +34,13 @@ ended_lines_of (byte ∷ bytes) = if byte == 10 then [] ∷ ended_lines_of bytes
 abbrev pub IsOneLine : List ℕ → Type 0
 IsOneLine bytes = AllByRecursion (λ byte. byte ≢ 10) bytes
 
--- the buffer has a line of these bytes: it keeps all of them, or knows that they are more than a
--- line may have
+-- the buffer stands for this text: it keeps all bytes, or is marked too long if there are more than
+-- 256
 abbrev pub Holds : Line → List ℕ → Type 0
 Holds line text = MatchBool line.is_too_long (most_line_bytes < length text) (line.kept.items ≡ text)
 
--- a source that had the old bytes left gave this line and these bytes that end it, and now has the
--- new ones left
+-- the source gave the bytes of a line (`text`) and then `ending`, and the buffer stands for the
+-- line; the source's bytes went from `old` to `new`
 pub record ReadsLine (old new : Option (List ℕ)) (line : Line) (ending : List ℕ) : Type 0 where
   -- the bytes of the line
   pub text : List ℕ
@@ -49,22 +48,23 @@ pub record ReadsLine (old new : Option (List ℕ)) (line : Line) (ending : List 
   pub held : Holds line text
   pub took : Consumes old new (text ++ ending)
 
--- a source gave a line that isn't empty, and then the end
+-- the source gave a line that isn't empty, and is at its end
 pub record ReadsLast (old new : Option (List ℕ)) (line : Line) : Type 0 where
   pub read : ReadsLine old new line []
   pub some : read.text ≢ []
   pub ended : IsAtEnd new
 
--- a source gave a beginning of a line, and then failed, or had given 2^64 - 1 bytes without an end
+-- the source gave a beginning of a line (`text`). Then it failed, or `text` has at least 2^64 - 1
+-- bytes
 pub record ReadsPart (old new : Option (List ℕ)) (failed : Bool) : Type 0 where
-  -- the bytes of that beginning
+  -- the bytes that the source gave
   pub text : List ℕ
   pub is_one : IsOneLine text
   pub took : Consumes old new text
   pub cause : (failed ≡ true) ⊎ (2 ^ 64 ≤ length text + 1)
 
--- what the reading of the next line did, by its result: which bytes the source gave, whether it
--- failed, and which line is in the buffer
+-- what the reading of the next line did, by its result: `Ended` by a line feed, the `Last` line
+-- without one, the `End` of the text, or a fault
 abbrev pub ReadsNext : Option (List ℕ) → Option (List ℕ) → Bool → Line → Result Reading ReadFault → Type 0
 ReadsNext old new failed line (Ok Ended) = ReadsLine old new line (10 ∷ [])
 ReadsNext old new failed line (Ok Last) = ReadsLast old new line

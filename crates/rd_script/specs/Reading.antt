@@ -1,5 +1,5 @@
--- What is read from the words of a line. No public clause cites this: it is between the code, which
--- reads word by word, and what a whole line spells.
+-- What is read from the words of a line. The code reads word by word, and `Spelling.antt` is about
+-- whole lines; these definitions lead from one to the other. No public contract uses them.
 use Rattle.std.specs.Prelude.{◌≡◌, ◌≢◌, ℕ, true, false, List, ◌∷◌, length, Option, Some, None, Result, Ok, Err}
 use Rattle.std.specs.List.{list_all}
 use Rattle.rd_step.specs.Prelude.{Place}
@@ -14,31 +14,33 @@ use Rattle.rd_script.specs.declared.reading.places.PlaceKind.{PlaceKind}
 use Rattle.rd_script.specs.Grammar.{keyword_of, arguments_of, kind_text, kind_of, place_arguments, argument_words, AreArgumentsInRange, names_after}
 use Rattle.rd_script.specs.Spelling.{IsInRange, NamesBadly, is_word}
 
--- the result of reading a word as a bookmark's name
+-- what a part of a line reads as: a bookmark's name; BadLine if it is no word; BadName if it is a
+-- word but no name
 abbrev pub ReadsName : List ℕ → Result MarkName LineFault → Type 0
 ReadsName word (Ok name) = (is_mark_name word ≡ true) × (bytes_of name ≡ word)
 ReadsName word (Err fault.BadLine) = is_word word ≡ false
 ReadsName word (Err fault.BadName) = (is_word word ≡ true) × (is_mark_name word ≡ false)
 ReadsName word (Err fault.LineTooLong) = ⊥
 
--- why these words are not this many bookmarks' names: they are not this many words, or one of them
--- is no bookmark's name
+-- the fault of words that should be this many names: BadLine requires that they aren't this many
+-- words, and BadName that they are, but one is no name
 abbrev pub AreNoNames : ℕ → List (List ℕ) → LineFault → Type 0
 AreNoNames count words fault.BadLine = length words ≡ count → list_all is_word words ≡ true → ⊥
 AreNoNames count words fault.BadName = (length words ≡ count) × (list_all is_word words ≡ true) × (list_all is_mark_name words ≡ false)
 AreNoNames count words fault.LineTooLong = ⊥
 
--- the result of reading words as a place
+-- the words read as a place: they spell this place, or None means that they spell none
 abbrev pub ReadsPlace : List (List ℕ) → Option Place → Type 0
 ReadsPlace words (Some place) = AreArgumentsInRange (place_arguments place) × (words ≡ kind_text (kind_of place) ∷ argument_words (place_arguments place))
 ReadsPlace words None = (place : Place) → AreArgumentsInRange (place_arguments place) → words ≢ kind_text (kind_of place) ∷ argument_words (place_arguments place)
 
--- the result of reading the words after a kind of place as a place of that kind
+-- the words after a kind read as a place of this kind, or None means that they spell none
 abbrev pub ReadsKind : PlaceKind → List (List ℕ) → Option Place → Type 0
 ReadsKind kind words (Some place) = AreArgumentsInRange (place_arguments place) × (kind_of place ≡ kind) × (words ≡ argument_words (place_arguments place))
 ReadsKind kind words None = (place : Place) → AreArgumentsInRange (place_arguments place) → kind_of place ≡ kind → words ≢ argument_words (place_arguments place)
 
--- the result of reading the words after a keyword as a command of that keyword
+-- the words after a keyword read as a command of this keyword. BadName means that a word for a name
+-- is none, and BadLine that the words spell no command for another reason
 abbrev pub ReadsCommand : Keyword → List (List ℕ) → Result Command LineFault → Type 0
 ReadsCommand keyword words (Ok command) = IsInRange command × (keyword_of command ≡ keyword) × (words ≡ argument_words (arguments_of command))
 ReadsCommand keyword words (Err fault.BadLine) =
@@ -46,8 +48,8 @@ ReadsCommand keyword words (Err fault.BadLine) =
 ReadsCommand keyword words (Err fault.BadName) = NamesBadly keyword words
 ReadsCommand keyword words (Err fault.LineTooLong) = ⊥
 
--- the result of reading the words after a keyword without names as a command of that keyword; none
--- after a keyword with names
+-- the words after a keyword read as a command of this keyword. None means that they spell none, if
+-- no names follow the keyword; otherwise it means nothing
 abbrev pub ReadsNameless : Keyword → List (List ℕ) → Option Command → Type 0
 ReadsNameless keyword words (Some command) = IsInRange command × (keyword_of command ≡ keyword) × (words ≡ argument_words (arguments_of command))
 ReadsNameless keyword words None = names_after keyword ≡ 0 → (command : Command) → IsInRange command → keyword_of command ≡ keyword → words ≢ argument_words (arguments_of command)

@@ -34,8 +34,8 @@ refusal_name refusal.NotATake = codes "18 NotATake"
 refusal_name refusal.NoSuchPlace = codes "19 NoSuchPlace"
 refusal_name refusal.NoMemory = codes "20 NoMemory"
 
--- the words after a refusal's name, each preceded by a space: the number of live steps, or of a
--- step, if the refusal has one
+-- the words after a refusal's name, with a space in front: the number of live steps, or a step's
+-- number, if the refusal has one
 abbrev pub refusal_data : Refusal → List ℕ
 refusal_data (refusal.NothingToUndo live) = spaced_number live
 refusal_data (refusal.NoSuchStep live) = spaced_number live
@@ -52,25 +52,25 @@ fault_name fault.BadLine = codes "22 BadLine"
 fault_name fault.LineTooLong = codes "23 LineTooLong"
 fault_name fault.BadName = codes "17 BadName"
 
--- the number and the name of what stopped a run
+-- the number and the name of the fault that stopped a run
 abbrev pub stop_name : ScriptFault → List ℕ
 stop_name Read = codes "24 Read"
 stop_name Write = codes "25 Write"
 
--- the words for an event of a trace that was refused: which one, and why
+-- the refusal of an event of a trace: the event's number, and the cause
 abbrev pub trace_step_words : ℕ → Refusal → List ℕ
 trace_step_words step cause = codes "28 TraceStep" ++ spaced_number step ++ codes " cause " ++ refusal_words cause
 
--- the words for an event of a trace's bookmark that was refused: of which bookmark, which one, and
--- why
+-- the refusal of an event of a trace's bookmark: the numbers of the bookmark and of the event in
+-- it, and the cause
 abbrev pub trace_mark_words : ℕ → ℕ → Refusal → List ℕ
 trace_mark_words mark step cause = codes "32 TraceMark" ++ spaced_number mark ++ spaced_number step ++ codes " cause " ++ refusal_words cause
 
--- the words of the ticket that is drawn next, and of the one that is served
+-- the words of a busy lock: the ticket to be drawn next, and the ticket that is served
 abbrev pub busy_words : ℕ → ℕ → List ℕ
 busy_words next served = codes " next" ++ spaced_number next ++ codes " served" ++ spaced_number served
 
--- the words of any refusal: its number, its name and its data
+-- the words of any refusal or fault: its number, its name and its data
 abbrev pub any_words : AnyRefusal → List ℕ
 any_words (Refused cause) = refusal_words cause
 any_words (Unread cause) = fault_name cause

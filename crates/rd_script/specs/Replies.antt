@@ -14,7 +14,7 @@ use Rattle.rd_script.specs.Actors.{actor_words}
 use Rattle.rd_script.specs.Steps.{reply_word, step_words}
 use Rattle.rd_script.specs.Refusals.{any_words}
 
--- the words of what a call replied, after a space, if the event ended one; else none
+-- a space and the words of the result of the call that an event ended, or nothing if it ended none
 abbrev pub event_reply : Option OpReply → List ℕ
 event_reply o = option_map_or (λ r. codes " " ++ reply_word r) o []
 
@@ -22,12 +22,12 @@ event_reply o = option_map_or (λ r. codes " " ++ reply_word r) o []
 abbrev pub step_number : Option ℕ → List ℕ
 step_number o = option_map_or decimal o (codes "-")
 
--- the words of an origin: the steps that called, put and took a value
+-- the words of an origin: the numbers of the call's first step, the put and the take
 abbrev pub origin_words : Origin → List ℕ
 origin_words origin =
     codes "origin call " ++ step_number origin.call ++ codes " put " ++ step_number origin.put ++ codes " take" ++ spaced_number origin.take
 
--- this word, and a number after a space, or `none` if there is none
+-- this word, a space and a number, or `none` in its place if there is no number
 abbrev pub number_or_none : List ℕ → Option ℕ → List ℕ
 number_or_none word None = word ++ codes " none"
 number_or_none word (Some n) = word ++ spaced_number n
@@ -47,7 +47,7 @@ reply_words (reply.Content content) = codes "is " ++ content_words content
 reply_words (reply.Actor actor) = actor_words actor
 reply_words (reply.Step number entry) = step_words number entry
 
--- the answer to one line: a reply, or a refusal
+-- the answer to a line: a reply, or a refusal
 abbrev pub LineAnswer : Type 0
 LineAnswer = Result Reply AnyRefusal
 

@@ -1,4 +1,4 @@
--- Commands and their one spelling, and what a line spells.
+-- The one spelling of each command, and what a line spells.
 use Rattle.std.specs.Prelude.{◌≡◌, ◌≢◌, ℕ, ◌<◌, ◌≤◌, Bool, true, false, ◌&&◌, not, ◌==◌, List, ◌∷◌, length, Result, Ok, Err}
 use Rattle.std.specs.List.{list_all, join_with_byte}
 use Rattle.std.specs.Char.{is_ascii_graphic}
@@ -14,7 +14,7 @@ use Rattle.rd_script.specs.Grammar.{keyword_text, keyword_of, arguments_of, kind
 abbrev pub line_of : List (List ℕ) → List ℕ
 line_of words = join_with_byte 32 words
 
--- the one line that spells a command: its keyword and its arguments
+-- the one line that spells a command: its keyword, then its arguments
 abbrev pub spelling : Command → List ℕ
 spelling command = line_of (keyword_text (keyword_of command) ∷ argument_words (arguments_of command))
 
@@ -22,12 +22,11 @@ spelling command = line_of (keyword_text (keyword_of command) ∷ argument_words
 abbrev pub place_words : Place → List ℕ
 place_words place = line_of (kind_text (kind_of place) ∷ argument_words (place_arguments place))
 
--- the numbers of a command are in their ranges, and its names are ones that bookmarks can have
+-- each number of the command is in its range, and each name is one that a bookmark can have
 abbrev pub IsInRange : Command → Type 0
 IsInRange command = AreArgumentsInRange (arguments_of command)
 
--- two commands are the same: their keywords and their arguments are equal, and so their names have
--- the same bytes
+-- two commands are the same: their keywords and arguments are equal (of names, the bytes count)
 abbrev pub AreOne : Command → Command → Type 0
 AreOne a b = (keyword_of a ≡ keyword_of b) × (arguments_of a ≡ arguments_of b)
 
@@ -35,20 +34,21 @@ AreOne a b = (keyword_of a ≡ keyword_of b) × (arguments_of a ≡ arguments_of
 abbrev pub is_word : List ℕ → Bool
 is_word text = not (length text == 0) && list_all is_ascii_graphic text
 
--- there are as many words as bookmarks' names follow the keyword, but at least one of them is no
--- bookmark's name
+-- there are as many words as names follow the keyword, but at least one of them is no bookmark's
+-- name
 abbrev pub NamesBadly : Keyword → List (List ℕ) → Type 0
 NamesBadly keyword words = (length words ≡ names_after keyword) × (list_all is_word words ≡ true) × (list_all is_mark_name words ≡ false)
 
--- the line is as the grammar requires, except that a word in the place of a bookmark's name is none
+-- the line follows the grammar, except that a word in the place of a bookmark's name is no name
 abbrev pub IsMisnamed : List ℕ → Type 0
 IsMisnamed line = (keyword : Keyword) × (words : List (List ℕ)) × NamesBadly keyword words × (line ≡ line_of (keyword_text keyword ∷ words))
 
--- how many bytes a line may have, without its line feed
+-- the greatest number of bytes in a line, without its line feed
 abbrev pub most_line_bytes : ℕ
 most_line_bytes = 256
 
--- the line spells this command, or has this fault
+-- the line spells this command, or has this fault. A line has at most one fault: LineTooLong, or
+-- else BadName if only a name is wrong, or else BadLine
 abbrev pub Says : List ℕ → Result Command LineFault → Type 0
 Says line (Ok command) = (length line ≤ most_line_bytes) × IsInRange command × (line ≡ spelling command)
 Says line (Err fault.LineTooLong) = most_line_bytes < length line

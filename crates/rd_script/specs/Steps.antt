@@ -1,5 +1,5 @@
--- The words of a step: its event, the place of its access, what it wrote of it, what it answered,
--- and what its call replied.
+-- The words of a step: its event; the place, kind and answer of its access; and the result of the
+-- call that it ended.
 use Rattle.std.specs.Option.{option_map_or}
 use Rattle.std.specs.Prelude.{ℕ, List, ◌++◌, codes, Option, Some, None}
 use Rattle.rd_cell.specs.declared.operations.Answer.TheVariants as answer
@@ -16,14 +16,15 @@ use Rattle.rd_cell.specs.declared.places.Wrote.TheVariants as wrote
 abbrev pub step_place : Option Place → List ℕ
 step_place o = option_map_or place_words o (codes "-")
 
--- the word for how a step touched its place, if it has one
+-- the word for what a step did at its place: it read, wrote, or wrote only the index half; `none`
+-- if it has no place
 abbrev pub access_word : Option Place → Wrote → List ℕ
 access_word None _ = codes "none"
 access_word (Some place) wrote.Nothing = codes "read"
 access_word (Some place) wrote.Place = codes "wrote"
 access_word (Some place) wrote.Index = codes "wrote index"
 
--- the words of what an access answered
+-- the words of the answer of an access
 abbrev pub access_answer : Answer → List ℕ
 access_answer answer.Nothing = codes "-"
 access_answer (answer.Found content) = content_words content
@@ -34,20 +35,20 @@ access_answer answer.Won = codes "won"
 access_answer answer.Lost = codes "lost"
 access_answer (answer.Made s) = codes "made " ++ name_words s
 
--- the words of what a call replied
+-- the words of the result of a call
 abbrev pub reply_word : OpReply → List ℕ
 reply_word op_reply.Enqueued = codes "enqueued"
 reply_word (op_reply.Value x) = codes "value" ++ spaced_number x
 reply_word op_reply.Empty = codes "empty"
 
--- the words of what a call replied, if the step ended one, else a hyphen
+-- the words of the result of the call that a step ended, or a hyphen if it ended none
 abbrev pub step_reply : Option OpReply → List ℕ
 step_reply o = option_map_or reply_word o (codes "-")
 
--- the words of what the access of a step did
+-- the words of a step's place, access and answer
 abbrev pub done_words : Entry → List ℕ
 done_words e = step_place e.place ++ codes "; " ++ access_word e.place e.wrote ++ codes "; " ++ access_answer e.answer
 
--- all words of a step
+-- all words of the step of this number, from its entry
 abbrev pub step_words : ℕ → Entry → List ℕ
 step_words number e = codes "step" ++ spaced_number number ++ codes "; " ++ event_words e.event ++ codes "; " ++ done_words e ++ codes "; " ++ step_reply e.reply

@@ -4,8 +4,9 @@ use Rattle.std.specs.Io.KnownBytes.{Keeps}
 use Rattle.rd_script.specs.declared.devices.sources.Source.{Ghosts as SourceOf}
 use Rattle.rd_script.specs.declared.devices.sinks.Sink.{Ghosts as SinkOf}
 
--- a stream over a call: the bytes that a source has left or that a sink has taken, before the call
--- and after it, and whether it has failed then
+-- how a call changed a source or a sink: the bytes that a source has left, or that a sink has
+-- taken, before the call and after it (None where they aren't known), and whether it has failed by
+-- then
 pub record Stream : Type 0 where
   pub before : Option (List ℕ)
   pub after : Option (List ℕ)

@@ -1,4 +1,4 @@
--- Words, bits and numbers in a text.
+-- Numbers, bits and choices as words of a text.
 use Rattle.std.specs.Prelude.{ℕ, Bool, true, false, List, ◌∷◌, codes}
 use Rattle.std.specs.Fmt.{decimal}
 

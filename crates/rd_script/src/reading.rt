@@ -1,5 +1,5 @@
-//! What lines spell: a line is read into a buffer and cut into words; the first word is its
-//! keyword, and the others are read as that keyword needs them.
+//! What lines spell. A line is read into a buffer and cut into words. The first word is its
+//! keyword, which determines how the others are read.
 
 mod arguments;
 pub mod commands;

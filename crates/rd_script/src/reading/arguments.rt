@@ -1,4 +1,4 @@
-//! The words after a keyword, read as what the command needs there.
+//! The words after a keyword, read as the arguments that its command needs.
 
 ghost use Rattle.std.specs.Prelude.{◌≡◌, ◌≢◌, ℕ, Bool, true, ◌^◌, ◌<◌, [], ◌∷◌, map, IfSome, IfNone, IfOk, IfErr};
 ghost use Rattle.std.specs.Char.{is_ascii_graphic};
@@ -14,8 +14,8 @@ use super::numbers::{byte_in, number_in};
 use crate::faults::LineFault;
 use rd_marks::MarkName;
 
-/// Returns the number from 0 to 255 that the only word spells; none if there is another number of
-/// words, or the word spells no such number.
+/// Returns the number from 0 to 255 that the only word spells. `None` if there isn't exactly one
+/// word, or if it spells no such number.
 pub fn byte_alone(words: &[&[u8]]) -> Option<u8>
     ensures some { IfSome result (λ n. map (λ word. word.now) words.now ≡ decimal n ∷ []) }
     ensures none { IfNone result ((n : ℕ) → n < 256
@@ -27,8 +27,8 @@ pub fn byte_alone(words: &[&[u8]]) -> Option<u8>
     byte_in(number)
 }
 
-/// Returns the number from 0 to 2^64 - 1 that the only word spells; none if there is another number
-/// of words, or the word spells no such number.
+/// Returns the number from 0 to 2^64 - 1 that the only word spells. `None` if there isn't exactly
+/// one word, or if it spells no such number.
 pub fn number_alone(words: &[&[u8]]) -> Option<u64>
     ensures some { IfSome result (λ n. map (λ word. word.now) words.now ≡ decimal n ∷ []) }
     ensures none { IfNone result ((n : ℕ) → n < 2 ^ 64
@@ -40,7 +40,8 @@ pub fn number_alone(words: &[&[u8]]) -> Option<u64>
     number_in(number)
 }
 
-/// Returns the actor and the value that these words spell; none if they are not just these two.
+/// Returns the actor and the value that two words spell, or `None` if the words aren't just these
+/// two.
 pub fn actor_and_value(words: &[&[u8]]) -> Option<(u8, u64)>
     ensures some { IfSome result (λ r. map (λ word. word.now) words.now
         ≡ decimal r.0 ∷ decimal r.1 ∷ []) }
@@ -53,7 +54,8 @@ pub fn actor_and_value(words: &[&[u8]]) -> Option<(u8, u64)>
     Some((byte_in(actor)?, number_in(value)?))
 }
 
-/// Returns the actor and its choice that these words spell; none if they are not just these two.
+/// Returns the actor and the choice (`yes` or `no`) that two words spell, or `None` if the words
+/// aren't just these two.
 pub fn actor_and_choice(words: &[&[u8]]) -> Option<(u8, bool)>
     ensures some { IfSome result (λ r. map (λ word. word.now) words.now
         ≡ decimal r.0 ∷ yes_or_no r.1 ∷ []) }
@@ -66,7 +68,7 @@ pub fn actor_and_choice(words: &[&[u8]]) -> Option<(u8, bool)>
     Some((byte_in(actor)?, choice_in(choice)?))
 }
 
-/// Returns the choice that a word spells, or none.
+/// Returns the choice that a word spells, or `None` if it is neither `yes` nor `no`.
 fn choice_in(word: &[u8]) -> Option<bool>
     ensures some { IfSome result (λ choice. word.now ≡ yes_or_no choice) }
     ensures none { IfNone result ((choice : Bool) → word.now ≢ yes_or_no choice) }
@@ -80,11 +82,12 @@ fn choice_in(word: &[u8]) -> Option<bool>
     None
 }
 
-/// Returns the bookmark's name that is the only word.
+/// Returns the bookmark's name that the only word is.
 ///
 /// # Errors
 ///
-/// `BadLine` if there is not exactly one word; else `BadName` if it is no bookmark's name.
+/// In this order: `BadLine` if there isn't exactly one word, of bytes from 33 to 126; `BadName` if
+/// it is no bookmark's name.
 pub fn name_alone(words: &[&[u8]]) -> Result<MarkName, LineFault>
     ensures ok { IfOk result (λ name. (is_mark_name (bytes_of name) ≡ true)
         × (map (λ word. word.now) words.now ≡ bytes_of name ∷ [])) }
@@ -96,11 +99,12 @@ pub fn name_alone(words: &[&[u8]]) -> Result<MarkName, LineFault>
     name_in(name)
 }
 
-/// Returns the two bookmarks' names that these words are.
+/// Returns the bookmarks' names that two words are.
 ///
 /// # Errors
 ///
-/// `BadLine` if there are not two words; else `BadName` if one of them is no bookmark's name.
+/// In this order: `BadLine` if there aren't exactly two words, each of bytes from 33 to 126;
+/// `BadName` if one of them is no bookmark's name.
 pub fn two_names(words: &[&[u8]]) -> Result<(MarkName, MarkName), LineFault>
     ensures ok { IfOk result (λ r. ((is_mark_name (bytes_of r.0) ≡ true)
         × (is_mark_name (bytes_of r.1) ≡ true))
@@ -117,11 +121,11 @@ pub fn two_names(words: &[&[u8]]) -> Result<(MarkName, MarkName), LineFault>
     Ok((name_in(one)?, name_in(other)?))
 }
 
-/// Returns the bookmark's name that a word is.
+/// Returns the bookmark's name that these bytes are.
 ///
 /// # Errors
 ///
-/// `BadLine` if it is no word; else `BadName` if it is no bookmark's name.
+/// In this order: `BadLine` if the bytes are no word; `BadName` if they are no bookmark's name.
 fn name_in(word: &[u8]) -> Result<MarkName, LineFault>
     ensures { ReadsName word.now result }
 {

@@ -1,7 +1,7 @@
 //! Commands, and the one line that spells each.
 //!
-//! A line is cut into words once. Its first word is the keyword of the command that it spells, and
-//! the others are read as that kind of command needs them.
+//! A line is cut into words once. The first word is the keyword of the command, and the others are
+//! read as the arguments of this kind of command.
 
 ghost use Rattle.std.specs.Prelude.{◌≡◌, ◌≢◌, ◌≤◌, [], length, map, IfSome, IfNone};
 ghost use Rattle.std.specs.Result.{IsOkAnd};
@@ -18,16 +18,16 @@ use super::words::parts_of;
 use crate::faults::LineFault;
 use rd_marks::Command;
 
-/// How many bytes a line may have, without its line feed.
+/// The greatest number of bytes in a line, without its line feed.
 pub const MOST_LINE_BYTES: usize = 256;
 
 /// Returns the command that a line spells.
 ///
 /// # Errors
 ///
-/// `LineTooLong` if the line has more than 256 bytes; else `BadLine` if it is not as the grammar
-/// requires, where a bookmark's name may be any word; else `BadName` if a name in it is no
-/// bookmark's name.
+/// In this order: `LineTooLong` if the line has more than 256 bytes; `BadLine` if it doesn't follow
+/// the grammar, where a bookmark's name may be any word; `BadName` if such a word is no bookmark's
+/// name.
 pub fn command_in(line: &[u8]) -> Result<Command, LineFault>
     ensures says { Says line.now result }
     ensures one { (c : SomeCommand) → length line.now ≤ most_line_bytes → IsInRange c
@@ -48,8 +48,8 @@ pub fn command_in(line: &[u8]) -> Result<Command, LineFault>
     read_command(keyword, others)
 }
 
-/// Returns the command of a keyword and the words after it; fails with `BadLine` or `BadName` as
-/// `command_in` does.
+/// Returns the command that a keyword and the words after it spell. Fails with `BadLine` or
+/// `BadName`, as `command_in` does.
 #[tactic(auto, using(crate::proofs::NameReadLemmas::none_named))]
 fn read_command(keyword: Keyword, words: &[&[u8]]) -> Result<Command, LineFault>
     ensures { ReadsCommand keyword (map (λ word. word.now) words.now) result }
@@ -66,8 +66,8 @@ fn read_command(keyword: Keyword, words: &[&[u8]]) -> Result<Command, LineFault>
     }
 }
 
-/// Returns the command of a keyword without bookmarks' names and the words after it; none if they
-/// spell none.
+/// Returns the command that a keyword and the words after it spell, if names of bookmarks don't
+/// follow this keyword. `None` if they do, or if the words spell no command.
 fn command_without_name(keyword: Keyword, words: &[&[u8]]) -> Option<Command>
     ensures { ReadsNameless keyword (map (λ word. word.now) words.now) result }
 {
@@ -105,7 +105,7 @@ fn command_without_name(keyword: Keyword, words: &[&[u8]]) -> Option<Command>
     })
 }
 
-/// Returns this command if there are no words after its keyword, else none.
+/// Returns this command, or `None` if there are words after its keyword.
 fn without_arguments(words: &[&[u8]], command: Command) -> Option<Command>
     ensures some { IfSome result (λ c. (c ≡ command) × (map (λ word. word.now) words.now ≡ [])) }
     ensures none { IfNone result (map (λ word. word.now) words.now ≢ []) }

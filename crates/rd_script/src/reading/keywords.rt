@@ -1,11 +1,11 @@
-//! The first word of each line, which determines the kind of command that the line spells; and the
-//! forms of lines, as a help lists them.
+//! Keywords: the first word of a line determines which kind of command the line spells. Also the
+//! forms of lines, as a help text lists them.
 
 ghost use Rattle.std.specs.Prelude.{◌≡◌, ◌≢◌, IfSome, IfNone};
 ghost use Rattle.rd_script.specs.declared.reading.keywords.Keyword.{Keyword as Word};
 ghost use Rattle.rd_script.specs.Grammar.{keyword_text};
 
-/// The forms of lines in six rows, and where the manual is: the end of a help.
+/// The end of a help text: the forms of lines in six rows, and where the manual is.
 pub const FORMS: &str = "Lines of a script:\n  \
     calls      enq A X, deq A, aenq A X, adeq A\n  \
     steps      go A, starve A yes, starve A no\n  \
@@ -15,7 +15,7 @@ pub const FORMS: &str = "Lines of a script:\n  \
     places     qhead, qtail, head M.S, tail M.S, next M.S, cell M.S I, value M.S I, index M.S I, whole M.S, ahead, atail, acell I\n\n\
     The manual is docs/MANUAL.md in the repository of lcrqdb";
 
-/// A line's first word.
+/// The first word of a line.
 #[derive(Clone, Copy, Debug, PartialEq, Eq)]
 pub enum Keyword {
     /// `enq`
@@ -94,7 +94,7 @@ impl Keyword {
         Keyword::ArrayDeq,
     ];
 
-    /// Returns the keyword that a word is, or none.
+    /// Returns the keyword that a word is, or `None` if it is no keyword.
     pub fn of(word: &[u8]) -> Option<Keyword>
         ensures some { IfSome result (λ keyword. word.now ≡ keyword_text keyword) }
         ensures none { IfNone result ((keyword : Word) → word.now ≢ keyword_text keyword) }
@@ -107,7 +107,7 @@ impl Keyword {
         None
     }
 
-    /// Returns the word of the keyword.
+    /// Returns the text of the keyword.
     pub fn text(self) -> &'static [u8]
         ensures { result.now ≡ keyword_text self }
     {

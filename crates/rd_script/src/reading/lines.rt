@@ -1,7 +1,7 @@
 //! Lines of a script, read byte by byte into a buffer of fixed capacity.
 //!
-//! A run reads all of its lines into one buffer, so that no line needs a new one. The rest of a
-//! line that is too long is read and discarded, so that the next one begins where it should.
+//! A run reads all of its lines into one buffer, so that no line needs a new one. If a line is too
+//! long, the rest of it is read and discarded, and the next line begins after its line feed.
 
 ghost use Rattle.std.specs.Prelude.{◌≡◌, ℕ, List, [], ◌∷◌, ◌++◌, OnOk, false};
 ghost use Rattle.rd_script.specs.Spelling.{Says};
@@ -22,22 +22,23 @@ pub struct Line {
     pub is_too_long: bool,
 }
 
-/// What a source gives where a line may begin.
+/// What the reading of the next line found.
 #[derive(Clone, Copy, Debug, PartialEq, Eq)]
 pub enum Reading {
     /// A line that a line feed ended.
     Ended,
-    /// A line of at least one byte, ended only by the end of the text.
+    /// A line of at least one byte that the end of the text ended.
     Last,
-    /// No line: the end of the text.
+    /// No line, but the end of the text.
     End,
 }
 
-/// Reads the next line into the buffer, whatever that had before, and returns how the line ended.
+/// Replaces the line in the buffer by the next one of the source, and returns how that ended. The
+/// buffer is empty if there is no line.
 ///
 /// # Errors
 ///
-/// `ReadFault` if the source failed, or gave 2^64 - 1 bytes without an end.
+/// `ReadFault` if the source failed, or gave 2^64 - 1 bytes without a line feed or the end.
 pub fn next_line<S: Source>(reader: &mut S, line: &mut Line) -> Result<Reading, ReadFault>
     requires { S.has_failed reader.old ≡ false }
     ensures reads { ReadsNext (S.bytes reader.old) (S.bytes reader.new)
@@ -57,7 +58,7 @@ pub fn next_line<S: Source>(reader: &mut S, line: &mut Line) -> Result<Reading, 
 }
 
 impl Line {
-    /// Returns a line with no byte yet.
+    /// Returns an empty line.
     pub fn new() -> Self
         ensures { Holds result [] }
     {
@@ -75,7 +76,8 @@ impl Line {
         self.is_too_long = false;
     }
 
-    /// Puts a byte at the end of the line; a byte after the first 256 is not kept.
+    /// Puts a byte at the end of the line. If the line has 256 bytes already, the byte isn't kept,
+    /// and the line is too long.
     fn push(&mut self, byte: u8)
         ensures { (text : List ℕ) → Holds self.old text → Holds self.new (text ++ byte ∷ []) }
     {
@@ -90,8 +92,7 @@ impl Line {
     ///
     /// # Errors
     ///
-    /// `LineTooLong` if the line has more than 256 bytes; else the fault of `command_in` if it
-    /// spells no command.
+    /// `LineTooLong` if the line has more than 256 bytes; otherwise those of `command_in`.
     pub fn command(&self) -> Result<Command, LineFault>
         ensures { (text : List ℕ) → Holds self.now text → Says text result }
     {

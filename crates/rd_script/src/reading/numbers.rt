@@ -1,7 +1,7 @@
 //! Numbers that a word spells: decimal digits without leading zeros.
 //!
-//! A number is read as std reads it. Std also reads a plus sign and leading zeros, so a word that
-//! begins with one of these is refused first: a number has just one spelling.
+//! A number has just one spelling. Std reads it; but std also accepts a plus sign and leading
+//! zeros, so words that begin with these are rejected first.
 
 ghost use Rattle.std.specs.Prelude.{◌≡◌, ◌≢◌, ◌⊎◌, ℕ, ◌^◌, ◌<◌, [], ◌∷◌, true, false, get_or, length, map, IfSome, IfNone};
 ghost use Rattle.std.specs.Fmt.{decimal};
@@ -12,7 +12,7 @@ ghost use Rattle.rd_script.specs.Grammar.{IsSegmentInRange};
 use super::words::parts_of;
 use rd_cell::SegName;
 
-/// Returns the number from 0 to 2^64 - 1 that a word spells, or none.
+/// Returns the number from 0 to 2^64 - 1 that a word spells, or `None` if it spells none.
 pub fn number_in(word: &[u8]) -> Option<u64>
     ensures spelled { IfSome result (λ n. word.now ≡ decimal n) }
     ensures unspelled { IfNone result ((n : ℕ) → n < 2 ^ 64 → word.now ≢ decimal n) }
@@ -26,8 +26,8 @@ pub fn number_in(word: &[u8]) -> Option<u64>
     digits.parse().ok()
 }
 
-/// Whether a word begins as no number is spelled, though std may read one there: with a plus sign,
-/// or with a zero before another byte.
+/// Whether a word begins with a plus sign, or with a zero before another byte. No number is spelled
+/// so, though std may read one there.
 fn begins_otherwise(word: &[u8]) -> bool
     ensures yes { result ≡ true → (get_or word.now 0 0 ≡ 43)
         ⊎ ((get_or word.now 0 0 ≡ 48) × (1 < length word.now)) }
@@ -40,7 +40,7 @@ fn begins_otherwise(word: &[u8]) -> bool
     }
 }
 
-/// Returns the number from 0 to 255 that a word spells, or none.
+/// Returns the number from 0 to 255 that a word spells, or `None` if it spells none.
 #[tactic(auto, using(std::proofs::lemmas::Fmt::decimal_injective))]
 pub fn byte_in(word: &[u8]) -> Option<u8>
     ensures spelled { IfSome result (λ n. word.now ≡ decimal n) }
@@ -54,8 +54,8 @@ pub fn byte_in(word: &[u8]) -> Option<u8>
     }
 }
 
-/// Returns the name of the segment that a word spells, its maker and its number with a full stop
-/// between them; none if the word spells none.
+/// Returns the segment's name that a word spells: its maker, a full stop and its number. `None` if
+/// the word spells none.
 #[tactic(auto, using(crate::proofs::NumeralLemmas::name_from_parts, crate::proofs::NumeralLemmas::no_name_from_parts, crate::proofs::NumeralLemmas::no_name_of_many))]
 pub fn segment_in(word: &[u8]) -> Option<SegName>
     ensures spelled { IfSome result (λ s. word.now ≡ name_words s) }
@@ -66,7 +66,8 @@ pub fn segment_in(word: &[u8]) -> Option<SegName>
     segment_of(parts.as_slice())
 }
 
-/// Returns the name of the segment whose maker and number these two parts spell, or none.
+/// Returns the segment's name whose maker and number these two parts spell, or `None` if the parts
+/// aren't just these two.
 fn segment_of(parts: &[&[u8]]) -> Option<SegName>
     ensures spelled { IfSome result (λ s. map (λ part. part.now) parts.now
         ≡ decimal s.maker ∷ decimal s.n ∷ []) }
@@ -82,7 +83,7 @@ fn segment_of(parts: &[&[u8]]) -> Option<SegName>
     })
 }
 
-/// Returns the number from 0 to 2^32 - 1 that a word spells, or none.
+/// Returns the number from 0 to 2^32 - 1 that a word spells, or `None` if it spells none.
 #[tactic(auto, using(std::proofs::lemmas::Fmt::decimal_injective))]
 fn u32_in(word: &[u8]) -> Option<u32>
     ensures spelled { IfSome result (λ n. word.now ≡ decimal n) }

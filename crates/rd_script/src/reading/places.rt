@@ -1,4 +1,5 @@
-//! The first word of a place, and the place that the words after it make.
+//! The kinds of places: the first word of a place is its kind, and the words after it name the
+//! place.
 
 ghost use Rattle.std.specs.Prelude.{◌≡◌, ◌≢◌, ◌<◌, [], map, IfSome, IfNone};
 ghost use Rattle.rd_script.specs.declared.reading.places.PlaceKind.{PlaceKind as Kind};
@@ -8,7 +9,7 @@ ghost use Rattle.rd_script.specs.Reading.{ReadsPlace, ReadsKind};
 use super::numbers::{byte_in, segment_in};
 use rd_cell::Place;
 
-/// A place's first word.
+/// The kind of a place, which is its first word.
 #[derive(Clone, Copy, Debug, PartialEq, Eq)]
 pub enum PlaceKind {
     /// `qhead`
@@ -54,7 +55,7 @@ impl PlaceKind {
         PlaceKind::ArrCell,
     ];
 
-    /// Returns the kind of place that a word is, or none.
+    /// Returns the kind of place that a word is, or `None` if it is no kind.
     fn of(word: &[u8]) -> Option<PlaceKind>
         ensures some { IfSome result (λ kind. word.now ≡ kind_text kind) }
         ensures none { IfNone result ((kind : Kind) → word.now ≢ kind_text kind) }
@@ -67,7 +68,7 @@ impl PlaceKind {
         None
     }
 
-    /// Returns the word of the kind of place.
+    /// Returns the text of the kind of place.
     fn text(self) -> &'static [u8]
         ensures { result.now ≡ kind_text self }
     {
@@ -87,7 +88,8 @@ impl PlaceKind {
         }
     }
 
-    /// Returns the place of this kind that the words after it name, or none.
+    /// Returns the place of this kind that the words after the kind name, or `None` if they name
+    /// none.
     fn place(self, words: &[&[u8]]) -> Option<Place>
         ensures { ReadsKind self (map (λ word. word.now) words.now) result }
     {
@@ -115,7 +117,7 @@ impl PlaceKind {
     }
 }
 
-/// Returns the place that these words spell, or none.
+/// Returns the place that these words spell, its kind first, or `None` if they spell none.
 pub fn place_in(words: &[&[u8]]) -> Option<Place>
     ensures { ReadsPlace (map (λ word. word.now) words.now) result }
 {

@@ -1,4 +1,4 @@
-//! What the lines of a whole text spell: each is read like a line from a device.
+//! What the lines of a whole text spell. Each line is read like a line from a source.
 
 ghost use Rattle.std.specs.Prelude.{◌≡◌, ◌≢◌, ◌==◌, [], IfOk, IfErr, IsOk};
 ghost use Rattle.std.specs.List.{AllZip, slice_split};
@@ -11,12 +11,12 @@ use rd_cell::Refusal;
 use rd_marks::Command;
 use std::alloc::Global;
 
-/// Returns the commands and the faults of the lines of a text, one by one. The last line needs no
-/// line feed.
+/// Returns what each line of a text spells, in order: its command, or its fault. The last line
+/// needs no line feed.
 ///
 /// # Errors
 ///
-/// `NoMemory` if the room for them was refused. Never if the text is empty.
+/// `NoMemory` if memory for the list was refused, which never happens if the text is empty.
 pub fn lines(alloc: Global, text: &[u8]) -> Result<Vec<Result<Command, LineFault>>, Refusal>
     ensures ok { IfOk result (λ said. AllZip Says (lines_of text.now) said.items) }
     ensures err { IfErr result (λ refusal. refusal ≡ Refusal.NoMemory) }
@@ -34,8 +34,8 @@ pub fn lines(alloc: Global, text: &[u8]) -> Result<Vec<Result<Command, LineFault
     Ok(said)
 }
 
-/// Returns the text without the line feed at its end, if it has one there, so that its lines are
-/// the parts between line feeds.
+/// Returns the text without the line feed at its end, if it has one there. Between the line feeds
+/// of the result are the lines of the text, which must not be empty.
 fn without_last_feed(text: &[u8]) -> &[u8]
     requires { text.now ≢ [] }
     ensures { slice_split (λ byte. byte == 10) result.now ≡ lines_of text.now }

@@ -8,7 +8,7 @@ use super::numbers::{bit_number, put_words_and_number};
 use super::texts::{Text, put};
 use rd_actor::{Actor, Op};
 
-/// Appends to the text all words of an actor.
+/// Appends to the text all words of an actor, after `actor`.
 pub fn put_actor(text: &mut Text, actor: &Actor)
     ensures { PutsUpTo 355 text.old.items text.new.items (actor_words actor.now) }
 {
@@ -18,7 +18,7 @@ pub fn put_actor(text: &mut Text, actor: &Actor)
     put_read(text, actor);
 }
 
-/// Appends to the text the control point and the call of an actor.
+/// Appends to the text `actor`, the actor's control point, and its call.
 fn put_call(text: &mut Text, actor: &Actor)
     ensures { PutsUpTo 40 text.old.items text.new.items (call_words actor.now) }
 {
@@ -28,7 +28,7 @@ fn put_call(text: &mut Text, actor: &Actor)
     put_op(text, actor.op);
 }
 
-/// Appends to the text the segments that an actor knows.
+/// Appends to the text the segments in an actor's words: crq, new and next.
 fn put_segments(text: &mut Text, actor: &Actor)
     ensures { PutsUpTo 139 text.old.items text.new.items (segment_words actor.now) }
 {
@@ -40,7 +40,7 @@ fn put_segments(text: &mut Text, actor: &Actor)
     put_name(text, actor.next);
 }
 
-/// Appends to the text the positions that an actor knows, and the closed bit that it read.
+/// Appends to the text the counters in an actor's words, t and h, and its closed bit.
 fn put_positions(text: &mut Text, actor: &Actor)
     ensures { PutsUpTo 74 text.old.items text.new.items (position_words actor.now) }
 {
@@ -49,7 +49,7 @@ fn put_positions(text: &mut Text, actor: &Actor)
     put_words_and_number(text, b" closed", bit_number(actor.closed));
 }
 
-/// Appends to the text what an actor read from a cell, and its pass.
+/// Appends to the text an actor's words val, safe, idx and pass.
 fn put_read(text: &mut Text, actor: &Actor)
     ensures { PutsUpTo 102 text.old.items text.new.items (read_words actor.now) }
 {
@@ -60,7 +60,7 @@ fn put_read(text: &mut Text, actor: &Actor)
     put_words_and_number(text, b" pass", u64::from(actor.pass));
 }
 
-/// Appends to the text the call that an actor is in, or `none`.
+/// Appends to the text the call that an actor is in, or `none` if it is in none.
 fn put_op(text: &mut Text, op: Option<Op>)
     ensures { PutsUpTo 25 text.old.items text.new.items (op_words op) }
 {

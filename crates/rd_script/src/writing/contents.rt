@@ -1,4 +1,4 @@
-//! The words that spell a segment's name, and the content of a place.
+//! The words that spell segments' names, values and the contents of places.
 
 ghost use Rattle.std.specs.Prelude.{◌≡◌, ◌≤◌, length};
 ghost use Rattle.rd_script.specs.Puts.{PutsUpTo};
@@ -34,7 +34,7 @@ pub fn put_name(text: &mut Text, name: SegName)
     put_number(text, u64::from(name.n));
 }
 
-/// Appends to the text a value, or `none`.
+/// Appends to the text a value, or `none` if there is none.
 pub fn put_value(text: &mut Text, value: Option<u64>)
     ensures { PutsUpTo 20 text.old.items text.new.items (value_words value) }
 {
@@ -44,7 +44,7 @@ pub fn put_value(text: &mut Text, value: Option<u64>)
     }
 }
 
-/// Returns the word for whether a ring is closed for enqueues.
+/// Returns the word for the closed bit of a tail: `closed` or `open`.
 pub fn tail_word(closed: bool) -> &'static [u8]
     ensures name { result.now ≡ tail_word closed }
     ensures len { length result.now ≤ 6 }
@@ -52,7 +52,7 @@ pub fn tail_word(closed: bool) -> &'static [u8]
     if closed { b"closed" } else { b"open" }
 }
 
-/// Appends to the text the name of the segment that follows, or `none`.
+/// Appends to the text the name of the next segment, or `none` if there is none.
 fn put_next(text: &mut Text, next: Option<SegName>)
     ensures { PutsUpTo 41 text.old.items text.new.items (next_words next) }
 {
@@ -80,7 +80,7 @@ pub fn put_index(text: &mut Text, safe: bool, idx: u64)
     put_spaced(text, idx);
 }
 
-/// Appends to the text the content of a slot of the array.
+/// Appends to the text the content of a slot of the array: `empty`, `top`, or its value.
 fn put_slot(text: &mut Text, slot: ArrSlot)
     ensures { PutsUpTo 26 text.old.items text.new.items (slot_words slot) }
 {

@@ -8,7 +8,7 @@ use super::texts::{Text, put};
 use rd_actor::Act;
 use rd_step::Event;
 
-/// Appends to the text the words of an event: those of the line that makes it happen.
+/// Appends to the text the words of an event: the line that makes it happen, without a line feed.
 pub fn put_event(text: &mut Text, event: Event)
     ensures { PutsUpTo 46 text.old.items text.new.items (event_words event) }
 {

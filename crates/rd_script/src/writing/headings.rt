@@ -1,4 +1,5 @@
-//! The lines of a view that answer nothing: whose replies follow, and how many calls were recorded.
+//! Headings: lines of a view's report that answer no line. They say whose replies follow, and how
+//! many calls were recorded.
 
 ghost use Rattle.std.specs.Prelude.{◌≡◌};
 ghost use Rattle.rd_script.specs.Headings.{heading_text};
@@ -7,12 +8,12 @@ use super::lines::end_line;
 use super::numbers::put_words_and_number;
 use super::texts::Text;
 
-/// A line of a view that answers nothing.
+/// A line of a view's report that answers no line.
 #[derive(Clone, Copy, Debug, PartialEq, Eq)]
 pub enum Heading {
-    /// The replies to the lines of this viewer follow, the first viewer being 1.
+    /// The replies to this viewer's lines follow; viewers are numbered from 1.
     Viewer(u64),
-    /// This many calls were recorded.
+    /// The number of calls that were recorded.
     History(u64),
 }
 

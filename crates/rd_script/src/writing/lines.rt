@@ -1,8 +1,8 @@
-//! The line of an answer.
+//! The line of an answer in a report.
 //!
-//! A run makes the lines of all its answers in one buffer, so that no answer needs a new one. It
-//! makes the line of a reply, of what an event is answered or of a refusal from just that, since a
-//! whole `LineAnswer` or `Reply`, which has room for a step's entry, takes time to copy.
+//! A run makes the lines of all its answers in one buffer, so that no answer needs a new one. There
+//! is a function for each part of an answer, because copying a whole `LineAnswer` or `Reply`, which
+//! has room for a step's entry, takes time.
 
 ghost use Rattle.std.specs.Prelude.{◌≡◌, [], ◌∷◌, Ok, Err};
 ghost use Rattle.rd_marks.specs.Events.{as_reply};
@@ -37,7 +37,7 @@ pub fn set_reply(text: &mut Text, reply: &Reply)
     end_line(text);
 }
 
-/// Replaces the text by the line of what an event that happened is answered, with its line feed.
+/// Replaces the text by the line of the reply to an event, with its line feed.
 pub fn set_event_reply(text: &mut Text, done: EventReply)
     ensures { text.new.items ≡ text_of (Ok (as_reply done)) }
 {
@@ -63,7 +63,7 @@ pub fn end_line(text: &mut Text)
     put(text, b"\n");
 }
 
-/// Appends to the text the number, the name and the data of any refusal.
+/// Appends to the text the number, the name and the data of any refusal or fault.
 fn put_any_refusal(text: &mut Text, refusal: &AnyRefusal)
     ensures { PutsUpTo 100 text.old.items text.new.items (any_words refusal.now) }
 {
@@ -89,7 +89,7 @@ fn put_any_refusal(text: &mut Text, refusal: &AnyRefusal)
     }
 }
 
-/// Appends to the text which event of a trace was refused, and why.
+/// Appends to the text the refusal of an event of a trace: the event's number, and the cause.
 fn put_trace_step(text: &mut Text, step: u64, cause: Refusal)
     ensures { PutsUpTo 78 text.old.items text.new.items (trace_step_words step cause) }
 {
@@ -98,7 +98,8 @@ fn put_trace_step(text: &mut Text, step: u64, cause: Refusal)
     put_refusal(text, cause);
 }
 
-/// Appends to the text which event of which bookmark of a trace was refused, and why.
+/// Appends to the text the refusal of an event of a trace's bookmark: the numbers of the bookmark
+/// and of the event in it, and the cause.
 fn put_trace_mark(text: &mut Text, mark: u64, step: u64, cause: Refusal)
     ensures { PutsUpTo 99 text.old.items text.new.items (trace_mark_words mark step cause) }
 {
@@ -108,7 +109,8 @@ fn put_trace_mark(text: &mut Text, mark: u64, step: u64, cause: Refusal)
     put_refusal(text, cause);
 }
 
-/// Appends to the text the ticket that is drawn next, and the one that is served.
+/// Appends to the text the words of a lock: the ticket to be drawn next, and the ticket that is
+/// served.
 fn put_busy(text: &mut Text, next: u64, served: u64)
     ensures { PutsUpTo 54 text.old.items text.new.items (busy_words next served) }
 {

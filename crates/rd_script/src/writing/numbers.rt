@@ -9,7 +9,7 @@ ghost use Rattle.rd_script.specs.Texts.{spaced_number, bit_number, yes_or_no};
 use super::texts::{Text, put};
 use itoa::Buffer;
 
-/// Appends to the text the decimal digits of a number, the highest first.
+/// Appends to the text the decimal digits of a number, without leading zeros.
 pub fn put_number(text: &mut Text, number: u64)
     ensures { PutsUpTo 20 text.old.items text.new.items (decimal number) }
 {

@@ -9,7 +9,8 @@ use super::texts::{Text, put};
 use crate::faults::{LineFault, ScriptFault};
 use rd_cell::Refusal;
 
-/// Appends to the text the number, the name and the data of a refusal.
+/// Appends to the text the number, the name and the data of a refusal: the number of live steps, or
+/// a step's number, if it has one.
 pub fn put_refusal(text: &mut Text, refusal: Refusal)
     ensures { PutsUpTo 38 text.old.items text.new.items (refusal_words refusal) }
 {
@@ -34,7 +35,7 @@ pub fn name_of_fault(fault: LineFault) -> &'static [u8]
     }
 }
 
-/// Returns the number and the name of what stopped a run.
+/// Returns the number and the name of the fault that stopped a run.
 pub fn name_of_stop(fault: ScriptFault) -> &'static [u8]
     ensures name { result.now ≡ stop_name fault }
     ensures len { length result.now ≤ 17 }
@@ -45,7 +46,7 @@ pub fn name_of_stop(fault: ScriptFault) -> &'static [u8]
     }
 }
 
-/// Returns the number and the name of a refusal.
+/// Returns the number and the name of a refusal, without its data.
 fn name_of(refusal: Refusal) -> &'static [u8]
     ensures name { result.now ≡ refusal_name refusal }
     ensures len { length result.now ≤ 17 }

@@ -48,7 +48,7 @@ pub fn put_reply(text: &mut Text, reply: &Reply)
     }
 }
 
-/// Appends to the text the words of what an event that happened is answered.
+/// Appends to the text the words of the reply to an event.
 pub fn put_event_reply(text: &mut Text, done: EventReply)
     ensures { PutsUpTo 50 text.old.items text.new.items (reply_words (as_reply done)) }
 {
@@ -56,7 +56,8 @@ pub fn put_event_reply(text: &mut Text, done: EventReply)
     put_ended_call(text, done.reply);
 }
 
-/// Appends to the text a space and what a call replied, if the event ended one.
+/// Appends to the text a space and the result of the call that an event ended, or nothing if it
+/// ended none.
 fn put_ended_call(text: &mut Text, reply: Option<OpReply>)
     ensures { PutsUpTo 27 text.old.items text.new.items (event_reply reply) }
 {
@@ -69,7 +70,8 @@ fn put_ended_call(text: &mut Text, reply: Option<OpReply>)
     }
 }
 
-/// Appends to the text the words of an origin: the steps that called, put and took a value.
+/// Appends to the text the words of an origin: the numbers of the call's first step, the put and
+/// the take.
 fn put_origin(text: &mut Text, origin: Origin)
     ensures { PutsUpTo 90 text.old.items text.new.items (origin_words origin) }
 {
@@ -80,7 +82,7 @@ fn put_origin(text: &mut Text, origin: Origin)
     put_words_and_number(text, b" take", origin.take);
 }
 
-/// Appends to the text the number of a step, or a hyphen if there is none.
+/// Appends to the text the number of a step, or a hyphen if there is no such step.
 fn put_step_number(text: &mut Text, step: Option<u64>)
     ensures { PutsUpTo 20 text.old.items text.new.items (step_number step) }
 {
@@ -90,7 +92,8 @@ fn put_step_number(text: &mut Text, step: Option<u64>)
     }
 }
 
-/// Appends to the text this word, and a number after a space, or `none` if there is none.
+/// Appends to the text this word, a space and a number, or `none` in its place if there is no
+/// number.
 fn put_number_or_none(text: &mut Text, word: &[u8], number: Option<u64>)
     ensures words { Puts text.old.items text.new.items (number_or_none word.now number) }
     ensures len { length (number_or_none word.now number) ≤ length word.now + 21 }

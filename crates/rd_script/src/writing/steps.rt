@@ -1,4 +1,4 @@
-//! The words of a step in a reply: parts with semicolons between them.
+//! The words of a step in a reply: its parts, with semicolons between them.
 
 ghost use Rattle.std.specs.Prelude.{◌≡◌, ◌≤◌, length};
 ghost use Rattle.rd_script.specs.Puts.{PutsUpTo};
@@ -13,7 +13,7 @@ use rd_actor::OpReply;
 use rd_cell::{Answer, Place, Wrote};
 use rd_step::Entry;
 
-/// Appends to the text all words of a step.
+/// Appends to the text all words of the step of this number, from its entry.
 pub fn put_step(text: &mut Text, number: u64, entry: &Entry)
     ensures { PutsUpTo 300 text.old.items text.new.items (step_words number entry.now) }
 {
@@ -26,7 +26,7 @@ pub fn put_step(text: &mut Text, number: u64, entry: &Entry)
     put_step_reply(text, entry.reply);
 }
 
-/// Appends to the text what a call replied.
+/// Appends to the text the result of a call.
 pub fn put_call_reply(text: &mut Text, reply: OpReply)
     ensures { PutsUpTo 26 text.old.items text.new.items (reply_word reply) }
 {
@@ -37,7 +37,7 @@ pub fn put_call_reply(text: &mut Text, reply: OpReply)
     }
 }
 
-/// Appends to the text what the access of a step did.
+/// Appends to the text the place, the kind and the answer of a step's access.
 fn put_done(text: &mut Text, entry: &Entry)
     ensures { PutsUpTo 145 text.old.items text.new.items (done_words entry.now) }
 {
@@ -58,7 +58,8 @@ fn put_step_place(text: &mut Text, place: Option<Place>)
     }
 }
 
-/// Returns the word for how a step touched its place, if it has one.
+/// Returns the word for what a step did at its place: it read, wrote, or wrote only the index half.
+/// `none` if it has no place.
 fn access_word(place: Option<Place>, wrote: Wrote) -> &'static [u8]
     ensures name { result.now ≡ access_word place wrote }
     ensures len { length result.now ≤ 11 }
@@ -71,7 +72,7 @@ fn access_word(place: Option<Place>, wrote: Wrote) -> &'static [u8]
     }
 }
 
-/// Appends to the text what an access answered.
+/// Appends to the text the answer of an access, or a hyphen if that is nothing.
 fn put_access_answer(text: &mut Text, answer: Answer)
     ensures { PutsUpTo 62 text.old.items text.new.items (access_answer answer) }
 {
@@ -93,7 +94,7 @@ fn put_access_answer(text: &mut Text, answer: Answer)
     }
 }
 
-/// Appends to the text what a call replied, if the step ended one, else a hyphen.
+/// Appends to the text the result of the call that a step ended, or a hyphen if it ended none.
 fn put_step_reply(text: &mut Text, reply: Option<OpReply>)
     ensures { PutsUpTo 26 text.old.items text.new.items (step_reply reply) }
 {

@@ -4,13 +4,14 @@ ghost use Rattle.rd_script.specs.Puts.{Puts};
 
 use arrayvec::ArrayVec;
 
-/// How many bytes a text can have.
+/// The greatest number of bytes in a text.
 pub const MOST_BYTES: usize = 512;
 
 /// A text of up to 512 bytes.
 pub type Text = ArrayVec<u8, MOST_BYTES>;
 
-/// Appends words to the text if there is room for all of them.
+/// Appends words to the text. There must be room for all of them; otherwise the text stays as it
+/// is.
 pub fn put(text: &mut Text, words: &[u8])
     ensures { Puts text.old.items text.new.items words.now }
 {
