@@ -121,11 +121,6 @@ pub goto_lacks : {R : ℕ} {X : Type 0} (r : Result X Refusal) (b : Book R) (nam
 goto_lacks (Ok x) b name node its h = tt
 goto_lacks (Err cause) b name node its h = inr (h.0, record { node = node; its = its; lacks = h.1 })
 
--- a fact about the error of a result holds of the error that it has
-pub if_then_for : {X : Type 0} (r : Result X Refusal) (P : Refusal → Type 0) → IfErr r P → (refusal : Refusal) → r ≡ Err refusal → P refusal
-if_then_for (Ok x) P h refusal is = absurd (cc)
-if_then_for (Err e) P h refusal is = subst P (let same : e ≡ refusal = cc in same) h
-
 -- Rules for reading a bookmark by its index, and for going to one or comparing two by name
 pub ruleset at_steps = (option_map, slice_get-map, all_at)
 

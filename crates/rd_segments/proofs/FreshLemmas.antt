@@ -58,10 +58,6 @@ module _ {R : ℕ} where
   pub only_one : (ss : List (Segment R)) (s : Segment R) → length ss ≡ 1 → s ≡ get_or ss 0 s → ss ≡ s ∷ []
   only_one ss s len is = grind (arith, common_steps)
 
-  -- a list of another length has not just one fresh segment
-  pub not_alone : (ss : List (Segment R)) → (length ss ≡ 1 → ⊥) → IsFreshAlone ss → ⊥
-  not_alone ss other h = other (ap length h.alone)
-
   -- a list that isn't empty is its first element followed by the others
   pub first_and_others : (makers : List (ListOf (Segment R))) (first : ListOf (Segment R)) → 1 ≤ length makers → first ≡ get_or makers 0 first
       → makers ≡ first ∷ take (length makers - 1) (drop 1 makers)

@@ -1,5 +1,5 @@
 -- The makers' lists after a change of one segment.
-use Rattle.rd_segments.proofs.Prelude.{◌≡◌, ◌≢◌, ℕ, ◌+◌, ◌-◌, ◌<◌, ◌≤◌, Bool, true, ◌==◌, ◌&&◌, if◌then◌else◌, ◌⊎◌, sym, ◌∙◌, ap, subst, arith, List, [], ◌∷◌, ◌++◌, take, length, set, get_or, Option, Some, None, is_some, slice_get, eq-eqb, ne_eqb, Result, OnErr, OnOk, with_item, cond-true, cond-false, and_left, and_right, slice_get_past, slice_get-get_or, SegName, Place, root, name_eq, operand, slice_get-set_same, slice_get-set_other, Segment, ListOf, by_number, by_name, part_of, count_in, count, Changes, IsLengthened, spare_in, spare, and_from, slice_get_cases, slice_get_within, slice_get-push_same, slice_get-push_other, slice_get-take_same, slice_get-take_other, room_used, refl, Ok, Err, Refusal, KeepsMakersRoom, UsesMakersRoom, ReturnsMakersRoom, AddsMakersRoom, makers_room}
+use Rattle.rd_segments.proofs.Prelude.{◌≡◌, ◌≢◌, ℕ, ◌+◌, ◌-◌, ◌<◌, ◌≤◌, Bool, true, ◌==◌, ◌&&◌, if◌then◌else◌, ◌⊎◌, sym, ◌∙◌, ap, subst, arith, List, [], ◌∷◌, take, length, set, get_or, Option, Some, None, is_some, slice_get, eq-eqb, ne_eqb, Result, OnErr, OnOk, with_item, cond-true, cond-false, and_left, and_right, slice_get_past, slice_get-get_or, SegName, Place, root, name_eq, operand, slice_get-set_same, slice_get-set_other, Segment, ListOf, by_number, by_name, part_of, count_in, count, Changes, IsLengthened, spare_in, spare, and_from, slice_get_cases, slice_get_within, slice_get-push_same, slice_get-push_other, slice_get-take_same, slice_get-take_other, room_used, refl, Ok, Err, Refusal, KeepsMakersRoom, UsesMakersRoom, ReturnsMakersRoom, AddsMakersRoom, makers_room}
 use Rattle.std.specs.declared.alloc.AllocError.{AllocError}
 use Rattle.std.specs.Result.{is_ok}
 use Rattle.std.proofs.lemmas.List.{length-set}
@@ -163,11 +163,6 @@ reserved_adds makers maker m more list left r is within read ok err room = recor
 pub count_within : {R : ℕ} (makers : List (ListOf (Segment R))) (m : ℕ) → 0 < count makers m → m < length makers
 count_within makers m h = grind (arith, slice_get_past)
 
--- a maker's count is the length of the list that is read at its number
-pub count_read : {R : ℕ} (makers : List (ListOf (Segment R))) (maker m : ℕ) (list : ListOf (Segment R)) → m ≡ maker → maker < length makers
-    → list ≡ get_or makers m list → count makers maker ≡ length list.items
-count_read makers maker m list is within read = ap count_in (list_read makers maker list within (read ∙ ap (λ (k : ℕ). get_or makers k list) is))
-
 -- removing the last element of a maker's list removes its last segment, and changes no other
 pub last_taken : {R : ℕ} (makers : List (ListOf (Segment R))) (maker m : ℕ) (list left : ListOf (Segment R)) → m ≡ maker → maker < length makers
     → list ≡ get_or makers m list → left.items ≡ take (length list.items - 1) list.items
@@ -192,8 +187,3 @@ first_at list segment items m n = grind arith
 pub first_list : {R : ℕ} (list : ListOf (Segment R)) (segment : Segment R) → list.items ≡ segment ∷ []
     → (t : SegName) → by_name (list ∷ []) t ≡ (if name_eq root t then Some segment else None)
 first_list list segment items t = first_at list segment items t.maker t.n
-
--- pushing an empty list adds no segment
-pub empty_pushed : {R : ℕ} (makers : List (ListOf (Segment R))) (empty : ListOf (Segment R)) → empty.items ≡ [] → (t : SegName)
-    → by_name (makers ++ empty ∷ []) t ≡ by_name makers t
-empty_pushed makers empty none t = grind (arith, slice_get, slice_get-push_same, slice_get_past, slice_get-push_other)

@@ -1,6 +1,6 @@
 //! What a step and its undoing do to the two fields of a world, the space and the actors.
 
-ghost use Rattle.std.specs.Prelude.{◌≡◌, ◌≢◌, ◌+◌, ◌<◌, ◌≤◌, ◌↔◌, ℕ, true, Some, None, Ok, Err, IsSome, IsTrue, IfOk, IfErr, OnErr, length};
+ghost use Rattle.std.specs.Prelude.{◌≡◌, ◌≢◌, ◌+◌, ◌<◌, ◌≤◌, ◌↔◌, ℕ, true, Some, None, Ok, IsSome, IsTrue, IfOk, IfErr, OnErr, length};
 ghost use Rattle.rd_ring.specs.Prelude.{MOST_CELLS, MOST_SEGMENTS, Make, perform, restore, everywhere, HasEffect};
 ghost use Rattle.std.specs.List.{All};
 ghost use Rattle.rd_segments.specs.Room.{room_returned, UsesMakersRoom, ReturnsMakersRoom};
