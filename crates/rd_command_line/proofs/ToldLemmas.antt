@@ -10,7 +10,7 @@ use Rattle.clap.proofs.WalkLemmas.{first_value-rows, one_text-rows, raw_values-r
 use Rattle.rd_command_line.specs.declared.requests.Options.{Options}
 use Rattle.rd_command_line.specs.declared.requests.Options.TheVariants.{Run, View, Load}
 use Rattle.rd_cell.specs.declared.limits.TheConstants.{MOST_ACTORS}
-use Rattle.rd_trace.specs.declared.rings.Ring.{Ring}
+use Rattle.rd_script.specs.declared.rings.Ring.{Ring}
 use Rattle.rd_command_line.specs.Options.{ring_text, flag_text}
 use Rattle.rd_command_line.specs.CommandLine.{IsNumber, GivesWorld, GivesFile, GivesRun, GivesView, GivesLoad}
 

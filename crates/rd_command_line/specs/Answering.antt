@@ -5,8 +5,8 @@ use Rattle.std.specs.Global.{Global}
 use Rattle.clap.specs.Walk.{Text}
 use Rattle.rd_marks.specs.BookState.{BookState}
 use Rattle.rd_script.specs.Streams.{Devices, IsUnused, Stream}
-use Rattle.rd_trace.specs.Traces.{ring_length}
-use Rattle.rd_trace.specs.Loading.{fresh_state}
+use Rattle.rd_script.specs.Ring.{ring_length}
+use Rattle.rd_script.specs.AnyBook.{fresh_state}
 use Rattle.rd_program.specs.declared.faults.ProgramFault.{ProgramFault}
 use Rattle.rd_program.specs.declared.faults.ProgramFault.TheVariants as program
 use Rattle.rd_program.specs.Program.{IsUnread, PlaysScript, ResumesTrace, TouchesNothing}

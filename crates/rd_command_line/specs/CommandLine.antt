@@ -15,7 +15,7 @@ use Rattle.rd_command_line.specs.declared.requests.Options.TheVariants.{Run, Vie
 use Rattle.rd_command_line.specs.declared.requests.OptionsFault.{OptionsFault}
 use Rattle.rd_command_line.specs.declared.requests.OptionsFault.TheVariants.{Shown, Refused, TooManyFiles, NoMemory}
 use Rattle.rd_cell.specs.declared.limits.TheConstants.{MOST_ACTORS}
-use Rattle.rd_trace.specs.declared.rings.Ring.{Ring}
+use Rattle.rd_script.specs.declared.rings.Ring.{Ring}
 use Rattle.rd_command_line.specs.Options.{HasManyFiles, ring_text, flag_text}
 
 -- the type of a list of names of values, as clap is given it

@@ -1,9 +1,9 @@
 -- The outcome of a command line that gives no options, and how the program ends after each outcome.
 use Rattle.std.specs.Prelude.{◌≡◌, ◌⊎◌, ℕ, Bool, true, false, codes, string_bytes, Err, String}
 use Rattle.std.specs.Global.{Global}
-use Rattle.rd_script.specs.Streams.{Stream}
+use Rattle.rd_script.specs.Streams.{GetsNothing, Stream}
 use Rattle.rd_program.specs.declared.faults.ProgramFault.TheVariants as program
-use Rattle.rd_program.specs.Endings.{EndsAs, GetsNothing, Takes}
+use Rattle.rd_program.specs.Endings.{EndsAs, Takes}
 use Rattle.rd_command_line.specs.declared.requests.OptionsFault.{OptionsFault}
 use Rattle.rd_command_line.specs.declared.requests.OptionsFault.TheVariants as options
 use Rattle.rd_command_line.specs.declared.outcomes.Outcome.{Outcome}

@@ -17,8 +17,7 @@ use super::requests::{Options, OptionsFault, ring_of};
 use clap::error::ErrorKind;
 use clap::{Arg, ArgAction, ArgMatches, Command, Error, value_parser};
 use rd_cell::limits::MOST_ACTORS;
-use rd_script::FORMS;
-use rd_trace::Ring;
+use rd_script::{FORMS, Ring};
 use std::alloc::{AllocError, Global};
 use std::convert::AsStr;
 

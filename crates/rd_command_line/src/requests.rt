@@ -7,7 +7,7 @@ ghost use Rattle.rd_command_line.specs.Options.{HasFewFiles, HasManyFiles, ring_
 use clap::Error;
 use clap::error::ErrorKind;
 use rd_desk::MOST_VIEWERS;
-use rd_trace::Ring;
+use rd_script::Ring;
 use std::alloc::AllocError;
 
 /// Returns the ring that a text of the command line spells, or none if it spells none.

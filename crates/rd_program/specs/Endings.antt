@@ -1,12 +1,12 @@
 -- How the program ends after each outcome: its exit status, and what standard error then has.
-use Rattle.std.specs.Prelude.{◌≡◌, ℕ, Bool, false, MatchBool, List, ◌++◌, codes, Result, Ok, Err}
+use Rattle.std.specs.Prelude.{◌≡◌, ℕ, false, MatchBool, List, ◌++◌, codes, Result, Ok, Err}
 use Rattle.std.specs.Io.KnownBytes.{Appends}
 use Rattle.rd_cell.specs.declared.refusal.Refusal.TheVariants as refusal
 use Rattle.rd_script.specs.declared.answers.AnyRefusal.{AnyRefusal}
 use Rattle.rd_script.specs.declared.answers.AnyRefusal.TheVariants as refused
 use Rattle.rd_script.specs.declared.faults.ScriptFault.TheVariants as script
 use Rattle.rd_script.specs.Device.{TakesBeginning}
-use Rattle.rd_script.specs.Streams.{Stream}
+use Rattle.rd_script.specs.Streams.{GetsNothing, Stream}
 use Rattle.rd_script.specs.Replies.{text_of}
 use Rattle.rd_trace.specs.declared.faults.LoadTraceFault.{LoadTraceFault}
 use Rattle.rd_trace.specs.declared.faults.LoadTraceFault.TheVariants as load
@@ -52,10 +52,6 @@ error_line cause = codes "lcrqdb: " ++ text_of (Err cause)
 -- a stream took this text: all of it, after what it had; or, if it has failed, a beginning of it
 abbrev pub Takes : Stream → List ℕ → Type 0
 Takes s text = MatchBool s.failed (TakesBeginning s.before s.after text) (Appends s.before s.after text)
-
--- a stream got nothing: it has what it had, and has failed only if it had failed before
-abbrev pub GetsNothing : Bool → Stream → Type 0
-GetsNothing had_failed s = (s.after ≡ s.before) × (s.failed ≡ had_failed)
 
 -- how the program ends after an outcome: with status 0 and nothing more on standard error, which
 -- has not failed, or with status 1 and the line of the refusal there

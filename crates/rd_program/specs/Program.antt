@@ -3,14 +3,14 @@
 use Rattle.std.specs.Prelude.{◌≡◌, ◌⊎◌, ℕ, Bool, true, false, List, Option, Result, Ok, Err}
 use Rattle.rd_journal.specs.Journal.{Journal}
 use Rattle.rd_marks.specs.BookState.{BookState}
-use Rattle.rd_script.specs.Streams.{Devices, IsUnused, Stream}
+use Rattle.rd_script.specs.Streams.{Devices, GetsNothing, IsUnused, Stream}
 use Rattle.rd_script.specs.Script.{RanToEnd, RunsScript}
 use Rattle.rd_trace.specs.declared.faults.LoadTraceFault.{LoadTraceFault}
 use Rattle.rd_trace.specs.declared.faults.WriteTraceFault.{WriteTraceFault}
-use Rattle.rd_trace.specs.declared.any_book.AnyBook.{AnyBook}
-use Rattle.rd_trace.specs.Writing.{WritesTrace, is_write_fault}
-use Rattle.rd_trace.specs.Loading.{LoadsTrace, any_state}
-use Rattle.rd_program.specs.Endings.{GetsNothing}
+use Rattle.rd_script.specs.declared.any_book.AnyBook.{AnyBook}
+use Rattle.rd_trace.specs.Writing.{WritesTrace}
+use Rattle.rd_script.specs.AnyBook.{any_state}
+use Rattle.rd_trace.specs.Loading.{LoadsTrace}
 use Rattle.rd_program.specs.declared.faults.ProgramFault.{ProgramFault}
 use Rattle.rd_program.specs.declared.faults.ProgramFault.TheVariants.{NoMemory, Read, Script, Load, Trace}
 
@@ -25,7 +25,7 @@ TouchesNothing d = IsUnused d.input × IsUnused d.output
 -- what became of the trace of a book in this state, if it was asked for: it was written, as far as
 -- the result states; else the output got nothing
 abbrev pub WritesIf : Bool → BookState → Stream → Result (Unit {0}) WriteTraceFault → Type 0
-WritesIf true b output result = WritesTrace b output.before output.after result × (output.failed ≡ is_write_fault result)
+WritesIf true b output result = WritesTrace b output result
 WritesIf false b output result = (result ≡ Ok tt) × GetsNothing false output
 
 -- a script of n lines ran to its end over a book in this state, its report was written, and this

@@ -18,4 +18,4 @@ view_outcome viewed = result_map_both (λ history. length (entries history)) Vie
 -- what became of a view of these scripts over a book in this state, by the program's outcome
 abbrev pub ViewsOver : BookState → List (Vec ℕ Global) → Stream → Result ℕ ProgramFault → Type 0
 ViewsOver opened scripts output result =
-    (viewed : Result History ViewFault) × (result ≡ view_outcome viewed) × ViewsScripts opened scripts output.before output.after output.failed viewed
+    (viewed : Result History ViewFault) × (result ≡ view_outcome viewed) × ViewsScripts opened scripts output viewed

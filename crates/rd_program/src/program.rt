@@ -3,14 +3,14 @@
 
 ghost use Rattle.std.specs.Prelude.{◌≡◌, ℕ, false, IfOk, IfErr, IfSome};
 ghost use Rattle.rd_script.specs.Streams.{devices, sink_stream};
-ghost use Rattle.rd_trace.specs.Traces.{ring_length};
-ghost use Rattle.rd_trace.specs.Loading.{any_state, fresh_state};
+ghost use Rattle.rd_script.specs.Ring.{ring_length};
+ghost use Rattle.rd_script.specs.AnyBook.{any_state, fresh_state};
 ghost use Rattle.rd_program.specs.Program.{IsUnread, PlaysOver, PlaysScript, ResumesTrace, WritesIf};
 
 use super::faults::ProgramFault;
 use super::setups::Setup;
-use rd_script::{Sink, Source};
-use rd_trace::{AnyBook, WriteTraceFault, load_trace};
+use rd_script::{AnyBook, Sink, Source};
+use rd_trace::{WriteTraceFault, load_trace, write_any_trace};
 use std::alloc::Global;
 use std::io::{ErrorKind, Read};
 
@@ -71,7 +71,7 @@ fn write_if<K: Sink>(
         (sink_stream K.Sink writer.old writer.new) result }
 {
     if trace {
-        return book.write_trace(alloc, writer);
+        return write_any_trace(alloc, writer, book);
     }
     Ok(())
 }

@@ -3,7 +3,7 @@
 ghost use Rattle.std.specs.Prelude.{◌≤◌};
 ghost use Rattle.rd_cell.specs.declared.limits.TheConstants.{MOST_ACTORS};
 
-use rd_trace::Ring;
+use rd_script::Ring;
 
 /// Which fresh world a run begins in.
 #[derive(Clone, Copy, Debug, PartialEq, Eq)]

@@ -4,15 +4,14 @@ ghost use Rattle.std.specs.Prelude.{◌≡◌, ◌≤◌, false, length};
 ghost use Rattle.rd_desk.specs.declared.desks.TheConstants.{MOST_VIEWERS};
 ghost use Rattle.rd_marks.specs.Book.{book_state};
 ghost use Rattle.rd_script.specs.Streams.{sink_stream};
-ghost use Rattle.rd_trace.specs.Traces.{ring_length};
-ghost use Rattle.rd_trace.specs.Loading.{fresh_state};
+ghost use Rattle.rd_script.specs.Ring.{ring_length};
+ghost use Rattle.rd_script.specs.AnyBook.{fresh_state};
 ghost use Rattle.rd_program.specs.Viewers.{ViewsOver};
 
 use super::faults::ProgramFault;
 use super::setups::Setup;
 use rd_marks::Book;
-use rd_script::Sink;
-use rd_trace::AnyBook;
+use rd_script::{AnyBook, Sink};
 use rd_view::{ViewFault, view_scripts};
 use std::alloc::Global;
 use std::sync::Wait;

@@ -16,3 +16,5 @@ pub mod Headings
 pub mod Lines
 pub mod Answers
 pub mod Script
+pub mod Ring
+pub mod AnyBook

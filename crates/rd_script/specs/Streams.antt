@@ -31,3 +31,7 @@ devices source sink reader reader' writer writer' = record {
 -- a stream was not used: no byte was read or written, and it has not failed
 abbrev pub IsUnused : Stream → Type 0
 IsUnused s = Keeps s.before s.after × (s.failed ≡ false)
+
+-- a stream got nothing: it has what it had, and has failed only if it had failed before
+abbrev pub GetsNothing : Bool → Stream → Type 0
+GetsNothing had_failed s = (s.after ≡ s.before) × (s.failed ≡ had_failed)

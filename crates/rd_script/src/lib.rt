@@ -6,23 +6,27 @@
 //! together. `script` runs a script with them: each line is obeyed when it is complete, and its
 //! reply is written at once. Lines and replies are kept in buffers of fixed capacity, so no memory
 //! is taken except by the commands themselves. The commands of a whole text come as a list, which
-//! takes memory.
+//! takes memory. `any_book` is a book whose ring is known only when the program runs.
 #![tactic(auto)]
 
 mod answers;
+mod any_book;
 mod devices;
 mod faults;
 mod reading;
+mod rings;
 mod script;
 mod writing;
 
 pub use answers::{AnyRefusal, LineAnswer};
+pub use any_book::AnyBook;
 pub use devices::sinks::{Sink, WriteFault, WriteSink, write_all};
 pub use devices::sources::{ReadFault, ReadSource, Source};
 pub use faults::{LineFault, ScriptFault};
 pub use reading::commands::command_in;
 pub use reading::keywords::FORMS;
 pub use reading::whole_texts::lines;
+pub use rings::Ring;
 pub use script::{run, write_answer};
 pub use writing::headings::{Heading, set_heading};
 pub use writing::lines::set_text;

@@ -7,7 +7,9 @@ pub use Rattle.rd_segments.proofs.Prelude.{array_part, by_name, by_number, conte
 pub use Rattle.rd_step.proofs.Prelude.{Act, Actor, ArrayParts, MOST_STEPS, Pc, Ran, Refusal, SegmentParts, Stepped, World, array_fits, events, first_flaw, fresh_world, indexes_fit, model, names_fit, next_fits, numbered, numbers_within, result_map, run, run_entries, step, words_fit, world_of_parts}
 pub use Rattle.rd_journal.proofs.Prelude.{IsRun, Journal, State, apply, back, journal, state, state_of, step_after, with_event}
 pub use Rattle.rd_marks.proofs.Prelude.{Answered, AnswersEvents, BookState, GoThrough, Happened, HaveDifferentNames, KeepsRules, MOST_MARKS, Mark, MarksGoThrough, answer_with, at_events, book_state, bytes_of, is_mark_name, is_name_byte, mark, mark_at, mark_events, mark_name_eq, marked_events, opened_ring, session_of, with_session}
-pub use Rattle.rd_script.proofs.Prelude.{Book, Reply, RunsScript, devices}
+pub use Rattle.rd_script.proofs.Prelude.{Book, Reply}
+pub use Rattle.rd_script.specs.AnyBook.{IsBookIn, any_state}
+pub use Rattle.rd_script.specs.declared.any_book.AnyBook.{AnyBook}
 pub use Rattle.json.proofs.Printed.Strings.{content-escape, escape_byte_plain, lex-escape}
 pub use Rattle.json.specs.Lex.{Lexeme, between, comma, fresh, punctuate, string_token, token, tokens}
 unfoldable pub use Rattle.json.specs.Lex.{lex}
@@ -31,7 +33,7 @@ pub use Rattle.rd_trace.specs.Actors.{IsActor, actor_data, op_of_items, value_da
 pub use Rattle.rd_trace.specs.Arrays.{IsArray, array_data, filled_slots, slot_data, slot_of, slot_of_items}
 pub use Rattle.rd_trace.specs.Bookmarks.{AreMarks, IsMark, mark_data, mark_object, saved_mark, saved_marks}
 pub use Rattle.rd_trace.specs.Events.{act_data, event_data, event_of, event_of_items, long_data, short_data}
-pub use Rattle.rd_trace.specs.Loading.{IsBookIn, IsSameAnswer, LoadsAgain, LoadsTrace, Replays, any_state, first_refused_mark, trace_fault}
+pub use Rattle.rd_trace.specs.Loading.{IsSameAnswer, LoadsAgain, LoadsTrace, Replays, first_refused_mark, trace_fault}
 pub use Rattle.rd_trace.specs.Names.{name_data, name_of, name_of_items, next_data, next_of}
 pub use Rattle.rd_trace.specs.Numbers.{byte_number, items_at, member_count, number_at}
 pub use Rattle.rd_trace.specs.Saved.{HasValue, IsEitherVersion, IsSameBook, IsTraceText, IsVersion1, IsVersion2, Trace, book_data, book_object, loaded_state, saved_trace, seen_mark}
@@ -42,7 +44,6 @@ pub use Rattle.rd_trace.specs.Steps.{GoesTo, LoadsValue, MakesLive, RefusesOne, 
 pub use Rattle.rd_trace.specs.Texts.{AreAppended, IsMarkAppended, IsReadBack, IsSpelledBack, IsStartAppended, joined_text}
 pub use Rattle.rd_trace.specs.Traces.{IsTraceRing, first_refused, session_at}
 pub use Rattle.rd_trace.specs.Writing.{IsTextOf}
-pub use Rattle.rd_trace.specs.declared.any_book.AnyBook.{AnyBook}
 pub use Rattle.rd_trace.specs.declared.bookmarks.SavedMark.{SavedMark}
 pub use Rattle.rd_trace.specs.declared.faults.LoadTraceFault.{LoadTraceFault}
 pub use Rattle.rd_trace.specs.declared.faults.LoadTraceFault.TheVariants.{BadTrace, Flawed, NoMemory, TraceMark, TraceStep}

@@ -5,13 +5,6 @@ use Rattle.rd_step.proofs.Equivalence.{ran_through}
 use Rattle.rd_trace.proofs.SpellLemmas.{split_at, take_item}
 use Rattle.rd_cell.specs.declared.refusal.Refusal.TheVariants as refusal
 
--- Books and lists
-
--- a book that was opened over a session that was opened in a world
-pub opened : (b : BookState) (s : State) (v w : World) → b.session ≡ s → b.marks ≡ [] → s ≡ record { start = v; live = []; undone = [] } → v ≡ w
-    → b ≡ record { session = record { start = w; live = []; undone = [] }; marks = [] }
-opened b s v w session marks state world = grind arith
-
 -- The first event that is refused
 
 option_or_assoc : {X : Type 0} (o p q : Option X) → option_or o (option_or p q) ≡ option_or (option_or o p) q

@@ -5,18 +5,10 @@ use Rattle.std.specs.Result.{result_err}
 use Rattle.rd_step.specs.Prelude.{World, Refusal}
 use Rattle.rd_step.specs.declared.entries.Event.{Event}
 use Rattle.rd_journal.specs.State.{State, apply}
-use Rattle.rd_trace.specs.declared.rings.Ring.{Ring}
-use Rattle.rd_trace.specs.declared.rings.Ring.TheVariants.{Two, Four, Eight}
 
 -- a trace may have rings of n cells
 abbrev pub IsTraceRing : ℕ → Type 0
 IsTraceRing n = (n ≡ 2) ⊎ ((n ≡ 4) ⊎ (n ≡ 8))
-
--- how many cells a ring has
-abbrev pub ring_length : Ring → ℕ
-ring_length Two = 2
-ring_length Four = 4
-ring_length Eight = 8
 
 -- the session from a start with these live events and none undone
 abbrev pub session_at : World → List Event → State

@@ -1,7 +1,8 @@
 -- What a sink gets when a trace is written.
-use Rattle.std.specs.Prelude.{ℕ, Bool, true, false, List, Option, Result, Ok, Err}
-use Rattle.std.specs.Io.KnownBytes.{Keeps, Appends}
+use Rattle.std.specs.Prelude.{◌≡◌, ℕ, true, false, List, Result, Ok, Err}
+use Rattle.std.specs.Io.KnownBytes.{Appends}
 use Rattle.rd_script.specs.Device.{TakesBeginning}
+use Rattle.rd_script.specs.Streams.{IsUnused, Stream}
 use Rattle.rd_marks.specs.BookState.{BookState}
 use Rattle.rd_trace.specs.Traces.{IsTraceRing}
 use Rattle.rd_trace.specs.Saved.{IsWrittenAs}
@@ -17,13 +18,7 @@ pub record IsTextOf (b : BookState) (text : List ℕ) : Type 0 where
 
 -- what a sink took of the text of a book, by the result of writing it: all of it; nothing if memory
 -- was refused; a beginning if the sink failed
-abbrev pub WritesTrace : BookState → Option (List ℕ) → Option (List ℕ) → Result (Unit {0}) WriteTraceFault → Type 0
-WritesTrace b old new (Ok _) = (text : List ℕ) × IsTextOf b text × Appends old new text
-WritesTrace b old new (Err NoMemory) = Keeps old new
-WritesTrace b old new (Err Write) = (text : List ℕ) × IsTextOf b text × TakesBeginning old new text
-
--- whether a result of writing a trace is that the sink failed
-abbrev pub is_write_fault : Result (Unit {0}) WriteTraceFault → Bool
-is_write_fault (Ok _) = false
-is_write_fault (Err NoMemory) = false
-is_write_fault (Err Write) = true
+abbrev pub WritesTrace : BookState → Stream → Result (Unit {0}) WriteTraceFault → Type 0
+WritesTrace b s (Ok _) = (text : List ℕ) × IsTextOf b text × Appends s.before s.after text × (s.failed ≡ false)
+WritesTrace b s (Err NoMemory) = IsUnused s
+WritesTrace b s (Err Write) = (text : List ℕ) × IsTextOf b text × TakesBeginning s.before s.after text × (s.failed ≡ true)

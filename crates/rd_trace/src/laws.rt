@@ -1,7 +1,7 @@
 //! Laws of the text of a trace: each is the contract of a function that does nothing.
 
 ghost use Rattle.std.specs.Prelude.{◌≡◌, ◌≢◌, ℕ, List, Result, Err};
-ghost use Rattle.rd_trace.specs.declared.any_book.AnyBook.{AnyBook};
+ghost use Rattle.rd_script.specs.declared.any_book.AnyBook.{AnyBook};
 ghost use Rattle.rd_trace.specs.declared.faults.LoadTraceFault.{LoadTraceFault};
 ghost use Rattle.rd_trace.specs.declared.faults.LoadTraceFault.TheVariants.{NoMemory};
 ghost use Rattle.rd_trace.specs.Starts.{start_flaw};

@@ -9,7 +9,6 @@
 #![tactic(auto)]
 
 mod actors;
-mod any_book;
 mod arrays;
 mod bookmarks;
 mod events;
@@ -20,7 +19,6 @@ mod members;
 mod names;
 mod numbers;
 mod replay;
-mod rings;
 mod saved;
 mod segments;
 mod spelled;
@@ -28,8 +26,7 @@ mod starts;
 mod texts;
 mod write;
 
-pub use any_book::AnyBook;
 pub use faults::{LoadTraceFault, WriteTraceFault};
 pub use load::load_trace;
-pub use rings::Ring;
-pub use write::write_trace;
+pub use rd_script::{AnyBook, Ring};
+pub use write::{write_any_trace, write_trace};

@@ -14,12 +14,11 @@ ghost use Rattle.rd_trace.specs.Loading.{LoadsTrace, LoadsAgain};
 ghost use Rattle.rd_trace.specs.Steps.{LoadsValue};
 ghost use Rattle.rd_trace.specs.Writing.{IsTextOf};
 
-use super::any_book::AnyBook;
 use super::faults::LoadTraceFault;
 use super::replay::replay;
-use super::rings::Ring;
 use super::saved::{SavedSession, ring_in, session_in};
 use rd_marks::Book;
+use rd_script::{AnyBook, Ring};
 use serde_json::Value;
 use std::alloc::Global;
 

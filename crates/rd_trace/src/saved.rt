@@ -8,7 +8,8 @@ ghost use Rattle.rd_journal.specs.Sessions.{state};
 ghost use Rattle.rd_marks.specs.Book.{book_state};
 ghost use Rattle.rd_marks.specs.Rules.{GoThrough};
 ghost use Rattle.rd_trace.specs.Numbers.{member_count, number_at};
-ghost use Rattle.rd_trace.specs.Traces.{IsTraceRing, ring_length};
+ghost use Rattle.rd_script.specs.Ring.{ring_length};
+ghost use Rattle.rd_trace.specs.Traces.{IsTraceRing};
 ghost use Rattle.rd_trace.specs.Starts.{IsStartValue};
 ghost use Rattle.rd_trace.specs.Spelled.{Reads, Gives};
 ghost use Rattle.rd_trace.specs.Events.{event_of, event_data};
@@ -20,12 +21,12 @@ use super::bookmarks::{SavedMark, marks_in, put_marks};
 use super::events::put_next;
 use super::faults::LoadTraceFault;
 use super::members::{array_at, member_count, number_at};
-use super::rings::Ring;
 use super::spelled::list_at;
 use super::starts::{Start, actors_at, start_in, start_value};
 use super::texts::put_number;
 use rd_journal::Session;
 use rd_marks::Book;
+use rd_script::Ring;
 use rd_step::Event;
 use serde_json::Value;
 use std::alloc::{AllocError, Global};
@@ -73,7 +74,12 @@ pub fn ring_in(value: &Value) -> Option<Ring>
     ensures none { IfNone result ((cells : ℕ)
         → number_at (codes "ring") (view value.now) ≡ Some cells → IsTraceRing cells → ⊥) }
 {
-    Ring::of_length(number_at(value, RING)?)
+    match number_at(value, RING)? {
+        2 => Some(Ring::Two),
+        4 => Some(Ring::Four),
+        8 => Some(Ring::Eight),
+        _ => None,
+    }
 }
 
 /// Returns the session over rings of `R` cells that a value spells, of version 1 or 2.

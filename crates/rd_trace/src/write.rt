@@ -2,12 +2,14 @@
 
 ghost use Rattle.std.specs.Prelude.{◌≡◌, false};
 ghost use Rattle.rd_marks.specs.Book.{book_state};
-ghost use Rattle.rd_trace.specs.Writing.{WritesTrace, is_write_fault};
+ghost use Rattle.rd_script.specs.AnyBook.{any_state};
+ghost use Rattle.rd_script.specs.Streams.{sink_stream};
+ghost use Rattle.rd_trace.specs.Writing.{WritesTrace};
 
 use super::faults::WriteTraceFault;
 use super::saved::text_of;
 use rd_marks::Book;
-use rd_script::{Sink, write_all};
+use rd_script::{AnyBook, Sink, write_all};
 use std::alloc::Global;
 
 /// Writes a book as a trace of version 2, with a line feed after it: its start, live events, undone
@@ -25,9 +27,8 @@ pub fn write_trace<K: Sink, const R: usize>(
     book: &Book<R>,
 ) -> Result<(), WriteTraceFault>
     requires { K.has_failed writer.old ≡ false }
-    ensures writes { WritesTrace (book_state book.now) (K.contents writer.old)
-        (K.contents writer.new) result }
-    ensures failed { K.has_failed writer.new ≡ is_write_fault result }
+    ensures writes { WritesTrace (book_state book.now)
+        (sink_stream K.Sink writer.old writer.new) result }
 {
     let Ok(text) = text_of(alloc, book) else {
         return Err(WriteTraceFault::NoMemory);
@@ -35,5 +36,26 @@ pub fn write_trace<K: Sink, const R: usize>(
     match write_all(writer, text.as_str().as_bytes()) {
         Ok(()) => Ok(()),
         Err(_) => Err(WriteTraceFault::Write),
+    }
+}
+
+/// Writes a book whose ring is known only when the program runs, as `write_trace` does.
+///
+/// # Errors
+///
+/// Those of `write_trace`.
+pub fn write_any_trace<K: Sink>(
+    alloc: Global,
+    writer: &mut K,
+    book: &AnyBook,
+) -> Result<(), WriteTraceFault>
+    requires { K.has_failed writer.old ≡ false }
+    ensures writes { WritesTrace (any_state book.now)
+        (sink_stream K.Sink writer.old writer.new) result }
+{
+    match book {
+        AnyBook::Two(book) => write_trace(alloc, writer, book),
+        AnyBook::Four(book) => write_trace(alloc, writer, book),
+        AnyBook::Eight(book) => write_trace(alloc, writer, book),
     }
 }

@@ -19,17 +19,17 @@ module _ (opened : BookState) where
 
   module _ (scripts : List (Vec ℕ Global)) (old new : Option (List ℕ)) (failed : Bool) where
     -- nothing was written where the scripts were not viewed
-    unviewed : (fault : ViewFault) → IsUnviewed fault → new ≡ old → failed ≡ false → ViewsScripts opened scripts old new failed (Err fault)
-    unviewed view.NoMemory is same works = (is, same, works)
+    unviewed : (fault : ViewFault) → IsUnviewed fault → new ≡ old → failed ≡ false → ViewsScripts opened scripts (record { before = old; after = new; failed = failed }) (Err fault)
+    unviewed view.NoMemory is same works = (is, (same, works))
     unviewed view.Write is same works = absurd is
-    unviewed (view.Busy words) is same works = (is, same, works)
+    unviewed (view.Busy words) is same works = (is, (same, works))
 
-    pub not_viewed : (r : Result History ViewFault) (fault : ViewFault) → IsErrAnd r (λ e. e ≡ fault) → IsUnviewed fault → new ≡ old → failed ≡ false → ViewsScripts opened scripts old new failed r
+    pub not_viewed : (r : Result History ViewFault) (fault : ViewFault) → IsErrAnd r (λ e. e ≡ fault) → IsUnviewed fault → new ≡ old → failed ≡ false → ViewsScripts opened scripts (record { before = old; after = new; failed = failed }) r
     not_viewed (Ok h) fault never is same works = absurd never
-    not_viewed (Err e) fault at is same works = subst (λ x. ViewsScripts opened scripts old new failed (Err x)) (sym at) (unviewed fault is same works)
+    not_viewed (Err e) fault at is same works = subst (λ x. ViewsScripts opened scripts (record { before = old; after = new; failed = failed }) (Err x)) (sym at) (unviewed fault is same works)
 
     -- a beginning of the text was written where the writer failed
     pub not_written : (r : Result History ViewFault) (history : List (ℕ × Call)) (views : Views opened scripts history)
-        → IsErrAnd r (λ e. e ≡ view.Write) → TakesBeginning old new (text_of_views opened views) → failed ≡ true → ViewsScripts opened scripts old new failed r
+        → IsErrAnd r (λ e. e ≡ view.Write) → TakesBeginning old new (text_of_views opened views) → failed ≡ true → ViewsScripts opened scripts (record { before = old; after = new; failed = failed }) r
     not_written (Ok h) history views never took fails = absurd never
-    not_written (Err e) history views at took fails = subst (λ x. ViewsScripts opened scripts old new failed (Err x)) (sym at) (history, views, took, fails)
+    not_written (Err e) history views at took fails = subst (λ x. ViewsScripts opened scripts (record { before = old; after = new; failed = failed }) (Err x)) (sym at) (history, views, took, fails)

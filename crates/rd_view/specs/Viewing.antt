@@ -1,6 +1,6 @@
 -- A view: what each viewer was answered, and how that agrees with the history that all of them
 -- made.
-use Rattle.std.specs.Prelude.{◌≡◌, ℕ, suc, ◌<◌, Bool, true, false, List, [], ◌∷◌, Option, Some, None, Result, Ok, Err, IfErr, Vec, length, map}
+use Rattle.std.specs.Prelude.{◌≡◌, ℕ, suc, ◌<◌, true, false, List, [], ◌∷◌, Option, Some, None, Result, Ok, Err, IfErr, Vec, length, map}
 use Rattle.std.specs.Global.{Global}
 use Rattle.std.specs.Io.KnownBytes.{Appends}
 use Rattle.rd_marks.specs.BookState.{BookState}
@@ -18,6 +18,7 @@ use Rattle.rd_script.specs.Device.{TakesBeginning}
 use Rattle.rd_script.specs.Answers.{commands_of}
 use Rattle.rd_script.specs.Lines.{lines_of}
 use Rattle.rd_script.specs.Spelling.{Says}
+use Rattle.rd_script.specs.Streams.{GetsNothing, Stream}
 use Rattle.rd_view.specs.declared.faults.ViewFault.{ViewFault}
 use Rattle.rd_view.specs.declared.faults.ViewFault.TheVariants as view
 use Rattle.rd_view.specs.Reports.{view_text}
@@ -91,7 +92,8 @@ module _ (opened : BookState) where
 
   -- what became of a view of these scripts, by its result: its text was written whole, or a
   -- beginning of it, or nothing was written
-  abbrev pub ViewsScripts : List (Vec ℕ Global) → Option (List ℕ) → Option (List ℕ) → Bool → Result History ViewFault → Type 0
-  ViewsScripts scripts old new failed (Ok history) = (views : Views scripts (entries history)) × Appends old new (text_of_views views) × (failed ≡ false)
-  ViewsScripts scripts old new failed (Err view.Write) = (history : List (ℕ × Call)) × (views : Views scripts history) × TakesBeginning old new (text_of_views views) × (failed ≡ true)
-  ViewsScripts scripts old new failed (Err fault) = IsUnviewed fault × (new ≡ old) × (failed ≡ false)
+  abbrev pub ViewsScripts : List (Vec ℕ Global) → Stream → Result History ViewFault → Type 0
+  ViewsScripts scripts s (Ok history) = (views : Views scripts (entries history)) × Appends s.before s.after (text_of_views views) × (s.failed ≡ false)
+  ViewsScripts scripts s (Err view.Write) =
+      (history : List (ℕ × Call)) × (views : Views scripts history) × TakesBeginning s.before s.after (text_of_views views) × (s.failed ≡ true)
+  ViewsScripts scripts s (Err fault) = IsUnviewed fault × GetsNothing false s

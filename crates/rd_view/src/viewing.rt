@@ -10,6 +10,7 @@ ghost use Rattle.rd_marks.specs.Book.{book_state};
 ghost use Rattle.rd_desk.specs.declared.desks.TheConstants.{MOST_VIEWERS};
 ghost use Rattle.rd_desk.specs.Histories.{entries};
 ghost use Rattle.rd_script.specs.Answers.{commands_of};
+ghost use Rattle.rd_script.specs.Streams.{sink_stream};
 ghost use Rattle.rd_view.specs.Viewing.{AreRead, IsUnviewed, IsViewed, ViewsScripts};
 
 use super::faults::ViewFault;
@@ -42,7 +43,7 @@ pub fn view_scripts<R: Threads + Wait + Sync, K: Sink, const N: usize>(
     requires few { length scripts.now ≤ MOST_VIEWERS }
     requires works { K.has_failed writer.old ≡ false }
     ensures views { ViewsScripts (book_state book.entry) scripts.now
-        (K.contents writer.old) (K.contents writer.new) (K.has_failed writer.new) result }
+        (sink_stream K.Sink writer.old writer.new) result }
 {
     let said = lines_of_all(alloc, scripts)?;
     let (answered, history) = run_over_desk(rt, alloc, said.as_slice(), book)?;

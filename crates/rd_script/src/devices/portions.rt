@@ -36,7 +36,7 @@ impl Portion {
         }
     }
 
-    /// Whether all bytes of the portion were given.
+    /// Returns whether all bytes of the portion were given.
     pub fn is_empty(&self) -> bool
         ensures { IsTrue result ↔ (pending_bytes self.now ≡ []) }
     {

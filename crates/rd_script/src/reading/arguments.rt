@@ -138,21 +138,21 @@ fn name_in(word: &[u8]) -> Result<MarkName, LineFault>
     Ok(name)
 }
 
-/// Whether these bytes are a word: at least one, each from 33 to 126.
+/// Returns whether these bytes are a word: at least one, each from 33 to 126.
 fn is_word(text: &[u8]) -> bool
     ensures { result ≡ is_word text.now }
 {
     !text.is_empty() && are_graphic(text)
 }
 
-/// Whether each of these bytes is from 33 to 126.
+/// Returns whether each of these bytes is from 33 to 126.
 fn are_graphic(text: &[u8]) -> bool
     ensures { result ≡ list_all is_ascii_graphic text.now }
 {
     text.iter().all(|byte| is_graphic(*byte))
 }
 
-/// Whether the byte is from 33 to 126.
+/// Returns whether the byte is from 33 to 126.
 fn is_graphic(byte: u8) -> bool
     ensures { result ≡ is_ascii_graphic byte }
 {

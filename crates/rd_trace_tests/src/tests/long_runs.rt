@@ -5,7 +5,7 @@ ghost use Rattle.std.specs.Prelude.{◌≤◌};
 
 use super::AnyBook;
 use rd_script::{ReadSource, WriteSink};
-use rd_trace::{Ring, load_trace};
+use rd_trace::{Ring, load_trace, write_any_trace};
 use std::alloc::Global;
 use std::process::Abort;
 use std::test::Fail;
@@ -14,7 +14,7 @@ use test_kit::long_script;
 /// The text that is written of a book.
 fn trace_of(alloc: Global, book: &AnyBook) -> Result<Vec<u8>, Fail> {
     let mut text = Vec::new(alloc);
-    book.write_trace(alloc, &mut WriteSink::new(&mut text))?;
+    write_any_trace(alloc, &mut WriteSink::new(&mut text), book)?;
     Ok(text)
 }
 

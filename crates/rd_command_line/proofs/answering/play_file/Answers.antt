@@ -1,8 +1,8 @@
 use Rattle.std.proofs.Common.{Err, ap, inl}
 use Rattle.std.proofs.KnownBytes.{Keeps-refl}
 use Rattle.rd_script.specs.Streams.{sink_stream}
-use Rattle.rd_trace.specs.Traces.{ring_length}
-use Rattle.rd_trace.specs.Loading.{fresh_state}
+use Rattle.rd_script.specs.Ring.{ring_length}
+use Rattle.rd_script.specs.AnyBook.{fresh_state}
 use Rattle.rd_program.proofs.ProgramLemmas.{fault_passed_up}
 use Rattle.rd_command_line.specs.Answering.{PlaysFile}
 use Rattle.rd_command_line.proofs.AnsweringLemmas.{plays_file}

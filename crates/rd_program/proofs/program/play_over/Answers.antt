@@ -1,5 +1,5 @@
 use Rattle.std.proofs.Common.{Ok, Err}
-use Rattle.rd_trace.specs.Loading.{any_journal, any_state}
+use Rattle.rd_script.specs.AnyBook.{any_journal, any_state}
 use Rattle.rd_script.specs.Streams.{devices}
 use Rattle.rd_program.specs.declared.faults.ProgramFault.TheVariants.{Script, Trace}
 use Rattle.rd_program.specs.Program.{PlaysOver}

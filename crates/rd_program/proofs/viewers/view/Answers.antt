@@ -1,7 +1,7 @@
 use Rattle.std.proofs.Common.{Err, refl, subst}
 use Rattle.rd_script.specs.Streams.{sink_stream}
-use Rattle.rd_trace.specs.Loading.{IsBookIn, fresh_state}
-use Rattle.rd_trace.specs.Traces.{ring_length}
+use Rattle.rd_script.specs.AnyBook.{IsBookIn, fresh_state}
+use Rattle.rd_script.specs.Ring.{ring_length}
 use Rattle.rd_view.specs.declared.faults.ViewFault.TheVariants as fault
 use Rattle.rd_program.proofs.ViewerLemmas.{same_view}
 use Rattle.rd_program.proofs.viewers.view.Goals as goal
@@ -25,4 +25,4 @@ returns-in-Ok-Eight g c =
     record { views = same_view _ _ _ (sink_stream g.K.Sink c.args.writer.now c.view_over-in-Ok-Eight.new.writer) _ made c.view_over-in-Ok-Eight.ensures }
 
 pub returns-in-Err : goal.returns-in-Err
-returns-in-Err g c = record { views = (Err fault.NoMemory, refl, (tt, refl, c.requires.writer_works)) }
+returns-in-Err g c = record { views = (Err fault.NoMemory, refl, (tt, (refl, c.requires.writer_works))) }

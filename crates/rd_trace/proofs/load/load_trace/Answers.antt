@@ -1,5 +1,5 @@
 use Rattle.rd_trace.proofs.Prelude.{◌≡◌, inl, inr, codes, Some, Err, refl, view, number_at, BadTrace, LoadsTrace}
-use Rattle.rd_trace.specs.declared.any_book.AnyBook.TheVariants.{Two, Four, Eight}
+use Rattle.rd_script.specs.declared.any_book.AnyBook.TheVariants.{Two, Four, Eight}
 use Rattle.rd_trace.proofs.SpellLemmas.{passed_up}
 use Rattle.rd_trace.proofs.LoadLemmas.{loads_any, not_read, ring_of, value_eq}
 use Rattle.rd_trace.proofs.OneAnswer.{loads_again}

@@ -1,24 +1,24 @@
-//! A book whose ring is known when the program runs, and what the program does with one.
+//! A book whose ring is known only when the program runs.
 
 ghost use Rattle.std.specs.Prelude.{◌≡◌, ◌≤◌, false, IfOk};
 ghost use Rattle.rd_step.specs.Prelude.{MOST_ACTORS, MOST_CELLS};
-ghost use Rattle.rd_script.specs.Script.{RunsScript};
 ghost use Rattle.rd_marks.specs.Book.{book_state};
-ghost use Rattle.rd_trace.specs.Traces.{ring_length};
-ghost use Rattle.rd_trace.specs.Loading.{any_journal, any_state, fresh_state, IsBookIn};
-ghost use Rattle.rd_trace.specs.Writing.{WritesTrace, is_write_fault};
+ghost use Rattle.rd_script.specs.AnyBook.{any_journal, any_state, fresh_state, IsBookIn};
+ghost use Rattle.rd_script.specs.Ring.{ring_length};
+ghost use Rattle.rd_script.specs.Script.{RunsScript};
 ghost use Rattle.rd_script.specs.Streams.{devices};
 
-use super::faults::WriteTraceFault;
+use super::devices::sinks::Sink;
+use super::devices::sources::Source;
+use super::faults::ScriptFault;
 use super::rings::Ring;
-use super::write::write_trace;
+use super::script::run;
 use rd_journal::Session;
 use rd_marks::Book;
-use rd_script::{ScriptFault, Sink, Source, run};
 use rd_step::World;
 use std::alloc::{AllocError, Global};
 
-/// A book over rings of 2, 4 or 8 cells: those that a trace may have.
+/// A book over rings of 2, 4 or 8 cells.
 #[derive(Drop)]
 pub enum AnyBook {
     /// Over rings of 2 cells.
@@ -48,7 +48,7 @@ impl AnyBook {
     ///
     /// # Errors
     ///
-    /// Those of `rd_script::run`.
+    /// Those of the function `run`.
     pub fn run<S: Source, K: Sink>(
         &mut self,
         reader: &mut S,
@@ -64,25 +64,6 @@ impl AnyBook {
             AnyBook::Two(book) => run(reader, writer, book),
             AnyBook::Four(book) => run(reader, writer, book),
             AnyBook::Eight(book) => run(reader, writer, book),
-        }
-    }
-
-    /// Writes the book as a trace, as `write_trace` does.
-    ///
-    /// # Errors
-    ///
-    /// `NoMemory` if memory was refused: nothing was written. `Write` if the sink failed: it took a
-    /// beginning of the text.
-    pub fn write_trace<K: Sink>(&self, alloc: Global, writer: &mut K) -> Result<(), WriteTraceFault>
-        requires { K.has_failed writer.old ≡ false }
-        ensures writes { WritesTrace (any_state self.now) (K.contents writer.old)
-            (K.contents writer.new) result }
-        ensures failed { K.has_failed writer.new ≡ is_write_fault result }
-    {
-        match self {
-            AnyBook::Two(book) => write_trace(alloc, writer, book),
-            AnyBook::Four(book) => write_trace(alloc, writer, book),
-            AnyBook::Eight(book) => write_trace(alloc, writer, book),
         }
     }
 }

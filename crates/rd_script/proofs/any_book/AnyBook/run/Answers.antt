@@ -1,5 +1,7 @@
-use Rattle.rd_trace.proofs.Prelude.{sym, subst, journal, book_state, session_of, any_state, AnyBook, RunsScript, devices}
-use Rattle.rd_trace.proofs.any_book.AnyBook.run.Goals as goal
+use Rattle.rd_script.proofs.Prelude.{sym, subst, journal, book_state, session_of, RunsScript, devices}
+use Rattle.rd_script.specs.AnyBook.{any_state}
+use Rattle.rd_script.specs.declared.any_book.AnyBook.{AnyBook}
+use Rattle.rd_script.proofs.any_book.AnyBook.run.Goals as goal
 
 pub returns-in-Two-clause-runs : goal.returns-in-Two-clause-runs
 returns-in-Two-clause-runs g c =

@@ -1,4 +1,4 @@
-use Rattle.rd_trace.proofs.any_book.AnyBook.fresh.Goals as goal
+use Rattle.rd_script.proofs.any_book.AnyBook.fresh.Goals as goal
 
 pub returns-in_ok-fresh_book-in-Two : goal.returns-in_ok-fresh_book-in-Two
 returns-in_ok-fresh_book-in-Two c = rw c.in-Two.is c.in_ok-fresh_book-in-Two.ensures
