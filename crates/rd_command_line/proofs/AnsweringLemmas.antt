@@ -1,5 +1,6 @@
 -- What was done with the scripts in files, and for words.
-use Rattle.std.proofs.Common.{◌≡◌, Bool, ℕ, List, [], ◌∷◌, ◌++◌, length, map, Option, Result, Ok, Vec, inr, subst, sym}
+use Rattle.std.proofs.Common.{◌≡◌, Bool, ℕ, List, [], ◌∷◌, ◌++◌, length, map, Option, Result, Ok, Err, Vec, inr, subst, sym, ap}
+use Rattle.std.specs.Prelude.{IsErrAnd}
 use Rattle.std.specs.Global.{Global}
 use Rattle.clap.specs.Walk.{Text}
 use Rattle.rd_marks.specs.BookState.{BookState}
@@ -7,7 +8,8 @@ use Rattle.rd_script.specs.Streams.{Devices, Stream}
 use Rattle.rd_program.specs.declared.faults.ProgramFault.{ProgramFault}
 use Rattle.rd_program.specs.Program.{PlaysScript}
 use Rattle.rd_program.specs.Viewers.{ViewsOver}
-use Rattle.rd_command_line.specs.declared.outcomes.Outcome.{Outcome}
+use Rattle.rd_command_line.specs.declared.requests.OptionsFault.{OptionsFault}
+use Rattle.rd_command_line.specs.Outcomes.{Outcome}
 use Rattle.rd_command_line.specs.Answering.{AreWholeTexts, ComesTo, HasOutcome, IsWholeText, PlaysFile, ViewsFiles}
 
 -- the script in an opened file was played
@@ -29,8 +31,13 @@ pub views_files : {F : Type 0} (remaining : F → Option (List ℕ)) (files : Li
 views_files remaining files scripts slice count before output r same many texts views =
     inr (files, scripts, many, texts, subst (λ (given : List (Vec ℕ Global)). ViewsOver before given output r) same views)
 
+-- `?` passes the fault of a command line up as its outcome
+pub outcome_passed_up : (fault : OptionsFault) (outcome : Outcome) → IsErrAnd outcome (λ e. e ≡ fault) → outcome ≡ Err fault
+outcome_passed_up fault (Ok done) is = absurd is
+outcome_passed_up fault (Err e) is = ap (λ (x : OptionsFault). Err x) is
+
 -- what was done for words that could be taken
-pub has_outcome : {F S : Type 0} (remaining : F → Option (List ℕ)) (text : S → Text) (words : Result (Vec S Global) Outcome) (taken : Vec S Global) (slice : List S) (d : Devices) (outcome : Outcome)
+pub has_outcome : {F S : Type 0} (remaining : F → Option (List ℕ)) (text : S → Text) (words : Result (Vec S Global) OptionsFault) (taken : Vec S Global) (slice : List S) (d : Devices) (outcome : Outcome)
     → words ≡ Ok taken → slice ≡ taken.items → ComesTo remaining (map text slice) d outcome → HasOutcome remaining text words d outcome
 has_outcome remaining text words taken slice d outcome is same answers =
     subst (λ w. HasOutcome remaining text w d outcome) (sym is) (subst (λ xs. ComesTo remaining (map text xs) d outcome) same answers)

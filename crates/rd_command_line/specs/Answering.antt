@@ -14,9 +14,7 @@ use Rattle.rd_program.specs.Viewers.{ViewsOver}
 use Rattle.rd_command_line.specs.declared.requests.Options.{Options}
 use Rattle.rd_command_line.specs.declared.requests.Options.TheVariants.{Run, View, Load}
 use Rattle.rd_command_line.specs.declared.requests.OptionsFault.{OptionsFault}
-use Rattle.rd_command_line.specs.declared.outcomes.Outcome.{Outcome}
-use Rattle.rd_command_line.specs.declared.outcomes.Outcome.TheVariants.{Done}
-use Rattle.rd_command_line.specs.Outcomes.{Ends, IsOutcomeOf}
+use Rattle.rd_command_line.specs.Outcomes.{Ends, Outcome}
 use Rattle.rd_command_line.specs.CommandLine.{EndsFor, GivesOptions}
 
 -- a text is all that an opened file has left to give, where that is known
@@ -75,18 +73,18 @@ DoesOptions remaining (Load file trace) d result = LoadsFile remaining trace d r
 abbrev pub ComesTo : {F : Type 0} → (F → Option (List ℕ)) → List Text → Devices → Outcome → Type 0
 ComesTo remaining words d outcome =
     ((options : Options) × (done : Result ℕ ProgramFault) × GivesOptions words options
-    × DoesOptions remaining options d done × (outcome ≡ Done done))
-    ⊎ ((reason : OptionsFault) × EndsFor words reason × IsOutcomeOf reason outcome × TouchesNothing d)
+    × DoesOptions remaining options d done × (outcome ≡ Ok done))
+    ⊎ ((fault : OptionsFault) × EndsFor words fault × (outcome ≡ Err fault) × TouchesNothing d)
 
 -- the outcome of a command line: that of its words; or, if the words could not be taken from the
--- system, the outcome of that, with neither stream used
-abbrev pub HasOutcome : {F S : Type 0} → (F → Option (List ℕ)) → (S → Text) → Result (Vec S Global) Outcome → Devices → Outcome → Type 0
+-- system, the fault of that, with neither stream used
+abbrev pub HasOutcome : {F S : Type 0} → (F → Option (List ℕ)) → (S → Text) → Result (Vec S Global) OptionsFault → Devices → Outcome → Type 0
 HasOutcome remaining text (Ok words) d outcome = ComesTo remaining (map text words.items) d outcome
-HasOutcome remaining text (Err taken) d outcome = (outcome ≡ taken) × TouchesNothing d
+HasOutcome remaining text (Err fault) d outcome = (outcome ≡ Err fault) × TouchesNothing d
 
 -- what the program did from its words to its end: it came to an outcome, with what that left on the
 -- output, and then ended as after that outcome
-pub record Performs {F S : Type 0} (remaining : F → Option (List ℕ)) (text : S → Text) (words : Result (Vec S Global) Outcome) (status : ℕ) (d : Devices) (errors : Stream) : Type 0 where
+pub record Performs {F S : Type 0} (remaining : F → Option (List ℕ)) (text : S → Text) (words : Result (Vec S Global) OptionsFault) (status : ℕ) (d : Devices) (errors : Stream) : Type 0 where
   pub outcome : Outcome
   -- the bytes that the output had at the outcome, and whether it had failed
   pub reported : Option (List ℕ)

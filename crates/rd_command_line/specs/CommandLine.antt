@@ -1,5 +1,5 @@
 -- The program's command as clap is given it, and which words give which options.
-use Rattle.std.specs.Prelude.{◌≡◌, ◌≤◌, ◌⊎◌, ℕ, ⊤, true, false, Bool, List, [], ◌∷◌, Option, None, Some, codes, length, map, pos}
+use Rattle.std.specs.Prelude.{◌≡◌, ◌<◌, ◌≤◌, ◌⊎◌, ℕ, ⊤, true, false, Bool, List, [], ◌∷◌, Option, None, Some, codes, length, map, pos}
 use Rattle.std.specs.Borrow.{Bor}
 use Rattle.std.specs.Str.Parse.{IsNumeral, digits_value, without_leading_plus}
 use Rattle.clap.specs.Lexer.{usize_max}
@@ -15,8 +15,9 @@ use Rattle.rd_command_line.specs.declared.requests.Options.TheVariants.{Run, Vie
 use Rattle.rd_command_line.specs.declared.requests.OptionsFault.{OptionsFault}
 use Rattle.rd_command_line.specs.declared.requests.OptionsFault.TheVariants.{Shown, Refused, TooManyFiles, NoMemory}
 use Rattle.rd_cell.specs.declared.limits.TheConstants.{MOST_ACTORS}
+use Rattle.rd_desk.specs.declared.desks.TheConstants.{MOST_VIEWERS}
 use Rattle.rd_script.specs.declared.rings.Ring.{Ring}
-use Rattle.rd_command_line.specs.Options.{HasManyFiles, ring_text, flag_text}
+use Rattle.rd_command_line.specs.Options.{file_count, ring_text, flag_text}
 
 -- the type of a list of names of values, as clap is given it
 abbrev pub ValueNames : Type 0
@@ -159,6 +160,6 @@ pub record GivesNothing (words : List Text) : Type 0 where
 -- why these words give no options
 abbrev pub EndsFor : List Text → OptionsFault → Type 0
 EndsFor words NoMemory = ⊤
-EndsFor words TooManyFiles = (options : Options) × GivesOptions words options × HasManyFiles options
+EndsFor words TooManyFiles = (options : Options) × GivesOptions words options × (MOST_VIEWERS < file_count options)
 EndsFor words (Shown error) = (is_request (kind_of error) ≡ true) × HasFault words (kind_of error)
 EndsFor words (Refused error) = (is_request (kind_of error) ≡ false) × (HasFault words (kind_of error) ⊎ GivesNothing words)

@@ -1,5 +1,5 @@
 -- What the command line may ask for.
-use Rattle.std.specs.Prelude.{◌≡◌, ◌≤◌, ◌<◌, ℕ, ⊤, Bool, true, false, List, codes, length}
+use Rattle.std.specs.Prelude.{◌≡◌, ◌≤◌, ℕ, ⊤, Bool, true, false, List, codes, length}
 use Rattle.clap.specs.Words.{kind_of}
 use Rattle.clap.specs.declared.error.Error.{Error}
 use Rattle.clap.specs.declared.error.kind.ErrorKind.{ErrorKind}
@@ -31,17 +31,11 @@ AreInRange (Run file actors ring trace) = (1 ≤ actors) × (actors ≤ MOST_ACT
 AreInRange (View files actors ring) = ((1 ≤ actors) × (actors ≤ MOST_ACTORS)) × ((1 ≤ length files.items) × (length files.items ≤ MOST_VIEWERS))
 AreInRange (Load file trace) = ⊤
 
--- these options name more files than there may be viewers
-abbrev pub HasManyFiles : Options → Type 0
-HasManyFiles (Run file actors ring trace) = ⊥
-HasManyFiles (View files actors ring) = MOST_VIEWERS < length files.items
-HasManyFiles (Load file trace) = ⊥
-
--- these options name no more files than there may be viewers
-abbrev pub HasFewFiles : Options → Type 0
-HasFewFiles (Run file actors ring trace) = ⊤
-HasFewFiles (View files actors ring) = length files.items ≤ MOST_VIEWERS
-HasFewFiles (Load file trace) = ⊤
+-- how many files these options name
+abbrev pub file_count : Options → ℕ
+file_count (Run file actors ring trace) = 1
+file_count (View files actors ring) = length files.items
+file_count (Load file trace) = 1
 
 -- the fault of a command line for which clap gives this error, by the error's kind
 abbrev pub fault_by : ErrorKind → Error → OptionsFault

@@ -3,38 +3,35 @@
 
 ghost use Rattle.std.specs.Prelude.{◌≡◌, ◌≤◌, IfOk, IfErr, List, length, map, vec_len, true, false};
 ghost use Rattle.std.specs.Process.{exit_status};
-ghost use Rattle.clap.specs.declared.error.kind.ErrorKind.TheVariants.{InvalidValue};
 ghost use Rattle.rd_desk.specs.declared.desks.TheConstants.{MOST_VIEWERS};
 ghost use Rattle.rd_script.specs.Streams.{devices, sink_stream};
 ghost use Rattle.rd_script.specs.Ring.{ring_length};
 ghost use Rattle.rd_script.specs.AnyBook.{fresh_state};
 ghost use Rattle.rd_program.specs.declared.faults.ProgramFault.TheVariants.{Read};
 ghost use Rattle.rd_program.specs.Program.{IsUnread};
-ghost use Rattle.rd_command_line.specs.Options.{AreInRange, IsMistake};
-ghost use Rattle.rd_command_line.specs.Outcomes.{IsOutcomeOf, is_shown};
+ghost use Rattle.rd_command_line.specs.Options.{AreInRange};
+ghost use Rattle.rd_command_line.specs.Outcomes.{is_shown};
 ghost use Rattle.rd_command_line.specs.Answering.{AreWholeTexts, ComesTo, DoesOptions, HasOutcome, LoadsFile, Performs, PlaysFile, PlaysNamed, ViewsFiles};
 
-use super::command_line::{not_text, options};
-use super::outcomes::Outcome;
+use super::command_line::options;
+use super::outcomes::{Outcome, end};
 use super::requests::{Options, OptionsFault};
 use rd_program::{ProgramFault, Setup, play, resume, view, whole_text};
 use rd_script::{ReadSource, Sink, Source};
-use std::alloc::{Alloc, Global};
+use std::alloc::Global;
 use std::convert::AsStr;
-use std::env::{self, Env};
 use std::fs::{self, Files};
-use std::io::ErrorKind;
 use std::process::ExitCode;
 use std::sync::Wait;
 use std::thread::Threads;
 
 /// Does what the words of a command line ask for over the files and the three streams, writes the
 /// messages of the end, and returns the exit status. If the words could not be taken from the
-/// system, `words` has the outcome of that.
+/// system, `words` has the fault of that.
 pub fn perform<R: Files + Threads + Wait + Sync, S: AsStr + Drop, I: Source, O: Sink, E: Sink>(
     rt: &R,
     alloc: Global,
-    words: Result<Vec<S>, Outcome>,
+    words: Result<Vec<S>, OptionsFault>,
     input: &mut I,
     output: &mut O,
     errors: &mut E,
@@ -47,15 +44,15 @@ pub fn perform<R: Files + Threads + Wait + Sync, S: AsStr + Drop, I: Source, O: 
         (sink_stream E.Sink errors.old errors.new) }
 {
     let outcome = outcome_of(rt, alloc, words, input, output);
-    outcome.end(output, errors)
+    end(alloc, &outcome, output, errors)
 }
 
 /// Does what the words ask for, and returns the outcome; if they could not be taken, returns the
-/// outcome of that.
+/// fault of that.
 fn outcome_of<R: Files + Threads + Wait + Sync, S: AsStr + Drop, I: Source, O: Sink>(
     rt: &R,
     alloc: Global,
-    words: Result<Vec<S>, Outcome>,
+    words: Result<Vec<S>, OptionsFault>,
     input: &mut I,
     output: &mut O,
 ) -> Outcome
@@ -65,10 +62,8 @@ fn outcome_of<R: Files + Threads + Wait + Sync, S: AsStr + Drop, I: Source, O: S
         (devices I.Source O.Sink input.old input.new output.old output.new) result }
     ensures shown { is_shown result ≡ true → O.has_failed output.new ≡ false }
 {
-    match words {
-        Ok(words) => answer(rt, alloc, words.as_slice(), input, output),
-        Err(outcome) => outcome,
-    }
+    let words = words?;
+    answer(rt, alloc, words.as_slice(), input, output)
 }
 
 /// Does what the words of a command line ask for, of which the first is the program's name, and
@@ -86,10 +81,8 @@ pub fn answer<R: Files + Threads + Wait + Sync, S: AsStr, I: Source, O: Sink>(
         (devices I.Source O.Sink input.old input.new output.old output.new) result }
     ensures shown { is_shown result ≡ true → O.has_failed output.new ≡ false }
 {
-    match options(alloc, words) {
-        Ok(asked) => Outcome::Done(do_options(rt, alloc, asked, input, output)),
-        Err(fault) => Outcome::from_fault(alloc, fault),
-    }
+    let asked = options(alloc, words)?;
+    Ok(do_options(rt, alloc, asked, input, output))
 }
 
 /// Does what the options ask for. Returns the number of the script's lines, or for `view` that of
@@ -241,26 +234,5 @@ fn open_file<R: Files>(rt: &R, name: &str) -> Result<R::File, ProgramFault>
     match fs::open(rt, name) {
         Ok(file) => Ok(file),
         Err(_) => Err(ProgramFault::Read),
-    }
-}
-
-/// Returns the words of the program's command line.
-///
-/// # Errors
-///
-/// An outcome that memory was refused, or `Refused` if a word is no text.
-pub fn process_words<R: Env + Alloc<A = Global>>(rt: &R) -> Result<Vec<String>, Outcome>
-    ensures err { IfErr result (λ outcome. (reason : OptionsFault) × IsMistake InvalidValue reason
-        × IsOutcomeOf reason outcome) }
-{
-    let alloc = rt.alloc();
-    match env::args(rt) {
-        Ok(words) => words
-            .collect(alloc)
-            .map_err(|_| Outcome::Done(Err(ProgramFault::NoMemory))),
-        Err(error) if error.kind() == ErrorKind::OutOfMemory => {
-            Err(Outcome::Done(Err(ProgramFault::NoMemory)))
-        }
-        Err(_) => Err(Outcome::from_fault(alloc, not_text(alloc))),
     }
 }

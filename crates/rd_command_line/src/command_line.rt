@@ -18,8 +18,10 @@ use clap::error::ErrorKind;
 use clap::{Arg, ArgAction, ArgMatches, Command, Error, value_parser};
 use rd_cell::limits::MOST_ACTORS;
 use rd_script::{FORMS, Ring};
-use std::alloc::{AllocError, Global};
+use std::alloc::{Alloc, AllocError, Global};
 use std::convert::AsStr;
+use std::env::{self, Env};
+use std::io;
 
 /// The version that `--version` shows.
 const VERSION: &str = "0.1.0";
@@ -44,6 +46,22 @@ pub fn options<'a, S: AsStr>(alloc: Global, words: &'a [S]) -> Result<Options<'a
         return Err(OptionsFault::TooManyFiles);
     }
     Ok(options)
+}
+
+/// Returns the words of the program's command line.
+///
+/// # Errors
+///
+/// `NoMemory` if memory was refused; `Refused` if a word is not UTF-8.
+pub fn process_words<R: Env + Alloc<A = Global>>(rt: &R) -> Result<Vec<String>, OptionsFault>
+    ensures err { IfErr result (IsMistake InvalidValue) }
+{
+    let alloc = rt.alloc();
+    match env::args(rt) {
+        Ok(words) => words.collect(alloc).map_err(|_| OptionsFault::NoMemory),
+        Err(error) if error.kind() == io::ErrorKind::OutOfMemory => Err(OptionsFault::NoMemory),
+        Err(_) => Err(not_text(alloc)),
+    }
 }
 
 /// Returns the fault of a command line in which a word is no text.
@@ -258,7 +276,7 @@ fn files<'a>(alloc: Global) -> Arg<'a>
         .help("The scripts of the viewers, 1 to 64")
 }
 
-/// The option `--trace`.
+/// Returns the option `--trace`.
 fn trace<'a>(alloc: Global) -> Arg<'a>
     ensures { (rule_of result ≡ trace_rule) × (result.global ≡ false) }
 {
@@ -268,7 +286,7 @@ fn trace<'a>(alloc: Global) -> Arg<'a>
         .help("Writes the trace of the run behind its report")
 }
 
-/// The option `--actors`.
+/// Returns the option `--actors`.
 fn actors<'a>(alloc: Global) -> Arg<'a>
     ensures { (rule_of result ≡ actors_rule) × (result.global ≡ false) }
 {
@@ -280,7 +298,7 @@ fn actors<'a>(alloc: Global) -> Arg<'a>
         .help("How many actors the world has, 1 to 16")
 }
 
-/// The option `--ring`.
+/// Returns the option `--ring`.
 fn ring<'a>(alloc: Global) -> Arg<'a>
     ensures rule { (names : _) × IsRings names × (rule_of result ≡ ring_rule names) }
     ensures local { result.global ≡ false }

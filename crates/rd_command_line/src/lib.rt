@@ -10,7 +10,7 @@ mod command_line;
 mod outcomes;
 mod requests;
 
-pub use answering::{answer, perform, process_words};
-pub use command_line::{not_text, options};
-pub use outcomes::Outcome;
+pub use answering::{answer, perform};
+pub use command_line::{not_text, options, process_words};
+pub use outcomes::{Outcome, end};
 pub use requests::{Options, OptionsFault};

@@ -1,8 +1,9 @@
 //! What a command line asks for, or why it asks for nothing that the program does.
 
-ghost use Rattle.std.specs.Prelude.{◌≡◌, ◌≢◌, true, false, IfSome, IsNone};
+ghost use Rattle.std.specs.Prelude.{◌≡◌, ◌≢◌, ◌<◌, ◌≤◌, true, false, IfSome, IsNone};
+ghost use Rattle.rd_desk.specs.declared.desks.TheConstants.{MOST_VIEWERS};
 ghost use Rattle.rd_command_line.specs.declared.requests.OptionsFault.TheVariants.{NoMemory};
-ghost use Rattle.rd_command_line.specs.Options.{HasFewFiles, HasManyFiles, ring_text, options_fault};
+ghost use Rattle.rd_command_line.specs.Options.{file_count, ring_text, options_fault};
 
 use clap::Error;
 use clap::error::ErrorKind;
@@ -56,10 +57,10 @@ pub enum Options<'a> {
 }
 
 impl<'a> Options<'a> {
-    /// Whether more files are named than there may be viewers.
+    /// Returns whether more files are named than there may be viewers.
     pub(crate) fn has_many_files(&self) -> bool
-        ensures many { result ≡ true → HasManyFiles self.now }
-        ensures few { result ≡ false → HasFewFiles self.now }
+        ensures many { result ≡ true → MOST_VIEWERS < file_count self.now }
+        ensures few { result ≡ false → file_count self.now ≤ MOST_VIEWERS }
     {
         match self {
             Options::View { files, .. } => files.len() as u64 > MOST_VIEWERS,

@@ -1,6 +1,6 @@
 //! How the program ends where its words give no options.
 
-use rd_command_line::{OptionsFault, Outcome, not_text, perform};
+use rd_command_line::{OptionsFault, not_text, perform};
 use rd_script::{ReadSource, WriteSink};
 use std::alloc::Global;
 use std::fs::Files;
@@ -25,11 +25,11 @@ struct Left {
 fn left_after<R: Files + Threads + Wait + Sync>(
     rt: &R,
     alloc: Global,
-    words: Result<&[&str], Outcome>,
+    words: Result<&[&str], OptionsFault>,
 ) -> Result<Left, Fail> {
     let words = match words {
         Ok(words) => Ok(Vec::from_slice(alloc, words)?),
-        Err(outcome) => Err(outcome),
+        Err(fault) => Err(fault),
     };
     let mut output = Vec::new(alloc);
     let mut errors = Vec::new(alloc);
@@ -88,8 +88,7 @@ fn a_mistake_goes_to_standard_error_with_status_2(rt: HostRuntime) -> Result<(),
 
 #[test]
 fn a_word_that_is_no_text_is_a_mistake(rt: HostRuntime) -> Result<(), Fail> {
-    let outcome = Outcome::from_fault(rt.alloc(), not_text(rt.alloc()));
-    let left = left_after(&rt, rt.alloc(), Err(outcome))?;
+    let left = left_after(&rt, rt.alloc(), Err(not_text(rt.alloc())))?;
     let text = "error: invalid UTF-8 was detected in one or more arguments\n";
     assert_eq!(rt; left.status, ExitCode::from(2));
     assert!(rt; left.output.is_empty());
@@ -99,8 +98,7 @@ fn a_word_that_is_no_text_is_a_mistake(rt: HostRuntime) -> Result<(), Fail> {
 
 #[test]
 fn a_command_line_that_is_refused_memory_ends_with_status_1(rt: HostRuntime) -> Result<(), Fail> {
-    let outcome = Outcome::from_fault(rt.alloc(), OptionsFault::NoMemory);
-    let left = left_after(&rt, rt.alloc(), Err(outcome))?;
+    let left = left_after(&rt, rt.alloc(), Err(OptionsFault::NoMemory))?;
     assert_eq!(rt; left.status, ExitCode::FAILURE);
     assert_eq!(rt;
         left.errors.as_slice(),

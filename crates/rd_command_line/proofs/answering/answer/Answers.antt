@@ -1,11 +1,14 @@
 use Rattle.std.proofs.Common.{inr}
 use Rattle.std.proofs.KnownBytes.{Keeps-refl}
+use Rattle.rd_command_line.proofs.AnsweringLemmas.{outcome_passed_up}
 use Rattle.rd_command_line.proofs.answering.answer.Goals as goal
 
-pub returns-in-Err-clause-answers : goal.returns-in-Err-clause-answers
-returns-in-Err-clause-answers g c = inr (
-  c.in-Err.fault,
-  c.in-Err.ensures.err,
-  c.from_fault.ensures,
-  ((Keeps-refl _, c.requires.input_works), (Keeps-refl _, c.requires.output_works)),
-)
+pub returns-in_err-asked-clause-answers : goal.returns-in_err-asked-clause-answers
+returns-in_err-asked-clause-answers g c =
+    let fault = c.in_err-asked.field-0.0 in
+    inr (
+      fault,
+      c.in_err-asked.ensures.err,
+      outcome_passed_up fault c.from_residual.result c.from_residual.ensures.1,
+      ((Keeps-refl _, c.requires.input_works), (Keeps-refl _, c.requires.output_works)),
+    )
