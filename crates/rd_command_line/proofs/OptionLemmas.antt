@@ -1,5 +1,4 @@
--- What clap's errors are to the program, and that the program's command is one of which clap's
--- clauses are exact.
+-- The program's faults for clap's errors; and clap's clauses are exact for the program's command.
 use Rattle.std.proofs.Common.{◌≡◌, ◌∙◌, inl, inr, refl, sym, subst, ap, true, List, []}
 use Rattle.clap.specs.Simple.{App, HasMatchesOf, is_simple, subcommand_rows_of, with_subcommand}
 use Rattle.clap.specs.Kinds.{HasKind}
@@ -14,35 +13,36 @@ use Rattle.rd_command_line.specs.declared.requests.Options.{Options}
 use Rattle.rd_command_line.specs.Options.{fault_by, options_fault}
 use Rattle.rd_command_line.specs.CommandLine.{AreRings, BothNames, EndsFor, HasFault, GivesOptions, GivesSubcommand, GivesNothing, is_request, program_app}
 
--- clap's clauses on matches are exact of the program's command
+-- clap's clauses on matches are exact for the program's command
 pub program_is_simple : (names : BothNames) → is_simple (program_app names) ≡ true
 program_is_simple names = refl
 
--- and so are those on faults
+-- clap's clauses on faults are exact for the program's command
 pub program_is_free : (names : BothNames) → is_simple_and_free (program_app names) ≡ true
 program_is_free names = refl
 
--- an error of a kind that clap has for the words, by the kind
+-- an error whose kind clap finds in the words is a reason why they give no options
 EndsFor-fault_by : (words : List Text) (k : ErrorKind) (e : Error) → kind_of e ≡ k → HasFault words k → EndsFor words (fault_by k e)
 EndsFor-fault_by words kind.DisplayHelp e is fault = (ap is_request is, subst (HasFault words) (sym is) fault)
 EndsFor-fault_by words kind.DisplayVersion e is fault = (ap is_request is, subst (HasFault words) (sym is) fault)
 EndsFor-fault_by words kind.OutOfMemory e is fault = tt
 EndsFor-fault_by words _ e is fault = (ap is_request is, inl (subst (HasFault words) (sym is) fault))
 
--- the program's fault at an error of clap's: memory ran out, or the kind is one that clap has for
--- the words
+-- the program's fault is a reason why the words give no options, for an error that says that memory
+-- ran out, or whose kind clap finds in the words
 EndsFor-options_fault : (words : List Text) (names : BothNames) (e : Error) → AreRings names → HasKind (fault_of (program_app names) words) e → EndsFor words (options_fault e)
 EndsFor-options_fault words names e rings (inl memory) = subst (λ k. EndsFor words (fault_by k e)) (sym memory) tt
 EndsFor-options_fault words names e rings (inr among) =
     EndsFor-fault_by words (kind_of e) e refl (record { names = names; rings = rings; among = among })
 
--- the same, of a command that is the program's
+-- the program's fault is a reason why the words give no options, for an error of clap on a command
+-- that is the program's
 pub EndsFor-error : (words : List Text) (app : App) (names : BothNames) (e : Error) → AreRings names → app ≡ program_app names
     → (is_simple_and_free app ≡ true → HasKind (fault_of app words) e) → EndsFor words (options_fault e)
 EndsFor-error words app names e rings is kinds =
     EndsFor-options_fault words names e rings (subst (λ a. is_simple_and_free a ≡ true → HasKind (fault_of a words) e) is kinds (program_is_free names))
 
--- matches of the program's command that tell these options
+-- if matches of the program's command give these options, the words do
 pub Reads-matches : (words : List Text) (app : App) (names : BothNames) (m : ArgMatches) (o : Options) → AreRings names → app ≡ program_app names
     → (is_simple_and_free app ≡ true → fault_of app words ≡ []) → HasMatchesOf app words m → GivesSubcommand (subcommand_rows_of m) o → GivesOptions words o
 Reads-matches words app names m o rings is faultless matches tells = record {
@@ -52,7 +52,7 @@ Reads-matches words app names m o rings is faultless matches tells = record {
   told = subst (λ met. GivesSubcommand met o) (subst (λ a. HasMatchesOf a words m) is matches (program_is_simple names)).1 tells;
 }
 
--- matches of the program's command that tell no options
+-- if matches of the program's command give no options, the words give none
 pub GivesNothing-matches : (words : List Text) (app : App) (names : BothNames) (m : ArgMatches) → AreRings names → app ≡ program_app names
     → (is_simple_and_free app ≡ true → fault_of app words ≡ []) → HasMatchesOf app words m → ((o : Options) → GivesSubcommand (subcommand_rows_of m) o → ⊥) → GivesNothing words
 GivesNothing-matches words app names m rings is faultless matches nothing = record {
@@ -62,6 +62,6 @@ GivesNothing-matches words app names m rings is faultless matches nothing = reco
   nothing = λ o tells. nothing o (subst (λ met. GivesSubcommand met o) (sym (subst (λ a. HasMatchesOf a words m) is matches (program_is_simple names)).1) tells);
 }
 
--- a command that got a subcommand, of commands that are known
+-- adding equal subcommands to equal commands gives equal commands
 pub added : (all old sub old' sub' : App) → all ≡ with_subcommand old sub.top → old ≡ old' → sub ≡ sub' → all ≡ with_subcommand old' sub'.top
 added all old sub old' sub' is same known = is ∙ ap (λ a. with_subcommand a sub.top) same ∙ ap (λ a. with_subcommand old' a.top) known

@@ -1,4 +1,4 @@
--- What the getters of clap's matches of a subcommand say of the rows.
+-- What the getters of clap's matches of a subcommand show about the rows.
 use Rattle.std.proofs.Common.{◌≡◌, ◌∙◌, ℕ, Bool, ◌<◌, ◌≤◌, List, Option, None, Some, refl, sym, ap, subst, codes, arith}
 use Rattle.std.specs.Prelude.{◌^◌, MatchOption, length, map, option_map, unwrap_or, ⊤}
 use Rattle.std.specs.Borrow.{Bor}
@@ -14,15 +14,15 @@ use Rattle.rd_script.specs.declared.rings.Ring.{Ring}
 use Rattle.rd_command_line.specs.Options.{ring_text, flag_text}
 use Rattle.rd_command_line.specs.CommandLine.{IsNumber, GivesWorld, GivesFile, GivesRun, GivesView, GivesLoad}
 
--- what is nothing is not something
+-- an option is not both none and something
 pub none_some : {X : Type 0} (o : Option X) (x : X) → o ≡ None → o ≡ Some x → ⊥
 none_some {X} o x none some = subst (λ (v : Option X). MatchOption v ⊤ (λ _. ⊥)) (sym none ∙ some) tt
 
--- what is something is one thing
+-- an option has at most one value
 pub some_same : {X : Type 0} (o : Option X) (x y : X) → o ≡ Some x → o ≡ Some y → x ≡ y
 some_same o x y is also = ap (λ v. unwrap_or v x) (sym is ∙ also)
 
--- the number of actors that is read is one that the rows tell
+-- the number that the getter reads for `--actors` is in the rows
 pub actors_read : (m : ArgMatches) (n : ℕ)
     → (one_text (found_of m) (codes "actors") ≡ None → Some n ≡ None)
     → ((t : Text) → one_text (found_of m) (codes "actors") ≡ Some t
@@ -34,24 +34,24 @@ actors_read m n if_none if_some = go (one_text (found_of m) (codes "actors")) re
   go None is = absurd (none_some (Some n) n (if_none is) refl)
   go (Some t) is = (t, sym (one_text-rows (found_of m) (codes "actors")) ∙ is, ((if_some t is).0.0, sym (if_some t is).1))
 
--- a text that a getter does not give is not in the rows
+-- if a getter gives no text for an argument, the rows have none
 pub no_value : (m : ArgMatches) (id v : Text) → None ≡ first_value (found_of m) id → first_of id (rows_of (found_of m)) ≡ Some v → ⊥
 no_value m id v none some = none_some (first_of id (rows_of (found_of m))) v (sym (first_value-rows (found_of m) id) ∙ sym none) some
 
--- the text that a getter gives is the one in the rows
+-- the text that a getter gives for an argument is the one in the rows
 pub same_value : (m : ArgMatches) (id v w : Text) → Some v ≡ first_value (found_of m) id → first_of id (rows_of (found_of m)) ≡ Some w → v ≡ w
 same_value m id v w given some = some_same (first_of id (rows_of (found_of m))) v w (sym (first_value-rows (found_of m) id) ∙ sym given) some
 
--- a world that rows tell has a ring
+-- without a text for `--ring`, the rows give no world
 pub no_ring : (m : ArgMatches) → None ≡ first_value (found_of m) (codes "ring") → (actors : ℕ) (ring : Ring) → GivesWorld (rows_of (found_of m)) actors ring → ⊥
 no_ring m none actors ring tells = no_value m (codes "ring") (ring_text ring) none tells.spelled
 
--- of one of the spellings
+-- with a text for `--ring` that spells no ring, the rows give no world
 pub no_spelling : (m : ArgMatches) (v : Text) → Some v ≡ first_value (found_of m) (codes "ring")
     → ((ring : Ring) → v ≡ ring_text ring → ⊥) → (actors : ℕ) (ring : Ring) → GivesWorld (rows_of (found_of m)) actors ring → ⊥
 no_spelling m v given none actors ring tells = none ring (same_value m (codes "ring") v (ring_text ring) given tells.spelled)
 
--- and a number of actors
+-- without a number of 8 bits for `--actors`, the rows give no world
 pub no_number : (m : ArgMatches)
     → ((t : Text) → one_text (found_of m) (codes "actors") ≡ Some t → IsNumeral 10 (without_leading_plus t) × (digits_value 10 (without_leading_plus t) < 2 ^ 8) → ⊥)
     → (actors : ℕ) (ring : Ring) → GivesWorld (rows_of (found_of m)) actors ring → ⊥
@@ -60,7 +60,7 @@ no_number m none actors ring tells =
     let few : digits_value 10 (without_leading_plus text) ≤ MOST_ACTORS = subst (λ n. n ≤ MOST_ACTORS) (sym tells.counted.2.1) tells.few in
     none text (one_text-rows (found_of m) (codes "actors") ∙ tells.counted.1) (tells.counted.2.0, omega (arith, few))
 
--- that is from 1 to 16
+-- with a number for `--actors` that is not from 1 to 16, the rows give no world
 pub out_of_range : (m : ArgMatches) (n : ℕ)
     → ((t : Text) → one_text (found_of m) (codes "actors") ≡ Some t → n ≡ digits_value 10 (without_leading_plus t))
     → ((1 ≤ n) → (n ≤ MOST_ACTORS) → ⊥) → (actors : ℕ) (ring : Ring) → GivesWorld (rows_of (found_of m)) actors ring → ⊥
@@ -72,17 +72,17 @@ out_of_range m n read out actors ring tells =
 pub first_value_is : (m : ArgMatches) (id v : Text) → Some v ≡ first_value (found_of m) id → first_of id (rows_of (found_of m)) ≡ Some v
 first_value_is m id v given = sym (first_value-rows (found_of m) id) ∙ sym given
 
--- a choice of the trace that rows tell has one of the texts
+-- with a text for `--trace` that is not a flag's, the rows give no file
 pub no_choice : (m : ArgMatches) (v : Text) → Some v ≡ first_value (found_of m) (codes "trace")
     → ((choice : Bool) → v ≡ flag_text choice → ⊥) → (file : Text) (trace : Bool) → GivesFile (rows_of (found_of m)) file trace → ⊥
 no_choice m v given none file trace tells = none trace (same_value m (codes "trace") v (flag_text trace) given tells.1)
 
--- options that the rows of `run` tell have a file and a choice of the trace
+-- rows of `run` that give no file and no flag for the trace give no options
 pub no_run_file : (m : ArgMatches) → ((file : Text) (trace : Bool) → GivesFile (rows_of (found_of m)) file trace → ⊥) → (o : Options) → GivesRun (rows_of (found_of m)) o → ⊥
 no_run_file m none (Run file actors ring trace) tells = none file.now trace tells.0
 no_run_file m none _ tells = tells
 
--- and a world
+-- rows of `run` that give no world give no options
 pub no_run_world : (m : ArgMatches) → ((actors : ℕ) (ring : Ring) → GivesWorld (rows_of (found_of m)) actors ring → ⊥) → (o : Options) → GivesRun (rows_of (found_of m)) o → ⊥
 no_run_world m none (Run file actors ring trace) tells = none actors ring tells.1
 no_run_world m none _ tells = tells
@@ -91,13 +91,13 @@ no_run_world m none _ tells = tells
 pub files_are : (m : ArgMatches) (names : List Text) → Some names ≡ option_map raw_values (matched_of (found_of m) (codes "files")) → all_of (codes "files") (rows_of (found_of m)) ≡ Some names
 files_are m names given = sym (raw_values-rows (found_of m) (codes "files")) ∙ sym given
 
--- options that the rows of `view` tell have files
+-- rows of `view` without files give no options
 pub no_files : (m : ArgMatches) → None ≡ option_map raw_values (matched_of (found_of m) (codes "files")) → (o : Options) → GivesView (rows_of (found_of m)) o → ⊥
 no_files m none (View files actors ring) tells =
     none_some (all_of (codes "files") (rows_of (found_of m))) (map (λ (file : Bor Text). file.now) files.items) (sym (raw_values-rows (found_of m) (codes "files")) ∙ sym none) tells.0
 no_files m none _ tells = tells
 
--- at least one
+-- rows of `view` with an empty list of files give no options
 pub empty_files : (m : ArgMatches) (names : List (Bor Text)) → Some (map (λ (file : Bor Text). file.now) names) ≡ option_map raw_values (matched_of (found_of m) (codes "files")) → length names ≡ 0
     → (o : Options) → GivesView (rows_of (found_of m)) o → ⊥
 empty_files m names given empty (View files actors ring) tells =
@@ -108,12 +108,12 @@ empty_files m names given empty (View files actors ring) tells =
     absurd (omega (arith, count, empty, some))
 empty_files m names given empty _ tells = tells
 
--- and a world
+-- rows of `view` that give no world give no options
 pub no_view_world : (m : ArgMatches) → ((actors : ℕ) (ring : Ring) → GivesWorld (rows_of (found_of m)) actors ring → ⊥) → (o : Options) → GivesView (rows_of (found_of m)) o → ⊥
 no_view_world m none (View files actors ring) tells = none actors ring tells.2
 no_view_world m none _ tells = tells
 
--- options that the rows of `load` tell have a file and a choice of the trace
+-- rows of `load` that give no file and no flag for the trace give no options
 pub no_load_file : (m : ArgMatches) → ((file : Text) (trace : Bool) → GivesFile (rows_of (found_of m)) file trace → ⊥) → (o : Options) → GivesLoad (rows_of (found_of m)) o → ⊥
 no_load_file m none (Load file trace) tells = none file.now trace tells
 no_load_file m none _ tells = tells

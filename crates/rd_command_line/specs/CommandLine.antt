@@ -19,7 +19,7 @@ use Rattle.rd_desk.specs.declared.desks.TheConstants.{MOST_VIEWERS}
 use Rattle.rd_script.specs.declared.rings.Ring.{Ring}
 use Rattle.rd_command_line.specs.Options.{file_count, ring_text, flag_text}
 
--- the type of a list of names of values, as clap is given it
+-- a list of the names that an option's value may have, as clap is given it
 abbrev pub ValueNames : Type 0
 ValueNames = Bor (List (Bor Text))
 
@@ -31,11 +31,11 @@ IsRings names = map (λ name. name.now) names.now ≡ codes "2" ∷ codes "4" �
 abbrev pub file_rule : Rule
 file_rule = record (new_rule (codes "file")) { value_names = 1; required = true }
 
--- the argument `files`, the files of the viewers, of which at least one is required
+-- the argument `files`: the viewers' scripts, at least one
 abbrev pub files_rule : Rule
 files_rule = record (new_rule (codes "files")) { range = Some (record { start_inclusive = 1; end_inclusive = usize_max }); value_names = 1; required = true }
 
--- the option `--actors`, a number from 1 to 16, by default 4
+-- the option `--actors`: a number from 1 to 16, by default 4
 abbrev pub actors_rule : Rule
 actors_rule = record (new_rule (codes "actors")) {
   long = Some (codes "actors");
@@ -44,7 +44,7 @@ actors_rule = record (new_rule (codes "actors")) {
   defaults = codes "4" ∷ [];
 }
 
--- the option `--ring`, one of these names, by default 4
+-- the option `--ring`: one of these names, by default 4
 abbrev pub ring_rule : ValueNames → Rule
 ring_rule names = record (new_rule (codes "ring")) {
   long = Some (codes "ring");
@@ -57,7 +57,7 @@ ring_rule names = record (new_rule (codes "ring")) {
 abbrev pub trace_rule : Rule
 trace_rule = record (new_rule (codes "trace")) { long = Some (codes "trace"); action = Some SetTrue }
 
--- the subcommand `run` except `--trace`: the file that is run, and the world over which it runs
+-- the subcommand `run` without `--trace`: the script's file, and the options of the fresh world
 abbrev pub run_over_app : ValueNames → App
 run_over_app names = with_rule (with_rule (with_rule (new_app (codes "run")) file_rule) actors_rule) (ring_rule names)
 
@@ -65,7 +65,7 @@ run_over_app names = with_rule (with_rule (with_rule (new_app (codes "run")) fil
 abbrev pub run_app : ValueNames → App
 run_app names = with_rule (run_over_app names) trace_rule
 
--- the subcommand `view`: the files of the viewers, and the world over which they run
+-- the subcommand `view`: the files of the viewers' scripts, and the options of the fresh world
 abbrev pub view_app : ValueNames → App
 view_app names = with_rule (with_rule (with_rule (new_app (codes "view")) files_rule) actors_rule) (ring_rule names)
 
@@ -73,11 +73,11 @@ view_app names = with_rule (with_rule (with_rule (new_app (codes "view")) files_
 abbrev pub load_app : App
 load_app = with_rule (with_rule (new_app (codes "load")) file_rule) trace_rule
 
--- the type of the names of the rings, as clap is given them for `run` and for `view`
+-- two lists of ring sizes, as clap is given them: one for `run`, one for `view`
 abbrev pub BothNames : Type 0
 BothNames = ValueNames × ValueNames
 
--- both lists of names are the numbers of cells that a ring may have
+-- both lists are the numbers of cells that a ring may have
 abbrev pub AreRings : BothNames → Type 0
 AreRings names = IsRings names.0 × IsRings names.1
 
@@ -95,14 +95,16 @@ program_app names = with_subcommand
 abbrev pub IsNumber : Text → ℕ → Type 0
 IsNumber text n = IsNumeral 10 (without_leading_plus text) × (digits_value 10 (without_leading_plus text) ≡ n)
 
--- the values that clap found for `--actors` and `--ring` give this world
+-- the values that clap found for `--actors` and `--ring` are this number of actors, 1 to 16, and
+-- this ring
 pub record GivesWorld (rows : List Row) (actors : ℕ) (ring : Ring) : Type 0 where
   pub counted : (text : Text) × (one_of (codes "actors") rows ≡ Some text) × IsNumber text actors
   pub some : 1 ≤ actors
   pub few : actors ≤ MOST_ACTORS
   pub spelled : first_of (codes "ring") rows ≡ Some (ring_text ring)
 
--- the values that clap found for the file and for `--trace` give this name and this choice
+-- the values that clap found for `file` and `--trace` are this name, and whether the trace is asked
+-- for
 abbrev pub GivesFile : List Row → Text → Bool → Type 0
 GivesFile rows name trace = (first_of (codes "file") rows ≡ Some name) × (first_of (codes "trace") rows ≡ Some (flag_text trace))
 
@@ -122,7 +124,7 @@ abbrev pub GivesLoad : List Row → Options → Type 0
 GivesLoad rows (Load file trace) = GivesFile rows file.now trace
 GivesLoad rows _ = ⊥
 
--- the subcommand that clap found, with the values for its arguments, gives these options
+-- clap found a subcommand, and the values for its arguments give these options
 abbrev pub GivesSubcommand : Option (Text × List Row) → Options → Type 0
 GivesSubcommand None options = ⊥
 GivesSubcommand (Some met) options =
@@ -130,8 +132,8 @@ GivesSubcommand (Some met) options =
     ⊎ (((met.0 ≡ codes "view") × GivesView met.1 options)
     ⊎ ((met.0 ≡ codes "load") × GivesLoad met.1 options))
 
--- the words give these options: clap finds no fault in them, and the values that it finds give the
--- options
+-- the words give these options: clap, with `names` as the lists of ring sizes, finds no fault in
+-- them, and the values that it finds give the options
 pub record GivesOptions (words : List Text) (options : Options) : Type 0 where
   pub names : BothNames
   pub rings : AreRings names
@@ -144,20 +146,23 @@ is_request DisplayHelp = true
 is_request DisplayVersion = true
 is_request _ = false
 
--- clap finds a fault of this kind in the words
+-- clap, with `names` as the lists of ring sizes, finds a fault of this kind in the words
 pub record HasFault (words : List Text) (kind : ErrorKind) : Type 0 where
   pub names : BothNames
   pub rings : AreRings names
   pub among : IsAmong kind (fault_of (program_app names) words)
 
--- clap finds no fault in the words, but the values that it finds give no options
+-- clap, with `names` as the lists of ring sizes, finds no fault in the words, but the values that
+-- it finds give no options
 pub record GivesNothing (words : List Text) : Type 0 where
   pub names : BothNames
   pub rings : AreRings names
   pub faultless : fault_of (program_app names) words ≡ []
   pub nothing : (options : Options) → GivesSubcommand (subcommand_of (program_app names) words) options → ⊥
 
--- why these words give no options
+-- why these words end with this fault. `NoMemory` may come of any words, and `TooManyFiles` of
+-- options with too many files; `Shown` comes of a request for help or the version. `Refused` comes
+-- of any other fault of clap, or of values that give no options
 abbrev pub EndsFor : List Text → OptionsFault → Type 0
 EndsFor words NoMemory = ⊤
 EndsFor words TooManyFiles = (options : Options) × GivesOptions words options × (MOST_VIEWERS < file_count options)

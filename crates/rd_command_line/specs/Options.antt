@@ -19,36 +19,37 @@ ring_text Two = codes "2"
 ring_text Four = codes "4"
 ring_text Eight = codes "8"
 
--- the text that clap keeps for a flag that is set, or not
+-- the text that clap keeps for a flag, by whether the flag is set
 abbrev pub flag_text : Bool → List ℕ
 flag_text true = codes "true"
 flag_text false = codes "false"
 
--- the numbers in these options are in their ranges: that of actors is one that a world may have,
--- and that of files one that there may be of viewers
+-- the numbers in these options are in range: a world may have so many actors, and for `view` there
+-- may be so many viewers; `load` gives no number
 abbrev pub AreInRange : Options → Type 0
 AreInRange (Run file actors ring trace) = (1 ≤ actors) × (actors ≤ MOST_ACTORS)
 AreInRange (View files actors ring) = ((1 ≤ actors) × (actors ≤ MOST_ACTORS)) × ((1 ≤ length files.items) × (length files.items ≤ MOST_VIEWERS))
 AreInRange (Load file trace) = ⊤
 
--- how many files these options name
+-- the number of files that these options name
 abbrev pub file_count : Options → ℕ
 file_count (Run file actors ring trace) = 1
 file_count (View files actors ring) = length files.items
 file_count (Load file trace) = 1
 
--- the fault of a command line for which clap gives this error, by the error's kind
+-- the fault of a command line for an error of clap with this kind: `Shown` for help or the version,
+-- `NoMemory` for refused memory, `Refused` for any other kind
 abbrev pub fault_by : ErrorKind → Error → OptionsFault
 fault_by DisplayHelp error = Shown error
 fault_by DisplayVersion error = Shown error
 fault_by OutOfMemory error = NoMemory
 fault_by _ error = Refused error
 
--- the fault of a command line for which clap gives this error
+-- the fault of a command line for an error of clap, by the error's own kind
 abbrev pub options_fault : Error → OptionsFault
 options_fault error = fault_by (kind_of error) error
 
--- the command line is refused for a mistake of this kind, or because memory was refused
+-- the fault is `Refused` with an error of this kind, or `NoMemory`
 abbrev pub IsMistake : ErrorKind → OptionsFault → Type 0
 IsMistake kind (Refused error) = kind_of error ≡ kind
 IsMistake kind (Shown error) = ⊥

@@ -8,23 +8,23 @@ use Rattle.rd_program.specs.Endings.{EndsAs, Takes}
 use Rattle.rd_command_line.specs.declared.requests.OptionsFault.{OptionsFault}
 use Rattle.rd_command_line.specs.declared.requests.OptionsFault.TheVariants.{Shown, Refused, TooManyFiles, NoMemory}
 
--- the outcome of a command line: what became of what it asks for, or why it gives no options
+-- the outcome of a command line: the result of doing what it asks for, or why it gives no options
 abbrev pub Outcome : Type 0
 Outcome = Result (Result ℕ ProgramFault) OptionsFault
 
--- whether an outcome has a text for standard output
+-- whether an outcome is `Shown`: help or the version, whose text is for standard output
 abbrev pub is_shown : Outcome → Bool
 is_shown (Err (Shown error)) = true
 is_shown _ = false
 
--- how the program ends after what it was asked, by the result: standard output, which may have
--- failed before, gets nothing more
+-- how the program ends after doing what it was asked, with this result: as `EndsAs` says, and
+-- standard output, for which the flag says whether it had failed before, gets nothing more
 abbrev pub EndsDone : Result ℕ ProgramFault → ℕ → Bool → Stream → Stream → Type 0
 EndsDone done status had_failed output errors = EndsAs done status errors × GetsNothing had_failed output
 
--- how the program ends after an outcome: the status, and what becomes of standard output, which may
--- have failed before, and of standard error. At most one of them gets a text; if memory for a text
--- of clap is refused, the line of that refusal
+-- how the program ends after an outcome: the status, and what the two streams get, at most one of
+-- them a text. The flag says whether standard output had failed before. If memory for a text of
+-- clap is refused, the program ends as after `NoMemory`
 abbrev pub Ends : Outcome → ℕ → Bool → Stream → Stream → Type 0
 Ends (Ok done) status had_failed output errors = EndsDone done status had_failed output errors
 Ends (Err NoMemory) status had_failed output errors = EndsDone (Err program.NoMemory) status had_failed output errors

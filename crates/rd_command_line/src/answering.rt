@@ -25,9 +25,9 @@ use std::process::ExitCode;
 use std::sync::Wait;
 use std::thread::Threads;
 
-/// Does what the words of a command line ask for over the files and the three streams, writes the
-/// messages of the end, and returns the exit status. If the words could not be taken from the
-/// system, `words` has the fault of that.
+/// Does what the words of a command line ask for, over the files and the three streams. Then writes
+/// the outcome's message, if it has one, and returns the exit status. `words` is a fault if the
+/// words could not be taken from the system.
 pub fn perform<R: Files + Threads + Wait + Sync, S: AsStr + Drop, I: Source, O: Sink, E: Sink>(
     rt: &R,
     alloc: Global,
@@ -47,8 +47,8 @@ pub fn perform<R: Files + Threads + Wait + Sync, S: AsStr + Drop, I: Source, O: 
     end(alloc, &outcome, output, errors)
 }
 
-/// Does what the words ask for, and returns the outcome; if they could not be taken, returns the
-/// fault of that.
+/// Does what the words ask for, and returns the outcome. If `words` is a fault, returns this fault,
+/// and uses neither stream.
 fn outcome_of<R: Files + Threads + Wait + Sync, S: AsStr + Drop, I: Source, O: Sink>(
     rt: &R,
     alloc: Global,
@@ -66,8 +66,8 @@ fn outcome_of<R: Files + Threads + Wait + Sync, S: AsStr + Drop, I: Source, O: S
     answer(rt, alloc, words.as_slice(), input, output)
 }
 
-/// Does what the words of a command line ask for, of which the first is the program's name, and
-/// returns the outcome. It may wait, in `view`.
+/// Does what the words of a command line ask for, and returns the outcome. The first word is the
+/// program's name. It may wait, in `view`.
 pub fn answer<R: Files + Threads + Wait + Sync, S: AsStr, I: Source, O: Sink>(
     rt: &R,
     alloc: Global,
@@ -85,8 +85,8 @@ pub fn answer<R: Files + Threads + Wait + Sync, S: AsStr, I: Source, O: Sink>(
     Ok(do_options(rt, alloc, asked, input, output))
 }
 
-/// Does what the options ask for. Returns the number of the script's lines, or for `view` that of
-/// the recorded calls.
+/// Does what the options ask for. Returns the number of the script's lines, or for `view` the
+/// number of recorded calls. Fails as `play_named`, `view_files` or `load_file`.
 fn do_options<R: Files + Threads + Wait + Sync, I: Source, O: Sink>(
     rt: &R,
     alloc: Global,
@@ -124,8 +124,8 @@ fn do_options<R: Files + Threads + Wait + Sync, I: Source, O: Sink>(
     }
 }
 
-/// Runs the script on the input if the name is `-`, else that in the file of this name. Returns the
-/// number of its lines.
+/// Runs the script on the input if the name is `-`, else the script in the file of this name.
+/// Returns the number of its lines. Fails as `play`, and with `Read` if the file can't be opened.
 fn play_named<R: Files, I: Source, O: Sink>(
     rt: &R,
     alloc: Global,
@@ -147,7 +147,8 @@ fn play_named<R: Files, I: Source, O: Sink>(
     }
 }
 
-/// Runs the script in the file of this name, and returns the number of its lines.
+/// Runs the script in the file of this name, and returns the number of its lines. Fails as `play`,
+/// and with `Read` if the file can't be opened.
 fn play_file<R: Files, O: Sink>(
     rt: &R,
     alloc: Global,
@@ -165,7 +166,8 @@ fn play_file<R: Files, O: Sink>(
 }
 
 /// Runs the scripts in the files of these names, each by its own viewer, and returns the number of
-/// recorded calls. All files are read before the first command.
+/// recorded calls. All files are read before the first command is asked. Fails as `whole_files` or
+/// `view`.
 fn view_files<R: Files + Threads + Wait + Sync, O: Sink>(
     rt: &R,
     alloc: Global,
@@ -184,8 +186,8 @@ fn view_files<R: Files + Threads + Wait + Sync, O: Sink>(
     view(rt, alloc, scripts.as_slice(), output, setup)
 }
 
-/// Returns the whole texts of the files of these names, in order; fails if one can't be opened or
-/// read, or if memory is refused.
+/// Returns the whole texts of the files of these names, in order. Fails with `Read` if one can't be
+/// opened or read, and with `NoMemory` if memory is refused.
 fn whole_files<R: Files>(
     rt: &R,
     alloc: Global,
@@ -207,8 +209,9 @@ fn whole_files<R: Files>(
     Ok(texts)
 }
 
-/// Loads the trace in the file of this name, and runs the script on the input over it. Returns the
-/// number of the script's lines.
+/// Loads the trace in the file of this name, and runs the script on the input over its book.
+/// Returns the number of the script's lines. Fails as `whole_text` or `resume`, and with `Read` if
+/// the file can't be opened.
 fn load_file<R: Files, I: Source, O: Sink>(
     rt: &R,
     alloc: Global,
@@ -227,7 +230,7 @@ fn load_file<R: Files, I: Source, O: Sink>(
     resume(alloc, text.as_slice(), input, output, trace)
 }
 
-/// Returns the file of this name, opened for reading; `Read` if it can't be opened.
+/// Returns the file of this name, opened for reading. Fails with `Read` if it can't be opened.
 fn open_file<R: Files>(rt: &R, name: &str) -> Result<R::File, ProgramFault>
     ensures { IfErr result (λ fault. fault ≡ Read) }
 {

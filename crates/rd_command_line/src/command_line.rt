@@ -1,8 +1,8 @@
 //! The command line of the program, read by `clap`.
 //!
-//! The contracts are about the command that `clap` is given, as a value of its specification
-//! (`program_app`), and about what `clap` finds for that command and the words: the rows of
-//! matches, or the kinds of fault.
+//! The contracts describe the command that `clap` is given as a value of `clap`'s specification
+//! (`program_app`). They say which options the words give by what this specification finds for the
+//! command and the words: the rows of matches, or the kinds of fault.
 
 ghost use Rattle.std.specs.Prelude.{◌≡◌, ◌≢◌, ℕ, IfOk, IfErr, IfSome, IsNone, Bool, map, false};
 ghost use Rattle.clap.specs.Walk.{Text};
@@ -29,8 +29,13 @@ const VERSION: &str = "0.1.0";
 /// The numbers of cells that a ring may have, as the command line spells them.
 static RINGS: [&str; 3] = ["2", "4", "8"];
 
-/// Reads the words of a command line, of which the first is the program's name, and returns its
-/// options, or why it gives none.
+/// Returns the options that the words of a command line give. The first word is the program's name.
+///
+/// # Errors
+///
+/// `Shown` if the words ask for help or for the version; `Refused` if `clap` finds a mistake in
+/// them, or values that give no options; `TooManyFiles` if `view` names more than 64 files;
+/// `NoMemory` if memory was refused.
 pub fn options<'a, S: AsStr>(alloc: Global, words: &'a [S]) -> Result<Options<'a>, OptionsFault>
     ensures ok { IfOk result (GivesOptions (map S.text words.entry.now)) }
     ensures err { IfErr result (EndsFor (map S.text words.entry.now)) }
@@ -64,7 +69,8 @@ pub fn process_words<R: Env + Alloc<A = Global>>(rt: &R) -> Result<Vec<String>, 
     }
 }
 
-/// Returns the fault of a command line in which a word is no text.
+/// Returns the fault for a word that is not UTF-8: `Refused`, or `NoMemory` if memory for the error
+/// is refused.
 pub fn not_text(alloc: Global) -> OptionsFault
     ensures { IsMistake InvalidValue result }
 {
@@ -74,7 +80,7 @@ pub fn not_text(alloc: Global) -> OptionsFault
     }
 }
 
-/// Returns the error of `clap` for a word that is no text.
+/// Returns `clap`'s error for a word that is not UTF-8. Fails only if memory is refused.
 fn mistake_in_text(alloc: Global) -> Result<Error, AllocError>
     ensures { IfOk result (λ error. kind_of error ≡ InvalidValue) }
 {
@@ -85,7 +91,9 @@ fn mistake_in_text(alloc: Global) -> Result<Error, AllocError>
     )
 }
 
-/// Returns the options from the matches of the whole command, or why it gives none.
+/// Returns the options that the matches of the whole command give, or none if there is no
+/// subcommand, or if a value is missing or not one that the program takes. Fails only if memory is
+/// refused.
 fn options_from<'a>(
     alloc: Global,
     matches: &ArgMatches<'a>,
@@ -164,8 +172,8 @@ fn world_from<'a>(matches: &ArgMatches<'a>) -> Option<(u8, Ring)>
     }
 }
 
-/// Returns the options from the matches of `load`, or none if a value is missing or not one that the
-/// program takes.
+/// Returns the options from the matches of `load`, or none if a value is missing or not one that
+/// the program takes.
 fn load_from<'a>(load: &ArgMatches<'a>) -> Option<Options<'a>>
     ensures some { IfSome result (GivesLoad (rows_of (found_of load.now))) }
     ensures none { IsNone result → (o : Options) → GivesLoad (rows_of (found_of load.now)) o → ⊥ }
@@ -187,7 +195,8 @@ fn file_from<'a>(matches: &ArgMatches<'a>) -> Option<(&'a str, bool)>
     Some((file, trace))
 }
 
-/// Returns the choice that the text of a flag spells, or none if it spells none.
+/// Returns whether a flag is set, by the text that `clap` keeps for it: `true` or `false`. Returns
+/// none for any other text.
 fn choice_of(text: &str) -> Option<bool>
     ensures some { IfSome result (λ choice. text.now ≡ flag_text choice) }
     ensures none { IsNone result → (choice : Bool) → text.now ≢ flag_text choice }
@@ -221,7 +230,7 @@ fn run<'a>(alloc: Global) -> Result<Command<'a>, AllocError>
     run_over(alloc)?.arg(trace(alloc))
 }
 
-/// Returns the subcommand `run` for `clap`, except `--trace`. Fails only if memory is refused.
+/// Returns the subcommand `run` for `clap`, without `--trace`. Fails only if memory is refused.
 fn run_over<'a>(alloc: Global) -> Result<Command<'a>, AllocError>
     ensures app { IfOk result (λ c. (names : _) × IsRings names × (app_of c ≡ run_over_app names)) }
     ensures local { IfOk result (λ c. (out-Command c).has_globals ≡ false) }
@@ -258,14 +267,14 @@ fn load<'a>(alloc: Global) -> Result<Command<'a>, AllocError>
         .arg(trace(alloc))
 }
 
-/// Returns the argument that names a file.
+/// Returns the required argument `file`, which help shows under this name.
 fn file<'a>(alloc: Global, name: &'a str) -> Arg<'a>
     ensures { (rule_of result ≡ file_rule) × (result.global ≡ false) }
 {
     Arg::new(alloc, "file").value_name(name).required(true)
 }
 
-/// Returns the argument that names the files of the viewers.
+/// Returns the argument `files`: the viewers' scripts, at least one.
 fn files<'a>(alloc: Global) -> Arg<'a>
     ensures { (rule_of result ≡ files_rule) × (result.global ≡ false) }
 {

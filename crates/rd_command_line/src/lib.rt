@@ -1,8 +1,8 @@
-//! The command line of the program: its words read by `clap`, and what they ask for done over files
-//! and streams.
+//! The command line of the program: `clap` reads its words, and `perform` does what they ask for,
+//! over files and streams.
 //!
-//! `main` gives `perform` the words, the files and the three streams, and nothing else, so that a
-//! caller of `perform` with other streams sees all that the program does.
+//! `main` gives `perform` the words, the files and the three streams, and nothing else. So a caller
+//! of `perform` with other streams sees all that the program does.
 #![tactic(auto)]
 
 mod answering;

@@ -15,14 +15,14 @@ use std::process::ExitCode;
 /// The message for a command line with more files than there may be viewers.
 const TOO_MANY_FILES: &str = "lcrqdb: 1 to 64 files\n";
 
-/// The outcome of a command line: what it asks for was done, with the number of the script's lines,
-/// or for `view` that of the recorded calls; or it was not all done, and why; or it gives no
-/// options, and why.
+/// The outcome of a command line. `Ok(Ok(number))`: all that it asks for was done, with the number
+/// of the script's lines, or for `view` the number of recorded calls. `Ok(Err(fault))`: not all was
+/// done. `Err(fault)`: the command line gives no options.
 pub type Outcome = Result<Result<u64, ProgramFault>, OptionsFault>;
 
-/// Ends the program after an outcome: writes what is to be written for it, and returns the exit
-/// status, which is the same if a stream fails. A stream for which there is nothing is not called.
-/// If memory for a text of `clap` is refused, the program ends as after that fault.
+/// Ends the program after an outcome: writes the outcome's message, if it has one, and returns the
+/// exit status. The status is the same if a stream fails, and a stream that gets no message is not
+/// called. If memory for a text of `clap` is refused, the program ends as after `NoMemory`.
 pub fn end<O: Sink, E: Sink>(
     alloc: Global,
     outcome: &Outcome,
@@ -40,7 +40,9 @@ pub fn end<O: Sink, E: Sink>(
     }
 }
 
-/// Ends the program after a command line that gives no options, as `end` does after its outcome.
+/// Ends the program after a command line that gives no options: writes the fault's message, and
+/// returns the exit status. If memory for a text of `clap` is refused, the program ends as after
+/// `NoMemory`.
 fn end_unasked<O: Sink, E: Sink>(
     alloc: Global,
     fault: &OptionsFault,
@@ -75,7 +77,8 @@ fn end_unasked<O: Sink, E: Sink>(
     }
 }
 
-/// Writes a text to a stream, as far as the stream takes it.
+/// Writes a text to a stream. If the stream fails, it took a beginning of the text, and nothing
+/// more is done about it.
 fn show<K: Sink>(stream: &mut K, text: &str)
     requires { K.has_failed stream.old ≡ false }
     ensures { Takes (sink_stream K.Sink stream.old stream.new) text.now }

@@ -1,4 +1,4 @@
-//! What a command line asks for, or why it asks for nothing that the program does.
+//! What a command line asks for, or why it gives no options.
 
 ghost use Rattle.std.specs.Prelude.{◌≡◌, ◌≢◌, ◌<◌, ◌≤◌, true, false, IfSome, IsNone};
 ghost use Rattle.rd_desk.specs.declared.desks.TheConstants.{MOST_VIEWERS};
@@ -31,9 +31,9 @@ pub enum Options<'a> {
     Run {
         /// The script's file; `-` is standard input.
         file: &'a str,
-        /// How many actors the world has, 1 to 16.
+        /// The number of actors of the world, 1 to 16.
         actors: u8,
-        /// How many cells its rings have.
+        /// The size of its rings: 2, 4 or 8 cells.
         ring: Ring,
         /// `--trace`: whether the trace of the run follows its report.
         trace: bool,
@@ -42,12 +42,12 @@ pub enum Options<'a> {
     View {
         /// The scripts' files, 1 to 64, in the order of their viewers.
         files: Vec<&'a str>,
-        /// How many actors the world has, 1 to 16.
+        /// The number of actors of the world, 1 to 16.
         actors: u8,
-        /// How many cells its rings have.
+        /// The size of its rings: 2, 4 or 8 cells.
         ring: Ring,
     },
-    /// `load TRACE`: does the lines of standard input over the run of a trace.
+    /// `load TRACE`: does the lines of standard input over the book of a trace.
     Load {
         /// The trace's file.
         file: &'a str,
@@ -57,7 +57,7 @@ pub enum Options<'a> {
 }
 
 impl<'a> Options<'a> {
-    /// Returns whether more files are named than there may be viewers.
+    /// Whether `view` names more files than there may be viewers.
     pub(crate) fn has_many_files(&self) -> bool
         ensures many { result ≡ true → MOST_VIEWERS < file_count self.now }
         ensures few { result ≡ false → file_count self.now ≤ MOST_VIEWERS }
@@ -72,9 +72,9 @@ impl<'a> Options<'a> {
 /// Why the command line gives no options.
 #[derive(Debug, Drop)]
 pub enum OptionsFault {
-    /// The command line asks for help or for the version; with the text of `clap`.
+    /// The command line asks for help or for the version, whose text `clap`'s error has.
     Shown(Error),
-    /// The command line is not one that the program takes; with the text of `clap` on the mistake.
+    /// The program doesn't take the command line. `clap`'s error has the text on the mistake.
     Refused(Error),
     /// The command line names more files than there may be viewers.
     TooManyFiles,
@@ -85,7 +85,8 @@ pub enum OptionsFault {
 impl From<Error> for OptionsFault {
     ghost from_gives = { λ error fault. fault ≡ options_fault error };
 
-    /// Returns the reason why the command line gives no options, by the error of `clap`.
+    /// Returns the fault for an error of `clap`: `Shown` for help or the version, `NoMemory` for
+    /// refused memory, and `Refused` for any other error.
     fn from(error: Error) -> OptionsFault {
         match error.kind() {
             ErrorKind::DisplayHelp | ErrorKind::DisplayVersion => OptionsFault::Shown(error),
@@ -98,7 +99,7 @@ impl From<Error> for OptionsFault {
 impl From<AllocError> for OptionsFault {
     ghost from_gives = { λ _ fault. fault ≡ NoMemory };
 
-    /// Memory that was refused is the reason `NoMemory`.
+    /// Returns `NoMemory`, the fault for refused memory.
     fn from(_error: AllocError) -> OptionsFault {
         OptionsFault::NoMemory
     }

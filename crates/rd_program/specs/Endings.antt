@@ -17,7 +17,7 @@ use Rattle.rd_view.specs.declared.faults.ViewFault.TheVariants as view
 use Rattle.rd_program.specs.declared.faults.ProgramFault.{ProgramFault}
 use Rattle.rd_program.specs.declared.faults.ProgramFault.TheVariants.{NoMemory, Read, Script, Load, Trace, View}
 
--- the refusal of a trace that was not loaded
+-- the refusal that the program shows for a trace that was not loaded
 abbrev pub load_refusal : LoadTraceFault → AnyRefusal
 load_refusal load.NoMemory = refused.Refused refusal.NoMemory
 load_refusal load.BadTrace = refused.BadTrace
@@ -25,12 +25,12 @@ load_refusal (load.Flawed flaw) = refused.Flawed flaw
 load_refusal (load.TraceMark mark step cause) = refused.TraceMark mark step cause
 load_refusal (load.TraceStep step cause) = refused.TraceStep step cause
 
--- the refusal of a trace that was not written
+-- the refusal that the program shows for a trace that was not written whole
 abbrev pub trace_refusal : WriteTraceFault → AnyRefusal
 trace_refusal trace.NoMemory = refused.Refused refusal.NoMemory
 trace_refusal trace.Write = refused.Stopped script.Write
 
--- the refusal of a view that was not written
+-- the refusal that the program shows for a view that was not written whole
 abbrev pub view_refusal : ViewFault → AnyRefusal
 view_refusal view.NoMemory = refused.Refused refusal.NoMemory
 view_refusal view.Write = refused.Stopped script.Write
@@ -49,12 +49,13 @@ refusal_of (View fault) = view_refusal fault
 abbrev pub error_line : AnyRefusal → List ℕ
 error_line cause = codes "lcrqdb: " ++ text_of (Err cause)
 
--- a stream took this text: all of it, after what it had; or, if it has failed, a beginning of it
+-- a stream took all of this text, after what it had; or, if it has failed, a beginning of the text
 abbrev pub Takes : Stream → List ℕ → Type 0
 Takes s text = MatchBool s.failed (TakesBeginning s.before s.after text) (Appends s.before s.after text)
 
--- how the program ends after an outcome: with status 0 and nothing more on standard error, which
--- has not failed, or with status 1 and the line of the refusal there
+-- how the program ends after an outcome. If all was done, the status is 0, and standard error gets
+-- nothing and has not failed. After a fault, the status is 1, and the line of the fault's refusal
+-- goes there
 abbrev pub EndsAs : Result ℕ ProgramFault → ℕ → Stream → Type 0
 EndsAs (Ok lines) status errors = (status ≡ 0) × GetsNothing false errors
 EndsAs (Err fault) status errors = (status ≡ 1) × Takes errors (error_line (refusal_of fault))

@@ -1,5 +1,5 @@
--- What the program does: a script's run over a book, the fresh one or that of a trace, with the
--- trace of the session after the report if one is asked for.
+-- What `run` and `load` do: they run a script over a book, a fresh one or the book of a trace, and
+-- write the session's trace after the report if it is asked for.
 use Rattle.std.specs.Prelude.{◌≡◌, ◌⊎◌, ℕ, Bool, true, false, List, Option, Result, Ok, Err}
 use Rattle.rd_journal.specs.Journal.{Journal}
 use Rattle.rd_marks.specs.BookState.{BookState}
@@ -14,7 +14,8 @@ use Rattle.rd_trace.specs.Loading.{LoadsTrace}
 use Rattle.rd_program.specs.declared.faults.ProgramFault.{ProgramFault}
 use Rattle.rd_program.specs.declared.faults.ProgramFault.TheVariants.{NoMemory, Read, Script, Load, Trace}
 
--- the fault is one of reading a whole file: memory was refused, or the reader failed
+-- the fault of a file that was not read whole: `NoMemory` if memory was refused, or `Read` if the
+-- file could not be opened or its reader failed
 abbrev pub IsUnread : ProgramFault → Type 0
 IsUnread fault = (fault ≡ NoMemory) ⊎ (fault ≡ Read)
 
@@ -22,25 +23,26 @@ IsUnread fault = (fault ≡ NoMemory) ⊎ (fault ≡ Read)
 abbrev pub TouchesNothing : Devices → Type 0
 TouchesNothing d = IsUnused d.input × IsUnused d.output
 
--- what became of the trace of a book in this state, if it was asked for: it was written, as far as
--- the result states; else the output got nothing
+-- if the trace of a book in this state was asked for, it was written as `WritesTrace` says for the
+-- result; else the result is `Ok`, and the output got nothing
 abbrev pub WritesIf : Bool → BookState → Stream → Result (Unit {0}) WriteTraceFault → Type 0
 WritesIf true b output result = WritesTrace b output result
 WritesIf false b output result = (result ≡ Ok tt) × GetsNothing false output
 
--- a script of n lines ran to its end over a book in this state, its report was written, and this
--- became of the trace of its run
+-- a script of n lines ran to its end over a book in this state, its report was written, and then
+-- the trace was written if it was asked for, with the result `written`
 pub record RanToTrace (before : BookState) (traced : Bool) (d : Devices) (n : ℕ) (written : Result (Unit {0}) WriteTraceFault) : Type 0 where
+  -- the state that the script left, and the journal that the book then keeps
   pub after : BookState
   pub kept : Journal
-  -- what the writer had when the report was whole
+  -- what the writer had taken when the report was whole
   pub reported : Option (List ℕ)
   pub ran : RanToEnd before after kept (record d { output = record d.output { after = reported; failed = false } }) n
   pub trace : WritesIf traced after (record d.output { before = reported }) written
 
--- what `run` and `load` did over a book in this state, by the result: a script ran, whatever state
--- it left and whatever the book keeps then; and, if it came to its end and a trace was asked for,
--- the trace was written after the report
+-- what `run` and `load` did over a book in this state, by the result. Either a script of n lines
+-- ran to its end, and the trace was written whole if it was asked for; or the script's run stopped;
+-- or it ran to its end, and the trace was not written whole
 abbrev pub PlaysOver : BookState → Bool → Devices → Result ℕ ProgramFault → Type 0
 PlaysOver before traced d (Ok n) = RanToTrace before traced d n (Ok tt)
 PlaysOver before traced d (Err (Script fault)) = (after : BookState) × (kept : Journal) × RunsScript before after kept d (Err fault)
@@ -48,12 +50,12 @@ PlaysOver before traced d (Err (Trace fault)) = (n : ℕ) × RanToTrace before t
 PlaysOver before traced d (Err _) = ⊥
 
 -- what `run` did over a book in this state: memory for the book was refused, and neither device was
--- used; or a script was played over it
+-- used; or a script was run over it, as `PlaysOver` says
 abbrev pub PlaysScript : BookState → Bool → Devices → Result ℕ ProgramFault → Type 0
 PlaysScript before traced d result = ((result ≡ Err NoMemory) × TouchesNothing d) ⊎ PlaysOver before traced d result
 
--- what `load` did with the text of a file: it was not loaded, and neither device was used; or it was
--- loaded as a book, and a script was played over that
+-- what `load` did with the text of a file: it was not loaded, and neither device was used; or it
+-- was loaded as a book, and a script was run over this book
 abbrev pub ResumesTrace : List ℕ → Bool → Devices → Result ℕ ProgramFault → Type 0
 ResumesTrace text traced d result =
     ((fault : LoadTraceFault) × (result ≡ Err (Load fault)) × TouchesNothing d × LoadsTrace text (Err fault))

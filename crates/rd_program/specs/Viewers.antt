@@ -11,11 +11,13 @@ use Rattle.rd_view.specs.Viewing.{ViewsScripts}
 use Rattle.rd_program.specs.declared.faults.ProgramFault.{ProgramFault}
 use Rattle.rd_program.specs.declared.faults.ProgramFault.TheVariants.{View}
 
--- the program's outcome of a view: the number of recorded calls, or why the view was not written
+-- the program's outcome of a view, by the view's result: the number of recorded calls, or `View`
+-- with the reason why the view was not written whole
 abbrev pub view_outcome : Result History ViewFault → Result ℕ ProgramFault
 view_outcome viewed = result_map_both (λ history. length (entries history)) View viewed
 
--- what became of a view of these scripts over a book in this state, by the program's outcome
+-- a view of these scripts over a book in this state had a result, as `ViewsScripts` says, and this
+-- is the program's outcome for it
 abbrev pub ViewsOver : BookState → List (Vec ℕ Global) → Stream → Result ℕ ProgramFault → Type 0
 ViewsOver opened scripts output result =
     (viewed : Result History ViewFault) × (result ≡ view_outcome viewed) × ViewsScripts opened scripts output viewed

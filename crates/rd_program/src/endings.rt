@@ -9,8 +9,8 @@ use super::faults::ProgramFault;
 use rd_script::{AnyRefusal, Sink, Text, WriteFault, set_text, write_all};
 use std::process::ExitCode;
 
-/// Ends the program after an outcome and returns the exit status: 0, or 1 with the line of the
-/// fault on standard error. If standard error fails, the status is the same.
+/// Writes the line of the fault, if there is one, to standard error, and returns the exit status:
+/// 0, or 1 after a fault. The status is the same if standard error fails.
 pub fn end<E: Sink>(outcome: &Result<u64, ProgramFault>, errors: &mut E) -> ExitCode
     requires { E.has_failed errors.old ≡ false }
     ensures { EndsAs outcome.now (exit_status result) (sink_stream E.Sink errors.old errors.new) }
@@ -24,7 +24,8 @@ pub fn end<E: Sink>(outcome: &Result<u64, ProgramFault>, errors: &mut E) -> Exit
     }
 }
 
-/// Writes the program's name and the line of a refusal to a stream.
+/// Writes the program's name and the line of a refusal to a stream. Fails if the stream fails,
+/// which has then taken a beginning of this text.
 fn write_line<K: Sink>(stream: &mut K, refusal: AnyRefusal) -> Result<(), WriteFault>
     requires { K.has_failed stream.old ≡ false }
     ensures { Takes (sink_stream K.Sink stream.old stream.new) (error_line refusal) }

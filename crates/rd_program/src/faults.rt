@@ -14,7 +14,7 @@ use thiserror::Error;
 /// Why the program ends without having done all that it was asked.
 #[derive(Clone, Copy, Debug, Error)]
 pub enum ProgramFault {
-    /// A world, a text or the command line was refused its memory.
+    /// Memory for a world, a text or the command line was refused.
     #[error("memory was refused")]
     NoMemory,
     /// A file can't be opened or read.
@@ -26,10 +26,10 @@ pub enum ProgramFault {
     /// A trace was not loaded.
     #[error("the trace was not loaded: {0:?}")]
     Load(LoadTraceFault),
-    /// The trace of a run was not written.
+    /// The trace of a run was not written whole.
     #[error("the trace was not written: {0:?}")]
     Trace(WriteTraceFault),
-    /// A view was not written.
+    /// A view was not written whole.
     #[error("the view was not written: {0:?}")]
     View(ViewFault),
 }
@@ -50,7 +50,7 @@ impl ProgramFault {
     }
 }
 
-/// Returns the refusal of a trace that was not loaded.
+/// Returns the refusal that the program shows for a trace that was not loaded.
 fn load_refusal(fault: LoadTraceFault) -> AnyRefusal
     ensures { result ≡ load_refusal fault }
 {
@@ -65,7 +65,7 @@ fn load_refusal(fault: LoadTraceFault) -> AnyRefusal
     }
 }
 
-/// Returns the refusal of a trace that was not written.
+/// Returns the refusal that the program shows for a trace that was not written whole.
 fn trace_refusal(fault: WriteTraceFault) -> AnyRefusal
     ensures { result ≡ trace_refusal fault }
 {
@@ -75,7 +75,7 @@ fn trace_refusal(fault: WriteTraceFault) -> AnyRefusal
     }
 }
 
-/// Returns the refusal of a view that was not written.
+/// Returns the refusal that the program shows for a view that was not written whole.
 fn view_refusal(fault: ViewFault) -> AnyRefusal
     ensures { result ≡ view_refusal fault }
 {
@@ -92,7 +92,7 @@ fn view_refusal(fault: ViewFault) -> AnyRefusal
 impl From<ScriptFault> for ProgramFault {
     ghost from_gives = { λ fault e. e ≡ Script fault };
 
-    /// A run that stopped is the fault `Script`.
+    /// Returns `Script`, with the fault that stopped the run.
     fn from(fault: ScriptFault) -> ProgramFault {
         ProgramFault::Script(fault)
     }
@@ -101,7 +101,7 @@ impl From<ScriptFault> for ProgramFault {
 impl From<LoadTraceFault> for ProgramFault {
     ghost from_gives = { λ fault e. e ≡ Load fault };
 
-    /// A trace that was not loaded is the fault `Load`.
+    /// Returns `Load`, with the reason why the trace was not loaded.
     fn from(fault: LoadTraceFault) -> ProgramFault {
         ProgramFault::Load(fault)
     }
@@ -110,7 +110,7 @@ impl From<LoadTraceFault> for ProgramFault {
 impl From<WriteTraceFault> for ProgramFault {
     ghost from_gives = { λ fault e. e ≡ Trace fault };
 
-    /// A trace that was not written is the fault `Trace`.
+    /// Returns `Trace`, with the reason why the trace was not written whole.
     fn from(fault: WriteTraceFault) -> ProgramFault {
         ProgramFault::Trace(fault)
     }
@@ -119,7 +119,7 @@ impl From<WriteTraceFault> for ProgramFault {
 impl From<ViewFault> for ProgramFault {
     ghost from_gives = { λ fault e. e ≡ View fault };
 
-    /// A view that was not written is the fault `View`.
+    /// Returns `View`, with the reason why the view was not written whole.
     fn from(fault: ViewFault) -> ProgramFault {
         ProgramFault::View(fault)
     }

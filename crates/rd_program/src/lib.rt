@@ -1,10 +1,10 @@
 //! The program without its command line: what it does over the devices that it is given, and how it
 //! ends.
 //!
-//! A script runs over a fresh world, or over the run of a trace that is loaded, with the trace of
-//! the session after the report if one is asked for; or several scripts run over one fresh world,
-//! each by its own viewer. How it went, as a `Result`, determines the end: an exit status, and what
-//! goes to standard error.
+//! `play` runs a script over a fresh world, and `resume` over the book of a trace; both write the
+//! trace of the session after the report if it is asked for. `view` runs several scripts over one
+//! fresh world, each by its own viewer. From the `Result` of these, `end` makes the exit status,
+//! and writes the line of a fault to standard error.
 #![tactic(auto)]
 
 mod endings;

@@ -1,5 +1,6 @@
-//! What the program does over the devices that it is given: a script's run over a fresh world or
-//! over the run of a trace, with the trace of the session after the report if one is asked for.
+//! What `run` and `load` do over the devices that they are given: they run a script over a fresh
+//! world or over the book of a trace, and write the session's trace after the report if it is asked
+//! for.
 
 ghost use Rattle.std.specs.Prelude.{◌≡◌, ℕ, false, IfOk, IfErr, IfSome};
 ghost use Rattle.rd_script.specs.Streams.{devices, sink_stream};
@@ -20,8 +21,9 @@ use std::io::{ErrorKind, Read};
 /// # Errors
 ///
 /// `NoMemory` if memory for the world was refused; neither device was then used. `Script` if the
-/// run of the script stopped. `Trace` if memory for the trace was refused, where the report was
-/// written and nothing after it, or if the writer failed in the trace.
+/// run of the script stopped. `Trace` if the trace was not written whole: either memory was
+/// refused, and nothing follows the report, or the writer failed, and took a beginning of the
+/// trace.
 pub fn play<S: Source, K: Sink>(
     alloc: Global,
     reader: &mut S,
@@ -41,7 +43,7 @@ pub fn play<S: Source, K: Sink>(
 }
 
 /// Runs a script over a book, writes its report, and after it the trace if that is asked for.
-/// Returns the number of the script's lines.
+/// Returns the number of the script's lines. Fails with `Script` or `Trace`, as `play`.
 fn play_over<S: Source, K: Sink>(
     alloc: Global,
     reader: &mut S,
@@ -59,7 +61,7 @@ fn play_over<S: Source, K: Sink>(
     Ok(lines)
 }
 
-/// Writes the trace of a book, if the trace is asked for.
+/// Writes the trace of a book if the trace is asked for, else nothing. Fails as `write_any_trace`.
 fn write_if<K: Sink>(
     alloc: Global,
     writer: &mut K,
@@ -100,7 +102,7 @@ pub fn resume<S: Source, K: Sink>(
     play_over(alloc, reader, writer, &mut book, trace)
 }
 
-/// Returns the whole text that a reader gives.
+/// Reads a reader to its end, and returns the bytes that it gave.
 ///
 /// # Errors
 ///

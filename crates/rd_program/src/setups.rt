@@ -5,12 +5,12 @@ ghost use Rattle.rd_cell.specs.declared.limits.TheConstants.{MOST_ACTORS};
 
 use rd_script::Ring;
 
-/// Which fresh world a run begins in.
+/// The fresh world that a run begins in, by its size.
 #[derive(Clone, Copy, Debug, PartialEq, Eq)]
 pub struct Setup {
-    /// How many actors the world has, 1 to 16.
+    /// The number of actors of the world, 1 to 16.
     pub actors: u8,
-    /// How many cells its rings have.
+    /// The size of its rings: 2, 4 or 8 cells.
     pub ring: Ring,
     ghost some: { 1 ≤ actors },
     ghost few: { actors ≤ MOST_ACTORS },

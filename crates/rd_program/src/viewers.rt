@@ -22,7 +22,8 @@ use std::thread::Threads;
 ///
 /// # Errors
 ///
-/// `View` if the view was not written; with `NoMemory` also if memory for the world was refused.
+/// `View` if the view was not written whole, with the reason. If memory for the world was refused,
+/// the reason is `NoMemory`.
 pub fn view<R: Threads + Wait + Sync, K: Sink>(
     rt: &R,
     alloc: Global,
@@ -44,7 +45,8 @@ pub fn view<R: Threads + Wait + Sync, K: Sink>(
     }
 }
 
-/// Runs the scripts over a book, and returns the number of recorded calls.
+/// Runs the scripts over a book, writes the answers, and returns the number of recorded calls.
+/// Fails with `View` if the view was not written whole.
 fn view_over<R: Threads + Wait + Sync, K: Sink, const N: usize>(
     rt: &R,
     alloc: Global,

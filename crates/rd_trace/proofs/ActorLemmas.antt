@@ -1,8 +1,8 @@
--- Actors as values: what is written of each part, and what is read again.
+-- Actors as JSON values: the values that are written are read as the same.
 use Rattle.rd_trace.proofs.Prelude.{◌≡◌, ℕ, List, [], ◌∷◌, length, Option, Some, None, refl, arith, unsigned, items_view, Actor, name_of, name_data, byte_number, value_of, value_data, op_of_items, IsActor, actor_data, Value}
 use Rattle.serde_json.specs.Data.{number}
 
--- a list of another length spells no call
+-- a list of another length than one or two spells no call
 pub no_op : (vs : List Value) → (length vs ≡ 1 → ⊥) → (length vs ≡ 2 → ⊥) → op_of_items (items_view vs) ≡ None
 no_op [] one two = refl
 no_op (a ∷ []) one two = absurd (one refl)
@@ -12,8 +12,8 @@ no_op (a ∷ b ∷ c ∷ vs) one two = refl
 pub value_spelled : (val : Option ℕ) → value_of (value_data val) ≡ Some val
 value_spelled val = grind arith
 
--- the value of an actor spells it, since its pass is a number of 8 bits and its names are of their
--- ranges
+-- the JSON value of an actor spells it, if the values of its pass and of its names are read as
+-- these
 pub actor_spelled : (a : Actor) → byte_number (number (unsigned a.pass)) ≡ Some a.pass → name_of (name_data a.crq) ≡ Some a.crq → name_of (name_data a.new) ≡ Some a.new → name_of (name_data a.next) ≡ Some a.next
     → IsActor (actor_data a) a
 actor_spelled a pass crq new next = grind arith

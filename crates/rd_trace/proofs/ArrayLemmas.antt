@@ -1,4 +1,5 @@
--- The array as a value: which slots are read, whose positions rise, and its value, which spells it.
+-- The array as a JSON value: the slots that are read have ascending positions, and the value that
+-- is written spells the array.
 use Rattle.rd_trace.proofs.Prelude.{◌≡◌, ℕ, zero, suc, ◌+◌, ◌<◌, ◌≤◌, List, [], ◌∷◌, ◌++◌, length, set, replicate, take, get_or, Some, None, refl, sym, ap, ap₂, ◌∙◌, subst, arith, append-nil, length-take, length-set, take_more, take_all, Data, view, items_view, SLOTS, ArrSlot, ArrayParts, Gives, SpellEach, items_by, slot_of_items, slot_of, filled_slots, slot_data, IsArray, array_data, Value}
 use Rattle.rd_trace.proofs.SpellLemmas.{one_given, same_each, spelled_at, spell_each-more, spell_each-none, items_written}
 use Rattle.rd_cell.specs.declared.contents.ArrSlot.TheVariants as slot
@@ -42,7 +43,7 @@ filled_none i (s ∷ ss) h = ap (λ x. filled_slots i (x ∷ ss)) h.0 ∙ filled
 filled_first : (i : ℕ) (s : ArrSlot) (ss : List ArrSlot) → IsFilled s → filled_slots i (s ∷ ss) ≡ (i, s) ∷ filled_slots (suc i) ss
 filled_first i s ss h = grind arith
 
--- one more slot is filled, after all that were
+-- setting slot k, where all slots from it on are empty, adds it to the end of the filled slots
 filled_set : (i k j : ℕ) (ss : List ArrSlot) (s : ArrSlot) → j ≡ i + k → k < length ss → AreEmptyFrom k ss → IsFilled s → filled_slots i (set ss k s) ≡ filled_slots i ss ++ (j, s) ∷ []
 filled_set i k j [] s at within h filled = absurd (omega arith)
 filled_set i zero j (x ∷ ss) s at within h filled =
@@ -50,7 +51,7 @@ filled_set i zero j (x ∷ ss) s at within h filled =
     filled_first i s ss filled ∙ ap₂ (λ n ps. (n, s) ∷ ps) here (filled_none (suc i) ss h.1) ∙ sym (ap (λ ps. ps ++ (j, s) ∷ []) (filled_none i (x ∷ ss) h))
 filled_set i (suc k) j (x ∷ ss) s at within h filled = let later = filled_set (suc i) k j ss s (omega arith) (omega arith) h filled in grind arith
 
--- the positions rise from the first one, and are below an end
+-- the positions ascend, the lowest is `first` or later, and all are below an end
 abbrev pub Rises : ℕ → ℕ → List (ℕ × ArrSlot) → Type 0
 Rises first end [] = Unit {0}
 Rises first end (p ∷ ps) = (first ≤ p.0) × (p.0 < end) × Rises (suc p.0) end ps
@@ -63,7 +64,7 @@ pub filled_rises : (i end : ℕ) (ss : List ArrSlot) → i + length ss ≤ end �
 filled_rises i end [] le = tt
 filled_rises i end (s ∷ ss) le = let later = filled_rises (suc i) end ss (omega arith) in grind (arith, rises_from)
 
--- the lowest position that may be after these
+-- the lowest position that may come after these slots
 abbrev pub next_position : ℕ → List (ℕ × ArrSlot) → ℕ
 next_position i [] = i
 next_position i (p ∷ ps) = next_position (suc p.0) ps
@@ -82,7 +83,8 @@ slot_filled d p is = grind arith
 one_slot : (d : Data) (p q : ℕ × ArrSlot) → Gives slot_of d p → Gives slot_of d q → p ≡ q
 one_slot = one_given slot_of
 
--- the slots that the values before this one spell, and the lowest position that is free
+-- the first i values of a list spell the filled ones of these `SLOTS` slots; `free` is the lowest
+-- position that the next slot may have, and all slots from it on are empty
 pub record AreReadTo (vs : List Value) (i : ℕ) (slots : List ArrSlot) (free : ℕ) : Type 0 where
   pub spelled : SpellEach (Gives slot_of) (items_view (take i vs)) (filled_slots 0 slots)
   pub sized : length slots ≡ SLOTS
@@ -96,7 +98,8 @@ module _ (vs : List Value) (i : ℕ) (slots : List ArrSlot) (free : ℕ) (h : Ar
   pub one_more_slot : (p : ℕ × ArrSlot) (next : ℕ) → Some p ≡ slot_of (view v) → free ≤ p.0 → p.0 < SLOTS → next ≡ suc p.0 → AreReadTo vs (i + 1) (set slots p.0 p.1) next
   one_more_slot p next read behind_all below is_next = grind (arith, set, filled_set, empty_later, slot_filled, spell_each-more, length-set, next_behind, empty_behind)
 
-  -- positions of slots rise, and are those of slots
+  -- if all values spell slots of an array, the next value's position is not before `free`, and
+  -- below `SLOTS`
   pub rises_here : (p : ℕ × ArrSlot) → Some p ≡ slot_of (view v) → (ss : List ArrSlot) → length ss ≡ SLOTS → SpellEach (Gives slot_of) (items_view vs) (filled_slots 0 ss) → (free ≤ p.0) × (p.0 < SLOTS)
   rises_here p read ss size all =
       let here = spelled_at (Gives slot_of) vs i v within is (filled_slots 0 ss) all in
@@ -139,6 +142,6 @@ module _ (ss : List ArrSlot) (i : ℕ) (d : ArrSlot) (vs : List Value) (within :
   no_more_value empty =
       so_far ∙ ap (items_by slot_data) (sym (append-nil (filled_slots 0 (take i ss))) ∙ ap (λ s. filled_slots 0 (take i ss) ++ filled_slots i (s ∷ [])) (sym empty) ∙ sym filled_take)
 
--- the value that the array is written as spells it
+-- the JSON value as which the array is written spells it
 pub array_spelled : (a : ArrayParts) → IsArray (array_data a) a
 array_spelled a = record { members = refl; cells = (items_by slot_data (filled_slots 0 a.cells), refl, slots_spelled 0 a.cells); head = refl; tail = refl }

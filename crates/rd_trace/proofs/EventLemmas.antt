@@ -1,7 +1,7 @@
--- Events as values.
+-- Events as JSON values.
 use Rattle.rd_trace.proofs.Prelude.{◌≡◌, List, [], ◌∷◌, length, None, refl, items_view, event_of_items, Value}
 
--- a list of another length spells no event
+-- a list of another length than two or three spells no event
 pub other_length : (vs : List Value) → (length vs ≡ 2 → ⊥) → (length vs ≡ 3 → ⊥) → event_of_items (items_view vs) ≡ None
 other_length [] two three = refl
 other_length (a ∷ []) two three = refl

@@ -1,5 +1,5 @@
--- A line feed after printed tokens changes none of them, so that the text of a value is read the
--- same with one after it.
+-- A line feed after printed tokens changes none of them, so the text of a value with a line feed is
+-- read as the same value.
 use Rattle.rd_trace.proofs.Prelude.{◌≡◌, ℕ, Bool, true, false, cond, ◌&&◌, List, [], ◌∷◌, ◌++◌, refl, sym, ap, ap₂, ◌∙◌, append_assoc, append-nil, arith, Token, begin_object, end_object, begin_array, end_array, key, bad, Lexeme, token, comma, string_token, lex, between, fresh, punctuate, tokens, escape, quoted, token_text, begins, ends, print_from, print, IsPrintable, ArePrintable, content-escape, lex-escape, ArePrintableOrBad}
 use Rattle.json.specs.Token.{string, number, boolean, null}
 use Rattle.json.specs.Word.{ends_word, word}
@@ -8,7 +8,7 @@ use Rattle.json.specs.Json as json
 use Rattle.json.specs.Tree.{json_tokens, items_tokens, members_tokens, HasNumbers, ItemsHaveNumbers, MembersHaveNumbers}
 use Rattle.json.proofs.Printed.Tokens.{tokens-print}
 
--- after a value is a comma, a closing bracket, or what is after the tokens
+-- what follows a value ends its word: a comma, a closing bracket, or the text after the tokens
 ends_before : (ts : List Token) (z : List ℕ) → ends_word z ≡ true → ends_word (print_from true ts ++ z) ≡ true
 unfolding print_from
 ends_before [] z h = h
@@ -51,7 +51,8 @@ lex-comma true r = refl
 lex-comma false r = refl
 
 module _ (c : Bool) (t : Token) (ts : List Token) where
-  -- what is after the tokens shows in nothing but the last lexemes
+  -- the lexemes of printed tokens are a comma if one is needed, the first token's lexemes, and the
+  -- lexemes of what follows
   lex-first : (z : List ℕ) → ends_word z ≡ true → IsPrintable t
       → lex between (print_from c (t ∷ ts) ++ z) ≡ cond (c && begins t) (comma ∷ []) [] ++ (lexemes_of t ++ lex between (print_from (ends t) ts ++ z))
   unfolding print_from
@@ -68,7 +69,7 @@ same_lexemes c (t ∷ ts) y z ended_y ended_z same h =
     lex-first c t ts y ended_y h.0 ∙ ap (λ l. cond (c && begins t) (comma ∷ []) [] ++ (lexemes_of t ++ l)) (same_lexemes (ends t) ts y z ended_y ended_z same h.1)
     ∙ sym (lex-first c t ts z ended_z h.0)
 
--- the tokens of printed ones with a line feed after them
+-- printed tokens with a line feed after them are read as the same tokens
 pub tokens-line : (ts : List Token) → ArePrintable ts → tokens (print ts ++ 10 ∷ []) ≡ ts
 unfolding lex
 tokens-line ts h =
@@ -80,7 +81,7 @@ both_parts : (ts us : List Token) → ArePrintableOrBad (ts ++ us) → ArePrinta
 both_parts [] us h = (tt, h)
 both_parts (t ∷ ts) us h = let p = both_parts ts us h.1 in ((h.0, p.0), p.1)
 
--- where no token of a value is amiss, its numbers are numbers
+-- if the tokens of a value are printable or bad, its numbers are numbers of JSON
 mutual
   pub numbers_of : (j : json.Json) → ArePrintableOrBad (json_tokens j) → HasNumbers j
   numbers_of json.null h = tt

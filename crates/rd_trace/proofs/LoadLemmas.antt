@@ -1,9 +1,9 @@
--- What loading a text gives.
+-- The result of loading a text.
 use Rattle.rd_trace.proofs.Prelude.{◌≡◌, ◌≤◌, ◌<◌, ◌+◌, inl, inr, ℕ, List, [], ◌∷◌, length, codes, Option, Some, None, option_map, Result, Ok, Err, refl, sym, ap, ◌∙◌, subst, arith, option_or, IsDistinct, Data, World, Refusal, Mark, book_state, loaded_state, first_refused, first_refused_mark, Replays, MOST_MARKS, HaveDifferentNames, LoadTraceFault, BadTrace, Flawed, TraceMark, TraceStep, Start, number_at, IsStart, HasActorCount, Trace, IsEitherVersion, HasValue, Reads, view, AnyBook, any_state, IsTraceText, IsTraceRing, LoadsValue, LoadsTrace, read, Book, NoMemory}
 use Rattle.std.specs.Prelude.{IsOkAnd, MatchResult}
 use Rattle.serde_json.proofs.OnLiterals.{serde_json_on_literals}
 
--- What a session that is spelled keeps
+-- What holds of a session that a value spells
 
 start_counted : {R : ℕ} (d : Data) (start : Start R) → IsStart d start → HasActorCount start
 start_counted d start h = grind arith
@@ -38,7 +38,7 @@ not_empty [] d value = absurd (cc (nothing_read, value.1))
 not_empty (x ∷ xs) d value = omega arith
 
 module _ (text : List ℕ) (d : Data) (value : HasValue text d) (Q : ℕ) (ring : number_at (codes "ring") d ≡ Some Q) (is_ring : IsTraceRing Q) where
-  -- no session over this ring is spelled, and so none at all
+  -- a value that spells no session over rings of its size spells none over rings of any size
   no_session : ((t : Trace Q) → IsEitherVersion d t → ⊥) → LoadsTrace text (Err BadTrace)
   no_session none = λ R t is.
       let its = value_eq text d t value is in
@@ -55,20 +55,20 @@ module _ (text : List ℕ) (d : Data) (value : HasValue text d) (Q : ℕ) (ring 
   loads_none (TraceMark m n cause) h = (Q, h.0, is_text h.0 h.1, h.2)
   loads_none (TraceStep n cause) h = (Q, h.0, is_text h.0 h.1, h.2)
 
-  -- the result over this ring, with its book as one of any ring
+  -- the result over rings of this size is the result of loading, with its book as an `AnyBook`
   pub loads_any : (wrap : Book Q → AnyBook) → ((book : Book Q) → any_state (wrap book) ≡ book_state book) → (r : Result (Book Q) LoadTraceFault) (s : Result AnyBook LoadTraceFault)
       → LoadsValue {R = Q} d r → MatchResult r (λ book. IsOkAnd s (λ any. any ≡ wrap book)) (λ e. s ≡ Err e) → LoadsTrace text s
   loads_any wrap same (Ok book) (Ok any) h is = (Q, h.0, is_text h.0 h.1, (h.2.0, ap any_state is ∙ same book ∙ h.2.1))
   loads_any wrap same (Ok book) (Err e) h is = absurd is
   loads_any wrap same (Err fault) s h is = subst (λ (x : Result AnyBook LoadTraceFault). LoadsTrace text x) (sym is) (loads_none fault h)
 
--- a text whose value was not read
+-- the fault of a text whose value was not read is a result of loading it
 pub not_read : (text : List ℕ) (fault : LoadTraceFault) → Reads view (HasValue text) (Err fault) → (fault ≡ NoMemory → 0 < length text) → LoadsTrace text (Err fault)
 not_read text NoMemory h memory = memory refl
 not_read text BadTrace h memory = λ R t is. h is.1 (is.0, is.2)
 not_read text _ h memory = absurd h
 
--- What loading a value gives
+-- The result of loading a value
 
 not_bad : (n : ℕ) (o : Option (ℕ × Refusal)) (later : Option LoadTraceFault) → (later ≡ Some BadTrace → ⊥) → option_or (option_map (λ r. TraceMark n r.0 r.1) o) later ≡ Some BadTrace → ⊥
 not_bad n o later good h = grind arith

@@ -1,4 +1,4 @@
--- Bookmarks as values.
+-- Bookmarks as JSON values.
 use Rattle.rd_trace.proofs.Prelude.{◌≡◌, ℕ, nat_eq, nat_lt, suc, ◌+◌, ◌<◌, ◌≤◌, true, false, ◌||◌, List, [], ◌∷◌, ◌++◌, map, Bool, length, get_or, take, drop, slice_get, codes, Decides, Option, Some, None, ok_or, option_map, IfSome, Ok, inl, inr, refl, sym, ap, ap₂, ◌∙◌, subst, arith, AllByRecursion, list_any, list_all, IsDistinct, and_parts, or_cases, eqb-true, true≢false, false≢true, same_Some, map_push, take_all, IsDistinct-head, IsDistinct-tail, IsDistinct-push, escape, escape_byte, escape_byte_plain, Data, view, items_view, compact_text, comma_if, MarkName, Event, MOST_MARKS, is_name_byte, is_mark_name, bytes_of, mark_name_eq, HaveDifferentNames, Mark, BookState, mark_at, mark_events, result_map, Gives, SpellEach, items_by, event_of, event_data, IsMark, AreMarks, saved_mark, mark_data, AreAppended, IsMarkAppended, SavedMark, name_and_length, slice_get_within, Value, bytes_eq-Decides}
 use Rattle.std.specs.Cmp.{IsEquivalence}
 use Rattle.rd_trace.proofs.SpellLemmas.{split_at, take_got, some_got, spelled_at, spelled_length, spell_each-more}
@@ -7,21 +7,21 @@ use Rattle.rd_cell.specs.declared.refusal.Refusal.TheVariants as refusal
 
 -- ---- names
 
--- two names are equal if their bytes are
+-- `mark_name_eq` decides whether two names have the same bytes
 name_decides : (a b : MarkName) → Decides (mark_name_eq a b) (bytes_of a ≡ bytes_of b)
 name_decides a b = bytes_eq-Decides (bytes_of a) (bytes_of b)
 
 name_laws : IsEquivalence mark_name_eq
 name_laws = grind (arith, name_decides, nat_eq)
 
--- a value spells one name at most
+-- all bookmarks that a JSON value spells have one name
 one_name : (d : Data) (m n : Mark) → IsMark d m → IsMark d n → bytes_of m.name ≡ bytes_of n.name
 one_name d m n h k = same_Some _ _ (sym h.name.text ∙ k.name.text)
 
 -- ---- lists that are read
 
--- a bookmark that differs by its name from those after it differs from the one that a value among
--- these spells
+-- if a bookmark's name differs from all names that these values spell, it differs from the name
+-- that a value among them spells
 apart_later : (q o : Mark) (xs ws : List Value) (v : Value) → IsMark (view v) o → (ms : List Mark) → SpellEach IsMark (items_view (xs ++ v ∷ ws)) ms
     → AllByRecursion (λ name. mark_name_eq q.name name ≡ false) (map (λ m. m.name) ms) → bytes_of q.name ≡ bytes_of o.name → ⊥
 apart_later q o [] ws v is [] h apart same = h
@@ -29,7 +29,8 @@ apart_later q o [] ws v is (m ∷ ms) h apart same = true≢false (sym ((name_de
 apart_later q o (x ∷ xs) ws v is [] h apart same = h
 apart_later q o (x ∷ xs) ws v is (m ∷ ms) h apart same = apart_later q o xs ws v is ms h.1 apart.1 same
 
--- values of which two spell bookmarks of one name spell no bookmarks with different names
+-- if a value spells a bookmark with a name that an earlier value's bookmark has, the values spell
+-- no bookmarks with different names
 taken_twice : (xs ws : List Value) (v : Value) (os : List Mark) (o : Mark) → SpellEach IsMark (items_view xs) os → IsMark (view v) o
     → list_any (λ m. mark_name_eq o.name m.name) os ≡ true → (ms : List Mark) → SpellEach IsMark (items_view (xs ++ v ∷ ws)) ms
     → IsDistinct mark_name_eq (map (λ m. m.name) ms) → ⊥
@@ -49,7 +50,7 @@ any_of_map : {X Y : Type 0} (f : X → Y) (test : Y → Bool) (xs : List X) → 
 any_of_map f test [] = refl
 any_of_map f test (x ∷ xs) = ap (λ b. test (f x) || b) (any_of_map f test xs)
 
--- the bookmarks that the first values of a list spell
+-- the first i values of a list spell these bookmarks, which have different names
 pub record AreRead (vs : List Value) (i : ℕ) (marks : List SavedMark) : Type 0 where
   pub each : SpellEach IsMark (items_view (take i vs)) (map saved_mark marks)
   pub names : HaveDifferentNames (map saved_mark marks)
@@ -59,18 +60,19 @@ unfolding IsDistinct
 none_read vs marks e = subst (λ (ms : List SavedMark). AreRead vs 0 ms) (sym e) (record { each = tt; names = tt })
 
 module _ (vs : List Value) (i : ℕ) (v : Value) (within : i < length vs) (is : v ≡ get_or vs i v) where
-  -- bookmarks of which one is the value's
+  -- if the values of a list spell bookmarks, the value at a position spells one
   pub mark_here : (ms : List Mark) → AreMarks (items_view vs) ms → (m : Mark) × IsMark (view v) m
   mark_here ms k = let here = spelled_at IsMark vs i v within is ms k.each in (here.1, here.5)
 
   module _ (marks : List SavedMark) (so_far : AreRead vs i marks) (m : SavedMark) (spells : IsMark (view v) (saved_mark m)) where
-    -- one whose name is taken
+    -- if the name of the value's bookmark is taken, the list spells no bookmarks with different
+    -- names
     pub name_taken : list_any (λ o. mark_name_eq m.name o.name) marks ≡ true → (ms : List Mark) → AreMarks (items_view vs) ms → ⊥
     name_taken taken ms k =
         taken_twice (take i vs) (drop (i + 1) vs) v (map saved_mark marks) (saved_mark m) so_far.each spells (any_of_map saved_mark (λ o. mark_name_eq m.name o.name) marks ∙ taken) ms
         (subst (λ (xs : List Value). SpellEach IsMark (items_view xs) ms) (split_at vs i v within is) k.each) k.names
 
-    -- one whose name isn't
+    -- if the name of the value's bookmark isn't taken, one more bookmark was read
     pub one_more_mark : list_any (λ o. mark_name_eq m.name o.name) marks ≡ false → AreRead vs (i + 1) (marks ++ m ∷ [])
     one_more_mark free =
         let saved = map_push saved_mark marks m in
@@ -85,11 +87,11 @@ module _ (vs : List Value) (i : ℕ) (v : Value) (within : i < length vs) (is : 
               (any_of_map (λ n. n.name) (mark_name_eq m.name) (map saved_mark marks) ∙ any_of_map saved_mark (λ o. mark_name_eq m.name o.name) marks ∙ free)));
         }
 
--- all values were read
+-- if all values were read, the list spells the bookmarks that were read
 pub all_read : (vs : List Value) (i : ℕ) (marks : List SavedMark) → length vs ≤ i → length vs ≤ MOST_MARKS → AreRead vs i marks → AreMarks (items_view vs) (map saved_mark marks)
 all_read vs i marks past few h = grind (arith, take_all, spelled_length)
 
--- more values than there may be bookmarks
+-- a list of more values than there may be bookmarks spells none
 pub too_many : (vs : List Value) → MOST_MARKS < length vs → (ms : List Mark) → AreMarks (items_view vs) ms → ⊥
 too_many vs many ms h = omega (arith, many, h.few, spelled_length IsMark vs ms h.each)
 
@@ -108,7 +110,7 @@ module _ (ms : List Mark) (i : ℕ) (name : MarkName) (len : ℕ) (old mid comma
       (two_parts mid comma new (comma_if (nat_lt 0 i)) (compact_text (mark_data m)) more is.text) is.kept
 
 module _ (b : BookState) (i n : ℕ) (next : n ≡ suc i) where
-  -- one more bookmark is in the text
+  -- the texts of the first i bookmarks, and then the text of the next one, are the texts of i + 1
   pub next_appended : (name : MarkName) (len : ℕ) (old mid comma new : List ℕ) → AreAppended IsMark mark_data (take i b.marks) old mid → mark_at b n ≡ Ok (name, len)
       → comma ≡ mid ++ comma_if (nat_lt 0 i) → IfSome (mark_events b n) (λ es. IsMarkAppended (record { name = name; events = es }) comma new)
       → AreAppended IsMark mark_data (take (i + 1) b.marks) old new
@@ -116,7 +118,7 @@ module _ (b : BookState) (i n : ℕ) (next : n ≡ suc i) where
       next_appended_of b.marks i name len old mid comma new so_far more (slice_get b.marks i) refl (subst (λ (k : ℕ). mark_at b k ≡ Ok (name, len)) next found)
       (subst (λ (k : ℕ). IfSome (mark_events b k) (λ es. IsMarkAppended (record { name = name; events = es }) comma new)) next h)
 
-  -- there is one at each number
+  -- there is a bookmark at each number up to their number
   pub some_mark : i < length b.marks → ((name : MarkName) (len : ℕ) → mark_at b n ≡ Ok (name, len) → ⊥) → ⊥
   some_mark within none =
       some_got b.marks i within (λ m h. none m.name (length m.events) (ap (mark_at b) next ∙ ap (λ (o : Option Mark). result_map name_and_length (ok_or o refusal.NoMark)) h))
@@ -133,7 +135,8 @@ plain_name (x ∷ xs) h =
     let p = and_parts (is_name_byte x) _ h in
     ap₂ (λ (ys zs : List ℕ). ys ++ zs) (plain_byte x p.0) (plain_name xs p.1)
 
--- the text of a bookmark is put together of that of its events and its name
+-- the text of a bookmark consists of the texts of its events and its name, with fixed text around
+-- them
 pub mark_appended : (name : MarkName) (es : List Event) (old t u v w new : List ℕ) → t ≡ old ++ codes "{\"events\":[" → AreAppended (Gives event_of) event_data es t u
     → v ≡ u ++ codes "],\"name\":\"" → w ≡ v ++ bytes_of name → new ≡ w ++ codes "\"}" → IsMarkAppended (record { name = name; events = es }) old new
 mark_appended name es old t u v w new opened events between named closed =

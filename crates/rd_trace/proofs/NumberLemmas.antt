@@ -1,8 +1,8 @@
--- Whole numbers and members of values, and names of segments.
+-- Whole numbers and members of JSON values, and names of segments.
 use Rattle.rd_trace.proofs.Prelude.{◌≡◌, List, [], ◌∷◌, length, Some, None, option_map, refl, sym, ap, ◌∙◌, String, BTreeMap, Global, Data, as_object, items_view, members_view, members_len-members_view, name_of_items, Value}
 use Rattle.serde_json.specs.Events.{members_len}
 
--- the members of an object are as many as those of its map
+-- a JSON object has as many members as its map
 pub member_count : (m : BTreeMap (String Global) Value) (d : Data) → Some (members_view m.entries) ≡ as_object d → option_map members_len (as_object d) ≡ Some (length m.entries)
 member_count m d is = ap (option_map members_len) (sym is) ∙ ap Some (members_len-members_view m.entries)
 

@@ -1,8 +1,8 @@
--- Loading a text has one answer, memory aside.
+-- Loading a text has one result, unless memory is refused.
 use Rattle.rd_trace.proofs.Prelude.{◌≡◌, ◌⊎◌, inl, inr, ℕ, ◌+◌, List, [], ◌∷◌, ◌++◌, map, Option, None, option_map, Result, Ok, Err, refl, sym, ap, ap₂, ◌∙◌, subst, subst₂, arith, World, Refusal, Event, Mark, Trace, IsTraceText, loaded_state, seen_mark, IsSameBook, first_refused, first_refused_mark, trace_fault, IsBookIn, Replays, LoadsTrace, IsSameAnswer, AnyBook, LoadTraceFault, BadTrace, Flawed, TraceMark, TraceStep, LoadsAgain, BookState, IsTextOf, IsTraceRing, option_or, NoMemory}
 use Rattle.rd_trace.proofs.OneTrace.{seen, same_trace, same_book}
 
--- bookmarks that are the same have the same fault
+-- bookmarks that are seen as the same have the same fault
 same_mark_fault : (w : World) (n : ℕ) (ms ns : List Mark) → map seen_mark ms ≡ map seen_mark ns → first_refused_mark w n ms ≡ first_refused_mark w n ns
 same_mark_fault w n [] [] h = refl
 same_mark_fault w n [] (k ∷ ns) h = absurd (cc)
@@ -12,7 +12,7 @@ same_mark_fault w n (m ∷ ms) (k ∷ ns) h =
     let later : map seen_mark ms ≡ map seen_mark ns = cc in
     ap₂ (λ (es : List Event) (o : Option LoadTraceFault). option_or (option_map (λ (r : ℕ × Refusal). TraceMark (n + 1) r.0 r.1) (first_refused w [] es)) o) (ap (λ (s : List ℕ × List Event). s.1) both) (same_mark_fault w (n + 1) ms ns later)
 
--- what two traces that are the same answer
+-- two traces that are seen as the same have the same fault and the same result
 module _ (R Q : ℕ) (t : Trace R) (u : Trace Q) (same : seen t ≡ seen u) where
   same_fault : trace_fault t ≡ trace_fault u
   same_fault =
@@ -28,13 +28,13 @@ module _ (R Q : ℕ) (t : Trace R) (u : Trace Q) (same : seen t ≡ seen u) wher
   same_answer (Err e) (Ok b) some also h k = let alike = same_fault in grind arith
   same_answer (Err e) (Err f) some also h k = let alike = same_fault in grind arith
 
-  -- a trace that has no fault gives its book again
+  -- a trace without a fault, loaded again as a trace that is seen as the same, gives its book again
   again : trace_fault t ≡ None → (q : Result AnyBook LoadTraceFault) → Replays (IsBookIn (loaded_state u)) u q → LoadsAgain (loaded_state t) q
   again plays (Ok b) k = subst (λ x. IsSameBook x (loaded_state t)) (sym k.1) (same_book Q R u t (sym same))
   again plays (Err f) k = let alike = same_fault in grind arith
 
--- the text is no trace, and so the answer says; or it is one, and the answer is what its trace
--- gives; or memory was refused
+-- the result of loading a text, case by case: memory was refused; the text is no trace, and the
+-- result is `BadTrace`; or it is a trace, and the result is the result of replaying it
 abbrev Answers : List ℕ → Result AnyBook LoadTraceFault → Type 0
 Answers text r =
     (r ≡ Err NoMemory)
@@ -56,13 +56,13 @@ module _ (text : List ℕ) (r q : Result AnyBook LoadTraceFault) (some : r ≡ E
 pub one_answer : (text : List ℕ) (r q : Result AnyBook LoadTraceFault) → LoadsTrace text r → LoadsTrace text q → (r ≡ Err NoMemory → ⊥) → (q ≡ Err NoMemory → ⊥) → IsSameAnswer r q
 one_answer text r q h k some also = same_answers text r q some also (answers text r h) (answers text q k)
 
--- a text that is a trace with no fault gives its book again, unless memory was refused
+-- loading a text that is a trace without a fault gives the trace's book, or `NoMemory`
 loads_as : (text : List ℕ) (R : ℕ) (t : Trace R) → IsTraceText text t → trace_fault t ≡ None → (r : Result AnyBook LoadTraceFault) → Answers text r → LoadsAgain (loaded_state t) r
 loads_as text R t is_t plays r (inl memory) = subst (LoadsAgain (loaded_state t)) (sym memory) refl
 loads_as text R t is_t plays r (inr (inl h)) = absurd (h.1 R t is_t)
 loads_as text R t is_t plays r (inr (inr (Q, u, is_u, k))) = again R Q t u (same_trace text R Q t u is_t is_u).1 plays r k
 
--- so does the text as which a book is written
+-- loading a text as which a book was written gives this book, or `NoMemory`
 pub loads_again : (text : List ℕ) (r : Result AnyBook LoadTraceFault) → LoadsTrace text r → (b : BookState) → IsTraceRing b.session.start.ring → IsTextOf b text → LoadsAgain b r
 loads_again text r loads b ring is =
     let h = is.loads ring in subst (λ s. LoadsAgain s r) h.3 (loads_as text b.session.start.ring h.0 h.1 h.2 r (answers text r loads))

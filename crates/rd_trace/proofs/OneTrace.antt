@@ -1,4 +1,4 @@
--- A text is one trace at most.
+-- A text is at most one trace.
 use Rattle.rd_trace.proofs.Prelude.{◌≡◌, ◌≢◌, ℕ, suc, ◌+◌, ◌≤◌, Bool, not, ◌&&◌, ◌==◌, nat_le, if◌then◌else◌, List, [], ◌∷◌, map, length, slice_get, codes, Option, Some, None, is_some, option_map, Vec, Global, inl, inr, refl, sym, ap, ◌∙◌, subst, arith, length-map, slice_get-map, list_all, Data, get, as_array, read, SegName, ArrSlot, Actor, SLOTS, SegmentParts, ArrayParts, World, MOST_ACTORS, Event, fresh_world, numbered, world_of_parts, first_flaw, indexes_fit, array_fits, Parts, Flaw, bytes_of, Mark, member_count, items_at, Gives, SpellEachAt, elements, event_of, IsActor, slot_of, filled_slots, IsArray, cell_of, IsSegment, IsSegmentList, IsMark, IsParts, IsStart, start_world, start_flaw, Start, Trace, IsVersion1, IsVersion2, IsEitherVersion, IsTraceText, loaded_state, seen_mark, IsSameBook, list_all-map, COUNTER_END, MOST_SEGMENTS, MOST_CELLS, counters_fit, array_part, by_number, by_name, count_in, count, segments_by, part_of_parts, contents_by, words_fit, next_fits, names_fit, numbers_within}
 use Rattle.std.proofs.Props.{props}
 use mathlib.Core.HLevel.{is_prop→PathP}
@@ -22,7 +22,7 @@ abbrev front_number : List (ℕ × ArrSlot) → ℕ
 front_number [] = 0
 front_number (s ∷ ss) = s.0
 
--- none has a position before the first one's
+-- the position of the first filled slot is not before the position of the first slot
 later_slot : (j : ℕ) (slots : List ArrSlot) (i : ℕ) (s : ArrSlot) (rest : List (ℕ × ArrSlot)) → filled_slots j slots ≡ (i, s) ∷ rest → j ≤ i
 later_slot j [] i s rest h = absurd (cc)
 later_slot j (slot.Empty ∷ slots) i s rest h = let k = later_slot (suc j) slots i s rest h in omega (arith, k)
@@ -111,7 +111,7 @@ module _ {X : Type 0} (vs ws : List (Vec X Global)) (same : map elements vs ≡ 
 
 -- ---- starts
 
--- the first flaw of parts, by what is seen of them
+-- the first flaw of parts, from what `first_flaw` sees of them
 abbrev flaw_by : (R : ℕ) → List Actor → ℕ → ℕ → Bool → (SegName → Bool) → ((SegmentParts R → Bool) → Bool) → SegName → SegName → ArrayParts → Option Flaw
 flaw_by R actors makers roots few there each qhead qtail array =
     if not (nat_le 1 (length actors) && nat_le (length actors) MOST_ACTORS && (makers == suc (length actors)) && (roots == 1) && few) then Some Makers
@@ -183,7 +183,7 @@ same_mark d m n h k =
 
 -- ---- traces
 
--- what is seen of a trace: nothing of how its start and its names lie in memory
+-- what is seen of a trace: all but how its start and its names lie in memory
 pub record Seen : Type 0 where
   pub flaw : Option Flaw
   pub world : World
@@ -220,7 +220,7 @@ module _ (R : ℕ) (d : Data) (t u : Trace R) where
   same_either (inr h) (inl k) = absurd (two_counts d 6 4 (λ e. omega (arith, e)) h.members k.members)
   same_either (inr h) (inr k) = same_second h k
 
--- the traces that a text is are over one ring, and the same
+-- any two traces that a text is have rings of one size, and are seen as the same
 pub same_trace : (text : List ℕ) (R Q : ℕ) (t : Trace R) (u : Trace Q) → IsTraceText text t → IsTraceText text u → (R ≡ Q) × (seen t ≡ seen u)
 same_trace text R Q t u h k =
     let d = k.1 in

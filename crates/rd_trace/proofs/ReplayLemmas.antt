@@ -1,4 +1,4 @@
--- Steps that are made again: what goes through, and what is refused.
+-- Replaying events: which ones happen, and which one is refused.
 use Rattle.rd_trace.proofs.Prelude.{common_steps, AllByRecursion, cond-false, IsDistinct-head, IsDistinct-tail, take-append_seam, drop-append_seam, append-nil, length-map, map-append, map_more, take_all, take-append-drop, length-take-le, length-drop, World, Refusal, Stepped, step, Ran, run, MOST_STEPS, result_map, Event, State, step_after, with_event, apply, back, MarkName, MOST_MARKS, bytes_of, mark_name_eq, Mark, BookState, with_session, marked_events, mark, GoThrough, MarksGoThrough, HaveDifferentNames, SavedMark, LoadTraceFault, Flawed, TraceMark, TraceStep, saved_mark, start_world, start_flaw, Trace, loaded_state, session_at, first_refused, first_refused_mark, trace_fault, Replays, RefusesOne, GoesTo, MakesLive, SetsMarks, mark_fault, step_fault, le-ltb, ◌≡◌, ◌⊎◌, inl, inr, ℕ, suc, ◌+◌, ◌-◌, ◌<◌, ◌≤◌, if◌then◌else◌, Bool, false, List, [], ◌∷◌, ◌++◌, length, take, drop, get_or, map, Some, None, is_some, Option, option_map, Result, Ok, Err, IsOk, refl, sym, ap, ap₂, ◌∙◌, subst, arith, append_assoc, length-append, ne_eqb, option_or, result_err, at_events, with_marks, NoMemory, Reply, Answered, answer_with, Happened}
 use Rattle.std.proofs.lemmas.Cmp.{nat_list_eq_equiv}
 use Rattle.rd_step.proofs.Equivalence.{ran_through}
@@ -17,7 +17,8 @@ not_refused s e full o room ok = grind arith
 happens_by : (r : Result Ran Refusal) (e : Event) (ran : Ran) (one : Stepped) → r ≡ Ok ran → step ran.world e ≡ Ok one → IsOk (step_after r e)
 happens_by r e ran one runs goes = grind arith
 
--- the first refused event of one after these, which has this cause, if it is refused, and later ones
+-- the first refused event of an event after these and of later ones: the event itself if it has a
+-- cause, else the first of the later ones
 abbrev then_refused : List Event → Option Refusal → Option (ℕ × Refusal) → Option (ℕ × Refusal)
 then_refused b cause later = option_or (option_map (λ c. (length b + 1, c)) cause) later
 
@@ -30,13 +31,13 @@ module _ (w : World) where
       ap (option_or here) (first_refused-append (b ++ x ∷ []) xs ys ∙ ap (λ (l : List Event). option_or rest (first_refused w l ys)) (append_assoc b (x ∷ []) xs))
       ∙ option_or_assoc here rest (first_refused w (b ++ x ∷ xs) ys)
 
-  -- an event of a run that is not refused happens in the last world of those before it
+  -- if a list of events can run, each event happens in the last world of those before it
   happens_in : (b : List Event) (e : Event) (es : List Event) (o : Result Ran Refusal) → run w (b ++ e ∷ es) ≡ o → IsOk o → IsOk (step_after (run w b) e)
   happens_in b e es (Ok ran) is ok =
       let t = ran_through w b e es ran is in happens_by (run w b) e t.before t.one t.runs t.goes
   happens_in b e es (Err cause) is ok = absurd cc
 
-  -- events that can run are not refused
+  -- if events can run, none of them is refused
   pub none_refused : (b es : List Event) → GoThrough w (b ++ es) → first_refused w b es ≡ None
   none_refused b [] h = refl
   none_refused b (e ∷ es) h =
@@ -62,12 +63,13 @@ module _ (w : World) where
 
 -- One event
 
--- the fault of a refused event: of memory, or by what else refused it
+-- the fault of a refused event is `NoMemory`; or Q holds, if it follows from the other reason P and
+-- from the fault `TraceStep`
 fault_told : (n : ℕ) (cause : Refusal) (fault : LoadTraceFault) (P Q : Type 0) → (cause ≡ refusal.NoMemory) ⊎ P → fault ≡ step_fault n cause → (P → fault ≡ TraceStep n cause → Q)
     → (fault ≡ NoMemory) ⊎ Q
 fault_told n cause fault P Q why is follows = grind arith
 
--- what an event that happened leaves
+-- the session that an event leaves when it happens is `with_event` of the session before
 applied : (s after : State) (e : Event) (full : Bool) (o : Result Stepped Refusal) → (if full then Err refusal.TooLong else result_map (λ stepped. with_event s e) o) ≡ Ok after → after ≡ with_event s e
 applied s after e full o h = grind arith
 
@@ -78,12 +80,13 @@ none_stepped b through none =
       none_refused b.session.start [] _ (subst (λ (es : List Event). GoThrough b.session.start es) all through),
     )
 
--- the events before this one happened so far
+-- the first i events happened after the live ones, and this is the next event
 module _ (old now : BookState) (es : List Event) (i : ℕ) (e : Event) (within : i < length es) (is : e ≡ get_or es i e) (so_far : GoesTo old (old.session.live ++ take i es) now (Ok tt)) where
   at_now : apply now.session e ≡ apply (session_at old.session.start (old.session.live ++ take i es)) e
   at_now = ap (λ (b : BookState). apply b.session e) so_far.0
 
-  -- the first refused event of those so far, this one and later ones, by the answer to this one
+  -- the first refused event of those so far, this one and later ones: this one if its answer is a
+  -- refusal, else the first of the later ones
   from_here : (later : List Event) (answer : Result State Refusal) → apply now.session e ≡ answer → first_refused old.session.start [] ((old.session.live ++ take i es) ++ e ∷ later)
       ≡ then_refused (old.session.live ++ take i es) (result_err answer) (first_refused old.session.start ((old.session.live ++ take i es) ++ e ∷ []) later)
   from_here later answer said =
@@ -121,7 +124,7 @@ event_not_made : (b after : BookState) (cause : Refusal) (reply : State → Repl
     → record { answer = Err cause; state = after } ≡ answer_with b reply (with_session b) o → o ≡ Err cause
 event_not_made b after cause reply o h = grind arith
 
--- what an event leaves that happened, and why one was refused
+-- the session of an event that happened is the answer of `apply`, and the bookmarks are the same
 pub happened : (b after : BookState) (e : Event) (reply : Reply) → Happened b e (record { answer = Ok reply; state = after })
     → (apply b.session e ≡ Ok after.session) × (after.marks ≡ b.marks)
 happened b after e reply k = grind (arith, common_steps)
@@ -138,12 +141,12 @@ back_left n k s t h goes = grind (arith, le-ltb, cond-false)
 
 -- Making just these events live
 
--- it matters nothing which ones were live
+-- the result of making just these events live doesn't depend on which events were live before
 goes_from : (old new : BookState) (es fs : List Event) (r : Result (Unit {0}) LoadTraceFault) → GoesTo (at_events old fs) es new r → GoesTo old es new r
 goes_from old new es fs (Ok done) h = h
 goes_from old new es fs (Err fault) h = h
 
--- after some live events all others of a list are made
+-- if just the first k events of a list are live, making the others happen makes just this list live
 pub goes_to : (old mid new : BookState) (es rest : List Event) (k : ℕ) (r : Result (Unit {0}) LoadTraceFault) → mid ≡ at_events old (take k old.session.live)
     → take k old.session.live ≡ take k es → rest ≡ drop k es → GoesTo mid (mid.session.live ++ rest) new r → GoesTo old es new r
 goes_to old mid new es rest k r at shared behind h =
@@ -151,11 +154,11 @@ goes_to old mid new es rest k r at shared behind h =
     ap₂ (λ (fs gs : List Event). fs ++ gs) (ap (λ (b : BookState). b.session.live) at ∙ shared) behind ∙ take-append-drop k es in
     goes_from old new es (take k old.session.live) r (subst (λ (b : BookState). GoesTo b es new r) at (subst (λ (fs : List Event). GoesTo mid fs new r) all h))
 
--- all that is after the first events
+-- there are no more elements after the first k than the length of the list less k
 pub rest_of : (k : ℕ) (es : List Event) → take (length es - k) (drop k es) ≡ drop k es
 rest_of k es = take_all (length es - k) (drop k es) (omega (arith, length-drop k es))
 
--- And undone ones after them
+-- Making these events live and others undone
 
 pub live_refused : (w : World) (es fs : List Event) (fault : LoadTraceFault) → RefusesOne w es fault → RefusesOne w (es ++ fs) fault
 live_refused w es fs fault (inl memory) = inl memory
@@ -177,7 +180,7 @@ back_to w es fs t goes =
       undone = (append-nil (drop (length es) (es ++ fs)) ∙ drop-append_seam es fs) i;
     })
 
--- this many events are live that those after can be undone
+-- at least as many events are live as are to be undone
 pub enough_live : (old mid now : BookState) (es fs : List Event) → mid ≡ at_events old es → GoesTo mid (mid.session.live ++ fs) now (Ok tt) → length fs ≤ length now.session.live
 enough_live old mid now es fs at h = omega (arith, ap (λ (b : BookState). length b.session.live) (all_behind old mid now es fs at h).0, length-append es fs)
 
@@ -190,7 +193,8 @@ made_live old mid now new es fs at h goes marks =
 
 -- Bookmarks
 
--- these bookmarks were set so far
+-- these bookmarks were set so far: the book has just them, its start is the old one, and none of
+-- their events is refused
 pub record HasSet (old now : BookState) (done : List Mark) : Type 0 where
   pub marks : now.marks ≡ done
   pub start : now.session.start ≡ old.session.start
@@ -211,7 +215,7 @@ differs : (x : Mark) (before : List Mark) (m : Mark) (later : List Mark) → All
 differs x [] m later h = h.0
 differs x (y ∷ before) m later h = differs x before m later h.1
 
--- where names differ, none of the bookmarks before one has its name
+-- if the names of bookmarks differ, no bookmark before one of them has its name
 none_taken : (before : List Mark) (m : Mark) (later : List Mark) → HaveDifferentNames (before ++ m ∷ later) → marked_events before m.name ≡ None
 none_taken [] m later h = refl
 none_taken (x ∷ before) m later h =
@@ -222,7 +226,8 @@ none_taken (x ∷ before) m later h =
     ∙ none_taken before m later (IsDistinct-tail mark_name_eq x.name names h)
 
 module _ (old now : BookState) (ms : List SavedMark) (i : ℕ) (m : SavedMark) (within : i < length ms) (is : m ≡ get_or ms i m) (so_far : HasSet old now (map saved_mark (take i ms))) where
-  -- the first refused event of the bookmarks so far, this one and later ones, by that of this one
+  -- the first refused event of the bookmarks so far, this one and later ones: this one's first if
+  -- it has one, else the first of the later ones
   from_mark : (later : List Mark) (o : Option (ℕ × Refusal)) → first_refused old.session.start [] m.events.items ≡ o
       → first_refused_mark old.session.start 0 (map saved_mark (take i ms) ++ saved_mark m ∷ later)
       ≡ option_or (option_map (λ (r : ℕ × Refusal). TraceMark (i + 1) r.0 r.1) o) (first_refused_mark old.session.start (i + 1) later)
@@ -250,7 +255,8 @@ module _ (old now : BookState) (ms : List SavedMark) (i : ℕ) (m : SavedMark) (
   placed : map saved_mark ms ≡ map saved_mark (take i ms) ++ saved_mark m ∷ map saved_mark (drop (i + 1) ms)
   placed = ap (map saved_mark) (split_at ms i m within is) ∙ map-append saved_mark (take i ms) (m ∷ drop (i + 1) ms)
 
-  -- there is room for this one, and none has its name
+  -- setting the next bookmark is refused only for memory: there is room for it, and no other has
+  -- its name
   pub can_mark : (mid : BookState) (cause : Refusal) → GoesTo now m.events.items mid (Ok tt) → HaveDifferentNames (map saved_mark ms) → length ms ≤ MOST_MARKS
       → (cause ≡ refusal.NoMemory → ⊥) → (mark mid m.name ≡ Err cause) ⊎ ((cause ≡ refusal.NoMemory) × IsOk (mark mid m.name)) → ⊥
   can_mark mid cause goes names few other (inl h) =
@@ -262,7 +268,8 @@ module _ (old now : BookState) (ms : List SavedMark) (i : ℕ) (m : SavedMark) (
       mark_not_refused _ _ _ cause free (ne_eqb (length mid.marks) MOST_MARKS (omega arith)) h
   can_mark mid cause goes names few other (inr h) = other h.0
 
-  -- an event of this one was refused
+  -- the fault of making the next bookmark's events live, with its number, is a result of setting
+  -- all bookmarks
   pub mark_refused : (new : BookState) (its fault : LoadTraceFault) → RefusesOne now.session.start m.events.items its → fault ≡ mark_fault (i + 1) its
       → SetsMarks old (map saved_mark ms) new (Err fault)
   mark_refused new its fault (inl memory) is = inl (is ∙ ap (mark_fault (i + 1)) memory)
@@ -278,22 +285,23 @@ all_set old new ms i all k = grind (arith, take_all)
 -- Whole traces
 
 module _ {R : ℕ} (t : Trace R) (flawless : start_flaw t.start ≡ None) where
-  -- the fault of a trace whose start has no flaw
+  -- the fault of a trace whose start has no flaw: the first refused event of its bookmarks, else of
+  -- its live and undone events
   fault_of : (o : Option LoadTraceFault) (p : Option (ℕ × Refusal)) → first_refused_mark (start_world t.start) 0 t.marks ≡ o → first_refused (start_world t.start) [] (t.live ++ t.undone) ≡ p
       → trace_fault t ≡ option_or o (option_map (λ (r : ℕ × Refusal). TraceStep r.0 r.1) p)
   fault_of o p marks steps = λ i. option_or (option_map Flawed (flawless i)) (option_or (marks i) (option_map (λ (r : ℕ × Refusal). TraceStep r.0 r.1) (steps i)))
 
-  -- one whose events can run has none
+  -- a trace whose start has no flaw and whose events can run has no fault
   pub no_fault : MarksGoThrough (start_world t.start) t.marks → GoThrough (start_world t.start) (t.live ++ t.undone) → trace_fault t ≡ None
   no_fault marks through = fault_of None None (no_mark_refused (start_world t.start) 0 t.marks marks) (none_refused (start_world t.start) [] (t.live ++ t.undone) through)
 
   module _ (old : BookState) (start : old.session.start ≡ start_world t.start) where
-    -- the result of a refused event: of memory, or of what else refused it
+    -- `NoMemory`, and the fault of the trace, are results of replaying it
     not_replayed : {B : Type 0} (IsBook : B → Type 0) (fault : LoadTraceFault) → (fault ≡ NoMemory) ⊎ (trace_fault t ≡ Some fault) → Replays IsBook t (Err fault)
     not_replayed IsBook fault (inl memory) = inl (memory, flawless)
     not_replayed IsBook fault (inr h) = inr h
 
-    -- an event of a bookmark is refused
+    -- the fault of setting the bookmarks is a result of replaying the trace
     pub no_marks : {B : Type 0} (IsBook : B → Type 0) (new : BookState) (fault : LoadTraceFault) → SetsMarks old t.marks new (Err fault) → Replays IsBook t (Err fault)
     no_marks IsBook new fault (inl memory) = not_replayed IsBook fault (inl memory)
     no_marks IsBook new fault (inr h) =
@@ -304,11 +312,11 @@ module _ {R : ℕ} (t : Trace R) (flawless : start_flaw t.start ≡ None) where
       by_steps p h =
           fault_of None p (subst (λ (w : World). first_refused_mark w 0 t.marks ≡ None) start set.2) (subst (λ (w : World). first_refused w [] (t.live ++ t.undone) ≡ p) (set.1 ∙ start) h)
 
-      -- a live or an undone event is refused
+      -- the fault of making its live and undone events happen is a result of replaying the trace
       pub no_steps : {B : Type 0} (IsBook : B → Type 0) (fault : LoadTraceFault) → RefusesOne now.session.start (t.live ++ t.undone) fault → Replays IsBook t (Err fault)
       no_steps IsBook fault (inl memory) = not_replayed IsBook fault (inl memory)
       no_steps IsBook fault (inr h) = not_replayed IsBook fault (inr (by_steps (Some (h.0, h.1)) h.2 ∙ ap Some (sym h.3)))
 
-      -- all went through
+      -- if all its events happened, the trace has no fault, and the book is the trace's
       pub plays : (new : BookState) → MakesLive now t.live t.undone new (Ok tt) → (trace_fault t ≡ None) × (new ≡ loaded_state t)
       plays new h = (by_steps None h.1, h.0 ∙ (λ i. record { session = record { start = (set.1 ∙ start) i; live = t.live; undone = t.undone }; marks = set.0 i }))

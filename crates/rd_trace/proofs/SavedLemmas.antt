@@ -1,4 +1,4 @@
--- Whole sessions as values.
+-- Whole sessions as JSON values.
 use Rattle.rd_trace.proofs.Prelude.{◌≡◌, ℕ, suc, ◌+◌, ◌<◌, ◌≤◌, List, [], ◌∷◌, ◌++◌, length, take, get_or, Some, None, Result, Ok, Err, IsOk, inl, inr, refl, sym, ap, ◌∙◌, subst, arith, length-append, length-map, map-append, take_more, get_or-map, same_Some, Data, Refusal, run, MOST_STEPS, Ran, run_entries, Entry, Event, state_of, numbered, BookState, GoThrough, Reads, Gives, SpellEach, items_by, event_of, event_data, SpellsWorld, AreMarks, mark_data, member_count, Trace, IsVersion1, IsVersion2, IsEitherVersion, loaded_state, saved_trace, book_data, LoadTraceFault, NoMemory, BadTrace, start_flaw, Journal, IsRun, events}
 use Rattle.rd_journal.proofs.Walks.{whole_run}
 use Rattle.rd_trace.proofs.SpellLemmas.{take_got, some_got}
@@ -14,7 +14,7 @@ no_second : {R : ℕ} (d : Data) → member_count d ≡ Some 6 → ((t : Trace R
 no_second d six none t (inl k) = let e : 4 ≡ 6 = same_Some 4 6 (sym k.members ∙ six) in omega (arith, e)
 no_second d six none t (inr k) = none t k
 
--- a value of this many members is a trace of one version at most
+-- the result of reading an object of four members as version 1 is its result for both versions
 pub first_read : {R : ℕ} (d : Data) → member_count d ≡ Some 4 → (r : Result (SavedSession R) LoadTraceFault) → Reads saved_trace (IsVersion1 d) r → Reads saved_trace (IsEitherVersion d) r
 first_read d four (Ok s) h = inl h
 first_read d four (Err NoMemory) h = tt
@@ -29,11 +29,11 @@ second_read d six (Err _) h = absurd h
 
 -- ---- what is written
 
--- a run that leaves entries goes through
+-- events whose run has entries can run
 went : (o : Result Ran Refusal) (xs : List Entry) → run_entries o ≡ Ok xs → IsOk o
 went o xs h = grind arith
 
--- the live events of a journal and then its undone ones go through
+-- the live events of a journal, and then its undone ones, can run from its start
 pub goes_through : (j : Journal) → IsRun j → length j.live + length j.undone ≤ MOST_STEPS
     → GoThrough (state_of j).start ((state_of j).live ++ (state_of j).undone)
 goes_through j runs few =
@@ -45,11 +45,12 @@ goes_through j runs few =
           (went (run j.start (events (j.live ++ j.undone))) (j.live ++ j.undone) (whole_run j runs));
     }
 
--- a value is a trace of version 2 of this state, whose start has no flaw
+-- a JSON value is a trace of version 2 whose start has no flaw, and the state of its book is this
+-- one
 abbrev pub SpellsBook : BookState → Data → Type 0
 SpellsBook b d = (t : Trace b.session.start.ring) × IsVersion2 d t × (start_flaw t.start ≡ None) × (loaded_state t ≡ b)
 
--- the value that a book is written as spells it, if the values of its members do
+-- the JSON value as which a book is written spells it, if the values of its members spell them
 pub book_spelled : (b : BookState) (start : Data) → SpellsWorld b.session.start start → SpellEach (Gives event_of) (items_by event_data b.session.live) b.session.live
     → SpellEach (Gives event_of) (items_by event_data b.session.undone) b.session.undone → AreMarks (items_by mark_data b.marks) b.marks → SpellsBook b (book_data start b)
 book_spelled b start h live undone marks = (
@@ -67,13 +68,13 @@ book_spelled b start h live undone marks = (
   (λ i. record { session = record { start = h.3 i; live = b.session.live; undone = b.session.undone }; marks = b.marks }),
 )
 
--- one more live event
+-- the first k + 1 live events are the first k and the event of the next entry
 pub live_next : (xs : List Entry) (k : ℕ) (x : Entry) → k < length xs → x ≡ get_or xs k x → take (k + 1) (events xs) ≡ take k (events xs) ++ x.event ∷ []
 live_next xs k x within is =
     take_more (events xs) k x.event (omega (arith, within, length-map xs (λ (y : Entry). y.event)))
     ∙ ap (λ e. take k (events xs) ++ e ∷ []) (get_or-map (λ (y : Entry). y.event) xs k x x.event within ∙ ap (λ (y : Entry). y.event) (sym is))
 
--- one more event by its number
+-- the first k + 1 events are the first k and the event of number k + 1
 module _ (es : List Event) (k n : ℕ) (next : n ≡ suc k) where
   pub undone_next : (e : Event) → numbered es n ≡ Some e → take (k + 1) es ≡ take k es ++ e ∷ []
   undone_next e found = take_got es k e (sym (ap (numbered es) next) ∙ found)

@@ -1,9 +1,10 @@
--- Segments as values: which cells are read, and what is written is read again.
+-- Segments as JSON values: which cells are read, and the values as which segments are written spell
+-- them.
 use Rattle.rd_trace.proofs.Prelude.{◌≡◌, ℕ, ◌+◌, ◌<◌, ◌≤◌, List, [], ◌∷◌, length, take, set, get_or, Some, None, option_map, refl, ap, ◌∙◌, arith, add-one, take-suc-set, length-set, take_all, none-some, view, items_view, Cell, SegmentParts, Gives, SpellEach, items_by, next_of, next_data, cell_of_items, cell_of, cell_data, IsSegment, segment_data, Value}
 use Rattle.rd_trace.proofs.SpellLemmas.{spell_each-more, spell_each-none}
 use Rattle.rd_trace.proofs.ActorLemmas.{value_spelled}
 
--- a list of another length spells no cell
+-- a list of another length than three spells no cell
 pub no_cell : (vs : List Value) → (length vs ≡ 3 → ⊥) → cell_of_items (items_view vs) ≡ None
 no_cell [] three = refl
 no_cell (a ∷ []) three = refl
@@ -37,7 +38,8 @@ cells_spelled : (cs : List Cell) → SpellEach (Gives cell_of) (items_by cell_da
 cells_spelled [] = tt
 cells_spelled (c ∷ cs) = (cell_spelled c, cells_spelled cs)
 
--- the value of a segment spells it, since the name of its next is of its range
+-- the JSON value of a segment spells it, if the value of the next segment's name is read as this
+-- name
 pub segment_spelled : {R : ℕ} (s : SegmentParts R) → next_of (next_data s.next) ≡ Some s.next → IsSegment (segment_data s) s
 segment_spelled s next = record {
   members = refl;

@@ -1,23 +1,23 @@
--- What is read of a value by what is read of a part of it; and lists of values: what they spell,
--- and how many they are.
+-- Reading a value by reading a part of it; and lists of values: what they spell, and their lengths.
 use Rattle.rd_trace.proofs.Prelude.{◌≡◌, ℕ, suc, ◌+◌, ◌<◌, List, [], ◌∷◌, ◌++◌, length, take, drop, get_or, slice_get, Option, Some, IfSome, IfNone, ok_or, Result, Err, Vec, Global, refl, sym, ap, ap₂, ◌∙◌, subst, map, map-id, arith, IsErrAnd, same_Some, take_more, drop_more, take-append-drop, Data, Items, no_items, item, view, items_view, items_at, Reads, itself, elements, Gives, SpellEach, SpellEachAt, items_by, AreSpelled, LoadTraceFault, BadTrace, get_or_from_slice_get, slice_get-get_or, slice_get_within, Value}
 
 -- ---- faults
 
--- what holds of the error that is passed up holds of the answer
+-- what holds of a fault holds of the result with which `?` passes it up
 pub passed_up : {T E : Type 0} (P : Result T E → Type 0) (r : Result T E) (x : E) → IsErrAnd r (λ e. e ≡ x) → P (Err x) → P r
 passed_up P r x is k = grind arith
 
--- a part that isn't read
+-- where a whole that is spelled has a part that is spelled, the fault of reading the part is a
+-- result of reading the whole
 module _ {V W X Y : Type 0} (part : V → X) (whole : W → Y) (IsPart : X → Type 0) (IsWhole : Y → Type 0) (has : (y : Y) → IsWhole y → (x : X) × IsPart x) where
   pub no_part : (fault : LoadTraceFault) → Reads part IsPart (Err fault) → Reads whole IsWhole (Err fault)
   no_part fault h = grind arith
 
-  -- and whose fault is passed up
+  -- the fault of the part, passed up, is a result of reading the whole
   pub part_passed_up : (fault : LoadTraceFault) (r : Result W LoadTraceFault) → IsErrAnd r (λ e. e ≡ fault) → Reads part IsPart (Err fault) → Reads whole IsWhole r
   part_passed_up fault r is h = passed_up (Reads whole IsWhole) r fault is (no_part fault h)
 
--- an option that is read
+-- a result that is an option's value, or `BadTrace` if the option is none
 module _ {X : Type 0} (o : Option X) (r : Result X LoadTraceFault) (is : r ≡ ok_or o BadTrace) where
   pub read_or_bad : (P : X → Type 0) → IfSome o P → IfNone o ((x : X) → P x → ⊥) → Reads itself P r
   read_or_bad P some none = grind arith
@@ -27,7 +27,7 @@ module _ {X : Type 0} (o : Option X) (r : Result X LoadTraceFault) (is : r ≡ o
 
 -- ---- lists of values
 
--- items with one more after them
+-- items with one more item at their end
 abbrev then_item : Items → Data → Items
 then_item no_items d = item d no_items
 then_item (item x xs) d = item x (then_item xs d)
@@ -40,14 +40,14 @@ items_by-last : {X : Type 0} (datum : X → Data) (xs : List X) (x : X) → item
 items_by-last datum [] x = refl
 items_by-last datum (y ∷ xs) x = ap (item (datum y)) (items_by-last datum xs x)
 
--- the value at a place, with those before it and those after it
+-- a list is its first elements, the element at a position, and those after it
 pub split_at : {X : Type 0} (xs : List X) (i : ℕ) (x : X) → i < length xs → x ≡ get_or xs i x → xs ≡ take i xs ++ x ∷ drop (i + 1) xs
 split_at xs i x within is = sym (take-append-drop i xs) ∙ ap (λ ys. take i xs ++ ys) (drop_more xs i x within ∙ ap (λ y. y ∷ drop (i + 1) xs) (sym is))
 
 pub take_item : {X : Type 0} (xs : List X) (i : ℕ) (x : X) → i < length xs → x ≡ get_or xs i x → take (i + 1) xs ≡ take i xs ++ x ∷ []
 take_item xs i x within is = take_more xs i x within ∙ ap (λ y. take i xs ++ y ∷ []) (sym is)
 
--- the same of an element that is there, if one is
+-- the first i + 1 elements are the first i and the element that `slice_get` gives at i
 pub take_got : {X : Type 0} (xs : List X) (i : ℕ) (x : X) → slice_get xs i ≡ Some x → take (i + 1) xs ≡ take i xs ++ x ∷ []
 take_got xs i x h = take_item xs i x (slice_get_within xs i x h) (sym (get_or_from_slice_get xs i x x h))
 
@@ -66,7 +66,8 @@ module _ {X : Type 0} (Spells : Data → X → Type 0) where
   spell_each-last (item e ds) d [] x h k = absurd h
   spell_each-last (item e ds) d (y ∷ xs) x h k = (h.0, spell_each-last ds d xs x h.1 k)
 
-  -- values that spell a list, one of them something
+  -- if values spell a list, a value among them spells one of its elements, and those before it the
+  -- elements before
   pub spelled_here : (vs ws : List Value) (v : Value) (xs : List X) → SpellEach Spells (items_view (vs ++ v ∷ ws)) xs
       → (before : List X) × (x : X) × (more : List X) × (xs ≡ before ++ x ∷ more) × SpellEach Spells (items_view vs) before × Spells (view v) x
   spelled_here [] ws v [] h = absurd h
@@ -74,7 +75,7 @@ module _ {X : Type 0} (Spells : Data → X → Type 0) where
   spelled_here (y ∷ vs) ws v [] h = absurd h
   spelled_here (y ∷ vs) ws v (x ∷ xs) h = let rest = spelled_here vs ws v xs h.1 in (x ∷ rest.0, rest.1, rest.2, ap (λ l. x ∷ l) rest.3, (h.0, rest.4), rest.5)
 
-  -- as many as they are
+  -- values spell a list of as many things as they are
   pub spelled_length : (vs : List Value) (xs : List X) → SpellEach Spells (items_view vs) xs → length vs ≡ length xs
   spelled_length [] [] h = refl
   spelled_length [] (x ∷ xs) h = absurd h
@@ -82,18 +83,19 @@ module _ {X : Type 0} (Spells : Data → X → Type 0) where
   spelled_length (v ∷ vs) (x ∷ xs) h = ap suc (spelled_length vs xs h.1)
 
   module _ (vs : List Value) (i : ℕ) (v : Value) (within : i < length vs) (is : v ≡ get_or vs i v) where
-    -- one more value is read
+    -- the first i + 1 values spell what the first i spell, and then what the next one spells
     pub spell_each-more : (xs : List X) (x : X) → SpellEach Spells (items_view (take i vs)) xs → Spells (view v) x → SpellEach Spells (items_view (take (i + 1) vs)) (xs ++ x ∷ [])
     spell_each-more xs x h k =
         subst (λ ds. SpellEach Spells ds (xs ++ x ∷ [])) (sym (ap items_view (take_item vs i v within is) ∙ items_view-last (take i vs) v))
         (spell_each-last (items_view (take i vs)) (view v) xs x h k)
 
-    -- values that spell a list, by one of them
+    -- if values spell a list, the value at a position spells one of its elements, and those before
+    -- it the elements before
     pub spelled_at : (xs : List X) → SpellEach Spells (items_view vs) xs
         → (before : List X) × (x : X) × (more : List X) × (xs ≡ before ++ x ∷ more) × SpellEach Spells (items_view (take i vs)) before × Spells (view v) x
     spelled_at xs h = spelled_here (take i vs) (drop (i + 1) vs) v xs (subst (λ ws. SpellEach Spells (items_view ws) xs) (split_at vs i v within is) h)
 
-    -- values of which one spells nothing spell no list
+    -- values among which one spells nothing spell no list
     pub spell_each-none : ((x : X) → Spells (view v) x → ⊥) → (xs : List X) → SpellEach Spells (items_view vs) xs → ⊥
     spell_each-none never xs h = let here = spelled_at xs h in never here.1 here.5
 
@@ -112,7 +114,7 @@ module _ {X : Type 0} (Spells : Data → X → Type 0) where
 
 -- ---- lists whose values spell one thing at most
 
--- what a value shows of a thing, a list of values shows of a list of things
+-- if all things that a value spells are seen as the same, so are all lists that values spell
 module _ {X Y : Type 0} (Spells : Data → X → Type 0) (seen : X → Y) (one : (d : Data) (x y : X) → Spells d x → Spells d y → seen x ≡ seen y) where
   same_seen : (ds : Items) (xs ys : List X) → SpellEach Spells ds xs → SpellEach Spells ds ys → map seen xs ≡ map seen ys
   same_seen no_items [] [] h k = refl
@@ -133,11 +135,12 @@ module _ {X : Type 0} (Spells : Data → X → Type 0) (one : (d : Data) (x y : 
   pub same_each_at : (o : Option Items) (xs ys : List X) → (ds : Items) × (o ≡ Some ds) × SpellEach Spells ds xs → (ds : Items) × (o ≡ Some ds) × SpellEach Spells ds ys → xs ≡ ys
   same_each_at o xs ys h k = sym (map-id xs) ∙ same_seen_at Spells itself one o xs ys h k ∙ map-id ys
 
--- what is read of the list at a key
+-- the result of reading a list is the result of reading the list at a key of an object, if it is
+-- there
 pub list_read : {X : Type 0} (Spells : Data → X → Type 0) (key : List ℕ) (d : Data) (ds : Items) → items_at key d ≡ Some ds → (r : Result (Vec X Global) LoadTraceFault)
     → Reads elements (SpellEach Spells ds) r → Reads elements (SpellEachAt Spells key d) r
 list_read Spells key d ds there r k = grind arith
 
--- what a function gives is one thing
+-- a function gives at most one thing for a JSON value
 pub one_given : {X : Type 0} (f : Data → Option X) (d : Data) (x y : X) → Gives f d x → Gives f d y → x ≡ y
 one_given f d x y h k = same_Some x y (sym h ∙ k)

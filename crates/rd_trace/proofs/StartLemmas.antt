@@ -1,19 +1,19 @@
--- The start of a session as a value, and when it is the fresh world.
+-- The start of a session as a JSON value, in a fresh world or in any other.
 use Rattle.rd_trace.proofs.Prelude.{◌≡◌, ℕ, ◌≤◌, Some, None, Result, inl, inr, refl, sym, ap, ◌∙◌, subst, arith, IfOk, OnOk, Data, MOST_ACTORS, World, fresh_world, world_of_parts, first_flaw, Parts, SpellEach, items_by, name_of, name_data, IsActor, actor_data, array_data, IsSegmentList, list_data, IsFreshStart, IsParts, IsStartValue, fresh_data, parts_data}
 use Rattle.rd_trace.proofs.ArrayLemmas.{array_spelled}
 use Rattle.rd_trace.specs.declared.starts.Start.TheVariants as start
 
--- what holds holds if a call succeeds
+-- what holds anyway holds if a call succeeds
 pub on_ok : {T E P : Type 0} (r : Result T E) → P → OnOk r P
 on_ok r h = grind arith
 
--- what follows of two facts on what a call gives
+-- what follows from two facts about the result of a call, if it succeeds
 pub both_ok : {T E Q : Type 0} (P W : T → Type 0) (r : Result T E) → IfOk r P → OnOk r Q → ((x : T) → P x → Q → W x) → IfOk r W
 both_ok P W r p q f = grind arith
 
 -- ---- what is written
 
--- the value that parts are written as spells them, if the values of their members do
+-- the JSON value as which parts are written spells them, if the values of their members spell these
 pub parts_spelled : {R : ℕ} (p : Parts R) → SpellEach IsActor (items_by actor_data p.actors.items) p.actors.items → name_of (name_data p.qhead) ≡ Some p.qhead
     → name_of (name_data p.qtail) ≡ Some p.qtail → SpellEach IsSegmentList (items_by list_data p.segments.items) p.segments.items → IsParts (parts_data p) p
 parts_spelled p actors qhead qtail segments = record {
@@ -25,14 +25,14 @@ parts_spelled p actors qhead qtail segments = record {
   segments = (items_by list_data p.segments.items, refl, segments);
 }
 
--- so does that of a number of actors
+-- the JSON value of a fresh start with 1 to 16 actors spells it
 fresh_spelled : (count : ℕ) → 1 ≤ count → count ≤ MOST_ACTORS → IsFreshStart (fresh_data count) count
 fresh_spelled count some few = record { members = refl; fresh = record { number = refl; some = some; few = few } }
 
 -- ---- the world of a start
 
 module _ (w : World) where
-  -- a fresh one is written as one
+  -- a fresh world is written as a fresh start
   module _ (count n : ℕ) (e : w ≡ fresh_world w.ring count) (same : count ≡ n) (d : Data) (is : d ≡ fresh_data n) where
     fresh_by : w ≡ fresh_world w.ring n
     fresh_by = e ∙ ap (fresh_world w.ring) same
@@ -43,7 +43,7 @@ module _ (w : World) where
       spelled = (start.Fresh n, subst (λ x. IsFreshStart x n) (sym is) (fresh_spelled n some few), refl, sym fresh_by);
     }
 
-  -- and another one as its parts
+  -- any other world is written as its parts
   module _ (p : Parts w.ring) (parts : world_of_parts p ≡ w) (flawless : first_flaw p ≡ None) (d : Data) (is : d ≡ parts_data p) where
     pub other_start : ((count : ℕ) × (w ≡ fresh_world w.ring count) → ⊥) → IsParts (parts_data p) p → IsStartValue w d
     other_start other spelled = record {

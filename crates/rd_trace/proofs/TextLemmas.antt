@@ -1,5 +1,5 @@
--- Texts that are put together: of lists, of events, of bookmarks and of a book; and that the text of
--- a value is read as that value.
+-- The texts of lists, of events, of bookmarks and of a book, put together from parts; and that the
+-- text of a value is read as that value.
 use Rattle.rd_trace.proofs.Prelude.{◌≡◌, ℕ, ◌+◌, ◌^◌, ◌<◌, ◌≤◌, nat_lt, Bool, true, false, List, [], ◌∷◌, ◌++◌, length, take, codes, decimal, Option, Some, option_map, option_and_then, refl, sym, ap, ◌∙◌, subst, arith, append_assoc, append-nil, suc, max, ap₂, lt-ltb, if◌then◌else◌, is_ok, Result, OnOk, length-take-le, Token, tokens, escape, escape_byte, ArePrintableOrBad, Data, array, object, unsigned, Items, no_items, item, Members, no_members, member, depth, items_depth, members_depth, of_json, read, max_depth, outline, items_outline, members_outline, compact_text, items_text, members_text, comma_if, has_float, IsInOrder, SpellEach, items_by, Act, Event, short_data, long_data, act_data, event_data, mark_object, book_object, joined_text, IsReadBack, IsSpelledBack, AreAppended}
 use Rattle.std.specs.Fmt.{digits}
 use Rattle.json.specs.Json as json
@@ -19,7 +19,7 @@ joined_after : {X : Type 0} (datum : X → Data) (xs : List X) (x : X)
 joined_after datum [] x = ap (λ s. 44 ∷ s) (append-nil (compact_text (datum x)))
 joined_after datum (y ∷ ys) x = grind (arith, append_assoc, joined_after datum ys x)
 
--- one more value after so many
+-- the joined text of a list with one more value at its end
 joined_more : {X : Type 0} (datum : X → Data) (xs : List X) (x : X)
     → joined_text false (items_by datum (xs ++ x ∷ [])) ≡ joined_text false (items_by datum xs) ++ (comma_if (nat_lt 0 (length xs)) ++ compact_text (datum x))
 joined_more datum [] x = append-nil (compact_text (datum x))
@@ -33,12 +33,13 @@ items_text-joined : (later : Bool) (ds : Items) → items_text later ds ≡ join
 items_text-joined later no_items = refl
 items_text-joined later (item d ds) = grind (arith, append_assoc, items_text-joined true ds)
 
--- the text of a list with its closing bracket, and what is after it
+-- the text of a list is its joined text and its closing bracket; then comes what is after it
 closed_text : (ds : Items) (z : List ℕ) → items_text false ds ++ z ≡ joined_text false ds ++ 93 ∷ z
 closed_text ds z = ap (λ s. s ++ z) (items_text-joined false ds) ∙ append_assoc (joined_text false ds) (93 ∷ []) z
 
 module _ {X : Type 0} (Spells : Data → X → Type 0) where
-  -- values that are kept spell the things, and their list is read back
+  -- if each value spells its thing and is read back, the values spell the list of things, and the
+  -- list of values is read back
   all_kept : (ds : Items) (xs : List X) → SpellEach (IsSpelledBack Spells) ds xs → SpellEach Spells ds xs × IsReadBack (array ds)
   all_kept no_items [] h = (tt, record { numbers = tt; back = refl })
   all_kept no_items (x ∷ xs) h = absurd h
@@ -108,7 +109,7 @@ whole_text events marks cells start undone =
     codes "{\"events\":[" ++ (joined_text false events ++ (codes "],\"marks\":[" ++ (joined_text false marks ++ (codes "],\"ring\":" ++ (decimal cells ++ (codes ",\"start\":" ++ (compact_text start
     ++ (codes ",\"undone\":[" ++ (joined_text false undone ++ codes "],\"version\":2}\n")))))))))
 
--- a list or another part, and what is put after all
+-- the text of a list, in a text with more at its end, is its joined text and its closing bracket
 list_then : (ds : Items) (t n u : List ℕ) → t ++ n ≡ u → (items_text false ds ++ t) ++ n ≡ joined_text false ds ++ 93 ∷ u
 list_then ds t n u e = append_assoc (items_text false ds) t n ∙ closed_text ds (t ++ n) ∙ ap (λ s. joined_text false ds ++ 93 ∷ s) e
 
@@ -129,15 +130,15 @@ book_text events marks undone cells start =
     let marked = ap (λ s. codes ",\"marks\":[" ++ s) (list_then marks (members_text true from_ring) (10 ∷ []) _ ringed) in
     ap (λ s. codes "{\"events\":[" ++ s) (list_then events (members_text true from_marks) (10 ∷ []) _ marked)
 
--- what holds where the last part is appended holds if that goes through
+-- what follows if the last part was appended holds if the call that appends it succeeds
 pub last_appended : {T E : Type 0} (r : Result T E) (old new part : List ℕ) (P : Type 0) → new ≡ (if is_ok r then old ++ part else old) → (new ≡ old ++ part → P) → OnOk r P
 last_appended r old new part P is k = grind arith
 
--- a part after another one
+-- two parts that are appended one after the other are appended together
 pub two_parts : (a b c p q : List ℕ) → b ≡ a ++ p → c ≡ b ++ q → c ≡ a ++ (p ++ q)
 two_parts a b c p q first second = second ∙ ap (λ s. s ++ q) first ∙ append_assoc a p q
 
--- the text of a book, put together part by part
+-- the text of a book, appended part by part
 pub put_together : (events marks undone : Items) (cells : ℕ) (start : Data) (a b c d e f g h i j k : List ℕ) (text : List ℕ)
     → b ≡ a ++ codes "{\"events\":[" → c ≡ b ++ joined_text false events → d ≡ c ++ codes "],\"marks\":[" → e ≡ d ++ joined_text false marks → f ≡ e ++ codes "],\"ring\":"
     → g ≡ f ++ decimal cells → h ≡ g ++ codes ",\"start\":" → i ≡ h ++ compact_text start → j ≡ i ++ codes ",\"undone\":[" → k ≡ j ++ joined_text false undone
@@ -146,7 +147,8 @@ put_together events marks undone cells start a b c d e f g h i j k text p q r s 
     two_parts a b text _ _ p (two_parts b c text _ _ q (two_parts c d text _ _ r (two_parts d e text _ _ s (two_parts e f text _ _ t (two_parts f g text _ _ u
     (two_parts g h text _ _ v (two_parts h i text _ _ w (two_parts i j text _ _ x (two_parts j k text _ _ y z)))))))))
 
--- two parts, the second by a call that may fail
+-- two parts, the second appended by a call that may fail: if it succeeds, both are appended
+-- together
 pub both_appended : {T E : Type 0} (r : Result T E) (a b c p q : List ℕ) → b ≡ a ++ p → OnOk r (c ≡ b ++ q) → OnOk r (c ≡ a ++ (p ++ q))
 both_appended r a b c p q first second = grind (arith, two_parts)
 
@@ -176,12 +178,12 @@ mutual
   members_depth-outline no_members = refl
   members_depth-outline (member k d ms) = ap₂ max (depth-outline d) (members_depth-outline ms)
 
--- the value that was parsed, if nothing is after it
+-- the value that was parsed; none if tokens are left after it
 abbrev parsed : Option (json.Json × List Token) → Option Data
 parsed o = option_and_then of_json (option_and_then (λ p. json.if_last p.0 p.1) o)
 
 module _ (d : Data) (shallow : depth d ≤ max_depth) where
-  -- what is read of the tokens of a value
+  -- a text with the tokens of a value is read as the value's JSON tree is
   read_tokens : (text : List ℕ) → tokens text ≡ tree.json_tokens (outline d) → read text ≡ of_json (outline d)
   read_tokens text same =
       ap parsed (ap (json.value max_depth) (same ∙ sym (append-nil _)) ∙ value-json_tokens (outline d) max_depth [] (omega (arith, depth-outline d, shallow)))
@@ -191,7 +193,7 @@ module _ (d : Data) (shallow : depth d ≤ max_depth) where
   read_line h =
       read_tokens (compact_text d ++ 10 ∷ []) (ap (λ s. tokens (s ++ 10 ∷ [])) (sym (print-outline d)) ∙ tokens-line (tree.json_tokens (outline d)) (ArePrintable-json_tokens (outline d) h.numbers)) ∙ h.back
 
-  -- a value that a text in its order is read as is read back
+  -- a value without floats is read back, if a text in its order is read as it
   pub back_of_text : (text : List ℕ) → IsInOrder text d → has_float d ≡ false → read text ≡ Some d → IsReadBack d
   back_of_text text order none reads =
       let same = tokens_from_order text d order none in

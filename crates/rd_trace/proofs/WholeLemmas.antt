@@ -1,7 +1,7 @@
--- The value of a book has no float, and is not deep.
+-- The JSON value of a book has no float, and is not deeper than what is read.
 use Rattle.rd_trace.proofs.Prelude.{◌≡◌, ℕ, suc, ◌≤◌, false, ◌||◌, List, [], ◌∷◌, Vec, Global, inl, inr, refl, sym, ap₂, subst, arith, Data, Items, depth, items_depth, max_depth, has_float, items_have_float, Cell, ArrSlot, SegmentParts, ArrayParts, Actor, World, Event, Parts, Mark, BookState, items_by, event_data, actor_data, cell_data, segment_data, list_data, filled_slots, slot_data, array_data, IsStartData, parts_data, mark_data, book_data}
 
--- a value has no float, and is at most so deep; so are items
+-- a JSON value has no float, and its depth is at most n
 record IsPlain (n : ℕ) (d : Data) : Type 0 where
   pub whole : has_float d ≡ false
   pub shallow : depth d ≤ n
@@ -58,13 +58,13 @@ mark_plain m = grind (arith, events_plain 0 m.events)
 book_plain : (start : Data) (b : BookState) → IsPlain 6 start → IsPlain 7 (book_data start b)
 book_plain start b h = grind (arith, events_plain 4 b.session.live, events_plain 4 b.session.undone, each_plain 5 mark_data (λ m. deeper (mark_plain m)) b.marks)
 
--- no number of a start's value is a float, and it is no deeper than what is read
+-- the JSON value of a start has no float
 pub whole_start : (w : World) (d : Data) → IsStartData w d → has_float d ≡ false
 whole_start w d h = (start_plain w d h).whole
 
 pub shallow_start : (w : World) (d : Data) → IsStartData w d → depth d ≤ max_depth
 shallow_start w d h = let k = (start_plain w d h).shallow in omega (arith, k)
 
--- nor is that of a book deeper
+-- the JSON value of a book is not deeper than what is read
 pub shallow_book : (start : Data) (b : BookState) → IsStartData b.session.start start → depth (book_data start b) ≤ max_depth
 shallow_book start b h = let k = (book_plain start b (start_plain b.session.start start h)).shallow in omega (arith, k)

@@ -5,7 +5,7 @@ use Rattle.rd_trace.proofs.SavedLemmas.{book_spelled}
 use Rattle.rd_trace.proofs.WholeLemmas.{whole_start, shallow_start, shallow_book}
 use Rattle.rd_trace.proofs.TextLemmas.{each_spelled, list_back, whole_text, book_text, book_back, read_line, back_of_text}
 
--- the text of the value of a start was appended
+-- if the bytes that were appended are the text of a start's JSON value, the start was appended
 pub start_appended : (w : World) (start : Data) (bytes old new : List ℕ) → IsStartValue w start → (has_float start ≡ false → bytes ≡ compact_text start)
     → IsInOrder bytes start → (depth start ≤ max_depth → read bytes ≡ Some start) → new ≡ old ++ bytes → IsStartAppended w old new
 start_appended w start bytes old new is_start text order reads appended =
@@ -18,7 +18,8 @@ start_appended w start bytes old new is_start text order reads appended =
       text = appended ∙ ap (λ s. old ++ s) (text none);
     }
 
--- what is known of the values of a book's parts
+-- what is known of a book and of the JSON values of its parts: they spell the parts and are read
+-- back, the bookmarks keep the rules, and the events can run
 pub record AreItsParts (b : BookState) (start : Data) : Type 0 where
   pub is_start : IsStartValue b.session.start start
   pub start_back : IsReadBack start
@@ -28,7 +29,7 @@ pub record AreItsParts (b : BookState) (start : Data) : Type 0 where
   pub rules : KeepsRules b
   pub through : GoThrough b.session.start (b.session.live ++ b.session.undone)
 
--- the texts of its parts, put together, are the text of a book
+-- the texts of a book's parts, put together, are a text of the book
 pub text_of_book : (b : BookState) (start : Data) (text : List ℕ) → b.session.start.ring < 2 ^ 64 → AreItsParts b start
     → text ≡ whole_text (items_by event_data b.session.live) (items_by mark_data b.marks) b.session.start.ring start (items_by event_data b.session.undone) → IsUtf8 text → IsTextOf b text
 text_of_book b start text fits parts is utf8 =

@@ -1,4 +1,4 @@
--- Actors as values: an object with a member for each word of an actor's record.
+-- Actors as JSON values: an object with a member for each part of an actor's record.
 use Rattle.std.specs.Option.{option_map_or}
 use Rattle.std.specs.Prelude.{◌≡◌, ℕ, List, codes, bytes_eq, if◌then◌else◌, Option, Some, None, option_map, option_and_then}
 use Rattle.serde_json.specs.Data.{Data, null, boolean, number, string, array, object, unsigned, Items, no_items, item, no_members, member}
@@ -10,44 +10,45 @@ use Rattle.rd_actor.specs.Labels.{label}
 use Rattle.rd_trace.specs.Numbers.{whole_number, member_count, number_at, byte_at, bit_at, text_at}
 use Rattle.rd_trace.specs.Names.{name_at, name_data}
 
--- the value that a cell or an actor has by this JSON value, or that it has none; none if the JSON
--- value is of another form
+-- what a JSON value spells as the value of a cell or an actor, where `null` is `Some None`, no
+-- value; none if the JSON value is neither `null` nor a whole number
 abbrev pub value_of : Data → Option (Option ℕ)
 value_of null = Some None
 value_of (number n) = option_map Some (as_u64 n)
 value_of _ = None
 
--- the JSON value of a value, or of none
+-- the JSON value as which the value of a cell or an actor is written; `null` for no value
 abbrev pub value_data : Option ℕ → Data
 value_data o = option_map_or (λ x. number (unsigned x)) o null
 
--- the call that a word spells without a number
+-- the call that a word spells without a number after it; none for any other word
 abbrev pub short_op : List ℕ → Option (Option Op)
 short_op word =
     if bytes_eq word (codes "deq") then Some (Some op.Deq)
     else if bytes_eq word (codes "adeq") then Some (Some op.ADeq)
     else None
 
--- the call that a word and a number spell
+-- the call that a word and a number spell; none for any other word
 abbrev pub long_op : List ℕ → ℕ → Option (Option Op)
 long_op word x =
     if bytes_eq word (codes "enq") then Some (Some (op.Enq x))
     else if bytes_eq word (codes "aenq") then Some (Some (op.AEnq x))
     else None
 
--- the call that the items of a list spell: a word, or a word and a number
+-- the call that the items of a list spell: a word, or a word and a number; none if they spell none
 abbrev pub op_of_items : Items → Option (Option Op)
 op_of_items (item word no_items) = option_and_then short_op (as_str word)
 op_of_items (item word (item d no_items)) = option_and_then (λ w. option_and_then (long_op w) (whole_number d)) (as_str word)
 op_of_items _ = None
 
--- the call that a value spells, or that there is no call; none if it spells neither
+-- the call that a JSON value spells, where `null` is `Some None`, no call; none if the value spells
+-- neither
 abbrev pub op_of : Data → Option (Option Op)
 op_of null = Some None
 op_of (array ds) = op_of_items ds
 op_of _ = None
 
--- the value as which a call, or none, is written
+-- the JSON value as which a call is written; `null` for no call
 abbrev pub op_data : Option Op → Data
 op_data None = null
 op_data (Some (op.Enq x)) = array (item (string (codes "enq")) (item (number (unsigned x)) no_items))
@@ -55,7 +56,8 @@ op_data (Some op.Deq) = array (item (string (codes "deq")) no_items)
 op_data (Some (op.AEnq x)) = array (item (string (codes "aenq")) (item (number (unsigned x)) no_items))
 op_data (Some op.ADeq) = array (item (string (codes "adeq")) no_items)
 
--- a value spells an actor: it is an object of just twelve members, one for each word of the actor
+-- a JSON value spells an actor: it is an object of just twelve members, one for each part of the
+-- actor's record
 pub record IsActor (d : Data) (a : Actor) : Type 0 where
   pub members : member_count d ≡ Some 12
   pub closed : bit_at (codes "closed") d ≡ Some a.closed
@@ -71,7 +73,7 @@ pub record IsActor (d : Data) (a : Actor) : Type 0 where
   pub t : number_at (codes "t") d ≡ Some a.t
   pub val : option_and_then value_of (get (codes "val") d) ≡ Some a.val
 
--- the value as which an actor is written
+-- the JSON value as which an actor is written
 abbrev pub actor_data : Actor → Data
 actor_data a = object (
     member (codes "closed") (boolean a.closed)

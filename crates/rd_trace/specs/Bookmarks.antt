@@ -1,4 +1,4 @@
--- Bookmarks as values: an object with the name and the list of events.
+-- Bookmarks as JSON values: an object with the name and the list of events.
 use Rattle.std.specs.Prelude.{◌≡◌, ◌≤◌, ℕ, List, length, map, codes, Some, Vec}
 use Rattle.std.specs.Global.{Global}
 use Rattle.serde_json.specs.Data.{Data, string, array, object, Items, no_members, member}
@@ -12,37 +12,38 @@ use Rattle.rd_trace.specs.Spelled.{Gives, SpellEach, SpellEachAt, items_by}
 use Rattle.rd_trace.specs.Events.{event_of, event_data}
 use Rattle.rd_trace.specs.declared.bookmarks.SavedMark.{SavedMark}
 
--- a value is an object of two members, one of which is the text of this name
+-- a JSON value is an object of two members, one of them this bookmark's name at the key `name`
 pub record HasMarkName (d : Data) (name : MarkName) : Type 0 where
   pub members : member_count d ≡ Some 2
   pub text : text_at (codes "name") d ≡ Some (bytes_of name)
 
--- a value spells a bookmark: it is an object of two members, its name and the list of its events
+-- a JSON value spells a bookmark: it is an object of two members, its name and the list of its
+-- events
 pub record IsMark (d : Data) (m : Mark) : Type 0 where
   pub name : HasMarkName d m.name
   pub events : SpellEachAt (Gives event_of) (codes "events") d m.events
 
--- the values spell these bookmarks, one each; the bookmarks have different names and are no more
--- than may be
+-- the JSON values spell these bookmarks, one each; the bookmarks have different names, and there
+-- are no more than a book may have
 pub record AreMarks (ds : Items) (ms : List Mark) : Type 0 where
   pub each : SpellEach IsMark ds ms
   pub names : HaveDifferentNames ms
   pub few : length ms ≤ MOST_MARKS
 
--- the bookmark that was read
+-- a bookmark that was read, as a bookmark of the model
 abbrev pub saved_mark : SavedMark → Mark
 saved_mark m = record { name = m.name; events = m.events.items }
 
--- the bookmarks that were read
+-- the bookmarks that were read, as bookmarks of the model, in order
 abbrev pub saved_marks : Vec SavedMark Global → List Mark
 saved_marks marks = map saved_mark marks.items
 
--- the object of the values of a bookmark's events and of the bytes of its name
+-- the JSON object of a bookmark, from the values of its events and the bytes of its name
 abbrev pub mark_object : Items → List ℕ → Data
 mark_object events name = object (
     member (codes "events") (array events)
     (member (codes "name") (string name) no_members))
 
--- the value as which a bookmark is written
+-- the JSON value as which a bookmark is written
 abbrev pub mark_data : Mark → Data
 mark_data m = mark_object (items_by event_data m.events) (bytes_of m.name)

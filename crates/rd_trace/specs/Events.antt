@@ -1,4 +1,5 @@
--- Events as values: which values spell which events, and the value as which an event is written.
+-- Events as JSON values: which values spell which events, and the value as which an event is
+-- written.
 use Rattle.std.specs.Prelude.{ℕ, List, codes, bytes_eq, if◌then◌else◌, Option, Some, None, option_map, option_and_then}
 use Rattle.serde_json.specs.Data.{Data, boolean, number, string, array, unsigned, Items, no_items, item}
 use Rattle.serde_json.specs.Find.{as_bool, as_str, as_array}
@@ -7,7 +8,7 @@ use Rattle.rd_actor.specs.declared.actors.Act.TheVariants as act
 use Rattle.rd_step.specs.declared.entries.Event.{Event}
 use Rattle.rd_trace.specs.Numbers.{whole_number, byte_number}
 
--- the act that a word spells without a value after it
+-- the act of a word that takes no value; none for any other word
 abbrev pub act_of_word : List ℕ → Option Act
 act_of_word word =
     if bytes_eq word (codes "go") then Some act.Go
@@ -15,7 +16,8 @@ act_of_word word =
     else if bytes_eq word (codes "adeq") then Some act.ADeq
     else None
 
--- the act that a word and a value spell, where the value is the number to enqueue or the choice
+-- the act of a word that takes a number to enqueue or a choice, with this JSON value; none for any
+-- other word, or if the value is of another kind
 abbrev pub act_with : List ℕ → Data → Option Act
 act_with word d =
     if bytes_eq word (codes "enq") then option_map act.Enq (whole_number d)
@@ -23,30 +25,31 @@ act_with word d =
     else if bytes_eq word (codes "starve") then option_map act.Starve (as_bool d)
     else None
 
--- the event of this act and this actor, if both are there
+-- the event of this act and this actor; none if one of them is missing
 abbrev pub event_by : Option Act → Option ℕ → Option Event
 event_by asked actor = option_and_then (λ known. option_map (λ n. record { actor = n; act = known }) actor) asked
 
 -- the event that the items of a list spell: its word and its actor, and the number or the choice if
--- its word takes one
+-- its word takes one; none if they spell none
 abbrev pub event_of_items : Items → Option Event
 event_of_items (item word (item actor no_items)) = event_by (option_and_then act_of_word (as_str word)) (byte_number actor)
 event_of_items (item word (item actor (item d no_items))) = event_by (option_and_then (λ w. act_with w d) (as_str word)) (byte_number actor)
 event_of_items _ = None
 
--- the event that a value spells
+-- the event that a JSON value spells; none if it spells none
 abbrev pub event_of : Data → Option Event
 event_of d = option_and_then event_of_items (as_array d)
 
--- the value of an event whose word takes no value: a list of the word and the actor
+-- the JSON value of an event whose word takes no value: a list of the word and the actor
 abbrev pub short_data : List ℕ → ℕ → Data
 short_data word actor = array (item (string word) (item (number (unsigned actor)) no_items))
 
--- the value of an event whose word takes a value: a list of the word, the actor and that value
+-- the JSON value of an event whose word takes a number or a choice: a list of the word, the actor
+-- and that number or choice
 abbrev pub long_data : List ℕ → ℕ → Data → Data
 long_data word actor d = array (item (string word) (item (number (unsigned actor)) (item d no_items)))
 
--- the value of an act of an actor
+-- the JSON value of an event, from its actor and its act
 abbrev pub act_data : ℕ → Act → Data
 act_data actor (act.Enq x) = long_data (codes "enq") actor (number (unsigned x))
 act_data actor act.Deq = short_data (codes "deq") actor
@@ -55,6 +58,6 @@ act_data actor act.ADeq = short_data (codes "adeq") actor
 act_data actor act.Go = short_data (codes "go") actor
 act_data actor (act.Starve choice) = long_data (codes "starve") actor (boolean choice)
 
--- the value as which an event is written
+-- the JSON value as which an event is written
 abbrev pub event_data : Event → Data
 event_data e = act_data e.actor e.act

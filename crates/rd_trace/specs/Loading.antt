@@ -1,4 +1,4 @@
--- What loading a text gives: a book, or why there is none.
+-- The result of loading a text: a book, or why there is none.
 use Rattle.std.specs.Prelude.{◌≡◌, ◌⊎◌, ◌+◌, ◌<◌, ℕ, List, [], ◌∷◌, ◌++◌, length, Option, Some, None, option_map, Result, Ok, Err}
 use Rattle.std.specs.Option.{option_or}
 use Rattle.rd_step.specs.Prelude.{World}
@@ -11,31 +11,31 @@ use Rattle.rd_trace.specs.Starts.{start_world, start_flaw}
 use Rattle.rd_trace.specs.Saved.{Trace, IsTraceText, loaded_state, IsSameBook}
 use Rattle.rd_trace.specs.Traces.{first_refused}
 
--- the first event that is refused of the first bookmark that has one, as the fault of loading, where
--- these bookmarks come after n others
+-- the fault of loading for the first of these bookmarks with a refused event, at the first such
+-- event; none if no event is refused. The bookmarks are numbered from n + 1
 abbrev pub first_refused_mark : World → ℕ → List Mark → Option LoadTraceFault
 first_refused_mark start n [] = None
 first_refused_mark start n (m ∷ ms) =
     option_or (option_map (λ refused. TraceMark (n + 1) refused.0 refused.1) (first_refused start [] m.events)) (first_refused_mark start (n + 1) ms)
 
--- why a trace has no book, if it has none: in this order, the first flaw of its start, the first
--- event that is refused of the first bookmark that has one, or the first of its live events, and the
--- undone ones after them, that is refused
+-- the fault of a trace that has no book, else none. In this order: the first flaw of its start; the
+-- first refused event of the first bookmark that has one; the first refused event of its live
+-- events and the undone ones after them
 abbrev pub trace_fault : {R : ℕ} → Trace R → Option LoadTraceFault
 trace_fault t =
     option_or (option_map Flawed (start_flaw t.start))
     (option_or (first_refused_mark (start_world t.start) 0 t.marks)
     (option_map (λ refused. TraceStep refused.0 refused.1) (first_refused (start_world t.start) [] (t.live ++ t.undone))))
 
--- the result of replaying a trace: its book, if it has one; or its fault; or that memory was refused,
--- which only a trace answers whose start has no flaw
+-- the result of replaying a trace: its book, if it has no fault; its fault; or `NoMemory`, only if
+-- its start has no flaw
 abbrev pub Replays : {R : ℕ} {B : Type 0} → (B → Type 0) → Trace R → Result B LoadTraceFault → Type 0
 Replays IsBook t (Ok book) = (trace_fault t ≡ None) × IsBook book
 Replays IsBook t (Err fault) =
     ((fault ≡ NoMemory) × (start_flaw t.start ≡ None)) ⊎ (trace_fault t ≡ Some fault)
 
--- the result of loading a text: that of replaying the trace that it is, or BadTrace if it is none;
--- or, if the text is not empty, that memory was refused
+-- the result of loading a text: the result of replaying a trace that it is; `BadTrace` if it is
+-- none; or `NoMemory`, only if the text is not empty
 abbrev pub LoadsTrace : List ℕ → Result AnyBook LoadTraceFault → Type 0
 LoadsTrace text (Err NoMemory) = 0 < length text
 LoadsTrace text (Err BadTrace) = (R : ℕ) (t : Trace R) → IsTraceText text t → ⊥
@@ -48,12 +48,13 @@ IsSameAnswer (Ok book) (Err fault) = ⊥
 IsSameAnswer (Err fault) (Ok book) = ⊥
 IsSameAnswer (Err one) (Err other) = one ≡ other
 
--- a text can be loaded as a book in this state: it is a trace of the state, and has no fault
+-- a text can be loaded as a book in this state: it is a trace that has no fault, and whose book has
+-- this state
 abbrev pub IsLoadable : BookState → List ℕ → Type 0
 IsLoadable b text = (t : Trace b.session.start.ring) × IsTraceText text t × (trace_fault t ≡ None) × (loaded_state t ≡ b)
 
--- the result of loading the text as which a book in this state was written: the same book, unless
--- memory was refused
+-- the result of loading a text as which a book in this state was written: the same book, or
+-- `NoMemory`
 abbrev pub LoadsAgain : BookState → Result AnyBook LoadTraceFault → Type 0
 LoadsAgain b (Ok book) = IsSameBook (any_state book) b
 LoadsAgain b (Err fault) = fault ≡ NoMemory

@@ -1,5 +1,5 @@
--- Whole sessions as values and as texts: version 1, which is only read, and version 2, which is
--- read and written.
+-- Whole sessions as JSON values and as texts: version 1, which is only read, and version 2, which
+-- is read and written.
 use Rattle.std.specs.Prelude.{◌≡◌, ◌⊎◌, ℕ, List, [], ◌∷◌, ◌++◌, map, codes, Some, IsUtf8}
 use Rattle.serde_json.specs.Data.{Data, number, array, object, unsigned, Items, no_members, member}
 use Rattle.serde_json.specs.Find.{get}
@@ -18,26 +18,26 @@ use Rattle.rd_trace.specs.declared.starts.Start.{Start}
 use Rattle.rd_trace.specs.declared.starts.Start.TheVariants as start
 use Rattle.rd_trace.specs.declared.saved.SavedSession.{SavedSession}
 
--- a session over rings of R cells, as a trace has it: its start, its bookmarks, its live and its
--- undone events
+-- a session over rings of R cells, as a trace spells it: its start, its bookmarks, its live events
+-- and its undone events
 pub record Trace (R : ℕ) : Type 0 where
   pub start : Start R
   pub marks : List Mark
   pub live : List Event
   pub undone : List Event
 
--- the trace of a session that was read
+-- a session that was read, as a trace of the model
 abbrev pub saved_trace : {R : ℕ} → SavedSession R → Trace R
 saved_trace s = record { start = s.start; marks = map saved_mark s.marks.items; live = s.events.items; undone = s.undone.items }
 
--- the state of the book of a trace: its start, live events, undone events and bookmarks
+-- the state of the book that a trace spells: its start, live events, undone events and bookmarks
 abbrev pub loaded_state : {R : ℕ} → Trace R → BookState
 loaded_state t = record {
   session = record { start = start_world t.start; live = t.live; undone = t.undone };
   marks = t.marks;
 }
 
--- a bookmark as it is spelled: the bytes of its name, and its events. Two names with the same bytes
+-- a bookmark as a trace spells it: the bytes of its name, and its events. Names with the same bytes
 -- are equal, though their unused room may differ, which no call shows
 abbrev pub seen_mark : Mark → List ℕ × List Event
 seen_mark m = (bytes_of m.name, m.events)
@@ -48,8 +48,9 @@ pub record IsSameBook (a b : BookState) : Type 0 where
   pub session : a.session ≡ b.session
   pub marks : map seen_mark a.marks ≡ map seen_mark b.marks
 
--- a value is a trace of version 1: an object of four members; nothing is undone, and there is no
--- bookmark
+-- a JSON value is a trace of version 1: an object of four members, which are the version, the size
+-- of the rings, the number of actors of the fresh start, and the live events. The trace has no
+-- bookmark and nothing undone
 pub record IsVersion1 {R : ℕ} (d : Data) (t : Trace R) : Type 0 where
   pub members : member_count d ≡ Some 4
   pub version : number_at (codes "version") d ≡ Some 1
@@ -59,7 +60,8 @@ pub record IsVersion1 {R : ℕ} (d : Data) (t : Trace R) : Type 0 where
   pub marks : t.marks ≡ []
   pub undone : t.undone ≡ []
 
--- a value is a trace of version 2: an object of six members
+-- a JSON value is a trace of version 2: an object of six members, which are the version, the size
+-- of the rings, the start, the bookmarks, the live events and the undone events
 pub record IsVersion2 {R : ℕ} (d : Data) (t : Trace R) : Type 0 where
   pub members : member_count d ≡ Some 6
   pub version : number_at (codes "version") d ≡ Some 2
@@ -69,23 +71,24 @@ pub record IsVersion2 {R : ℕ} (d : Data) (t : Trace R) : Type 0 where
   pub live : SpellEachAt (Gives event_of) (codes "events") d t.live
   pub undone : SpellEachAt (Gives event_of) (codes "undone") d t.undone
 
--- a value is a trace of either version
+-- a JSON value is a trace of version 1 or 2, over rings of any size
 abbrev pub IsEitherVersion : {R : ℕ} → Data → Trace R → Type 0
 IsEitherVersion d t = IsVersion1 d t ⊎ IsVersion2 d t
 
--- a value is a trace, over rings that a trace may have
+-- a JSON value is a trace of version 1 or 2, over rings of 2, 4 or 8 cells
 abbrev pub IsTrace : {R : ℕ} → Data → Trace R → Type 0
 IsTrace {R} d t = IsTraceRing R × IsEitherVersion d t
 
--- a text is JSON, and its value is this one
+-- a text is JSON in UTF-8, and its value is this one
 abbrev pub HasValue : List ℕ → Data → Type 0
 HasValue text d = IsUtf8 text × (read text ≡ Some d)
 
--- a text is a trace: it is JSON, and its value is one
+-- a text is a trace: it is JSON in UTF-8, and its value is a trace
 abbrev pub IsTraceText : {R : ℕ} → List ℕ → Trace R → Type 0
 IsTraceText text t = IsUtf8 text × (d : Data) × (read text ≡ Some d) × IsTrace d t
 
--- the object of the values of a book's parts
+-- the JSON object of a book, from the values of its events, bookmarks, start and undone events, and
+-- from the number of cells of a ring
 abbrev pub book_object : Items → Items → ℕ → Data → Items → Data
 book_object events marks cells begun undone = object (
     member (codes "events") (array events)
@@ -95,11 +98,11 @@ book_object events marks cells begun undone = object (
     (member (codes "undone") (array undone)
     (member (codes "version") (number (unsigned 2)) no_members))))))
 
--- the value as which a book is written, where its start is written as this value
+-- the JSON value as which a book is written, if this is the value of its start
 abbrev pub book_data : Data → BookState → Data
 book_data begun b = book_object (items_by event_data b.session.live) (items_by mark_data b.marks) b.session.start.ring begun (items_by event_data b.session.undone)
 
--- a text is one as which a book is written: JSON without spaces, its keys in alphabetical order,
--- and a line feed
+-- a text is one as which a book may be written: JSON without spaces, its keys in alphabetical
+-- order, and a line feed
 abbrev pub IsWrittenAs : BookState → List ℕ → Type 0
 IsWrittenAs b text = (begun : Data) × IsStartData b.session.start begun × (text ≡ compact_text (book_data begun b) ++ 10 ∷ [])

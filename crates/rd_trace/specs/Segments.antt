@@ -1,5 +1,5 @@
--- Segments as values: an object with a member for each word of a segment; its cells are arrays of
--- three.
+-- Segments as JSON values: an object with a member for each part of a segment, and an array of
+-- three for each cell.
 use Rattle.std.specs.Prelude.{◌≡◌, ℕ, codes, Option, Some, None, option_map, option_and_then, Vec}
 use Rattle.std.specs.Global.{Global}
 use Rattle.serde_json.specs.Data.{Data, boolean, number, array, object, unsigned, Items, no_items, item, no_members, member}
@@ -11,22 +11,23 @@ use Rattle.rd_trace.specs.Spelled.{Gives, SpellEach, SpellEachAt, items_by}
 use Rattle.rd_trace.specs.Names.{next_of, next_data}
 use Rattle.rd_trace.specs.Actors.{value_of, value_data}
 
--- the cell that the items of a list spell: its safe bit, its index and its value
+-- the cell that the items of a list spell: its safe bit, its index and its value; none if they
+-- spell none
 abbrev pub cell_of_items : Items → Option Cell
 cell_of_items (item s (item i (item v no_items))) =
     option_and_then (λ safe. option_and_then (λ idx. option_map (λ val. record { safe = safe; idx = idx; val = val }) (value_of v)) (whole_number i)) (as_bool s)
 cell_of_items _ = None
 
--- the cell that a value spells
+-- the cell that a JSON value spells; none if it spells none
 abbrev pub cell_of : Data → Option Cell
 cell_of d = option_and_then cell_of_items (as_array d)
 
--- the value as which a cell is written
+-- the JSON value as which a cell is written
 abbrev pub cell_data : Cell → Data
 cell_data c = array (item (boolean c.safe) (item (number (unsigned c.idx)) (item (value_data c.val) no_items)))
 
--- a value spells a segment: it is an object of just five members, one for each word of the segment,
--- which has `R` cells
+-- a JSON value spells a segment of `R` cells: it is an object of just five members, one for each
+-- part of the segment
 pub record IsSegment {R : ℕ} (d : Data) (s : SegmentParts R) : Type 0 where
   pub members : member_count d ≡ Some 5
   pub cells : SpellEachAt (Gives cell_of) (codes "cells") d s.cells
@@ -35,11 +36,11 @@ pub record IsSegment {R : ℕ} (d : Data) (s : SegmentParts R) : Type 0 where
   pub next : option_and_then next_of (get (codes "next") d) ≡ Some s.next
   pub tail : number_at (codes "tail") d ≡ Some s.tail
 
--- a value spells the list of a maker's segments
+-- a JSON value spells the list of a maker's segments
 abbrev pub IsSegmentList : {R : ℕ} → Data → Vec (SegmentParts R) Global → Type 0
 IsSegmentList d list = (ds : Items) × (as_array d ≡ Some ds) × SpellEach IsSegment ds list.items
 
--- the value as which a segment is written
+-- the JSON value as which a segment is written
 abbrev pub segment_data : {R : ℕ} → SegmentParts R → Data
 segment_data s = object (
     member (codes "cells") (array (items_by cell_data s.cells))
@@ -48,6 +49,6 @@ segment_data s = object (
     (member (codes "next") (next_data s.next)
     (member (codes "tail") (number (unsigned s.tail)) no_members)))))
 
--- the value as which the list of a maker's segments is written
+-- the JSON value as which the list of a maker's segments is written
 abbrev pub list_data : {R : ℕ} → Vec (SegmentParts R) Global → Data
 list_data list = array (items_by segment_data list.items)

@@ -1,5 +1,5 @@
--- What values spell: the result of reading one, lists of values, and the values as which a list is
--- written.
+-- What JSON values spell: the result of reading one, lists of values, and the values as which a
+-- list is written.
 use Rattle.std.specs.Prelude.{◌≡◌, ℕ, List, [], ◌∷◌, Option, Some, Result, Ok, Err, Vec}
 use Rattle.std.specs.Global.{Global}
 use Rattle.serde_json.specs.Data.{Data, Items, no_items, item}
@@ -9,43 +9,43 @@ use Rattle.rd_trace.specs.Numbers.{items_at}
 use Rattle.rd_trace.specs.declared.faults.LoadTraceFault.{LoadTraceFault}
 use Rattle.rd_trace.specs.declared.faults.LoadTraceFault.TheVariants.{NoMemory, BadTrace}
 
--- the result of reading a value: what it spells; or `NoMemory`; or `BadTrace`, if it spells nothing
--- of the kind
+-- the result of reading a JSON value: a thing, where the value spells what is `seen` of it; or
+-- `NoMemory`; or `BadTrace`, if the value spells no such thing
 abbrev pub Reads : {V X : Type 0} → (V → X) → (X → Type 0) → Result V LoadTraceFault → Type 0
 Reads seen IsSpelled (Ok v) = IsSpelled (seen v)
 Reads seen IsSpelled (Err NoMemory) = Unit {0}
 Reads {V} {X} seen IsSpelled (Err BadTrace) = (x : X) → IsSpelled x → ⊥
 Reads seen IsSpelled (Err _) = ⊥
 
--- what is seen of a thing: the thing itself
+-- for `Reads`: of a thing, the thing itself is seen
 abbrev pub itself : {X : Type 0} → X → X
 itself x = x
 
--- what is seen of a list: its elements
+-- for `Reads`: of a list, its elements are seen
 abbrev pub elements : {X : Type 0} → Vec X Global → List X
 elements v = v.items
 
--- a value spells what this function gives for it
+-- a JSON value spells the thing that this function gives for it
 abbrev pub Gives : {X : Type 0} → (Data → Option X) → Data → X → Type 0
 Gives f d x = f d ≡ Some x
 
--- the values spell these things one by one, and there are as many of each
+-- the JSON values spell these things one by one, and there are as many of each
 abbrev pub SpellEach : {X : Type 0} → (Data → X → Type 0) → Items → List X → Type 0
 SpellEach Spells no_items [] = Unit {0}
 SpellEach Spells no_items (x ∷ xs) = ⊥
 SpellEach Spells (item d ds) [] = ⊥
 SpellEach Spells (item d ds) (x ∷ xs) = Spells d x × SpellEach Spells ds xs
 
--- the values of the list at this key of an object spell these things one by one
+-- the JSON values of the list at this key of an object spell these things one by one
 abbrev pub SpellEachAt : {X : Type 0} → (Data → X → Type 0) → List ℕ → Data → List X → Type 0
 SpellEachAt Spells key d xs = (ds : Items) × (items_at key d ≡ Some ds) × SpellEach Spells ds xs
 
--- the values as which these things are written
+-- the JSON values as which these things are written, in order
 abbrev pub items_by : {X : Type 0} → (X → Data) → List X → Items
 items_by datum [] = no_items
 items_by datum (x ∷ xs) = item (datum x) (items_by datum xs)
 
--- these values are those as which the things are written, and spell them
+-- these JSON values are the ones as which the things are written, and spell them
 pub record AreSpelled {X : Type 0} (Spells : Data → X → Type 0) (datum : X → Data) (vs : List Value) (xs : List X) : Type 0 where
   pub values : items_view vs ≡ items_by datum xs
   pub spelled : SpellEach Spells (items_by datum xs) xs

@@ -1,5 +1,5 @@
--- The start of a session as a value: the fresh world of this many actors, or the parts of any other
--- world.
+-- The start of a session as a JSON value: the number of actors of a fresh world, or the parts of
+-- any other world.
 use Rattle.std.specs.Prelude.{◌≡◌, ◌≤◌, ◌⊎◌, ℕ, List, codes, Option, Some, None}
 use Rattle.serde_json.specs.Data.{Data, number, array, object, unsigned, Items, no_members, member}
 use Rattle.serde_json.specs.Find.{get}
@@ -24,22 +24,23 @@ pub record IsActorCount (key : List ℕ) (d : Data) (count : ℕ) : Type 0 where
   pub some : 1 ≤ count
   pub few : count ≤ MOST_ACTORS
 
--- a value spells a fresh start: it is an object of one member, the number of actors of the fresh
--- world
+-- a JSON value spells a fresh start: it is an object of one member, the number of actors of the
+-- fresh world
 pub record IsFreshStart (d : Data) (count : ℕ) : Type 0 where
   pub members : member_count d ≡ Some 1
   pub fresh : IsActorCount (codes "fresh") d count
 
--- the start, if it is fresh, has 1 to 16 actors
+-- if the start is fresh, it has 1 to 16 actors
 abbrev pub HasActorCount : {R : ℕ} → Start R → Type 0
 HasActorCount (start.Fresh count) = (1 ≤ count) × (count ≤ MOST_ACTORS)
 HasActorCount (start.Parts p) = Unit {0}
 
--- an object has the array at the key `array`
+-- an object has this array at the key `array`
 abbrev pub IsArrayAt : Data → ArrayParts → Type 0
 IsArrayAt d a = (e : Data) × (get (codes "array") d ≡ Some e) × IsArray e a
 
--- a value spells parts of a world: it is an object of just five members, one for each of the parts
+-- a JSON value spells parts of a world: it is an object of just five members, one for each of the
+-- parts
 pub record IsParts {R : ℕ} (d : Data) (p : Parts R) : Type 0 where
   pub members : member_count d ≡ Some 5
   pub actors : SpellEachAt IsActor (codes "actors") d p.actors.items
@@ -48,30 +49,31 @@ pub record IsParts {R : ℕ} (d : Data) (p : Parts R) : Type 0 where
   pub qtail : name_at (codes "qtail") d ≡ Some p.qtail
   pub segments : SpellEachAt IsSegmentList (codes "segments") d p.segments.items
 
--- a value spells a start
+-- a JSON value spells a start, a fresh one or the parts of a world
 abbrev pub IsStart : {R : ℕ} → Data → Start R → Type 0
 IsStart d (start.Fresh count) = IsFreshStart d count
 IsStart d (start.Parts p) = IsParts d p
 
--- the world of a start
+-- the world of a start: the fresh world with its actors, or the world of its parts
 abbrev pub start_world : {R : ℕ} → Start R → World
 start_world {R} (start.Fresh count) = fresh_world R count
 start_world (start.Parts p) = world_of_parts p
 
--- the first condition of a well-formed world that a start fails, if it fails one
+-- the first condition of a well-formed world that a start fails; none if it fails none, as a fresh
+-- start does
 abbrev pub start_flaw : {R : ℕ} → Start R → Option Flaw
 start_flaw (start.Fresh count) = None
 start_flaw (start.Parts p) = first_flaw p
 
--- a value spells a start that has no flaw, and whose world is this one
+-- a JSON value spells a start that has no flaw, and whose world is this one
 abbrev pub SpellsWorld : World → Data → Type 0
 SpellsWorld w d = (begun : Start w.ring) × IsStart d begun × (start_flaw begun ≡ None) × (start_world begun ≡ w)
 
--- the value as which a fresh start is written
+-- the JSON value as which the fresh start with this many actors is written
 abbrev pub fresh_data : ℕ → Data
 fresh_data count = object (member (codes "fresh") (number (unsigned count)) no_members)
 
--- the object of the values of a world's parts
+-- the JSON object of a world's parts, from the values of the parts
 abbrev pub parts_object : Items → Data → Data → Data → Items → Data
 parts_object actors slots qhead qtail segments = object (
     member (codes "actors") (array actors)
@@ -80,18 +82,18 @@ parts_object actors slots qhead qtail segments = object (
     (member (codes "qtail") qtail
     (member (codes "segments") (array segments) no_members)))))
 
--- the value as which parts of a world are written
+-- the JSON value as which parts of a world are written
 abbrev pub parts_data : {R : ℕ} → Parts R → Data
 parts_data p = parts_object (items_by actor_data p.actors.items) (array_data p.array) (name_data p.qhead) (name_data p.qtail) (items_by list_data p.segments.items)
 
--- the value as which a start is written: as a fresh one exactly if it is the fresh world, and else
--- as parts of the world that have no flaw
+-- the start in this world may be written as this JSON value: as a fresh start if the world is
+-- fresh, and only then; else as parts of the world that have no flaw
 abbrev pub IsStartData : World → Data → Type 0
 IsStartData w d =
     ((count : ℕ) × (w ≡ fresh_world w.ring count) × (1 ≤ count) × (count ≤ MOST_ACTORS) × (d ≡ fresh_data count))
     ⊎ (((count : ℕ) → w ≡ fresh_world w.ring count → ⊥) × (p : Parts w.ring) × (first_flaw p ≡ None) × (world_of_parts p ≡ w) × (d ≡ parts_data p))
 
--- a value is one as which the start in this world is written, and spells it
+-- the start in this world may be written as this JSON value, and the value spells it
 pub record IsStartValue (w : World) (d : Data) : Type 0 where
   pub written : IsStartData w d
   pub spelled : SpellsWorld w d

@@ -17,7 +17,8 @@ use Rattle.rd_trace.specs.Saved.{Trace, IsEitherVersion, loaded_state}
 use Rattle.rd_trace.specs.Loading.{first_refused_mark, Replays}
 use Rattle.rd_trace.specs.Traces.{first_refused}
 
--- the result of making the world of a start: that world, the start's first flaw, or `NoMemory`
+-- the result of making the world of a start: its world, if the start has no flaw; the first flaw;
+-- or `NoMemory`, only if the start has no flaw
 abbrev pub MakesWorld : {R : ℕ} → Start R → Result (CodeWorld R) LoadTraceFault → Type 0
 MakesWorld start (Ok world) = (start_flaw start ≡ None) × (model world ≡ start_world start)
 MakesWorld start (Err NoMemory) = start_flaw start ≡ None
@@ -26,44 +27,48 @@ MakesWorld start (Err BadTrace) = ⊥
 MakesWorld start (Err (TraceMark m n cause)) = ⊥
 MakesWorld start (Err (TraceStep n cause)) = ⊥
 
--- the fault of an event of this number and this cause
+-- the fault of loading for an event of this number that is refused with this cause: `NoMemory` for
+-- refused memory, else `TraceStep`
 abbrev pub step_fault : ℕ → Refusal → LoadTraceFault
 step_fault step refusal.NoMemory = NoMemory
 step_fault step cause = TraceStep step cause
 
--- the fault of an event of the bookmark of this number, from the event's own fault
+-- the fault of loading for an event of the bookmark of this number, from the event's own fault:
+-- `TraceMark` for `TraceStep`, else the same fault
 abbrev pub mark_fault : ℕ → LoadTraceFault → LoadTraceFault
 mark_fault mark (TraceStep step cause) = TraceMark mark step cause
 mark_fault mark fault = fault
 
--- the fault of making these events happen: `NoMemory`, or that of the first of them that is refused
--- from the start
+-- the fault of making these events happen from the start: `NoMemory`, or the `TraceStep` of the
+-- first event that is refused
 abbrev pub RefusesOne : World → List Event → LoadTraceFault → Type 0
 RefusesOne start events fault =
     (fault ≡ NoMemory) ⊎ ((step : ℕ) × (cause : Refusal) × (first_refused start [] events ≡ Some (step, cause)) × (fault ≡ TraceStep step cause))
 
--- just these events were made live, none of which is refused, or one was refused
+-- the result of making just these events live, with nothing undone: it was done, and none of them
+-- is refused; or the fault of `RefusesOne`
 abbrev pub GoesTo : BookState → List Event → BookState → Result (Unit {0}) LoadTraceFault → Type 0
 GoesTo old events new (Ok _) = (new ≡ at_events old events) × (first_refused old.session.start [] events ≡ None)
 GoesTo old events new (Err fault) = RefusesOne old.session.start events fault
 
--- just these events were made live, and just those undone, none of which is refused, or one was
--- refused
+-- the result of making just the first events live and just the second ones undone: it was done, and
+-- none of them is refused; or the fault of `RefusesOne` for the first events and the second after
+-- them
 abbrev pub MakesLive : BookState → List Event → List Event → BookState → Result (Unit {0}) LoadTraceFault → Type 0
 MakesLive old live undone new (Ok _) =
     (new ≡ with_session old (record { start = old.session.start; live = live; undone = undone }))
     × (first_refused old.session.start [] (live ++ undone) ≡ None)
 MakesLive old live undone new (Err fault) = RefusesOne old.session.start (live ++ undone) fault
 
--- the result of loading a value: that of replaying the trace that it spells, or BadTrace if it
--- spells none
+-- the result of loading a JSON value as a trace over rings of R cells: the result of replaying a
+-- trace that it spells; `BadTrace` if it spells none; or `NoMemory`
 abbrev pub LoadsValue : {R : ℕ} → Data → Result (Book R) LoadTraceFault → Type 0
 LoadsValue d (Err NoMemory) = Unit {0}
 LoadsValue {R} d (Err BadTrace) = (t : Trace R) → IsEitherVersion d t → ⊥
 LoadsValue {R} d result = (t : Trace R) × IsEitherVersion d t × Replays (λ (book : Book R). book_state book ≡ loaded_state t) t result
 
--- these bookmarks were set, each at its events, none of which is refused, or an event of one was
--- refused
+-- the result of setting these bookmarks, each at its events: it was done, and none of their events
+-- is refused; or `NoMemory`, or the fault of the first bookmark with a refused event
 abbrev pub SetsMarks : BookState → List Mark → BookState → Result (Unit {0}) LoadTraceFault → Type 0
 SetsMarks old marks new (Ok _) =
     (new.marks ≡ marks) × (new.session.start ≡ old.session.start) × (first_refused_mark old.session.start 0 marks ≡ None)

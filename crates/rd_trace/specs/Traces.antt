@@ -6,7 +6,7 @@ use Rattle.rd_step.specs.Prelude.{World, Refusal}
 use Rattle.rd_step.specs.declared.entries.Event.{Event}
 use Rattle.rd_journal.specs.State.{State, apply}
 
--- a trace may have rings of n cells
+-- a trace may have rings of n cells: n is 2, 4 or 8
 abbrev pub IsTraceRing : ℕ → Type 0
 IsTraceRing n = (n ≡ 2) ⊎ ((n ≡ 4) ⊎ (n ≡ 8))
 
@@ -14,8 +14,8 @@ IsTraceRing n = (n ≡ 2) ⊎ ((n ≡ 4) ⊎ (n ≡ 8))
 abbrev pub session_at : World → List Event → State
 session_at start live = record { start = start; live = live; undone = [] }
 
--- the first of these events that is refused, where others from this start happened before them: its
--- number, in which those are counted, and the cause
+-- the number and the cause of the first of these events that is refused, after the events `before`
+-- happened from this start; the number counts those too. None if no event is refused
 abbrev pub first_refused : World → List Event → List Event → Option (ℕ × Refusal)
 first_refused start before [] = None
 first_refused start before (e ∷ es) =

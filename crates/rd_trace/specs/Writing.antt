@@ -10,14 +10,14 @@ use Rattle.rd_trace.specs.Loading.{IsLoadable}
 use Rattle.rd_trace.specs.declared.faults.WriteTraceFault.{WriteTraceFault}
 use Rattle.rd_trace.specs.declared.faults.WriteTraceFault.TheVariants.{NoMemory, Write}
 
--- a text is one as which a book in this state is written; over a ring that a trace may have it can
--- be loaded, and gives the same book
+-- a text is one as which a book in this state may be written; if a trace may have the book's rings,
+-- the text can be loaded, and gives the same book
 pub record IsTextOf (b : BookState) (text : List ℕ) : Type 0 where
   pub written : IsWrittenAs b text
   pub loads : IsTraceRing b.session.start.ring → IsLoadable b text
 
 -- what a sink took of the text of a book, by the result of writing it: all of it; nothing if memory
--- was refused; a beginning if the sink failed
+-- was refused; a beginning of it if the sink failed
 abbrev pub WritesTrace : BookState → Stream → Result (Unit {0}) WriteTraceFault → Type 0
 WritesTrace b s (Ok _) = (text : List ℕ) × IsTextOf b text × Appends s.before s.after text × (s.failed ≡ false)
 WritesTrace b s (Err NoMemory) = IsUnused s

@@ -1,4 +1,4 @@
-//! Actors: an object with a member for each word of an actor's record.
+//! Actors as JSON: an object with a member for each part of an actor's record.
 
 ghost use Rattle.std.specs.Prelude.{◌≡◌, Some, IfOk, OnOk, IfSome, IfNone};
 ghost use Rattle.serde_json.specs.Data.{number, string, unsigned};
@@ -19,7 +19,7 @@ use rd_actor::{Actor, Op, Pc};
 use serde_json::{Map, Value, json, put};
 use std::alloc::{AllocError, Global};
 
-/// The number of members of an actor.
+/// The number of members of the JSON object of an actor.
 const MEMBERS: usize = 12;
 
 const CLOSED: &str = "closed";
@@ -49,7 +49,7 @@ const VAL: &str = "val";
 impl Spelled for Actor {
     ghost spells = { IsActor };
 
-    /// Returns the actor that a JSON value spells.
+    /// Returns the actor that a JSON value spells. Fails only if it spells none, with `BadTrace`.
     #[tactic(auto, using(crate::proofs::SpellLemmas::read_or_bad))]
     fn read(_alloc: Global, value: &Value) -> Result<Actor, LoadTraceFault> {
         actor_in(value).ok_or(LoadTraceFault::BadTrace)
@@ -59,13 +59,13 @@ impl Spelled for Actor {
 impl Written for Actor {
     ghost datum = { actor_data };
 
-    /// Returns the JSON value of the actor.
+    /// Returns the JSON value of the actor. Fails only if memory is refused.
     fn write(&self, alloc: Global) -> Result<Value, AllocError> {
         actor_value(alloc, self)
     }
 }
 
-/// Returns the actor that a value spells, or none.
+/// Returns the actor that a JSON value spells; none if it spells none.
 fn actor_in(value: &Value) -> Option<Actor>
     ensures some { IfSome result (IsActor (view value.now)) }
     ensures none { IfNone result ((actor : Actor) → IsActor (view value.now) actor → ⊥) }
@@ -89,7 +89,7 @@ fn actor_in(value: &Value) -> Option<Actor>
     })
 }
 
-/// Returns the JSON value of an actor.
+/// Returns the JSON value of an actor. Fails only if memory is refused.
 fn actor_value(alloc: Global, actor: &Actor) -> Result<Value, AllocError>
     ensures value { IfOk result (λ value. view value ≡ actor_data actor.now) }
     ensures spelled { OnOk result (IsActor (actor_data actor.now) actor.now) }
@@ -111,7 +111,7 @@ fn actor_value(alloc: Global, actor: &Actor) -> Result<Value, AllocError>
     Ok(Value::Object(members))
 }
 
-/// Returns the JSON value of the pass of an actor.
+/// Returns the JSON value of an actor's pass.
 fn pass_value(pass: u8) -> Value
     ensures value { view result ≡ number (unsigned pass) }
     ensures spelled { byte_number (number (unsigned pass)) ≡ Some pass }
@@ -119,8 +119,8 @@ fn pass_value(pass: u8) -> Value
     Value::from(pass)
 }
 
-/// Returns the value that a cell or an actor has by this JSON value, or that it has none; none if
-/// the JSON value is of another form.
+/// Returns what a JSON value spells as the value of a cell or an actor: no value for `null`, the
+/// number for a whole number; none for anything else.
 pub fn value_in(value: &Value) -> Option<Option<u64>>
     ensures { result ≡ value_of (view value.now) }
 {
@@ -130,7 +130,8 @@ pub fn value_in(value: &Value) -> Option<Option<u64>>
     Some(Some(value.as_u64()?))
 }
 
-/// Returns the call that a value spells, or that there is no call; none if it spells neither.
+/// Returns the call that a JSON value spells, or no call for `null`; none if the JSON value spells
+/// neither.
 #[tactic(auto, using(crate::proofs::ActorLemmas::no_op))]
 fn op_in(value: &Value) -> Option<Option<Op>>
     ensures { result ≡ op_of (view value.now) }
@@ -154,7 +155,7 @@ fn op_in(value: &Value) -> Option<Option<Op>>
     }
 }
 
-/// Returns the JSON value of a call, or of none.
+/// Returns a call as a JSON array, or `null` for no call. Fails only if memory is refused.
 fn op_value(alloc: Global, op: Option<Op>) -> Result<Value, AllocError>
     ensures { IfOk result (λ value. view value ≡ op_data op) }
 {
@@ -167,7 +168,7 @@ fn op_value(alloc: Global, op: Option<Op>) -> Result<Value, AllocError>
     }
 }
 
-/// Returns the control point whose label a value is, or none.
+/// Returns the control point whose label a JSON value is; none if it is no such label.
 fn pc_in(value: &Value) -> Option<Pc>
     ensures some { IfSome result (λ pc. as_str (view value.now) ≡ Some (label pc)) }
     ensures none { IfNone result ((pc : Pc) → as_str (view value.now) ≡ Some (label pc) → ⊥) }
@@ -176,7 +177,7 @@ fn pc_in(value: &Value) -> Option<Pc>
     Pc::of_label(word)
 }
 
-/// Returns the JSON value of a control point: its label.
+/// Returns the JSON value of a control point: its label. Fails only if memory is refused.
 fn pc_value(alloc: Global, pc: Pc) -> Result<Value, AllocError>
     ensures { IfOk result (λ value. view value ≡ string (label pc)) }
 {

@@ -1,5 +1,5 @@
-//! The array: an object with its counters and those of its slots that aren't empty, each with its
-//! position.
+//! The array as JSON: an object with its two counters and its slots that aren't empty, each with
+//! its position.
 
 ghost use Rattle.std.specs.Prelude.{◌≡◌, List, IfOk, IfSome, IfNone, length};
 ghost use Rattle.serde_json.specs.View.{view, items_view};
@@ -16,7 +16,7 @@ use rd_step::ArrayParts;
 use serde_json::{Value, json};
 use std::alloc::{AllocError, Global};
 
-/// The number of members of the array.
+/// The number of members of the JSON object of the array.
 const MEMBERS: usize = 3;
 
 const CELLS: &str = "cells";
@@ -25,7 +25,7 @@ const HEAD: &str = "head";
 
 const TAIL: &str = "tail";
 
-/// Returns the array that a JSON value spells.
+/// Returns the array that a JSON value spells; none if it spells none.
 pub fn array_in(value: &Value) -> Option<ArrayParts>
     ensures some { IfSome result (IsArray (view value.now)) }
     ensures none { IfNone result ((parts : ArrayParts) → IsArray (view value.now) parts → ⊥) }
@@ -40,7 +40,7 @@ pub fn array_in(value: &Value) -> Option<ArrayParts>
     })
 }
 
-/// Returns the JSON value of the array.
+/// Returns the JSON value of the array. Fails only if memory is refused.
 pub fn array_value(alloc: Global, array: &ArrayParts) -> Result<Value, AllocError>
     ensures { IfOk result (λ value. view value ≡ array_data array.now) }
 {
@@ -48,8 +48,8 @@ pub fn array_value(alloc: Global, array: &ArrayParts) -> Result<Value, AllocErro
     json!(in alloc; {CELLS: cells, HEAD: array.head, TAIL: array.tail})
 }
 
-/// Returns all slots, where the values of a list spell those that aren't empty, by ascending
-/// positions; none if they don't.
+/// Returns all slots of the array, from a list of those that aren't empty. Returns none if a value
+/// spells no slot, or if the positions don't ascend or one is not below `SLOTS`.
 fn slots_in(list: &Vec<Value>) -> Option<[ArrSlot; SLOTS]>
     ensures some { IfSome result (λ slots.
         SpellEach (Gives slot_of) (items_view list.now.items) (filled_slots 0 slots)) }
@@ -70,7 +70,8 @@ fn slots_in(list: &Vec<Value>) -> Option<[ArrSlot; SLOTS]>
     Some(slots)
 }
 
-/// Returns the JSON values of the slots that aren't empty, with their positions.
+/// Returns the JSON values of the slots that aren't empty, each with its position, in order. Fails
+/// only if memory is refused.
 fn slots_value(alloc: Global, slots: &[ArrSlot]) -> Result<Vec<Value>, AllocError>
     ensures { IfOk result (λ values. items_view values.items
         ≡ items_by slot_data (filled_slots 0 slots.now)) }
@@ -85,7 +86,7 @@ fn slots_value(alloc: Global, slots: &[ArrSlot]) -> Result<Vec<Value>, AllocErro
     Ok(values)
 }
 
-/// Returns the JSON value of a slot with its position.
+/// Returns the JSON array of a slot's position and content. Fails only if memory is refused.
 fn slot_value(alloc: Global, position: usize, slot: ArrSlot) -> Result<Value, AllocError>
     ensures { IfOk result (λ value. view value ≡ slot_data (position, slot)) }
 {
@@ -93,7 +94,8 @@ fn slot_value(alloc: Global, position: usize, slot: ArrSlot) -> Result<Value, Al
     json!(in alloc; [position as u64, content])
 }
 
-/// Returns the value of the content of a slot. Empty slots are not written.
+/// Returns the JSON value of a slot's content: `"top"`, a number, or `null` for an empty slot,
+/// which is never written. Fails only if memory is refused.
 fn content_value(alloc: Global, slot: ArrSlot) -> Result<Value, AllocError>
     ensures { IfOk result (λ value. view value ≡ content_data slot) }
 {
@@ -104,10 +106,11 @@ fn content_value(alloc: Global, slot: ArrSlot) -> Result<Value, AllocError>
     }
 }
 
-/// The text for a slot that a dequeue reached first.
+/// The JSON text for the content of a slot that a dequeue reached first.
 const TOP: &str = "top";
 
-/// Returns the position and the slot that a JSON value spells.
+/// Returns the position and the content of the slot that a JSON value spells; none if it spells
+/// none.
 #[tactic(auto, using(crate::proofs::ArrayLemmas::no_slot))]
 fn slot_in(value: &Value) -> Option<(usize, ArrSlot)>
     ensures { result ≡ slot_of (view value.now) }
@@ -119,7 +122,8 @@ fn slot_in(value: &Value) -> Option<(usize, ArrSlot)>
     }
 }
 
-/// Returns the content that a value spells of a slot that isn't empty, or none.
+/// Returns what a slot that isn't empty holds, by its JSON value: `Top` for `"top"`, a value for a
+/// whole number; none for anything else.
 fn content_in(value: &Value) -> Option<ArrSlot>
     ensures { result ≡ slot_content (view value.now) }
 {

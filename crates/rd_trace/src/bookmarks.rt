@@ -1,4 +1,4 @@
-//! Bookmarks: an object with the name and the list of events.
+//! Bookmarks as JSON: an object with the name and the list of events.
 
 ghost use Rattle.std.specs.Prelude.{◌≡◌, OnOk, IfSome, IfNone, string_bytes};
 ghost use Rattle.std.specs.List.{list_any};
@@ -23,7 +23,7 @@ use rd_step::Event;
 use serde_json::Value;
 use std::alloc::{AllocError, Global};
 
-/// The number of members of a bookmark.
+/// The number of members of the JSON object of a bookmark.
 const MEMBERS: usize = 2;
 
 const EVENTS: &str = "events";
@@ -33,14 +33,18 @@ const NAME: &str = "name";
 /// A bookmark that was read.
 #[derive(Drop)]
 pub struct SavedMark {
-    /// Its name.
+    /// The bookmark's name.
     pub name: MarkName,
-    /// The events that were live when it was set.
+    /// The events that were live when the bookmark was set.
     pub events: Vec<Event>,
 }
 
-/// Returns the bookmarks that the values of a list spell, in their order: at most 64, with
-/// different names.
+/// Returns the bookmarks that the values of a list spell, in order.
+///
+/// # Errors
+///
+/// `BadTrace` if a value spells no bookmark, if two bookmarks have one name, or if there are more
+/// than 64; `NoMemory` if memory was refused.
 pub fn marks_in(alloc: Global, list: &Vec<Value>) -> Result<Vec<SavedMark>, LoadTraceFault>
     ensures { Reads saved_marks (AreMarks (items_view list.now.items)) result }
 {
@@ -59,14 +63,15 @@ pub fn marks_in(alloc: Global, list: &Vec<Value>) -> Result<Vec<SavedMark>, Load
     Ok(marks)
 }
 
-/// Returns whether one of these bookmarks has this name.
+/// Whether one of these bookmarks has this name.
 fn is_taken(marks: &[SavedMark], name: MarkName) -> bool
     ensures { result ≡ list_any (λ mark. mark_name_eq name mark.name) marks.now }
 {
     marks.iter().any(|mark| name == mark.name)
 }
 
-/// Returns the bookmark that a JSON value spells.
+/// Returns the bookmark that a JSON value spells. Fails with `BadTrace` if it spells none, and with
+/// `NoMemory` if memory is refused.
 fn mark_in(alloc: Global, value: &Value) -> Result<SavedMark, LoadTraceFault>
     ensures { Reads saved_mark (IsMark (view value.now)) result }
 {
@@ -79,7 +84,8 @@ fn mark_in(alloc: Global, value: &Value) -> Result<SavedMark, LoadTraceFault>
     })
 }
 
-/// Returns the name of the bookmark that a value spells, if it has the members of one.
+/// Returns the bookmark's name at the key `name` of an object with two members; none for any other
+/// value.
 #[tactic(auto, using(crate::proofs::SpellLemmas::passed_up))]
 fn name_in(value: &Value) -> Option<MarkName>
     ensures some { IfSome result (HasMarkName (view value.now)) }
@@ -95,7 +101,8 @@ fn name_in(value: &Value) -> Option<MarkName>
     }
 }
 
-/// Appends the texts of the bookmarks of a book to the text, in order, with commas between them.
+/// Appends the texts of a book's bookmarks to the text, in order, with commas between them. Fails
+/// only if memory is refused.
 pub fn put_marks<const R: usize>(
     alloc: Global,
     text: &mut String,
@@ -116,7 +123,8 @@ pub fn put_marks<const R: usize>(
     Ok(())
 }
 
-/// Appends the text of the bookmark of this number and this name.
+/// Appends the text of the book's bookmark of this number, from 1, with this name. Fails if memory
+/// is refused, or if there is no bookmark of this number.
 fn put_mark<const R: usize>(
     alloc: Global,
     text: &mut String,

@@ -1,4 +1,5 @@
-//! Events: an array of a word and an actor, and of a number or a choice if the word takes one.
+//! Events as JSON: an array of a word and an actor, and of a number or a choice if the word takes
+//! one.
 
 ghost use Rattle.std.specs.Prelude.{◌≡◌, ◌++◌, ◌∷◌, [], nat_lt, Some, OnOk, string_bytes, decimal};
 ghost use Rattle.json.specs.Token.{boolean};
@@ -22,14 +23,14 @@ use std::alloc::{AllocError, Global};
 impl Spelled for Event {
     ghost spells = { Gives event_of };
 
-    /// Returns the event that a JSON value spells.
+    /// Returns the event that a JSON value spells. Fails only if it spells none, with `BadTrace`.
     #[tactic(auto, using(crate::proofs::SpellLemmas::given_or_bad))]
     fn read(_alloc: Global, value: &Value) -> Result<Event, LoadTraceFault> {
         event_in(value).ok_or(LoadTraceFault::BadTrace)
     }
 }
 
-/// Returns the event that a JSON value spells.
+/// Returns the event that a JSON value spells; none if it spells none.
 #[tactic(auto, using(crate::proofs::EventLemmas::other_length))]
 fn event_in(value: &Value) -> Option<Event>
     ensures { result ≡ event_of (view value.now) }
@@ -48,7 +49,7 @@ fn event_in(value: &Value) -> Option<Event>
     }
 }
 
-/// Returns the act that a word spells without a value after it, or none.
+/// Returns the act of a word that takes no value; none for any other word.
 fn act_of_word(word: &str) -> Option<Act>
     ensures { result ≡ act_of_word word.now }
 {
@@ -60,7 +61,8 @@ fn act_of_word(word: &str) -> Option<Act>
     }
 }
 
-/// Returns the act that a word and a value spell, or none.
+/// Returns the act of a word that takes a number or a choice, with this JSON value; none for any
+/// other word, or if the value is of another kind.
 fn act_with(word: &str, value: &Value) -> Option<Act>
     ensures { result ≡ act_with word.now (view value.now) }
 {
@@ -72,7 +74,8 @@ fn act_with(word: &str, value: &Value) -> Option<Act>
     }
 }
 
-/// Appends the texts of events to the text, with commas between them.
+/// Appends the texts of events to the text, with commas between them. Fails only if memory is
+/// refused.
 pub fn put_events(text: &mut String, events: &[Event]) -> Result<(), AllocError>
     ensures { OnOk result (AreAppended (Gives event_of) event_data events.now
         (string_bytes text.old) (string_bytes text.new)) }
@@ -83,7 +86,8 @@ pub fn put_events(text: &mut String, events: &[Event]) -> Result<(), AllocError>
     Ok(())
 }
 
-/// Appends the text of an event to a text that has this many of its list.
+/// Appends the text of an event to a list that has this many in the text, with a comma before it
+/// unless it is the first. Fails only if memory is refused.
 pub fn put_next(text: &mut String, count: usize, event: Event) -> Result<(), AllocError>
     ensures ok { OnOk result (string_bytes text.new
         ≡ string_bytes text.old ++ (comma_if (nat_lt 0 count) ++ compact_text (event_data event))) }
@@ -93,7 +97,7 @@ pub fn put_next(text: &mut String, count: usize, event: Event) -> Result<(), All
     put_event(text, event)
 }
 
-/// Appends the text of an event.
+/// Appends the text of an event. Fails only if memory is refused.
 #[tactic(auto, unfolding(json::specs::Print::escape_byte))]
 fn put_event(text: &mut String, event: Event) -> Result<(), AllocError>
     ensures ok { OnOk result (string_bytes text.new
@@ -111,7 +115,8 @@ fn put_event(text: &mut String, event: Event) -> Result<(), AllocError>
     }
 }
 
-/// Appends the beginning of an event, its actor, and a number that ends it.
+/// Appends the text of an event that ends with a number: the opening with the word, the actor and
+/// the number. Fails only if memory is refused.
 fn put_long(text: &mut String, opening: &str, actor: u8, x: u64) -> Result<(), AllocError>
     ensures ok { OnOk result (string_bytes text.new
         ≡ string_bytes text.old ++ (opening.now
@@ -123,7 +128,8 @@ fn put_long(text: &mut String, opening: &str, actor: u8, x: u64) -> Result<(), A
     text.push_str("]")
 }
 
-/// Appends the beginning of an event, its actor, and the end of it.
+/// Appends the opening with an event's word, its actor, and the closing. Fails only if memory is
+/// refused.
 fn put_around(text: &mut String, opening: &str, actor: u8, closing: &str) -> Result<(), AllocError>
     ensures { OnOk result (string_bytes text.new
         ≡ string_bytes text.old ++ (opening.now ++ (decimal actor ++ closing.now))) }
@@ -133,7 +139,7 @@ fn put_around(text: &mut String, opening: &str, actor: u8, closing: &str) -> Res
     text.push_str(closing)
 }
 
-/// Returns the end of an event that a choice ends.
+/// Returns what follows the actor in the text of a `starve` event, by its choice.
 fn choice_end(choice: bool) -> &'static str
     ensures { result.now ≡ 44 ∷ (token_text (boolean choice) ++ 93 ∷ []) }
 {

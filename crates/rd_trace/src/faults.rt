@@ -11,20 +11,21 @@ use std::alloc::AllocError;
 pub enum LoadTraceFault {
     /// 20: memory was refused.
     NoMemory,
-    /// 26: the text is a trace, and its start is no well-formed world: the first condition that
-    /// fails.
+    /// 26: the text is a trace, but its start is no well-formed world; with the first condition
+    /// that fails.
     Flawed(Flaw),
     /// 27: the text is no trace of version 1 or 2.
     BadTrace,
-    /// 28: the text is a trace, and one of its live events, or of its undone ones after them, is
+    /// 28: the text is a trace, but one of its live events, or of its undone ones after them, is
     /// refused.
     TraceStep {
-        /// The number of the first event that is refused, from 1; the undone events are counted on.
+        /// The number of the first event that is refused, from 1. The undone events are numbered
+        /// after the live ones.
         step: u64,
         /// Why it is refused.
         cause: Refusal,
     },
-    /// 32: the text is a trace, and an event of one of its bookmarks is refused.
+    /// 32: the text is a trace, but an event of one of its bookmarks is refused.
     TraceMark {
         /// The number of the first such bookmark, from 1.
         mark: u64,
@@ -49,7 +50,7 @@ impl From<AllocError> for LoadTraceFault {
 
     ghost from_gives = { λ _ fault. fault ≡ NoMemory };
 
-    /// Memory that was refused is the fault `NoMemory`.
+    /// Returns `NoMemory`, the fault for refused memory.
     fn from(_error: AllocError) -> LoadTraceFault {
         LoadTraceFault::NoMemory
     }

@@ -8,7 +8,8 @@ ghost use Rattle.rd_trace.specs.Starts.{start_flaw};
 ghost use Rattle.rd_trace.specs.Saved.{Trace, IsTraceText, loaded_state, IsSameBook};
 ghost use Rattle.rd_trace.specs.Loading.{LoadsTrace, IsSameAnswer};
 
-/// A text is at most one trace: with one ring, one book, and one flaw of its start or none.
+/// A text is at most one trace: any two readings of it have rings of one size, one book, and the
+/// same first flaw of the start or none.
 pub fn a_text_is_one_trace_at_most()
     ensures { (text : List ℕ) (R Q : ℕ) (t : Trace R) (u : Trace Q) → IsTraceText text t
         → IsTraceText text u
@@ -16,8 +17,8 @@ pub fn a_text_is_one_trace_at_most()
         × IsSameBook (loaded_state t) (loaded_state u) }
 {}
 
-/// Loading a text has one result, unless memory is refused: one book, or one fault with its flaw,
-/// its numbers and its cause.
+/// Loading a text has one result, unless memory is refused: the same book, or the same fault with
+/// its flaw, its numbers and its cause.
 pub fn a_text_has_one_answer()
     ensures { (text : List ℕ) (one other : Result AnyBook LoadTraceFault) → LoadsTrace text one
         → LoadsTrace text other

@@ -1,11 +1,11 @@
 //! A session written as a JSON trace, and loaded again.
 //!
 //! A trace of version 2 is one JSON object: the live events in order, the bookmarks, the number of
-//! cells of a ring, the start, the undone events and the version. One of version 1, which is only
-//! read, has a number of actors and the live events of a run in a fresh world. A text is read as a
-//! `Value` of serde_json, whose form is tested as a whole before the first event is made to happen.
-//! A trace is written as one text, all of whose memory is asked for before the first byte is handed
-//! over.
+//! cells of a ring, the start, the undone events and the version. A trace of version 1, which is
+//! only read, has a number of actors, for a start in the fresh world, and no bookmarks or undone
+//! events. A text is read as a `Value` of serde_json, and the whole value is checked before the
+//! first event happens. The whole text of a trace is made in memory before its first byte is
+//! written.
 #![tactic(auto)]
 
 mod actors;

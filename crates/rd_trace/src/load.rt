@@ -1,5 +1,5 @@
-//! Loading a trace: a text is read whole, its value is dropped, and then the session that it spells
-//! is made to happen.
+//! Loading a trace: the whole text is read as a JSON value, and the value as a session. The value
+//! is dropped, and then the session's events happen.
 
 ghost use Rattle.std.specs.Prelude.{◌≡◌, ◌≤◌, ◌<◌, Some, IfErr, codes, length};
 ghost use Rattle.rd_trace.specs.declared.faults.LoadTraceFault.TheVariants.{NoMemory};
@@ -22,18 +22,20 @@ use rd_script::{AnyBook, Ring};
 use serde_json::Value;
 use std::alloc::Global;
 
-/// Loads a text of version 1 or 2: the book whose start, live events, undone events and bookmarks
-/// are those that the text spells. One of version 1 has a fresh start, nothing undone and no
-/// bookmark. White space and the order of the keys don't matter.
+/// Loads a trace of version 1 or 2, and returns the book with the start, live events, undone events
+/// and bookmarks that the text spells. A trace of version 1 has a fresh start, no undone event and
+/// no bookmark. White space and the order of the keys don't matter.
 ///
 /// # Errors
 ///
 /// In this order: `BadTrace` if the text is no trace; `Flawed` if its start is no well-formed
 /// world, with the first condition that fails; `TraceMark` if an event of a bookmark is refused,
 /// with the numbers of the first such bookmark and of its first such event; `TraceStep` if a live
-/// event or an undone one is refused, with its number, the undone ones being counted on. The cause
-/// is `TooLong` at the event after the `MOST_STEPS`-th of a list. `NoMemory` if memory was refused,
-/// at any point.
+/// event or an undone one is refused, with its number. `NoMemory` if memory was refused, at any
+/// point.
+///
+/// The undone events are numbered after the live ones. The event after the `MOST_STEPS`-th of a
+/// list is refused with the cause `TooLong`.
 pub fn load_trace(alloc: Global, text: &[u8]) -> Result<AnyBook, LoadTraceFault>
     ensures loads { LoadsTrace text.now result }
     ensures again { (b : BookState) → IsTraceRing b.session.start.ring → IsTextOf b text.now
@@ -52,8 +54,8 @@ pub fn load_trace(alloc: Global, text: &[u8]) -> Result<AnyBook, LoadTraceFault>
 ///
 /// # Errors
 ///
-/// `BadTrace` if the text is no JSON; `NoMemory` if memory was refused, which an empty text does not
-/// ask for.
+/// `BadTrace` if the text is no JSON; `NoMemory` if memory was refused, which never happens for an
+/// empty text.
 fn parse_value(alloc: Global, text: &[u8]) -> Result<Value, LoadTraceFault>
     ensures reads { Reads view (HasValue text.now) result }
     ensures memory { IfErr result (λ fault. fault ≡ NoMemory → 0 < length text.now) }
@@ -68,8 +70,8 @@ fn parse_value(alloc: Global, text: &[u8]) -> Result<Value, LoadTraceFault>
     }
 }
 
-/// Returns the book of the session that a value spells. The value is dropped before the first event
-/// happens.
+/// Returns the book of the session that a JSON value spells. The value is dropped before the first
+/// event happens.
 ///
 /// # Errors
 ///

@@ -1,4 +1,5 @@
-//! Names of segments: `[M,S]`, and `null` where a next names none.
+//! Names of segments as JSON: `[M,S]`, a maker and a number; `null` where a segment has no next
+//! one.
 
 ghost use Rattle.std.specs.Prelude.{◌≡◌, Some, IfOk};
 ghost use Rattle.serde_json.specs.View.{view};
@@ -9,7 +10,7 @@ use rd_cell::SegName;
 use serde_json::{Value, json};
 use std::alloc::{AllocError, Global};
 
-/// Returns the name that a JSON value spells.
+/// Returns the name of a segment that a JSON value spells; none if it spells none.
 #[tactic(auto, using(crate::proofs::NumberLemmas::no_name))]
 pub fn name_in(value: &Value) -> Option<SegName>
     ensures { result ≡ name_of (view value.now) }
@@ -24,7 +25,7 @@ pub fn name_in(value: &Value) -> Option<SegName>
     }
 }
 
-/// Returns the JSON value of a name.
+/// Returns the JSON value of a segment's name. Fails only if memory is refused.
 pub fn name_value(alloc: Global, name: SegName) -> Result<Value, AllocError>
     ensures value { IfOk result (λ value. view value ≡ name_data name) }
     ensures spelled { name_of (name_data name) ≡ Some name }
@@ -32,7 +33,8 @@ pub fn name_value(alloc: Global, name: SegName) -> Result<Value, AllocError>
     json!(in alloc; [name.maker, name.n])
 }
 
-/// Returns the name of the next segment that a JSON value spells, or that there is none.
+/// Returns the name of the next segment that a JSON value spells, or no next segment for `null`;
+/// none if the JSON value spells neither.
 pub fn next_in(value: &Value) -> Option<Option<SegName>>
     ensures { result ≡ next_of (view value.now) }
 {
@@ -42,7 +44,8 @@ pub fn next_in(value: &Value) -> Option<Option<SegName>>
     Some(Some(name_in(value)?))
 }
 
-/// Returns the JSON value of the name of the next segment, or of none.
+/// Returns the JSON value of the next segment's name, or `null` for no next segment. Fails only if
+/// memory is refused.
 pub fn next_value(alloc: Global, next: Option<SegName>) -> Result<Value, AllocError>
     ensures value { IfOk result (λ value. view value ≡ next_data next) }
     ensures spelled { next_of (next_data next) ≡ Some next }

@@ -1,4 +1,4 @@
-//! Whole numbers of one byte and of four in values of serde_json.
+//! Whole numbers of one byte and of four bytes in JSON values.
 
 ghost use Rattle.std.specs.Prelude.{◌≡◌};
 ghost use Rattle.serde_json.specs.View.{view};
@@ -6,7 +6,7 @@ ghost use Rattle.rd_trace.specs.Numbers.{byte_number, word_number};
 
 use serde_json::Value;
 
-/// Returns the whole number from 0 to 255 that a value is, or none.
+/// Returns the whole number from 0 to 255 that a JSON value is; none for any other value.
 pub fn byte_in(value: &Value) -> Option<u8>
     ensures { result ≡ byte_number (view value.now) }
 {
@@ -18,7 +18,7 @@ pub fn byte_in(value: &Value) -> Option<u8>
     }
 }
 
-/// Returns the whole number from 0 to 2^32 - 1 that a value is, or none.
+/// Returns the whole number from 0 to 2^32 - 1 that a JSON value is; none for any other value.
 pub fn word_in(value: &Value) -> Option<u32>
     ensures { result ≡ word_number (view value.now) }
 {

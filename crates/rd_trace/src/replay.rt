@@ -1,5 +1,5 @@
-//! A session that was read, made to happen: its bookmarks one after another, then its live events,
-//! then its undone ones.
+//! Replays a session that was read: its bookmarks one after another, then its live events, then its
+//! undone ones.
 
 ghost use Rattle.std.specs.Prelude.{◌≡◌, ◌<◌, ◌≤◌, ◌++◌, [], map, length, IfErr};
 ghost use Rattle.rd_step.specs.Prelude.{MOST_CELLS};
@@ -28,7 +28,7 @@ use std::alloc::Global;
 ///
 /// In this order: `Flawed` if its start is no well-formed world; `TraceMark` if an event of a
 /// bookmark is refused; `TraceStep` if a live event, or an undone one after them, is refused.
-/// `NoMemory` if memory was refused.
+/// `NoMemory` if memory was refused, at any point.
 pub fn replay<const R: usize>(
     alloc: Global,
     session: SavedSession<R>,
@@ -48,7 +48,8 @@ pub fn replay<const R: usize>(
     Ok(book)
 }
 
-/// Returns the world of a start; its first flaw if it makes none, or `NoMemory`.
+/// Returns the world of a start. Fails with `Flawed` and the first flaw if the start makes no
+/// well-formed world, and with `NoMemory` if memory is refused.
 fn world_of<const R: usize>(alloc: Global, start: Start<R>) -> Result<World<R>, LoadTraceFault>
     requires positive { 1 ≤ R }
     requires small { R ≤ MOST_CELLS }
@@ -68,7 +69,9 @@ fn world_of<const R: usize>(alloc: Global, start: Start<R>) -> Result<World<R>, 
     }
 }
 
-/// Sets bookmarks, each at its events.
+/// Sets bookmarks in a book that has none, each at its own events, and leaves the last one's events
+/// live. Fails with `TraceMark` at the first event that is refused, and with `NoMemory` if memory
+/// is refused.
 fn set_marks<const R: usize>(book: &mut Book<R>, marks: &[SavedMark]) -> Result<(), LoadTraceFault>
     requires names { HaveDifferentNames (map saved_mark marks.now) }
     requires few { length marks.now ≤ MOST_MARKS }
@@ -90,8 +93,9 @@ fn set_marks<const R: usize>(book: &mut Book<R>, marks: &[SavedMark]) -> Result<
     Ok(())
 }
 
-/// Makes just these events live and just those after them undone. Fails at the first event that is
-/// refused; an undone one is counted on after the live ones.
+/// Makes just `events` live and just `undone` undone. Fails with `TraceStep` at the first event
+/// that is refused, where the undone events are numbered after the live ones, and with `NoMemory`
+/// if memory is refused.
 fn make_live<const R: usize>(
     book: &mut Book<R>,
     events: &[Event],
@@ -105,8 +109,9 @@ fn make_live<const R: usize>(
     Ok(())
 }
 
-/// Makes just these events live, with nothing undone. Fails at the first event that is refused. The
-/// live events are undone only as far as the two lists differ.
+/// Makes just these events live, with nothing undone. It undoes live events only from the first one
+/// in which the two lists differ. Fails with `TraceStep` at the first event that is refused, and
+/// with `NoMemory` if memory is refused.
 fn go_to<const R: usize>(book: &mut Book<R>, events: &[Event]) -> Result<(), LoadTraceFault>
     ensures { GoesTo (book_state book.old) events.now (book_state book.new) result }
 {
@@ -115,8 +120,9 @@ fn go_to<const R: usize>(book: &mut Book<R>, events: &[Event]) -> Result<(), Loa
     step_all(book, &events[kept..])
 }
 
-/// Makes events happen in order, where none is undone. Fails at the first one that is refused, which
-/// is counted on after the live events.
+/// Makes events happen after the live ones, in order, in a book with nothing undone. Fails with
+/// `TraceStep` at the first one that is refused, which is numbered after the live events, and with
+/// `NoMemory` if memory is refused.
 fn step_all<const R: usize>(book: &mut Book<R>, events: &[Event]) -> Result<(), LoadTraceFault>
     requires through { GoThrough (book_state book.old).session.start
         (book_state book.old).session.live }
@@ -133,7 +139,8 @@ fn step_all<const R: usize>(book: &mut Book<R>, events: &[Event]) -> Result<(), 
     Ok(())
 }
 
-/// Returns the fault of loading for an event of this number that was refused.
+/// Returns the fault of loading for an event that was refused: `NoMemory` for refused memory, and
+/// `TraceStep` with the event's number for any other cause.
 fn step_fault(step: u64, cause: Refusal) -> LoadTraceFault
     ensures { result ≡ step_fault step cause }
 {
@@ -143,8 +150,8 @@ fn step_fault(step: u64, cause: Refusal) -> LoadTraceFault
     }
 }
 
-/// Returns the fault of loading for an event of the bookmark of this number, from the event's own
-/// fault.
+/// Returns the fault of loading for an event of a bookmark, from the event's own fault: `TraceMark`
+/// with the bookmark's number for `TraceStep`, and any other fault unchanged.
 fn mark_fault(mark: u64, fault: LoadTraceFault) -> LoadTraceFault
     ensures { result ≡ mark_fault mark fault }
 {

@@ -1,5 +1,5 @@
-//! Whole sessions: the object of version 1, which is only read, and that of version 2, which is
-//! read and written.
+//! Whole sessions as JSON: the object of version 1, which is only read, and the object of version
+//! 2, which is read and written.
 
 ghost use Rattle.std.specs.Prelude.{◌≡◌, ◌≤◌, ◌++◌, ℕ, Some, codes, IfOk, OnOk, IfSome, IfNone, IsUtf8, string_bytes};
 ghost use Rattle.serde_json.specs.View.{view};
@@ -57,17 +57,17 @@ const VERSION: &str = "version";
 /// A session that was read.
 #[derive(Drop)]
 pub struct SavedSession<const R: usize> {
-    /// Its start.
+    /// The session's start.
     pub start: Start<R>,
-    /// Its bookmarks in order.
+    /// Its bookmarks, in order.
     pub marks: Vec<SavedMark>,
-    /// Its live events in order.
+    /// Its live events, in order.
     pub events: Vec<Event>,
-    /// Its undone events, the one undone last first.
+    /// Its undone events, beginning with the one that was undone last.
     pub undone: Vec<Event>,
 }
 
-/// Returns the ring of the session that a value spells, if a trace may have it.
+/// Returns the size of rings at the key `ring` of an object; none unless it is 2, 4 or 8.
 pub fn ring_in(value: &Value) -> Option<Ring>
     ensures some { IfSome result (λ ring. number_at (codes "ring") (view value.now)
         ≡ Some (ring_length ring)) }
@@ -82,7 +82,8 @@ pub fn ring_in(value: &Value) -> Option<Ring>
     }
 }
 
-/// Returns the session over rings of `R` cells that a value spells, of version 1 or 2.
+/// Returns the session over rings of `R` cells that a JSON value spells, as a trace of version 1 or
+/// 2.
 ///
 /// # Errors
 ///
@@ -103,8 +104,9 @@ pub fn session_in<const R: usize>(
     }
 }
 
-/// Returns the session that the members of a trace of version 1 spell: over a fresh world, with
-/// nothing undone and no bookmark.
+/// Returns the session that an object with the version 1 and four members spells: over a fresh
+/// world, with nothing undone and no bookmark. Fails with `BadTrace` if it spells none, and with
+/// `NoMemory` if memory is refused.
 fn first_session_in<const R: usize>(
     alloc: Global,
     value: &Value,
@@ -126,7 +128,8 @@ fn first_session_in<const R: usize>(
     })
 }
 
-/// Returns the session that the members of a trace of version 2 spell.
+/// Returns the session that an object with the version 2 and six members spells. Fails with
+/// `BadTrace` if it spells none, and with `NoMemory` if memory is refused.
 fn second_session_in<const R: usize>(
     alloc: Global,
     value: &Value,
@@ -151,7 +154,8 @@ fn second_session_in<const R: usize>(
     })
 }
 
-/// Returns the text of a book's session and bookmarks, of version 2, with a line feed after it.
+/// Returns the text of a book's session and bookmarks as a trace of version 2, with a line feed
+/// after it. Fails only if memory is refused.
 pub fn text_of<const R: usize>(alloc: Global, book: &Book<R>) -> Result<String, AllocError>
     ensures { IfOk result (λ text. IsUtf8 (string_bytes text)
         → IsTextOf (book_state book.now) (string_bytes text)) }
@@ -173,8 +177,8 @@ pub fn text_of<const R: usize>(alloc: Global, book: &Book<R>) -> Result<String, 
     Ok(text)
 }
 
-/// The live events of a session, and then its undone ones, can run from its start: this law follows
-/// from the contract of the session's world.
+/// Does nothing. Its contract is a law, which follows from the contract of the session's world: the
+/// live events of a session, and then its undone ones, can run from its start.
 fn events_go_through<const R: usize>(session: &Session<R>)
     ensures { GoThrough (state session.now).start
         ((state session.now).live ++ (state session.now).undone) }
@@ -182,7 +186,7 @@ fn events_go_through<const R: usize>(session: &Session<R>)
     let _world = session.world();
 }
 
-/// Returns the JSON value of the start of a session.
+/// Returns the JSON value of the start of a session. Fails only if memory is refused.
 fn start_of<const R: usize>(alloc: Global, session: &Session<R>) -> Result<Value, AllocError>
     ensures { IfOk result (λ value. IsStartValue (state session.now).start (view value)) }
 {
@@ -192,7 +196,7 @@ fn start_of<const R: usize>(alloc: Global, session: &Session<R>) -> Result<Value
     start_value(alloc, &world)
 }
 
-/// Appends the text of the start of a session.
+/// Appends the text of the start of a session. Fails only if memory is refused.
 fn put_start<const R: usize>(
     alloc: Global,
     text: &mut String,
@@ -206,7 +210,8 @@ fn put_start<const R: usize>(
     text.push_str(written.as_str())
 }
 
-/// Appends the texts of the live events of a session, with commas between them.
+/// Appends the texts of the live events of a session, with commas between them. Fails only if
+/// memory is refused.
 fn put_live<const R: usize>(text: &mut String, session: &Session<R>) -> Result<(), AllocError>
     ensures { OnOk result (AreAppended (Gives event_of) event_data (state session.now).live
         (string_bytes text.old) (string_bytes text.new)) }
@@ -218,8 +223,8 @@ fn put_live<const R: usize>(text: &mut String, session: &Session<R>) -> Result<(
     Ok(())
 }
 
-/// Appends the texts of the undone events of a session, the one undone last first, with commas
-/// between them.
+/// Appends the texts of the undone events of a session, with commas between them, beginning with
+/// the event that was undone last. Fails only if memory is refused.
 fn put_undone<const R: usize>(text: &mut String, session: &Session<R>) -> Result<(), AllocError>
     ensures { OnOk result (AreAppended (Gives event_of) event_data (state session.now).undone
         (string_bytes text.old) (string_bytes text.new)) }

@@ -1,4 +1,5 @@
-//! Segments: an object with a member for each word of a segment; its cells are arrays of three.
+//! Segments as JSON: an object with a member for each part of a segment, and an array of three for
+//! each cell.
 
 ghost use Rattle.std.specs.Prelude.{◌≡◌, ◌≤◌, List, IfOk, OnOk, IfSome, IfNone, length};
 ghost use Rattle.serde_json.specs.View.{view, items_view};
@@ -18,7 +19,7 @@ use rd_step::SegmentParts;
 use serde_json::{Value, json};
 use std::alloc::{AllocError, Global};
 
-/// The number of members of a segment.
+/// The number of members of the JSON object of a segment.
 const MEMBERS: usize = 5;
 
 const CELLS: &str = "cells";
@@ -36,7 +37,8 @@ impl<const R: usize> Spelled for Vec<SegmentParts<R>> {
 
     ghost fits = { R ≤ MOST_CELLS };
 
-    /// Returns the list of segments that a JSON value spells.
+    /// Returns the list of segments that a JSON value spells. Fails with `BadTrace` if it spells
+    /// none, and with `NoMemory` if memory is refused.
     fn read(alloc: Global, value: &Value) -> Result<Vec<SegmentParts<R>>, LoadTraceFault> {
         match value.as_array() {
             None => Err(LoadTraceFault::BadTrace),
@@ -48,7 +50,7 @@ impl<const R: usize> Spelled for Vec<SegmentParts<R>> {
 impl<const R: usize> Written for Vec<SegmentParts<R>> {
     ghost datum = { list_data };
 
-    /// Returns the JSON value of the list of segments.
+    /// Returns the JSON value of the list of segments. Fails only if memory is refused.
     fn write(&self, alloc: Global) -> Result<Value, AllocError> {
         Ok(Value::Array(list_value(alloc, self)?))
     }
@@ -59,7 +61,7 @@ impl<const R: usize> Spelled for SegmentParts<R> {
 
     ghost fits = { R ≤ MOST_CELLS };
 
-    /// Returns the segment that a JSON value spells.
+    /// Returns the segment that a JSON value spells. Fails only if it spells none, with `BadTrace`.
     #[tactic(auto, using(crate::proofs::SpellLemmas::read_or_bad))]
     fn read(_alloc: Global, value: &Value) -> Result<SegmentParts<R>, LoadTraceFault> {
         segment_in(value).ok_or(LoadTraceFault::BadTrace)
@@ -69,7 +71,7 @@ impl<const R: usize> Spelled for SegmentParts<R> {
 impl<const R: usize> Written for SegmentParts<R> {
     ghost datum = { segment_data };
 
-    /// Returns the JSON value of the segment.
+    /// Returns the JSON value of the segment. Fails only if memory is refused.
     fn write(&self, alloc: Global) -> Result<Value, AllocError> {
         segment_value(alloc, self)
     }
@@ -78,7 +80,7 @@ impl<const R: usize> Written for SegmentParts<R> {
 impl Spelled for Cell {
     ghost spells = { Gives cell_of };
 
-    /// Returns the cell that a JSON value spells.
+    /// Returns the cell that a JSON value spells. Fails only if it spells none, with `BadTrace`.
     #[tactic(auto, using(crate::proofs::SpellLemmas::given_or_bad))]
     fn read(_alloc: Global, value: &Value) -> Result<Cell, LoadTraceFault> {
         cell_in(value).ok_or(LoadTraceFault::BadTrace)
@@ -88,13 +90,13 @@ impl Spelled for Cell {
 impl Written for Cell {
     ghost datum = { cell_data };
 
-    /// Returns the JSON value of the cell.
+    /// Returns the JSON value of the cell. Fails only if memory is refused.
     fn write(&self, alloc: Global) -> Result<Value, AllocError> {
         cell_value(alloc, self)
     }
 }
 
-/// Returns the segment that a value spells, or none.
+/// Returns the segment that a JSON value spells; none if it spells none.
 fn segment_in<const R: usize>(value: &Value) -> Option<SegmentParts<R>>
     requires { R ≤ MOST_CELLS }
     ensures some { IfSome result (IsSegment (view value.now)) }
@@ -113,7 +115,7 @@ fn segment_in<const R: usize>(value: &Value) -> Option<SegmentParts<R>>
     })
 }
 
-/// Returns the JSON value of a segment.
+/// Returns the JSON value of a segment. Fails only if memory is refused.
 #[tactic(auto, using(crate::proofs::SegmentLemmas::segment_spelled))]
 fn segment_value<const R: usize>(
     alloc: Global,
@@ -133,7 +135,8 @@ fn segment_value<const R: usize>(
     })
 }
 
-/// Returns the cells that the values of a list spell, if they are as many as a ring has.
+/// Returns the `R` cells that the values of a list spell; none if a value spells no cell, or if
+/// there are not `R` values.
 fn cells_in<const R: usize>(list: &Vec<Value>) -> Option<[Cell; R]>
     ensures some { IfSome result (SpellEach (Gives cell_of) (items_view list.now.items)) }
     ensures length { IfSome result (λ cells. length cells ≡ R) }
@@ -150,14 +153,15 @@ fn cells_in<const R: usize>(list: &Vec<Value>) -> Option<[Cell; R]>
     Some(cells)
 }
 
-/// Returns the JSON value of a cell.
+/// Returns the JSON value of a cell, an array of its safe bit, index and value. Fails only if
+/// memory is refused.
 fn cell_value(alloc: Global, cell: &Cell) -> Result<Value, AllocError>
     ensures { IfOk result (λ value. view value ≡ cell_data cell.now) }
 {
     json!(in alloc; [cell.safe, cell.idx, cell.val])
 }
 
-/// Returns the cell that a value spells, or none.
+/// Returns the cell that a JSON value spells; none if it spells none.
 #[tactic(auto, using(crate::proofs::SegmentLemmas::no_cell))]
 fn cell_in(value: &Value) -> Option<Cell>
     ensures { result ≡ cell_of (view value.now) }

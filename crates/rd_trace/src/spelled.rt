@@ -1,5 +1,5 @@
-//! The kinds of things of which a trace has lists: which values spell one, and how one, or a list
-//! of them, is read and written.
+//! The kinds of things that a trace lists. For each kind: which JSON values spell a thing, and how
+//! a thing or a list of things is read and written.
 
 ghost use Rattle.std.specs.Prelude.{◌≡◌, IfOk, OnOk};
 ghost use Rattle.serde_json.specs.Data.{Data};
@@ -11,15 +11,15 @@ use super::members::array_at;
 use serde_json::Value;
 use std::alloc::{AllocError, Global};
 
-/// A kind of thing that values of a trace spell.
+/// A kind of thing that JSON values of a trace spell.
 pub trait Spelled: Sized + Drop {
-    /// Which values spell which things.
+    /// Whether a JSON value spells a thing.
     ghost spells: { Data → Self → Type 0 };
 
-    /// A fact that must hold where a thing is read.
+    /// What a caller of `read` must know; by default nothing.
     ghost fits: { Type 0 } = { Unit {0} };
 
-    /// Returns the thing of this kind that a value spells.
+    /// Returns the thing of this kind that a JSON value spells.
     ///
     /// # Errors
     ///
@@ -29,22 +29,22 @@ pub trait Spelled: Sized + Drop {
         ensures { Reads itself (spells (view value.now)) result };
 }
 
-/// What is written as a value.
+/// A kind of thing that is also written as JSON values.
 pub trait Written: Spelled {
-    /// The value as which each thing is written.
+    /// The JSON value as which a thing is written.
     ghost datum: { Self → Data };
 
-    /// Returns the value as which the thing is written, or fails if memory was refused.
+    /// Returns the JSON value as which the thing is written. Fails only if memory is refused.
     fn write(&self, alloc: Global) -> Result<Value, AllocError>
         ensures value { IfOk result (λ value. view value ≡ datum self.now) }
         ensures spelled { OnOk result (Self.spells (datum self.now) self.now) };
 }
 
-/// Returns the things that the values of a list spell, in their order.
+/// Returns the things that the JSON values of a list spell, in order.
 ///
 /// # Errors
 ///
-/// `BadTrace` if one spells none; `NoMemory` if memory was refused.
+/// `BadTrace` if a value spells none; `NoMemory` if memory was refused.
 pub fn list_in<T: Spelled>(alloc: Global, list: &Vec<Value>) -> Result<Vec<T>, LoadTraceFault>
     requires { T.fits }
     ensures { Reads elements (SpellEach T.spells (items_view list.now.items)) result }
@@ -56,11 +56,11 @@ pub fn list_in<T: Spelled>(alloc: Global, list: &Vec<Value>) -> Result<Vec<T>, L
     Ok(things)
 }
 
-/// Returns the things that the list at a key of an object spells, in their order.
+/// Returns the things that the list at a key of an object spells, in order.
 ///
 /// # Errors
 ///
-/// As `list_in`, and `BadTrace` if there is no list.
+/// As `list_in`, and `BadTrace` if there is no list at this key.
 pub fn list_at<T: Spelled>(
     alloc: Global,
     value: &Value,
@@ -75,7 +75,7 @@ pub fn list_at<T: Spelled>(
     }
 }
 
-/// Returns the values as which these things are written, in their order, or fails if memory was
+/// Returns the JSON values as which these things are written, in order. Fails only if memory is
 /// refused.
 pub fn list_value<T: Written>(alloc: Global, things: &[T]) -> Result<Vec<Value>, AllocError>
     ensures { IfOk result (λ values. AreSpelled T.spells T.datum values.items things.now) }

@@ -1,4 +1,5 @@
-//! The start of a session: the fresh world of this many actors, or the parts of any other world.
+//! The start of a session as JSON: the number of actors of a fresh world, or the parts of any other
+//! world.
 
 ghost use Rattle.std.specs.Prelude.{◌≡◌, ◌≤◌, ℕ, Some, IfOk, OnOk, IfSome, IfNone};
 ghost use Rattle.serde_json.specs.View.{view, items_view};
@@ -20,10 +21,10 @@ use rd_step::{ArrayParts, Parts, World};
 use serde_json::{Value, json};
 use std::alloc::{AllocError, Global};
 
-/// The number of members of a fresh start.
+/// The number of members of the JSON object of a fresh start.
 const FRESH_MEMBERS: usize = 1;
 
-/// The number of members of the parts of a world.
+/// The number of members of the JSON object of a world's parts.
 const MEMBERS: usize = 5;
 
 const ACTORS: &str = "actors";
@@ -38,12 +39,12 @@ const QTAIL: &str = "qtail";
 
 const SEGMENTS: &str = "segments";
 
-/// The start of a session.
+/// The start of a session, as a trace spells it.
 #[derive(Drop)]
 pub enum Start<const R: usize> {
-    /// In the fresh world of this many actors, 1 to 16.
+    /// The fresh world of this many actors, 1 to 16.
     Fresh(u8),
-    /// In the world of these parts, of which nothing is known yet.
+    /// The world of these parts, which may fail to make a well-formed world.
     Parts(Parts<R>),
 }
 
@@ -66,7 +67,8 @@ pub fn start_in<const R: usize>(alloc: Global, value: &Value) -> Result<Start<R>
     }
 }
 
-/// Returns the number of actors, 1 to 16, at a key of an object, or none.
+/// Returns the number of actors at a key of an object; none if it has no whole number from 1 to 16
+/// there.
 pub fn actors_at(value: &Value, key: &str) -> Option<u8>
     ensures some { IfSome result (IsActorCount key.now (view value.now)) }
     ensures none { IfNone result ((count : ℕ) → IsActorCount key.now (view value.now) count → ⊥) }
@@ -78,7 +80,8 @@ pub fn actors_at(value: &Value, key: &str) -> Option<u8>
     Some(actors as u8)
 }
 
-/// Returns the parts that a JSON value of this many members spells.
+/// Returns the parts that a JSON object of five members spells. Fails with `BadTrace` if it spells
+/// none, and with `NoMemory` if memory is refused.
 fn parts_in<const R: usize>(alloc: Global, value: &Value) -> Result<Parts<R>, LoadTraceFault>
     requires small { R ≤ MOST_CELLS }
     requires members { member_count (view value.now) ≡ Some 5 }
@@ -102,7 +105,7 @@ fn parts_in<const R: usize>(alloc: Global, value: &Value) -> Result<Parts<R>, Lo
     })
 }
 
-/// Returns the array that an object has at its key, or none.
+/// Returns the array that an object spells at the key `array`; none if it spells no array there.
 fn slots_at(value: &Value) -> Option<ArrayParts>
     ensures some { IfSome result (IsArrayAt (view value.now)) }
     ensures none { IfNone result ((parts : ArrayParts) → IsArrayAt (view value.now) parts → ⊥) }
@@ -110,15 +113,15 @@ fn slots_at(value: &Value) -> Option<ArrayParts>
     array_in(value.get(ARRAY)?)
 }
 
-/// Returns the name at a key of an object.
+/// Returns the name of a segment at a key of an object; none if it has no name there.
 fn name_at(value: &Value, key: &str) -> Option<SegName>
     ensures { result ≡ name_at key.now (view value.now) }
 {
     name_in(value.get(key)?)
 }
 
-/// Returns the value of a start in this world: as the fresh one if the world is that, else as its
-/// parts.
+/// Returns the JSON value of a session's start in this world: the number of actors if the world is
+/// fresh, else its parts. Fails only if memory is refused.
 pub fn start_value<const R: usize>(alloc: Global, world: &World<R>) -> Result<Value, AllocError>
     ensures { IfOk result (λ value. IsStartValue (model world.now) (view value)) }
 {
@@ -131,14 +134,15 @@ pub fn start_value<const R: usize>(alloc: Global, world: &World<R>) -> Result<Va
     parts_value(alloc, &parts)
 }
 
-/// Returns the JSON value of a fresh start.
+/// Returns the JSON value of the fresh start with this many actors. Fails only if memory is
+/// refused.
 fn fresh_value(alloc: Global, actors: u64) -> Result<Value, AllocError>
     ensures { IfOk result (λ value. view value ≡ fresh_data actors) }
 {
     json!(in alloc; {FRESH: actors})
 }
 
-/// Returns the JSON value of parts.
+/// Returns the JSON value of a world's parts. Fails only if memory is refused.
 fn parts_value<const R: usize>(alloc: Global, parts: &Parts<R>) -> Result<Value, AllocError>
     ensures value { IfOk result (λ value. view value ≡ parts_data parts.now) }
     ensures spelled { OnOk result (IsParts (parts_data parts.now) parts.now) }
@@ -151,7 +155,8 @@ fn parts_value<const R: usize>(alloc: Global, parts: &Parts<R>) -> Result<Value,
     parts_object(alloc, actors, slots, qhead, qtail, segments)
 }
 
-/// Returns the JSON object of a world's parts, from their values.
+/// Returns the JSON object of a world's parts, from the JSON values of the parts. Fails only if
+/// memory is refused.
 fn parts_object(
     alloc: Global,
     actors: Vec<Value>,

@@ -13,13 +13,9 @@ use rd_script::{AnyBook, Sink, write_all};
 use std::alloc::Global;
 
 /// Writes a book as a trace of version 2, with a line feed after it: its start, live events, undone
-/// events and bookmarks, and the number of cells of its rings, which may be one that `load_trace`
-/// refuses. If it does not, loading the text gives the same book, unless memory is refused.
-///
-/// # Errors
-///
-/// `NoMemory` if memory was refused: nothing was written. `Write` if the sink failed: it took a
-/// beginning of the text.
+/// events and bookmarks, and the number of cells of its rings. With rings of 2, 4 or 8 cells,
+/// loading the text gives the same book, unless memory is refused. `load_trace` refuses any other
+/// number.
 #[tactic(auto, using(crate::proofs::SpellLemmas::passed_up))]
 pub fn write_trace<K: Sink, const R: usize>(
     alloc: Global,
@@ -39,11 +35,7 @@ pub fn write_trace<K: Sink, const R: usize>(
     }
 }
 
-/// Writes a book whose ring is known only when the program runs, as `write_trace` does.
-///
-/// # Errors
-///
-/// Those of `write_trace`.
+/// Writes a book over rings of 2, 4 or 8 cells as a trace, as `write_trace` does.
 pub fn write_any_trace<K: Sink>(
     alloc: Global,
     writer: &mut K,

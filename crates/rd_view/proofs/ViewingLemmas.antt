@@ -1,8 +1,8 @@
--- What passes know after a chain of calls, and how that stands to the history that leaves the desk.
+-- What passes know after a chain of calls, and how the history that leaves the desk agrees with it.
 use Rattle.rd_view.proofs.Prelude.{◌≡◌, ◌∙◌, ◌^◌, ℕ, zero, suc, List, [], ◌∷◌, ◌++◌, Result, Ok, Err, IfErr, Option, Some, None, Vec, map, length, refl, sym, ap, subst, append_assoc, AllByRecursion, AllZip, Answer, AreAnswered, Book, BookState, BookWithHistory, Call, Command, Continues, Desk, Ghosts, Global, History, IsChain, IsNewViewer, IsNotBusy, IsDone, SeesAfter, IsViewerOf, KnowsAfterCall, KnowsWords, LineFault, Pass, StaysEnded, TicketsEnded, WasAnswered, append-nil, calls_of, commands_of, entries, map-append, put_by, next_seen, number, numbers, opened_state, own_answered, own_refused, own_same, seen}
 
 module _ (opened : BookState) where
-  -- after a chain of calls the viewer's own calls grew by those that were recorded
+  -- after a chain of calls, the viewer's own calls have grown by those that were recorded
   chain_grew : (viewer : ℕ) (commands : List Command) (answers : List Answer) (old new : List (ℕ × Call)) → IsChain (SeesAfter opened viewer) old commands answers new
       → map (λ e. e.1) (put_by viewer 1 new) ≡ map (λ e. e.1) (put_by viewer 1 old) ++ calls_of commands answers
   chain_grew viewer [] [] old new is = ap (λ es. map (λ e. e.1) (put_by viewer 1 es)) is ∙ sym (append-nil (map (λ e. e.1) (put_by viewer 1 old)))
@@ -26,14 +26,14 @@ module _ (R : ℕ) (K : Ghosts (BookWithHistory R) Call (Book R)) (desk : Desk R
   abbrev told : ViewPass → Command → Answer → ViewPass → Type 0
   told pass command answer after = KnowsAfterCall (opened_state desk) pass after command answer
 
-  -- who has seen all tickets drawn is answered nothing but that they have ended
+  -- a viewer that has seen all tickets drawn gets the answer `TicketsEnded` to each command
   all_ended : (commands : List Command) (answers : List Answer) (p q : ViewPass) → next_seen p ≡ 2 ^ 63 → IsChain told p commands answers q → AllByRecursion (λ answer. answer ≡ Err TicketsEnded) answers
   all_ended [] [] p q at chain = tt
   all_ended (c ∷ commands) (answer ∷ answers) p q at chain = let now = chain.1.ended at in (now, all_ended commands answers chain.0 q (subst (KnowsWords chain.0) now chain.1.outcome.words) chain.2)
   all_ended _ _ p q at chain = absurd chain
 
-  -- after a chain of calls the pass has its number, and has seen a chain of histories; no answer is
-  -- `Busy`, and after the first that the tickets have ended there is no other
+  -- after a chain of calls the pass has its number, and the histories that it has seen are a chain;
+  -- no answer is `Busy`, and after `TicketsEnded` there is no other answer
   of_chain : (viewer : ℕ) (commands : List Command) (answers : List Answer) (p q : ViewPass) → number p ≡ viewer → IsChain told p commands answers q
       → (number q ≡ viewer) × IsChain (SeesAfter (opened_state desk) viewer) (seen p) commands answers (seen q) × AllByRecursion (λ answer. IfErr answer IsNotBusy) answers × StaysEnded answers
   of_chain viewer [] [] p q is chain = (ap number chain ∙ is, ap seen chain, tt, tt)
@@ -45,7 +45,7 @@ module _ (R : ℕ) (K : Ghosts (BookWithHistory R) Call (Book R)) (desk : Desk R
   )
   of_chain viewer _ _ p q is chain = absurd chain
 
-  -- what a viewer gives back, and how that agrees with what it was given
+  -- what a viewer gives back: its pass, and its answers if its thread was started
   abbrev Done : Type 0
   Done = ViewPass × Option (Vec Answer Global)
 
@@ -59,12 +59,12 @@ module _ (R : ℕ) (K : Ghosts (BookWithHistory R) Call (Book R)) (desk : Desk R
   own_passes (viewer ∷ work) ((pass, None) ∷ dones) pairs = (pairs.0.0, own_passes work dones pairs.1)
   own_passes _ _ pairs = absurd pairs
 
-  -- new viewers may ask
+  -- the passes of new viewers are passes of this desk
   pub new_may_ask : (work : List (ViewPass × Vec Command Global)) → AllByRecursion (IsNewViewer desk) (map (λ viewer. viewer.0) work) → AllByRecursion (λ viewer. takes viewer.0) work
   new_may_ask [] new = tt
   new_may_ask (viewer ∷ work) new = ((new.0.is_pass, new.0.is_out), new_may_ask work new.1)
 
-  -- what a started viewer was answered
+  -- a new viewer whose pass went through a chain of calls was answered as `WasAnswered` says
   was_answered : (history : History) (n : ℕ) (first last : ViewPass) (commands : List Command) (answers : List Answer)
       → IsNewViewer desk first → number first ≡ n → IsChain told first commands answers last → Continues (number last) (seen last) (entries history)
       → WasAnswered (opened_state desk) (entries history) n commands answers
@@ -86,7 +86,7 @@ module _ (R : ℕ) (K : Ghosts (BookWithHistory R) Call (Book R)) (desk : Desk R
   asked_nothing history n first last new is same on =
       own_same n [] (entries history) (subst (λ k. Continues k [] (entries history)) (ap number same ∙ is) (subst (λ before. Continues (number last) before (entries history)) (ap seen same ∙ new.has_seen) on))
 
-  -- what all viewers were answered, from this number on
+  -- all viewers from this number on were answered as `AreAnswered` says
   pub all_answered : (history : History) (n : ℕ) (work : List (ViewPass × Vec Command Global)) (dones : List Done) (said : List (Vec (Result Command LineFault) Global))
       → AllZip Gives work dones → AllByRecursion (IsNewViewer desk) (map (λ viewer. viewer.0) work) → map number (map (λ viewer. viewer.0) work) ≡ numbers n (length said)
       → map (λ viewer. viewer.1.items) work ≡ map (λ lines. commands_of lines.items) said → AllByRecursion (λ pass. Continues (number pass) (seen pass) (entries history)) (map (λ done. done.0) dones)
@@ -103,7 +103,7 @@ module _ (R : ℕ) (K : Ghosts (BookWithHistory R) Call (Book R)) (desk : Desk R
       (asked_nothing history n viewer.0 pass new.0 (cc) pairs.0.1 knows.0, all_answered history (suc n) work dones said pairs.1 new.1 (cc) (cc) knows.1)
   all_answered history n _ _ said pairs new is read knows = absurd pairs
 
--- this many numbers there are
+-- there are n numbers from k on
 pub length-numbers : (k n : ℕ) → length (numbers k n) ≡ n
 length-numbers k zero = refl
 length-numbers k (suc n) = ap suc (length-numbers (suc k) n)

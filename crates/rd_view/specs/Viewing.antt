@@ -23,11 +23,11 @@ use Rattle.rd_view.specs.declared.faults.ViewFault.{ViewFault}
 use Rattle.rd_view.specs.declared.faults.ViewFault.TheVariants as view
 use Rattle.rd_view.specs.Reports.{view_text}
 
--- for each script, these are the commands and the faults of its lines
+-- for each script, these are the commands and the faults of its lines, in order
 abbrev pub AreRead : List (Vec ℕ Global) → List (Vec (Result Command LineFault) Global) → Type 0
 AreRead scripts said = AllZip (λ script lines. AllZip Says (lines_of script.items) lines.items) scripts said
 
--- the calls that a history has of these commands with these answers: those that the desk did not
+-- the calls that a history records for these commands and answers: those that the desk did not
 -- refuse
 abbrev pub calls_of : List Command → List Answer → List Call
 calls_of (command ∷ commands) (Ok answer ∷ answers) = record { command = command; answer = answer } ∷ calls_of commands answers
@@ -35,22 +35,23 @@ calls_of (command ∷ commands) (Err refusal ∷ answers) = calls_of commands an
 calls_of [] answers = []
 calls_of (command ∷ commands) [] = []
 
--- why the scripts were not viewed: memory was refused, or the desk could not be closed
+-- the fault of a view of which nothing was written: `NoMemory`, or `Busy`, where a drawn ticket was
+-- not finished
 abbrev pub IsUnviewed : ViewFault → Type 0
 IsUnviewed view.NoMemory = Unit {0}
 IsUnviewed view.Write = ⊥
 IsUnviewed (view.Busy words) = words.served < words.next
 
--- after the first answer that the tickets have ended there is no other answer
+-- after an answer `TicketsEnded`, every later answer is `TicketsEnded` too
 abbrev pub StaysEnded : List Answer → Type 0
 StaysEnded [] = Unit {0}
 StaysEnded (answer ∷ answers) = (answer ≡ Err TicketsEnded → AllByRecursion (λ later. later ≡ Err TicketsEnded) answers) × StaysEnded answers
 
 module _ (opened : BookState) (history : List (ℕ × Call)) where
-  -- the viewer of this number asked these commands, one after another, and got these answers, none
-  -- of which is `Busy`. The history goes on from what it has seen then by calls of others alone, and
-  -- its calls there, in order, are just those that were recorded. Once the tickets have ended, they
-  -- have ended for each later command.
+  -- the viewer of this number asked these commands, one after another, and got these answers. In
+  -- `seen` is the history that it has seen at the end; only calls of other viewers come after it.
+  -- The viewer's calls in the history are just those that were recorded, in order. No answer is
+  -- `Busy`, and after `TicketsEnded` there is no other answer
   pub record WasAnswered (viewer : ℕ) (commands : List Command) (answers : List Answer) : Type 0 where
     pub seen : List (ℕ × Call)
     pub chain : IsChain (SeesAfter opened viewer) [] commands answers seen
@@ -65,7 +66,8 @@ module _ (opened : BookState) (history : List (ℕ × Call)) where
   IsAnswered viewer commands (Some answers) = WasAnswered viewer commands answers.items
   IsAnswered viewer commands None = put_by viewer 1 history ≡ []
 
-  -- the viewers from this number on got these answers to the commands of their lines
+  -- the viewers from this number on got these answers to the commands of their lines, with one list
+  -- of lines and one of answers for each
   abbrev pub AreAnswered : ℕ → List (Vec (Result Command LineFault) Global) → List (Option (Vec Answer Global)) → Type 0
   AreAnswered viewer [] [] = Unit {0}
   AreAnswered viewer (said ∷ others) (answered ∷ more) = IsAnswered viewer (commands_of said.items) answered × AreAnswered (suc viewer) others more
@@ -74,24 +76,24 @@ module _ (opened : BookState) (history : List (ℕ × Call)) where
 
 module _ (opened : BookState) where
   -- the history is legal from the book that was opened, each of its entries names one of the
-  -- viewers of these lines, and the viewers got these answers
+  -- viewers, and the viewers got these answers to the commands of these lines
   abbrev pub IsViewed : List (Vec (Result Command LineFault) Global) → List (Option (Vec Answer Global)) → List (ℕ × Call) → Type 0
   IsViewed said answered history = IsLegal opened history × NamesUpTo (length said) history × AreAnswered opened history 1 said answered
 
-  -- a view of these scripts with this history: the commands and faults of their lines, and the
-  -- answers to the viewers
+  -- a view of these scripts with this history: what their lines spell, and the answers to the
+  -- viewers, which agree with the history
   pub record Views (scripts : List (Vec ℕ Global)) (history : List (ℕ × Call)) : Type 0 where
     pub said : List (Vec (Result Command LineFault) Global)
     pub answered : List (Option (Vec Answer Global))
     pub are_read : AreRead scripts said
     pub is_viewed : IsViewed said answered history
 
-  -- the text of a view
+  -- the text of a view: the answers to its viewers, and the number of calls in its history
   abbrev pub text_of_views : {scripts : List (Vec ℕ Global)} {history : List (ℕ × Call)} → Views scripts history → List ℕ
   text_of_views {history = history} views = view_text 1 views.said views.answered (length history)
 
-  -- what became of a view of these scripts, by its result: its text was written whole, or a
-  -- beginning of it, or nothing was written
+  -- what became of a view of these scripts, by its result: its text was written whole; or the
+  -- writer failed, and took a beginning of it; or nothing was written
   abbrev pub ViewsScripts : List (Vec ℕ Global) → Stream → Result History ViewFault → Type 0
   ViewsScripts scripts s (Ok history) = (views : Views scripts (entries history)) × Appends s.before s.after (text_of_views views) × (s.failed ≡ false)
   ViewsScripts scripts s (Err view.Write) =

@@ -1,4 +1,4 @@
-//! Why a view was not written.
+//! Why a view was not written whole.
 
 ghost use Rattle.std.specs.Prelude.{◌≡◌};
 ghost use Rattle.rd_view.specs.declared.faults.ViewFault.TheVariants.{NoMemory, Write};
@@ -7,7 +7,7 @@ use rd_desk::Busy;
 use rd_script::WriteFault;
 use std::alloc::AllocError;
 
-/// Why a view was not written.
+/// Why a view was not written whole.
 #[derive(Clone, Copy, Debug, PartialEq, Eq)]
 pub enum ViewFault {
     /// 20: memory was refused. Nothing was written.
@@ -22,7 +22,7 @@ pub enum ViewFault {
 impl From<AllocError> for ViewFault {
     ghost from_gives = { λ error fault. fault ≡ NoMemory };
 
-    /// Memory that was refused is the fault `NoMemory`.
+    /// Returns `NoMemory`, the fault for refused memory.
     fn from(_: AllocError) -> ViewFault {
         ViewFault::NoMemory
     }
@@ -31,7 +31,7 @@ impl From<AllocError> for ViewFault {
 impl From<WriteFault> for ViewFault {
     ghost from_gives = { λ error fault. fault ≡ Write };
 
-    /// A sink that failed is the fault `Write`.
+    /// Returns `Write`, the fault for a sink that failed.
     fn from(_: WriteFault) -> ViewFault {
         ViewFault::Write
     }

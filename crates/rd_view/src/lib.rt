@@ -1,4 +1,5 @@
-//! Viewers: scripts that several threads run over one desk, and the text of what each was answered.
+//! Viewers: scripts that several threads run over one desk, and the text of the answers to each
+//! script.
 #![tactic(auto)]
 
 mod faults;

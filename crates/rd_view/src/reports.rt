@@ -1,8 +1,8 @@
 //! The text of a view: for each viewer a heading and the answers to its lines, and last the number
 //! of recorded calls.
 //!
-//! It is put together in memory before any of it is handed to a writer. Each line is made in one
-//! buffer, and put after the others.
+//! The whole text is made in memory before any of it is handed to a writer. One buffer holds each
+//! line in turn, before it is appended to the text.
 
 ghost use Rattle.std.specs.Prelude.{◌≡◌, ◌++◌, length, IfOk, OnOk};
 ghost use Rattle.rd_script.specs.Replies.{text_of};
@@ -18,8 +18,8 @@ use std::alloc::{AllocError, Global};
 pub type ParsedLine = Result<Command, LineFault>;
 
 /// Returns the text of a view: for each viewer in order its heading and the answers to its lines,
-/// and last the number of recorded calls. A viewer that was not started, which has no answers, gets
-/// one line that memory was refused. Fails only if memory is refused.
+/// and last the number of recorded calls. A viewer whose thread was not started has no answers: it
+/// gets one line, which says that memory was refused. Fails only if memory is refused.
 pub fn text_of_view(
     alloc: Global,
     said: &[Vec<ParsedLine>],
@@ -45,7 +45,8 @@ pub fn text_of_view(
     Ok(text)
 }
 
-/// Appends to the text the heading of a viewer, and the answers to its lines.
+/// Appends to the text the heading of a viewer and the answers to its lines, or one line if its
+/// thread was not started. Fails only if memory is refused.
 fn put_viewer(
     text: &mut Vec<u8>,
     line: &mut Text,
@@ -65,7 +66,7 @@ fn put_viewer(
 }
 
 /// Appends to the text the answers to the lines of a script: for a line that spells no command its
-/// fault, for any other the next answer, if there is one.
+/// fault, for any other line the next answer, if there is one. Fails only if memory is refused.
 fn put_report(
     text: &mut Vec<u8>,
     line: &mut Text,
@@ -91,7 +92,8 @@ fn put_report(
     Ok(())
 }
 
-/// Appends to the text the line of one answer, which is made in the buffer `line`.
+/// Makes the line of one answer in the buffer `line`, and appends it to the text. Fails only if
+/// memory is refused.
 fn put_answer(text: &mut Vec<u8>, line: &mut Text, answer: &LineAnswer) -> Result<(), AllocError>
     ensures { OnOk result (text.new.items ≡ text.old.items ++ text_of answer.now) }
 {
@@ -99,7 +101,7 @@ fn put_answer(text: &mut Vec<u8>, line: &mut Text, answer: &LineAnswer) -> Resul
     text.extend_from_slice(line.as_slice())
 }
 
-/// Returns the answer to a line, by what the desk answered to its command.
+/// Returns the answer to a line, from the desk's answer to the line's command.
 fn desk_answer(answer: &Answer) -> LineAnswer
     ensures { result ≡ desk_answer answer.now }
 {

@@ -1,9 +1,8 @@
-//! A view: several scripts run over one desk, each by a viewer in its own thread, and the text of
-//! it.
+//! A view: several scripts run over one desk, each by a viewer in its own thread, and the answers
+//! are written as one text.
 //!
 //! All scripts are read before the first command is asked, and nothing is written before the desk
-//! is closed. Then the whole text is put together, and handed over in as few calls as the writer
-//! takes.
+//! is closed. Then the whole text is made, and handed over in as few calls as the writer needs.
 
 ghost use Rattle.std.specs.Prelude.{◌≡◌, ◌≤◌, false, length, map, IfOk, IfErr};
 ghost use Rattle.rd_marks.specs.Book.{book_state};
@@ -22,11 +21,11 @@ use std::alloc::{AllocError, Global};
 use std::sync::Wait;
 use std::thread::Threads;
 
-/// The answers to each viewer, or none if its thread was not started.
+/// For each viewer the answers to its commands, or none if its thread was not started.
 type ViewerAnswers = Vec<Option<Vec<Answer>>>;
 
 /// Runs 1 to 64 scripts over the book, each by a viewer in its own thread, and writes the answers
-/// to their lines. Returns the history of all calls. The book is lost.
+/// to their lines. Returns the history of the recorded calls. The book is lost.
 ///
 /// # Errors
 ///
@@ -52,7 +51,8 @@ pub fn view_scripts<R: Threads + Wait + Sync, K: Sink, const N: usize>(
     Ok(history)
 }
 
-/// Returns the commands and the faults of the lines of each script, or fails if memory is refused.
+/// Returns for each script what its lines spell, commands and faults, in order. Fails only if
+/// memory is refused.
 fn lines_of_all(alloc: Global, scripts: &[Vec<u8>]) -> Result<Vec<Vec<ParsedLine>>, AllocError>
     ensures { IfOk result (λ said. AreRead scripts.now said.items) }
 {
@@ -67,7 +67,8 @@ fn lines_of_all(alloc: Global, scripts: &[Vec<u8>]) -> Result<Vec<Vec<ParsedLine
 }
 
 /// Asks the commands of each viewer's lines over one desk, and closes it. Returns the answers to
-/// each viewer, and the history.
+/// each viewer, and the history. Fails with `NoMemory` if memory is refused, and with `Busy` if the
+/// desk can't be closed.
 fn run_over_desk<R: Threads + Wait + Sync, const N: usize>(
     rt: &R,
     alloc: Global,
@@ -94,7 +95,8 @@ fn run_over_desk<R: Threads + Wait + Sync, const N: usize>(
     }
 }
 
-/// Returns each viewer's pass with the commands of its lines, or fails if memory is refused.
+/// Returns each viewer's pass with the commands of its lines, in order. Fails only if memory is
+/// refused.
 fn passes_with_commands<const N: usize>(
     alloc: Global,
     passes: Vec<DeskPass<N>>,
@@ -114,7 +116,7 @@ fn passes_with_commands<const N: usize>(
     Ok(work)
 }
 
-/// Returns the commands among what lines spell, in their order, or fails if memory is refused.
+/// Returns the commands among what lines spell, in their order. Fails only if memory is refused.
 fn commands_in(alloc: Global, said: &[ParsedLine]) -> Result<Vec<Command>, AllocError>
     ensures { IfOk result (λ commands. commands.items ≡ commands_of said.now) }
 {
@@ -127,7 +129,8 @@ fn commands_in(alloc: Global, said: &[ParsedLine]) -> Result<Vec<Command>, Alloc
     Ok(commands)
 }
 
-/// Returns the passes of the viewers, and the answers to each.
+/// Separates the viewers' passes from their answers, and returns both in order. Fails only if
+/// memory is refused.
 fn passes_and_answers<const N: usize>(
     alloc: Global,
     dones: Vec<(DeskPass<N>, Option<Vec<Answer>>)>,
