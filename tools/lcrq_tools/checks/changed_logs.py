@@ -135,7 +135,7 @@ def parts_fault(bench: Bench, log: str) -> str:
         file.write_text("\n".join(part), encoding="ascii")
     status, text = bench.told(*files)
     named, _, rest = text.partition("\n")
-    return agrees((status, rest)) or ("" if named.startswith("the actors of the logs: thread-") else named)
+    return agrees((status, rest)) or ("" if ": the actors of the logs: thread-" in named else named)
 
 
 def long_runs(bench: Bench) -> Iterator[tuple[str, str]]:
