@@ -9,24 +9,24 @@ use Rattle.rd_actor.specs.declared.actors.Pc.{Pc}
 use Rattle.rd_actor.specs.declared.actors.Pc.TheVariants.{Idle, E1, E2, E3, E4, E5, E6, E7, E8, E9, E10, E11, E12, E13, E14, Q1, Q2, Q3, Q4, Q5, Q6, Q7, Q8, Q9, Q10, Q11, Q12, Q13, Q14, A1, A2, B1, B2, B3}
 
 -- whether this is a call of an enqueue, not on the array
-abbrev pub enqueues : Option Op → Bool
-enqueues (Some (op.Enq x)) = true
-enqueues _ = false
+abbrev pub is_enqueue : Option Op → Bool
+is_enqueue (Some (op.Enq x)) = true
+is_enqueue _ = false
 
 -- whether this is a call of a dequeue, not on the array
-abbrev pub dequeues : Option Op → Bool
-dequeues (Some op.Deq) = true
-dequeues _ = false
+abbrev pub is_dequeue : Option Op → Bool
+is_dequeue (Some op.Deq) = true
+is_dequeue _ = false
 
 -- whether this is a call of an enqueue on the array
-abbrev pub array_enqueues : Option Op → Bool
-array_enqueues (Some (op.AEnq x)) = true
-array_enqueues _ = false
+abbrev pub is_array_enqueue : Option Op → Bool
+is_array_enqueue (Some (op.AEnq x)) = true
+is_array_enqueue _ = false
 
 -- whether this is a call of a dequeue on the array
-abbrev pub array_dequeues : Option Op → Bool
-array_dequeues (Some op.ADeq) = true
-array_dequeues _ = false
+abbrev pub is_array_dequeue : Option Op → Bool
+is_array_dequeue (Some op.ADeq) = true
+is_array_dequeue _ = false
 
 -- whether all words except the control point are those of the idle record
 abbrev pub has_idle_words : Actor → Bool
@@ -36,11 +36,11 @@ has_idle_words a =
 
 -- whether the actor is in an enqueue, with pass 0
 abbrev pub enqueue_fits : Actor → Bool
-enqueue_fits a = enqueues a.op && (a.pass == 0)
+enqueue_fits a = is_enqueue a.op && (a.pass == 0)
 
 -- whether the actor is in a dequeue, in pass 1 or 2 over its segment
 abbrev pub pass_fits : Actor → Bool
-pass_fits a = dequeues a.op && ((a.pass == 1) || (a.pass == 2))
+pass_fits a = is_dequeue a.op && ((a.pass == 1) || (a.pass == 2))
 
 -- whether an actor's words fit this control point
 abbrev pub words_fit_at : Pc → Actor → Bool
@@ -59,7 +59,7 @@ words_fit_at E11 a = enqueue_fits a
 words_fit_at E12 a = enqueue_fits a
 words_fit_at E13 a = enqueue_fits a
 words_fit_at E14 a = enqueue_fits a
-words_fit_at Q1 a = dequeues a.op && nat_le a.pass 2
+words_fit_at Q1 a = is_dequeue a.op && nat_le a.pass 2
 words_fit_at Q2 a = pass_fits a
 words_fit_at Q3 a = pass_fits a
 words_fit_at Q4 a = pass_fits a
@@ -71,13 +71,13 @@ words_fit_at Q9 a = pass_fits a
 words_fit_at Q10 a = pass_fits a
 words_fit_at Q11 a = pass_fits a
 words_fit_at Q12 a = pass_fits a && not a.closed && nat_lt a.t a.h
-words_fit_at Q13 a = dequeues a.op && (a.pass == 1)
-words_fit_at Q14 a = dequeues a.op && (a.pass == 2)
-words_fit_at A1 a = array_enqueues a.op && (a.pass == 0)
-words_fit_at A2 a = array_enqueues a.op && (a.pass == 0) && nat_lt a.t SLOTS
-words_fit_at B1 a = array_dequeues a.op && (a.pass == 0)
-words_fit_at B2 a = array_dequeues a.op && (a.pass == 0) && nat_lt a.h SLOTS
-words_fit_at B3 a = array_dequeues a.op && (a.pass == 0) && nat_lt a.h SLOTS
+words_fit_at Q13 a = is_dequeue a.op && (a.pass == 1)
+words_fit_at Q14 a = is_dequeue a.op && (a.pass == 2)
+words_fit_at A1 a = is_array_enqueue a.op && (a.pass == 0)
+words_fit_at A2 a = is_array_enqueue a.op && (a.pass == 0) && nat_lt a.t SLOTS
+words_fit_at B1 a = is_array_dequeue a.op && (a.pass == 0)
+words_fit_at B2 a = is_array_dequeue a.op && (a.pass == 0) && nat_lt a.h SLOTS
+words_fit_at B3 a = is_array_dequeue a.op && (a.pass == 0) && nat_lt a.h SLOTS
 
 -- whether an actor's words fit the control point where it is
 abbrev pub words_fit : Actor → Bool

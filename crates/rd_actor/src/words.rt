@@ -2,7 +2,7 @@
 //! world fit: `World::assemble` refuses others, and every step keeps this.
 
 ghost use Rattle.std.specs.Prelude.{◌≡◌};
-ghost use Rattle.rd_actor.specs.Words.{words_fit, has_idle_words, enqueues, dequeues, array_enqueues, array_dequeues, enqueue_fits, pass_fits};
+ghost use Rattle.rd_actor.specs.Words.{words_fit, has_idle_words, is_enqueue, is_dequeue, is_array_enqueue, is_array_dequeue, enqueue_fits, pass_fits};
 
 use super::actors::{Actor, Op, Pc};
 use rd_cell::SegName;
@@ -19,19 +19,19 @@ impl Actor {
             Pc::E7 => enqueue_fits(self) && self.val.is_none() && !self.safe && self.idx <= self.t,
             Pc::E8 => enqueue_fits(self) && self.val.is_none() && self.idx <= self.t,
             Pc::E9 | Pc::E10 | Pc::E11 | Pc::E12 | Pc::E13 | Pc::E14 => enqueue_fits(self),
-            Pc::Q1 => dequeues(self.op) && self.pass <= 2,
+            Pc::Q1 => is_dequeue(self.op) && self.pass <= 2,
             Pc::Q2 | Pc::Q3 | Pc::Q4 => pass_fits(self),
             Pc::Q5 => pass_fits(self) && self.val.is_some() && self.idx == self.h,
             Pc::Q6 => pass_fits(self) && self.val.is_some() && self.idx < self.h,
             Pc::Q7 => pass_fits(self) && self.val.is_none() && self.idx <= self.h,
             Pc::Q8 | Pc::Q9 | Pc::Q10 | Pc::Q11 => pass_fits(self),
             Pc::Q12 => pass_fits(self) && !self.closed && self.t < self.h,
-            Pc::Q13 => dequeues(self.op) && self.pass == 1,
-            Pc::Q14 => dequeues(self.op) && self.pass == 2,
-            Pc::A1 => array_enqueues(self.op) && self.pass == 0,
-            Pc::A2 => array_enqueues(self.op) && self.pass == 0 && self.t < SLOTS as u64,
-            Pc::B1 => array_dequeues(self.op) && self.pass == 0,
-            Pc::B2 | Pc::B3 => array_dequeues(self.op) && self.pass == 0 && self.h < SLOTS as u64,
+            Pc::Q13 => is_dequeue(self.op) && self.pass == 1,
+            Pc::Q14 => is_dequeue(self.op) && self.pass == 2,
+            Pc::A1 => is_array_enqueue(self.op) && self.pass == 0,
+            Pc::A2 => is_array_enqueue(self.op) && self.pass == 0 && self.t < SLOTS as u64,
+            Pc::B1 => is_array_dequeue(self.op) && self.pass == 0,
+            Pc::B2 | Pc::B3 => is_array_dequeue(self.op) && self.pass == 0 && self.h < SLOTS as u64,
         }
     }
 }
@@ -57,40 +57,40 @@ fn has_idle_words(actor: &Actor) -> bool
 fn enqueue_fits(actor: &Actor) -> bool
     ensures { result ≡ enqueue_fits actor.now }
 {
-    enqueues(actor.op) && actor.pass == 0
+    is_enqueue(actor.op) && actor.pass == 0
 }
 
 /// Whether the actor is in a dequeue, in pass 1 or 2 over its segment.
 fn pass_fits(actor: &Actor) -> bool
     ensures { result ≡ pass_fits actor.now }
 {
-    dequeues(actor.op) && (actor.pass == 1 || actor.pass == 2)
+    is_dequeue(actor.op) && (actor.pass == 1 || actor.pass == 2)
 }
 
 /// Whether this is a call of an enqueue, not on the array.
-fn enqueues(op: Option<Op>) -> bool
-    ensures { result ≡ enqueues op }
+fn is_enqueue(op: Option<Op>) -> bool
+    ensures { result ≡ is_enqueue op }
 {
     matches!(op, Some(Op::Enq(_)))
 }
 
 /// Whether this is a call of a dequeue, not on the array.
-fn dequeues(op: Option<Op>) -> bool
-    ensures { result ≡ dequeues op }
+fn is_dequeue(op: Option<Op>) -> bool
+    ensures { result ≡ is_dequeue op }
 {
     matches!(op, Some(Op::Deq))
 }
 
 /// Whether this is a call of an enqueue on the array.
-fn array_enqueues(op: Option<Op>) -> bool
-    ensures { result ≡ array_enqueues op }
+fn is_array_enqueue(op: Option<Op>) -> bool
+    ensures { result ≡ is_array_enqueue op }
 {
     matches!(op, Some(Op::AEnq(_)))
 }
 
 /// Whether this is a call of a dequeue on the array.
-fn array_dequeues(op: Option<Op>) -> bool
-    ensures { result ≡ array_dequeues op }
+fn is_array_dequeue(op: Option<Op>) -> bool
+    ensures { result ≡ is_array_dequeue op }
 {
     matches!(op, Some(Op::ADeq))
 }

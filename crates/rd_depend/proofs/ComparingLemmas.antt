@@ -1,5 +1,5 @@
 -- A comparison of two runs as it goes on over the steps of the first one.
-use Rattle.rd_depend.proofs.Prelude.{common_steps, drop_all, drop-cons, Entry, Key, Reached, DecidesEquivalence, Placed, all_left, nothing_reached, KeepsOrder, GoesOn, IsOutOfOrder, ◌≡◌, ◌↔◌, ℕ, ◌+◌, ◌<◌, ◌≤◌, Bool, false, IsTrue, List, [], ◌∷◌, length, drop, get_or, refl, sym, ap, subst, arith, length-append}
+use Rattle.rd_depend.proofs.Prelude.{common_steps, drop_all, drop-cons, Entry, Key, Reached, DecidesEquivalence, Numbered, all_left, nothing_reached, KeepsOrder, GoesOn, IsOutOfOrder, ◌≡◌, ◌↔◌, ℕ, ◌+◌, ◌<◌, ◌≤◌, Bool, false, IsTrue, List, [], ◌∷◌, length, drop, get_or, refl, sym, ap, subst, arith, length-append}
 use Rattle.rd_depend.proofs.KeepingOrder.{kept_taken, taken_kept}
 use Rattle.rd_depend.proofs.RunsAgree.{taken_equivalent, untaken_different}
 
@@ -9,10 +9,10 @@ KeepsOrderOf a b = KeepsOrder nothing_reached a (all_left b)
 
 -- the first run keeps the order of the second exactly if its steps after the first k keep the order
 -- of what is left
-abbrev pub IsLeftToCompare : List Entry → List Entry → ℕ → (Key → Reached) → (ℕ → List Placed) → Type 0
+abbrev pub IsLeftToCompare : List Entry → List Entry → ℕ → (Key → Reached) → (ℕ → List Numbered) → Type 0
 IsLeftToCompare a b k s left = KeepsOrderOf a b ↔ KeepsOrder s (drop k a) left
 
-pub left_over_one : (a b : List Entry) (k : ℕ) (d : Entry) (s t : Key → Reached) (old new : ℕ → List Placed) → k < length a
+pub left_over_one : (a b : List Entry) (k : ℕ) (d : Entry) (s t : Key → Reached) (old new : ℕ → List Numbered) → k < length a
     → IsLeftToCompare a b k s old → GoesOn (get_or a k d) s t old new → IsLeftToCompare a b (k + 1) t new
 left_over_one a b k d s t old new within h g = grind (arith, common_steps)
 
@@ -21,7 +21,7 @@ left_over_one a b k d s t old new within h g = grind (arith, common_steps)
 decided : (a b : List Entry) (same : Bool) → IsTrue same ↔ KeepsOrderOf a b → DecidesEquivalence a b same
 decided a b same h = grind (arith, taken_equivalent, kept_taken, untaken_different, taken_kept)
 
-pub differs_here : (a b : List Entry) (k : ℕ) (d : Entry) (s : Key → Reached) (left : ℕ → List Placed) → k < length a
+pub differs_here : (a b : List Entry) (k : ℕ) (d : Entry) (s : Key → Reached) (left : ℕ → List Numbered) → k < length a
     → IsLeftToCompare a b k s left → IsOutOfOrder (get_or a k d) s left → DecidesEquivalence a b false
 differs_here a b k d s left within h elsewhere =
     decided a b false (
@@ -31,7 +31,7 @@ differs_here a b k d s left within h elsewhere =
           absurd (elsewhere rest.0 rest.1 rest.2),
     )
 
-pub decided_at_end : (a b : List Entry) (k : ℕ) (s : Key → Reached) (left : ℕ → List Placed) (same : Bool) → length a ≤ k
+pub decided_at_end : (a b : List Entry) (k : ℕ) (s : Key → Reached) (left : ℕ → List Numbered) (same : Bool) → length a ≤ k
     → IsLeftToCompare a b k s left → IsTrue same ↔ ((n : ℕ) → left n ≡ []) → DecidesEquivalence a b same
 decided_at_end a b k s left same all h g =
     let none = drop_all k a all in

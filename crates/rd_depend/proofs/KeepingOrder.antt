@@ -1,6 +1,6 @@
 -- The steps of one list keep the order of another list exactly if they may be taken out of that
 -- list one after another.
-use Rattle.rd_depend.proofs.Prelude.{common_steps, eqb-false, map-append, Entry, Key, Reached, is_under, last_blocking, passed, passed_over, nothing_reached, AreAlike, Placed, by_actor, all_left, with_steps, KeepsOrder, ◌≡◌, ◌≢◌, ℕ, ◌+◌, ◌<◌, ◌≤◌, Bool, true, false, ◌==◌, if◌then◌else◌, List, [], ◌∷◌, ◌++◌, length, map, refl, sym, ap, subst, ◌∙◌, arith, eqb-true, length-append, enumerate_from, filter-append}
+use Rattle.rd_depend.proofs.Prelude.{common_steps, eqb-false, map-append, Entry, Key, Reached, is_under, last_blocking, taken_in, with_step, nothing_reached, AreAlike, Numbered, by_actor, all_left, with_steps, KeepsOrder, ◌≡◌, ◌≢◌, ℕ, ◌+◌, ◌<◌, ◌≤◌, Bool, true, false, ◌==◌, if◌then◌else◌, List, [], ◌∷◌, ◌++◌, length, map, refl, sym, ap, subst, ◌∙◌, arith, eqb-true, length-append, enumerate_from, filter-append}
 use Rattle.rd_depend.proofs.FirstOfActor.{HasNoneBy}
 use Rattle.rd_depend.proofs.TouchedKeys.{wrote_under, wrote_touched, passed_at, in_order_at, in_order_from}
 use Rattle.rd_depend.proofs.TakingOut.{touched-alike, wrote-alike, alike-sym, AreApart, IsApartFrom, TakesAll}
@@ -14,10 +14,10 @@ IsAfterAll s x i = (k : Key) → is_under k x.place ≡ true → last_blocking (
 
 -- t is how far the steps reached after x, which has the number i in the second run
 abbrev Passes : (Key → Reached) → Entry → ℕ → (Key → Reached) → Type 0
-Passes s x i t = (k : Key) → t k ≡ (if is_under k x.place then passed (s k) (wrote_under k x.place x.wrote) i else s k)
+Passes s x i t = (k : Key) → t k ≡ (if is_under k x.place then taken_in (s k) (wrote_under k x.place x.wrote) i else s k)
 
 passes-alike : (s t : Key → Reached) (x y : Entry) (i : ℕ) → AreAlike x y → Passes s x i t → Passes s y i t
-passes-alike s t x y i h m k = m k ∙ (λ j. if touched-alike x y h k j then passed (s k) (wrote-alike x y h k j) i else s k)
+passes-alike s t x y i h m k = m k ∙ (λ j. if touched-alike x y h k j then taken_in (s k) (wrote-alike x y h k j) i else s k)
 
 after-alike : (s : Key → Reached) (x y : Entry) (i : ℕ) → AreAlike x y → IsAfterAll s x i → IsAfterAll s y i
 after-alike s x y i h after k touched = grind arith
@@ -36,37 +36,37 @@ apart_before s t x y i j m h before actors = grind (arith, wrote_touched)
 
 -- Lists of steps with their places
 
-abbrev entries_of : List Placed → List Entry
-entries_of ps = map (λ (p : Placed). p.1) ps
+abbrev entries_of : List Numbered → List Entry
+entries_of ps = map (λ (p : Numbered). p.1) ps
 
 -- P holds of each step
-abbrev Each : (Placed → Type 0) → List Placed → Type 0
+abbrev Each : (Numbered → Type 0) → List Numbered → Type 0
 Each P [] = Unit {0}
 Each P (p ∷ ps) = P p × Each P ps
 
-each-append : (P : Placed → Type 0) (ps qs : List Placed) → Each P ps → Each P qs → Each P (ps ++ qs)
+each-append : (P : Numbered → Type 0) (ps qs : List Numbered) → Each P ps → Each P qs → Each P (ps ++ qs)
 each-append h ps qs k g = grind (arith, common_steps)
 
-each-parts : (P : Placed → Type 0) (ps qs : List Placed) → Each P (ps ++ qs) → Each P ps × Each P qs
+each-parts : (P : Numbered → Type 0) (ps qs : List Numbered) → Each P (ps ++ qs) → Each P ps × Each P qs
 each-parts P [] qs h = (tt, h)
 each-parts P (p ∷ ps) qs h = let rest = each-parts P ps qs h.1 in ((h.0, rest.0), rest.1)
 
-each-more : (P Q : Placed → Type 0) (ps : List Placed) → ((p : Placed) → P p → Q p) → Each P ps → Each Q ps
+each-more : (P Q : Numbered → Type 0) (ps : List Numbered) → ((p : Numbered) → P p → Q p) → Each P ps → Each Q ps
 each-more P Q [] f h = tt
 each-more P Q (p ∷ ps) f h = (f p h.0, each-more P Q ps f h.1)
 
 -- each step has a greater number than the one before it
-abbrev Ascends : List Placed → Type 0
+abbrev Ascends : List Numbered → Type 0
 Ascends [] = Unit {0}
 Ascends (p ∷ ps) = Each (λ q. p.0 < q.0) ps × Ascends ps
 
 -- the steps before p and those after it in an ascending list
-record Around (ps : List Placed) (p : Placed) (qs : List Placed) : Type 0 where
+record Around (ps : List Numbered) (p : Numbered) (qs : List Numbered) : Type 0 where
   before : Each (λ q. q.0 < p.0) ps
   later : Each (λ q. p.0 < q.0) qs
   rest : Ascends (ps ++ qs)
 
-around : (ps : List Placed) (p : Placed) (qs : List Placed) → Ascends (ps ++ p ∷ qs) → Around ps p qs
+around : (ps : List Numbered) (p : Numbered) (qs : List Numbered) → Ascends (ps ++ p ∷ qs) → Around ps p qs
 around [] p qs h = record { before = tt; later = h.0; rest = h.1 }
 around (r ∷ ps) p qs h =
     let a = around ps p qs h.1 in
@@ -91,22 +91,22 @@ entries-numbered i (x ∷ xs) = ap (λ (l : List Entry). x ∷ l) (entries-numbe
 
 -- The steps of one actor
 
-own : (n : ℕ) (p : Placed) (ps : List Placed) → n ≡ p.1.event.actor → by_actor n (p ∷ ps) ≡ p ∷ by_actor n ps
+own : (n : ℕ) (p : Numbered) (ps : List Numbered) → n ≡ p.1.event.actor → by_actor n (p ∷ ps) ≡ p ∷ by_actor n ps
 own n p ps h = grind arith
 
-other : (n : ℕ) (p : Placed) (ps : List Placed) → n ≢ p.1.event.actor → by_actor n (p ∷ ps) ≡ by_actor n ps
+other : (n : ℕ) (p : Numbered) (ps : List Numbered) → n ≢ p.1.event.actor → by_actor n (p ∷ ps) ≡ by_actor n ps
 other n p ps h = grind arith
 
 -- the first step of an actor in a list, with the steps before it and those after it
-record FirstBy (n : ℕ) (ps : List Placed) (p : Placed) (rest : List Placed) : Type 0 where
-  earlier : List Placed
-  later : List Placed
+record FirstBy (n : ℕ) (ps : List Numbered) (p : Numbered) (rest : List Numbered) : Type 0 where
+  earlier : List Numbered
+  later : List Numbered
   stands : ps ≡ earlier ++ p ∷ later
   actor : n ≡ p.1.event.actor
   none : HasNoneBy n (entries_of earlier)
   left : rest ≡ by_actor n (earlier ++ later)
 
-first_by : (n : ℕ) (ps : List Placed) (p : Placed) (rest : List Placed) → by_actor n ps ≡ p ∷ rest → FirstBy n ps p rest
+first_by : (n : ℕ) (ps : List Numbered) (p : Numbered) (rest : List Numbered) → by_actor n ps ≡ p ∷ rest → FirstBy n ps p rest
 first_by n [] p rest h = cc
 first_by n (q ∷ ps) p rest h = by (n == q.1.event.actor) refl h (first_by n ps p rest)
   where
@@ -117,8 +117,8 @@ first_by n (q ∷ ps) p rest h = by (n == q.1.event.actor) refl h (first_by n ps
         record {
           earlier = [];
           later = ps;
-          stands = ap (λ (r : Placed). r ∷ ps) same;
-          actor = eqb-true n q.1.event.actor e ∙ ap (λ (r : Placed). r.1.event.actor) same;
+          stands = ap (λ (r : Numbered). r ∷ ps) same;
+          actor = eqb-true n q.1.event.actor e ∙ ap (λ (r : Numbered). r.1.event.actor) same;
           none = tt;
           left = cc;
         }
@@ -128,7 +128,7 @@ first_by n (q ∷ ps) p rest h = by (n == q.1.event.actor) refl h (first_by n ps
         record {
           earlier = q ∷ f.earlier;
           later = f.later;
-          stands = ap (λ (l : List Placed). q ∷ l) f.stands;
+          stands = ap (λ (l : List Numbered). q ∷ l) f.stands;
           actor = f.actor;
           none = (other_actor, f.none);
           left = f.left ∙ sym (other n q (f.earlier ++ f.later) other_actor);
@@ -136,46 +136,46 @@ first_by n (q ∷ ps) p rest h = by (n == q.1.event.actor) refl h (first_by n ps
 
 -- without the first step of its actor, that actor has the steps after it, and other actors have the
 -- same steps
-by_actor-first : (n : ℕ) (ps qs : List Placed) (p : Placed) → n ≡ p.1.event.actor → HasNoneBy n (entries_of ps) → by_actor n (ps ++ p ∷ qs) ≡ p ∷ by_actor n (ps ++ qs)
+by_actor-first : (n : ℕ) (ps qs : List Numbered) (p : Numbered) → n ≡ p.1.event.actor → HasNoneBy n (entries_of ps) → by_actor n (ps ++ p ∷ qs) ≡ p ∷ by_actor n (ps ++ qs)
 by_actor-first n [] qs p e none = own n p qs e
 by_actor-first n (r ∷ ps) qs p e none = grind (arith, by_actor-first n ps qs p e none.1)
 
-by_actor-others : (n : ℕ) (ps qs : List Placed) (p : Placed) → n ≢ p.1.event.actor → by_actor n (ps ++ p ∷ qs) ≡ by_actor n (ps ++ qs)
+by_actor-others : (n : ℕ) (ps qs : List Numbered) (p : Numbered) → n ≢ p.1.event.actor → by_actor n (ps ++ p ∷ qs) ≡ by_actor n (ps ++ qs)
 by_actor-others n ps qs p h = grind (arith, filter-append, other)
 
-taken_out : (n : ℕ) (ps qs : List Placed) (p : Placed) → n ≡ p.1.event.actor → (m : ℕ)
+taken_out : (n : ℕ) (ps qs : List Numbered) (p : Numbered) → n ≡ p.1.event.actor → (m : ℕ)
     → with_steps (λ k. by_actor k (ps ++ p ∷ qs)) n (by_actor n (ps ++ qs)) m ≡ by_actor m (ps ++ qs)
 taken_out n ps qs p e m = grind (arith, by_actor-others)
 
-nobody_left : (ps : List Placed) → ((n : ℕ) → by_actor n ps ≡ []) → ps ≡ []
+nobody_left : (ps : List Numbered) → ((n : ℕ) → by_actor n ps ≡ []) → ps ≡ []
 nobody_left [] h = refl
 nobody_left (p ∷ ps) h = absurd (some (sym (own p.1.event.actor p ps refl) ∙ h p.1.event.actor))
   where
-    some : {qs : List Placed} → p ∷ qs ≡ [] → ⊥
+    some : {qs : List Numbered} → p ∷ qs ≡ [] → ⊥
     some e = cc
 
-no_entries : (ps : List Placed) → entries_of ps ≡ [] → ps ≡ []
+no_entries : (ps : List Numbered) → entries_of ps ≡ [] → ps ≡ []
 no_entries [] h = refl
 no_entries (p ∷ ps) h = cc
 
 -- Where they keep the order they may be taken out
 
 -- each step comes after all earlier steps on which it depends
-abbrev AreAfterAll : (Key → Reached) → List Placed → Type 0
+abbrev AreAfterAll : (Key → Reached) → List Numbered → Type 0
 AreAfterAll s ps = Each (λ p. IsAfterAll s p.1 p.0) ps
 
-all_apart : (s t : Key → Reached) (p : Placed) (ps : List Placed) → Passes s p.1 p.0 t → AreAfterAll t ps → Each (λ q. q.0 < p.0) ps
+all_apart : (s t : Key → Reached) (p : Numbered) (ps : List Numbered) → Passes s p.1 p.0 t → AreAfterAll t ps → Each (λ q. q.0 < p.0) ps
     → HasNoneBy p.1.event.actor (entries_of ps) → IsApartFrom p.1 (entries_of ps)
 all_apart s t p [] m h before none = tt
 all_apart s t p (q ∷ ps) m h before none = (apart_before s t p.1 q.1 p.0 q.0 m h.0 before.0 none.0, all_apart s t p ps m h.1 before.1 none.1)
 
 -- what follows for the other list if the order is kept: its steps may be taken out, and each is in
 -- order
-record Kept (s : Key → Reached) (xs : List Entry) (ps : List Placed) : Type 0 where
+record Kept (s : Key → Reached) (xs : List Entry) (ps : List Numbered) : Type 0 where
   taken : TakesAll xs (entries_of ps)
   order : AreAfterAll s ps
 
-kept_more : (s t : Key → Reached) (x : Entry) (xs : List Entry) (ps qs : List Placed) (p : Placed) → Passes s x p.0 t → Ascends (ps ++ p ∷ qs) → AreAlike x p.1
+kept_more : (s t : Key → Reached) (x : Entry) (xs : List Entry) (ps qs : List Numbered) (p : Numbered) → Passes s x p.0 t → Ascends (ps ++ p ∷ qs) → AreAlike x p.1
     → IsAfterAll s x p.0 → HasNoneBy p.1.event.actor (entries_of ps) → Kept t xs (ps ++ qs) → Kept s (x ∷ xs) (ps ++ p ∷ qs)
 kept_more s t x xs ps qs p m ascends alike order none h =
     let its = passes-alike s t x p.1 p.0 alike m in
@@ -187,18 +187,18 @@ kept_more s t x xs ps qs p m ascends alike order none h =
           earlier = entries_of ps;
           entry = p.1;
           later = entries_of qs;
-          stands = map-append (λ (q : Placed). q.1) ps (p ∷ qs);
+          stands = map-append (λ (q : Numbered). q.1) ps (p ∷ qs);
           alike = alike;
           apart = all_apart s t p ps its (each-parts _ ps qs h.order).0 (around ps p qs ascends).before none;
-          leaves = map-append (λ (q : Placed). q.1) ps qs;
+          leaves = map-append (λ (q : Numbered). q.1) ps qs;
         },
         h.taken,
       );
       order = each-append _ ps (p ∷ qs) before.0 (after-alike s x p.1 p.0 alike order, before.1);
     }
 
-kept : (s : Key → Reached) (xs : List Entry) (ps : List Placed) → Ascends ps → KeepsOrder s xs (λ n. by_actor n ps) → Kept s xs ps
-kept s [] ps ascends h = subst (λ (l : List Placed). Kept s [] l) (sym (nobody_left ps h)) (record { taken = refl; order = tt })
+kept : (s : Key → Reached) (xs : List Entry) (ps : List Numbered) → Ascends ps → KeepsOrder s xs (λ n. by_actor n ps) → Kept s xs ps
+kept s [] ps ascends h = subst (λ (l : List Numbered). Kept s [] l) (sym (nobody_left ps h)) (record { taken = refl; order = tt })
 kept s (x ∷ xs) ps ascends h =
     let p = h.0 in
     let n = x.event.actor in
@@ -206,11 +206,11 @@ kept s (x ∷ xs) ps ascends h =
     let asc = subst Ascends f.stands ascends in
     let left : (m : ℕ) → with_steps (λ k. by_actor k ps) n h.1 m ≡ by_actor m (f.earlier ++ f.later) =
     λ m. (λ i. with_steps (λ k. by_actor k (f.stands i)) n (f.left i) m) ∙ taken_out n f.earlier f.later p f.actor m in
-    subst (λ (l : List Placed). Kept s (x ∷ xs) l) (sym f.stands)
-    (kept_more s (passed_over s x p.0) x xs f.earlier f.later p (passed_at s x p.0) asc h.2.alike (in_order_at s x p.0 h.2.order)
+    subst (λ (l : List Numbered). Kept s (x ∷ xs) l) (sym f.stands)
+    (kept_more s (with_step s x p.0) x xs f.earlier f.later p (passed_at s x p.0) asc h.2.alike (in_order_at s x p.0 h.2.order)
     (subst (λ (k : ℕ). HasNoneBy k (entries_of f.earlier)) f.actor f.none)
-    (kept (passed_over s x p.0) xs (f.earlier ++ f.later) (around f.earlier p f.later asc).rest
-    (subst (λ (l : ℕ → List Placed). KeepsOrder (passed_over s x p.0) xs l) (λ i m. left m i) h.3)))
+    (kept (with_step s x p.0) xs (f.earlier ++ f.later) (around f.earlier p f.later asc).rest
+    (subst (λ (l : ℕ → List Numbered). KeepsOrder (with_step s x p.0) xs l) (λ i m. left m i) h.3)))
 
 pub kept_taken : (xs ys : List Entry) → KeepsOrder nothing_reached xs (all_left ys) → TakesAll xs ys
 kept_taken xs ys h =
@@ -219,16 +219,16 @@ kept_taken xs ys h =
 -- and where they may be taken out they keep the order
 
 -- a step of a list, found by its entry among the list's entries
-record Found (ps : List Placed) (xs : List Entry) (y : Entry) (ys : List Entry) : Type 0 where
-  earlier : List Placed
-  step : Placed
-  later : List Placed
+record Found (ps : List Numbered) (xs : List Entry) (y : Entry) (ys : List Entry) : Type 0 where
+  earlier : List Numbered
+  step : Numbered
+  later : List Numbered
   stands : ps ≡ earlier ++ step ∷ later
   before : entries_of earlier ≡ xs
   itself : step.1 ≡ y
   after : entries_of later ≡ ys
 
-find : (ps : List Placed) (xs : List Entry) (y : Entry) (ys : List Entry) → entries_of ps ≡ xs ++ y ∷ ys → Found ps xs y ys
+find : (ps : List Numbered) (xs : List Entry) (y : Entry) (ys : List Entry) → entries_of ps ≡ xs ++ y ∷ ys → Found ps xs y ys
 find [] xs y ys h = absurd (omega (arith, ap length h, length-append xs (y ∷ ys)))
 find (p ∷ ps) [] y ys h = record { earlier = []; step = p; later = ps; stands = refl; before = refl; itself = cc; after = cc }
 find (p ∷ ps) (x ∷ xs) y ys h =
@@ -237,7 +237,7 @@ find (p ∷ ps) (x ∷ xs) y ys h =
       earlier = p ∷ f.earlier;
       step = f.step;
       later = f.later;
-      stands = ap (λ (l : List Placed). p ∷ l) f.stands;
+      stands = ap (λ (l : List Numbered). p ∷ l) f.stands;
       before = (let e : p.1 ≡ x = cc in λ i. e i ∷ f.before i);
       itself = f.itself;
       after = f.after;
@@ -247,15 +247,15 @@ none_by : (y : Entry) (xs : List Entry) → IsApartFrom y xs → HasNoneBy y.eve
 none_by y [] h = tt
 none_by y (x ∷ xs) h = (h.0.actors, none_by y xs h.1)
 
-still_after : (s t : Key → Reached) (y : Entry) (i : ℕ) (ps : List Placed) → Passes s y i t → AreAfterAll s ps → IsApartFrom y (entries_of ps) → AreAfterAll t ps
+still_after : (s t : Key → Reached) (y : Entry) (i : ℕ) (ps : List Numbered) → Passes s y i t → AreAfterAll s ps → IsApartFrom y (entries_of ps) → AreAfterAll t ps
 still_after s t y i [] m h apart = tt
 still_after s t y i (p ∷ ps) m h apart = (after-apart s t y p.1 i p.0 m h.0 apart.0, still_after s t y i ps m h.1 apart.1)
 
-later_after : (s t : Key → Reached) (y : Entry) (i : ℕ) (ps : List Placed) → Passes s y i t → AreAfterAll s ps → Each (λ q. i < q.0) ps → AreAfterAll t ps
+later_after : (s t : Key → Reached) (y : Entry) (i : ℕ) (ps : List Numbered) → Passes s y i t → AreAfterAll s ps → Each (λ q. i < q.0) ps → AreAfterAll t ps
 later_after s t y i [] m h later = tt
 later_after s t y i (p ∷ ps) m h later = (after-later s t y p.1 i p.0 m h.0 later.0, later_after s t y i ps m h.1 later.1)
 
-taken_more : (s t : Key → Reached) (x : Entry) (xs : List Entry) (ps qs : List Placed) (p : Placed) → Passes s x p.0 t → t ≡ passed_over s x p.0
+taken_more : (s t : Key → Reached) (x : Entry) (xs : List Entry) (ps qs : List Numbered) (p : Numbered) → Passes s x p.0 t → t ≡ with_step s x p.0
     → AreAfterAll s (ps ++ p ∷ qs) → Ascends (ps ++ p ∷ qs) → AreAlike x p.1 → IsApartFrom p.1 (entries_of ps)
     → (AreAfterAll t (ps ++ qs) → KeepsOrder t xs (λ n. by_actor n (ps ++ qs))) → KeepsOrder s (x ∷ xs) (λ n. by_actor n (ps ++ p ∷ qs))
 taken_more s t x xs ps qs p m is order ascends alike apart on =
@@ -272,24 +272,24 @@ taken_more s t x xs ps qs p m is order ascends alike apart on =
         order = in_order_from s x p.0 (after-alike s p.1 x p.0 (alike-sym x p.1 alike) parts.1.0);
       },
       subst (λ (u : Key → Reached). KeepsOrder u xs (with_steps (λ k. by_actor k (ps ++ p ∷ qs)) n (by_actor n (ps ++ qs)))) is
-          (subst (λ (l : ℕ → List Placed). KeepsOrder t xs l) (λ i m. sym (taken_out n ps qs p e m) i) (on rest)),
+          (subst (λ (l : ℕ → List Numbered). KeepsOrder t xs l) (λ i m. sym (taken_out n ps qs p e m) i) (on rest)),
     )
 
-taken : (s : Key → Reached) (xs : List Entry) (ps : List Placed) → Ascends ps → AreAfterAll s ps → TakesAll xs (entries_of ps) → KeepsOrder s xs (λ n. by_actor n ps)
+taken : (s : Key → Reached) (xs : List Entry) (ps : List Numbered) → Ascends ps → AreAfterAll s ps → TakesAll xs (entries_of ps) → KeepsOrder s xs (λ n. by_actor n ps)
 taken s [] ps ascends order h = λ n. ap (by_actor n) (no_entries ps h)
 taken s (x ∷ xs) ps ascends order h =
     let t = h.1 in
     let f = find ps t.earlier t.entry t.later t.stands in
     let asc = subst Ascends f.stands ascends in
     let left : h.0 ≡ entries_of (f.earlier ++ f.later) =
-    t.leaves ∙ (λ i. sym f.before i ++ sym f.after i) ∙ sym (map-append (λ (q : Placed). q.1) f.earlier f.later) in
-    subst (λ (l : List Placed). KeepsOrder s (x ∷ xs) (λ n. by_actor n l)) (sym f.stands)
-    (taken_more s (passed_over s x f.step.0) x xs f.earlier f.later f.step (passed_at s x f.step.0) refl (subst (AreAfterAll s) f.stands order) asc
+    t.leaves ∙ (λ i. sym f.before i ++ sym f.after i) ∙ sym (map-append (λ (q : Numbered). q.1) f.earlier f.later) in
+    subst (λ (l : List Numbered). KeepsOrder s (x ∷ xs) (λ n. by_actor n l)) (sym f.stands)
+    (taken_more s (with_step s x f.step.0) x xs f.earlier f.later f.step (passed_at s x f.step.0) refl (subst (AreAfterAll s) f.stands order) asc
     (subst (λ (y : Entry). AreAlike x y) (sym f.itself) t.alike)
     (subst (λ (l : List Entry). IsApartFrom f.step.1 l) (sym f.before) (subst (λ (y : Entry). IsApartFrom y t.earlier) (sym f.itself) t.apart))
-    (λ rest. taken (passed_over s x f.step.0) xs (f.earlier ++ f.later) (around f.earlier f.step f.later asc).rest rest (subst (λ (l : List Entry). TakesAll xs l) left h.2)))
+    (λ rest. taken (with_step s x f.step.0) xs (f.earlier ++ f.later) (around f.earlier f.step f.later asc).rest rest (subst (λ (l : List Entry). TakesAll xs l) left h.2)))
 
-at_first : (ps : List Placed) → Each (λ p. 1 ≤ p.0) ps → AreAfterAll nothing_reached ps
+at_first : (ps : List Numbered) → Each (λ p. 1 ≤ p.0) ps → AreAfterAll nothing_reached ps
 at_first ps h = each-more _ _ ps (λ p later k touched. grind arith) h
 
 pub taken_kept : (xs ys : List Entry) → TakesAll xs ys → KeepsOrder nothing_reached xs (all_left ys)

@@ -19,8 +19,8 @@ pub use Rattle.rd_depend.specs.Changes.{Adds, EndsWith, Keeps, homes_of}
 pub use Rattle.rd_depend.specs.ComparedSteps.{GoesOn, IsOutOfOrder, all_left, by_actor, left_of, reached_of, reached_or_nothing, with_first}
 pub use Rattle.rd_depend.specs.Equivalence.{DecidesEquivalence}
 pub use Rattle.rd_depend.specs.Index.{By, GivesRoom, HasRoomFor, HasRoomInstead, IsIndexOf, IsLast, KeepsRoom, Touch, Under, UsesRoom, capacity, is_value_written, kept, number_of, positions, positions_from, spare, touched_or_written, touches}
-unfoldable pub use Rattle.rd_depend.specs.KeepingOrder.{passed_over}
-pub use Rattle.rd_depend.specs.KeepingOrder.{AreAlike, IsAfter, IsInOrder, KeepsOrder, Placed, is_making, last_blocking, nothing_reached, passed, passed_under, with_steps}
+unfoldable pub use Rattle.rd_depend.specs.KeepingOrder.{with_step}
+pub use Rattle.rd_depend.specs.KeepingOrder.{AreAlike, IsAfter, IsInOrder, KeepsOrder, Numbered, is_making, last_blocking, nothing_reached, taken_in, taken_in_under, with_steps}
 pub use Rattle.rd_depend.specs.KeyLaws.{key_eq-refl, key_eq-sym, key_eq-true}
 pub use Rattle.rd_depend.specs.Keys.{is_that, is_under, is_under_some, key_eq, own_key, place_key, segment_key, slot_in, value_key, value_of_place, whole_key}
 unfoldable pub use Rattle.rd_depend.specs.Lists.{IsMoved}
@@ -35,5 +35,5 @@ pub use Rattle.rd_depend.specs.declared.index.changing.Homes.{Homes}
 pub use Rattle.rd_depend.specs.declared.index.keys.Key.{Key}
 pub use Rattle.rd_depend.specs.declared.index.keys.Key.TheVariants.{At, In}
 pub use Rattle.rd_depend.specs.declared.index.table.Table.{Table}
-pub use Rattle.rd_depend.specs.declared.keeping_order.PlacedStep.{PlacedStep}
+pub use Rattle.rd_depend.specs.declared.keeping_order.NumberedStep.{NumberedStep}
 pub use Rattle.rd_depend.specs.declared.keeping_order.Reached.{Reached}

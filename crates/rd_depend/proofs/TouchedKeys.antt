@@ -1,6 +1,6 @@
 -- The keys under which a step touched, what it wrote under them, and its order and how far it
 -- reached under each.
-use Rattle.rd_depend.proofs.Prelude.{◌≡◌, ◌⊎◌, ℕ, ◌<◌, Bool, true, false, not, if◌then◌else◌, Option, Some, arith, SegName, Place, Wrote, is_nothing, written, name_eq, Entry, Key, At, In, Reached, is_under, place_key, value_key, segment_key, is_value_written, is_making, last_blocking, passed, IsAfter, IsInOrder, passed_over}
+use Rattle.rd_depend.proofs.Prelude.{◌≡◌, ◌⊎◌, ℕ, ◌<◌, Bool, true, false, not, if◌then◌else◌, Option, Some, arith, SegName, Place, Wrote, is_nothing, written, name_eq, Entry, Key, At, In, Reached, is_under, place_key, value_key, segment_key, is_value_written, is_making, last_blocking, taken_in, IsAfter, IsInOrder, with_step}
 use Rattle.rd_cell.specs.declared.places.Place.TheVariants as place
 
 -- whether there is a place, and it is the whole of this segment
@@ -40,8 +40,8 @@ wrote_segment o w k h = grind arith
 -- how far the steps reached, and their order, key by key
 
 pub passed_at : (s : Key → Reached) (x : Entry) (i : ℕ) (k : Key)
-    → passed_over s x i k ≡ (if is_under k x.place then passed (s k) (wrote_under k x.place x.wrote) i else s k)
-unfolding passed_over
+    → with_step s x i k ≡ (if is_under k x.place then taken_in (s k) (wrote_under k x.place x.wrote) i else s k)
+unfolding with_step
 passed_at s x i k = grind arith
 
 pub in_order_at : (s : Key → Reached) (x : Entry) (i : ℕ) → IsInOrder s x i → (k : Key) → is_under k x.place ≡ true → last_blocking (s k) (wrote_under k x.place x.wrote) < i

@@ -10,7 +10,7 @@ use Rattle.rd_depend.specs.declared.keeping_order.ReachedByKey.{ReachedByKey}
 use Rattle.rd_depend.specs.declared.keeping_order.StepsByActor.{StepsByActor}
 use Rattle.rd_depend.specs.Keys.{key_eq}
 use Rattle.rd_depend.specs.Tables.{list_at}
-use Rattle.rd_depend.specs.KeepingOrder.{Placed, nothing_reached, IsNext, passed_over, with_steps}
+use Rattle.rd_depend.specs.KeepingOrder.{Numbered, nothing_reached, IsNext, with_step, with_steps}
 
 -- how far the steps reached under the key: what is kept for it, or nothing reached if it is missing
 abbrev pub reached_or_nothing : Key → Option Reached → Reached
@@ -21,31 +21,31 @@ abbrev pub reached_of : ReachedByKey → Key → Reached
 reached_of by_key k = reached_or_nothing k (get key_eq by_key.reached k)
 
 -- the numbered steps that this actor made, in their order
-abbrev pub by_actor : ℕ → List Placed → List Placed
+abbrev pub by_actor : ℕ → List Numbered → List Numbered
 by_actor n ps = filter (λ p. n == p.1.event.actor) ps
 
 -- all steps of a run by actor, each with its number in the run, from 1
-abbrev pub all_left : List Entry → ℕ → List Placed
+abbrev pub all_left : List Entry → ℕ → List Numbered
 all_left entries n = by_actor n (enumerate_from 1 entries)
 
 -- the steps that are left of each actor, in the order of the run; the code keeps them in the
 -- reverse order
-abbrev pub left_of : StepsByActor → ℕ → List Placed
+abbrev pub left_of : StepsByActor → ℕ → List Numbered
 left_of steps n = reverse (map (λ p. (p.at, p.entry.now)) (list_at steps.steps.items n))
 
 -- the steps of each actor, with step p in front of those of actor n
-abbrev pub with_first : (ℕ → List Placed) → ℕ → Placed → ℕ → List Placed
+abbrev pub with_first : (ℕ → List Numbered) → ℕ → Numbered → ℕ → List Numbered
 with_first left n p m = if m == n then p ∷ left m else left m
 
 -- the next step of the actor of x in the second run, `step`, is like x and in order there; it was
 -- taken in under its keys, and `rest` is what is left of its actor
-pub record GoesOn (x : Entry) (s t : Key → Reached) (old new : ℕ → List Placed) : Type 0 where
-  pub step : Placed
-  pub rest : List Placed
+pub record GoesOn (x : Entry) (s t : Key → Reached) (old new : ℕ → List Numbered) : Type 0 where
+  pub step : Numbered
+  pub rest : List Numbered
   pub next : IsNext s x old step rest
-  pub reached : t ≡ passed_over s x step.0
+  pub reached : t ≡ with_step s x step.0
   pub left : new ≡ with_steps old x.event.actor rest
 
 -- step x isn't next in the second run: its actor has no next step there that is like x and in order
-abbrev pub IsOutOfOrder : Entry → (Key → Reached) → (ℕ → List Placed) → Type 0
-IsOutOfOrder x s left = (p : Placed) (rest : List Placed) → IsNext s x left p rest → ⊥
+abbrev pub IsOutOfOrder : Entry → (Key → Reached) → (ℕ → List Numbered) → Type 0
+IsOutOfOrder x s left = (p : Numbered) (rest : List Numbered) → IsNext s x left p rest → ⊥

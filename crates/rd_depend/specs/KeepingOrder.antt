@@ -20,8 +20,8 @@ abbrev pub last_blocking : Reached → Bool → ℕ
 last_blocking r wrote = if wrote then r.touched else r.wrote
 
 -- how far the steps under a key reached after one more, which has the number i in the second run
-abbrev pub passed : Reached → Bool → ℕ → Reached
-passed r wrote i = record { touched = max r.touched i; wrote = if wrote then max r.wrote i else r.wrote }
+abbrev pub taken_in : Reached → Bool → ℕ → Reached
+taken_in r wrote i = record { touched = max r.touched i; wrote = if wrote then max r.wrote i else r.wrote }
 
 -- how far the steps reached under each key before the first of them: nowhere
 abbrev pub nothing_reached : Key → Reached
@@ -35,8 +35,8 @@ IsAfter s (Some k) wrote i = last_blocking (s k) wrote < i
 
 -- how far the steps reached under each key after one more under this key, which has the number i in
 -- the second run; as before without a key
-abbrev pub passed_under : Option Key → Bool → ℕ → (Key → Reached) → Key → Reached
-passed_under key wrote i s k = if is_that k key then passed (s k) wrote i else s k
+abbrev pub taken_in_under : Option Key → Bool → ℕ → (Key → Reached) → Key → Reached
+taken_in_under key wrote i s k = if is_that k key then taken_in (s k) wrote i else s k
 
 -- a step with number i in the second run comes there after all earlier steps that share one of its
 -- three keys and on which it depends. A making counts as a write of its segment, and any other step
@@ -47,10 +47,10 @@ pub record IsInOrder (s : Key → Reached) (x : Entry) (i : ℕ) : Type 0 where
   pub segment : IsAfter s (segment_key x.place) (is_making x.place) i
 
 -- how far the steps reached under each key after this one, which has the number i in the second run
-unfoldable pub passed_over : (Key → Reached) → Entry → ℕ → Key → Reached
-passed_over s x i =
-    passed_under (segment_key x.place) (is_making x.place) i
-    (passed_under (value_key x.place) (is_value_written x.wrote) i (passed_under (place_key x.place) (not (is_nothing x.wrote)) i s))
+unfoldable pub with_step : (Key → Reached) → Entry → ℕ → Key → Reached
+with_step s x i =
+    taken_in_under (segment_key x.place) (is_making x.place) i
+    (taken_in_under (value_key x.place) (is_value_written x.wrote) i (taken_in_under (place_key x.place) (not (is_nothing x.wrote)) i s))
 
 -- two steps have the same event and the same place, and wrote the same part of it
 pub record AreAlike (x y : Entry) : Type 0 where
@@ -59,23 +59,23 @@ pub record AreAlike (x y : Entry) : Type 0 where
   pub wrote : x.wrote ≡ y.wrote
 
 -- a step with its number in its run
-abbrev pub Placed : Type 0
-Placed = ℕ × Entry
+abbrev pub Numbered : Type 0
+Numbered = ℕ × Entry
 
 -- the steps that are left of each actor, where actor n has just these
-abbrev pub with_steps : (ℕ → List Placed) → ℕ → List Placed → ℕ → List Placed
+abbrev pub with_steps : (ℕ → List Numbered) → ℕ → List Numbered → ℕ → List Numbered
 with_steps left n rest m = if m == n then rest else left m
 
 -- p is the next step left of the actor of x, it is like x and in order, and `rest` is what is left
 -- of this actor then
-pub record IsNext (s : Key → Reached) (x : Entry) (left : ℕ → List Placed) (p : Placed) (rest : List Placed) : Type 0 where
+pub record IsNext (s : Key → Reached) (x : Entry) (left : ℕ → List Numbered) (p : Numbered) (rest : List Numbered) : Type 0 where
   pub first : left x.event.actor ≡ p ∷ rest
   pub alike : AreAlike x p.1
   pub order : IsInOrder s x p.0
 
 -- these steps of the first run are just those left of the second. Taken in one after another, each
 -- is like the next one of its actor there and in order, and at the end none is left
-abbrev pub KeepsOrder : (Key → Reached) → List Entry → (ℕ → List Placed) → Type 0
+abbrev pub KeepsOrder : (Key → Reached) → List Entry → (ℕ → List Numbered) → Type 0
 KeepsOrder s [] left = (n : ℕ) → left n ≡ []
 KeepsOrder s (x ∷ xs) left =
-    (p : Placed) × (rest : List Placed) × IsNext s x left p rest × KeepsOrder (passed_over s x p.0) xs (with_steps left x.event.actor rest)
+    (p : Numbered) × (rest : List Numbered) × IsNext s x left p rest × KeepsOrder (with_step s x p.0) xs (with_steps left x.event.actor rest)

@@ -72,5 +72,5 @@ fn goes_on(
     if !is_alike(entry, other.entry) {
         return Ok(false);
     }
-    reached.pass(entry, other.at)
+    reached.take_in(entry, other.at)
 }

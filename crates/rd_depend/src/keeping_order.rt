@@ -10,7 +10,7 @@
 
 ghost use Rattle.std.specs.Prelude.{◌≡◌, ◌↔◌, ◌<◌, [], ℕ, length, Some, None, IsTrue, IfOk, OnOk, MatchOption};
 ghost use Rattle.rd_depend.specs.declared.index.keys.Key.{Key as KeyOf};
-ghost use Rattle.rd_depend.specs.KeepingOrder.{AreAlike, IsAfter, IsInOrder, last_blocking, is_making, nothing_reached, passed, passed_over, passed_under};
+ghost use Rattle.rd_depend.specs.KeepingOrder.{AreAlike, IsAfter, IsInOrder, last_blocking, is_making, nothing_reached, taken_in, with_step, taken_in_under};
 ghost use Rattle.rd_depend.specs.ComparedSteps.{all_left, left_of, reached_of, with_first};
 ghost use Rattle.rd_depend.specs.Tables.{list_at};
 
@@ -37,9 +37,9 @@ pub(crate) struct Reached {
 impl Reached {
     /// Takes in a step under the key, which has the number `at` in the second run. Returns whether
     /// it comes there after all earlier steps under the key on which it depends.
-    fn pass(&mut self, wrote: bool, at: usize) -> bool
+    fn take_in(&mut self, wrote: bool, at: usize) -> bool
         ensures order { IsTrue result ↔ (last_blocking self.old wrote < at) }
-        ensures reached { self.new ≡ passed self.old wrote at }
+        ensures reached { self.new ≡ taken_in self.old wrote at }
     {
         let last = if wrote { self.touched } else { self.wrote };
         self.touched = self.touched.max(at);
@@ -74,39 +74,39 @@ impl ReachedByKey {
     ///
     /// `AllocError` if memory is refused. The step may then be taken in under some of its keys
     /// only.
-    pub(crate) fn pass(&mut self, entry: &Entry, at: usize) -> Result<bool, AllocError>
+    pub(crate) fn take_in(&mut self, entry: &Entry, at: usize) -> Result<bool, AllocError>
         ensures order { IfOk result (λ ok. IsTrue ok
             ↔ IsInOrder (reached_of self.old) entry.now at) }
         ensures reached { OnOk result (reached_of self.new
-            ≡ passed_over (reached_of self.old) entry.now at) }
+            ≡ with_step (reached_of self.old) entry.now at) }
     {
         let wrote = is_written(entry.wrote);
         let value_written = is_value_written(entry.wrote);
-        let place = self.pass_under(place_key(entry.place), wrote, at)?;
-        let value = self.pass_under(value_key(entry.place), value_written, at)?;
-        let segment = self.pass_under(segment_key(entry.place), is_making(entry.place), at)?;
+        let place = self.take_in_under(place_key(entry.place), wrote, at)?;
+        let value = self.take_in_under(value_key(entry.place), value_written, at)?;
+        let segment = self.take_in_under(segment_key(entry.place), is_making(entry.place), at)?;
         Ok(place & value & segment)
     }
 
     /// Takes in a step under this key, which has the number `at` in the second run. Returns whether
     /// it comes there after all earlier steps under the key on which it depends; without a key it
     /// does nothing and returns true. Fails only if memory is refused.
-    fn pass_under(&mut self, key: Option<Key>, wrote: bool, at: usize) -> Result<bool, AllocError>
+    fn take_in_under(&mut self, key: Option<Key>, wrote: bool, at: usize) -> Result<bool, AllocError>
         ensures order { IfOk result (λ ok. IsTrue ok ↔ IsAfter (reached_of self.old) key wrote at) }
         ensures reached { OnOk result (reached_of self.new
-            ≡ passed_under key wrote at (reached_of self.old)) }
+            ≡ taken_in_under key wrote at (reached_of self.old)) }
     {
         let Some(key) = key else {
             return Ok(true);
         };
         if let Some(reached) = self.reached.get_mut(&key) {
-            return Ok(reached.pass(wrote, at));
+            return Ok(reached.take_in(wrote, at));
         }
         let mut reached = Reached {
             touched: 0,
             wrote: 0,
         };
-        let order = reached.pass(wrote, at);
+        let order = reached.take_in(wrote, at);
         match self.reached.insert(key, reached) {
             Err(_) => Err(AllocError),
             Ok(_) => Ok(order),
@@ -123,7 +123,7 @@ fn is_making(place: Option<Place>) -> bool
 
 /// A step with its number in its run.
 #[derive(Clone, Copy, Debug)]
-pub(crate) struct PlacedStep<'a> {
+pub(crate) struct NumberedStep<'a> {
     /// The step's number, from 1.
     pub(crate) at: usize,
     /// The step's entry.
@@ -134,7 +134,7 @@ pub(crate) struct PlacedStep<'a> {
 #[derive(Drop)]
 pub(crate) struct StepsByActor<'a> {
     /// By the actor's number. Each list has the actor's first step last, so that it can be popped.
-    steps: Vec<Vec<PlacedStep<'a>>>,
+    steps: Vec<Vec<NumberedStep<'a>>>,
 }
 
 impl<'a> StepsByActor<'a> {
@@ -165,12 +165,12 @@ impl<'a> StepsByActor<'a> {
         ensures ok { OnOk result ((n : ℕ) → left_of self.new n
             ≡ with_first (left_of self.old) entry.entry.now.event.actor (at, entry.entry.now) n) }
     {
-        self.steps[usize::from(entry.event.actor)].push(PlacedStep { at, entry })?;
+        self.steps[usize::from(entry.event.actor)].push(NumberedStep { at, entry })?;
         Ok(())
     }
 
     /// Removes and returns the first step that is left of the actor, if there is one.
-    pub(crate) fn pop(&mut self, actor: u8) -> Option<PlacedStep<'a>>
+    pub(crate) fn pop(&mut self, actor: u8) -> Option<NumberedStep<'a>>
         ensures { MatchOption result (left_of self.old actor ≡ [])
             (λ p. (n : ℕ) → left_of self.old n
             ≡ with_first (left_of self.new) actor (p.at, p.entry.now) n) }
@@ -202,7 +202,7 @@ pub(crate) fn is_alike(a: &Entry, b: &Entry) -> bool
 }
 
 /// Returns an empty list for each number that an actor may have. Fails only if memory is refused.
-fn empty_lists<'a>(alloc: Global) -> Result<Vec<Vec<PlacedStep<'a>>>, AllocError>
+fn empty_lists<'a>(alloc: Global) -> Result<Vec<Vec<NumberedStep<'a>>>, AllocError>
     ensures { IfOk result (λ lists. (length lists.items ≡ ACTORS)
         × ((n : ℕ) → list_at lists.items n ≡ [])) }
 {

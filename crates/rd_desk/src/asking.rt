@@ -33,7 +33,7 @@ impl<const R: usize> Desk<R> {
         ensures outcome { KnowsAfterCall (opened_state self.now) pass.old pass.new command result }
     {
         match self.lock.take(rt, pass) {
-            Ok(kept) => self.record_and_put_back(pass, kept, command),
+            Ok(kept) => self.obey_and_put_back(pass, kept, command),
             Err(_) => Err(DeskRefusal::TicketsEnded),
         }
     }
@@ -52,7 +52,7 @@ impl<const R: usize> Desk<R> {
         ensures succeeds { viewers self.now ≡ 1 → IfErr result IsNotBusy }
     {
         match self.lock.try_take(pass) {
-            Ok(kept) => self.record_and_put_back(pass, kept, command),
+            Ok(kept) => self.obey_and_put_back(pass, kept, command),
             Err(TryTakeError::Busy(words)) => Err(DeskRefusal::Busy(words)),
             Err(TryTakeError::TicketsEnded) => Err(DeskRefusal::TicketsEnded),
         }
@@ -61,7 +61,7 @@ impl<const R: usize> Desk<R> {
     /// Lets the book do the command, records the call, puts the book back into the lock, and
     /// returns the book's answer. Fails with `HistoryFull` or `NotRecorded` if the call can't be
     /// recorded; the book doesn't do the command then, and is put back too.
-    fn record_and_put_back(
+    fn obey_and_put_back(
         &self,
         pass: &mut DeskPass<R>,
         mut kept: BookWithHistory<R>,

@@ -99,7 +99,7 @@ impl<T: Recorded> TicketLock<T> {
             }
             let next = shared.compare_exchange::<Draws>(&mut pass.seat, NEXT, ticket, ticket + 1);
             if next == ticket {
-                return Ok(self.wait_for(rt, pass, ticket));
+                return Ok(self.take_when_served(rt, pass, ticket));
             }
             ticket = next;
         }
@@ -107,7 +107,7 @@ impl<T: Recorded> TicketLock<T> {
     }
 
     /// Waits until the pass's ticket is served, takes the value and returns it.
-    fn wait_for<R: Wait>(&self, rt: &R, pass: &mut Pass<T>, ticket: u64) -> T
+    fn take_when_served<R: Wait>(&self, rt: &R, pass: &mut Pass<T>, ticket: u64) -> T
         requires own { IsPassOf self.now pass.old }
         requires ticket { (ticket < 2 ^ 63) × IsWaiting pass.old ticket }
         ensures pass { IsPassOf self.now pass.new }

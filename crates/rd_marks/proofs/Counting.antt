@@ -1,6 +1,6 @@
 -- The number of entries in the stretches is the number of different lists, except the empty one,
 -- that begin the events of some bookmark.
-use Rattle.rd_marks.proofs.Prelude.{◌≡◌, ℕ, zero, suc, ◌+◌, ◌-◌, ◌<◌, ◌≤◌, inl, inr, refl, sym, ap, ◌∙◌, subst, List, [], ◌∷◌, ◌++◌, length, take, map, sum_by, Contains, length-append, length-take, arith, range_with_len, take-length, cases_lt, cases_eq, nat_tests, get_or-map, length-map, length-take-le, take-map, take-take, sum_by-cons, Contains-append_left, Contains-append_right, Contains-append_cases, Event, Entry, Begins, MarkName, Stretch, Node, marks_of, named_lists, stretch_list, shared_at, entries_at, AreNested, AreFresh, number_if_in, greatest_in, AreNeeded, IsAlong, IsDeepest, count_of, events}
+use Rattle.rd_marks.proofs.Prelude.{◌≡◌, ℕ, zero, suc, ◌+◌, ◌-◌, ◌<◌, ◌≤◌, inl, inr, refl, sym, ap, ◌∙◌, subst, List, [], ◌∷◌, ◌++◌, length, take, map, sum_by, Contains, length-append, length-take, arith, range_with_len, take-length, cases_lt, cases_eq, nat_tests, get_or-map, length-map, length-take-le, take-map, take-take, sum_by-cons, Contains-append_left, Contains-append_right, Contains-append_cases, Event, Entry, Begins, MarkName, Stretch, Node, marks_of, named_lists, stretch_list, shared_at, entries_at, AreNested, AreFresh, entries_in_stretch, greatest_in, AreNeeded, IsAlong, IsDeepest, count_of, events}
 use Rattle.std.proofs.lemmas.List.FromFn.{length-map-range_with_len, get_or-map-range_with_len}
 use Rattle.rd_marks.specs.Beginnings.{IsBeginning, AreDistinct, CountsBeginnings, NeedsNoEntry}
 use Rattle.rd_marks.proofs.MarkLemmas.{mark_of}
@@ -109,7 +109,7 @@ all_along ss ms at n es along deepest none =
 greatest_there : (i n : ℕ) (ps : List Node) → 0 < n → n ≤ greatest_in i ps → (p : Node) × Contains ps p × (p.stretch ≡ i) × (n ≤ p.number)
 greatest_there i n [] some h = absurd (omega (arith, some, h))
 greatest_there i n (p ∷ ps) some h =
-    elim (cases_lt (number_if_in i p) n) [
+    elim (cases_lt (entries_in_stretch i p) n) [
       | inl less ↦ let rest = greatest_there i n ps some (omega (arith, less, h)) in (rest.0, contains_later p rest.0 ps rest.1, rest.2, rest.3)
       | inr fine ↦ (p, contains_first p ps, grind (arith, nat_tests), grind (arith, nat_tests))
     ]

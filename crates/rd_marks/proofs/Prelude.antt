@@ -21,7 +21,7 @@ pub use Rattle.rd_marks.specs.Events.{as_event, as_reply}
 pub use Rattle.rd_marks.specs.NameBytes.{MOST_MARKS, MOST_NAME_BYTES, is_mark_name, is_name_byte}
 pub use Rattle.rd_marks.specs.Names.{bytes_of, mark_name_eq}
 pub use Rattle.rd_marks.specs.Rules.{GoThrough, HaveDifferentNames, KeepsRules, MarksGoThrough}
-pub use Rattle.rd_marks.specs.Stretches.{AreFresh, AreInPieces, AreNeeded, AreNeededFrom, AreNested, IsAlong, IsDeepest, IsEnd, IsOwn, IsWithin, continued, count_of, entries_at, greatest_in, list_after, list_before, after_removal, needed_at, number_if_in, after_insertion, shared_at, stretch_list}
+pub use Rattle.rd_marks.specs.Stretches.{AreFresh, AreInPieces, AreNeeded, AreNeededFrom, AreNested, IsAlong, IsDeepest, IsEnd, IsOwn, IsWithin, continued, count_of, entries_at, greatest_in, list_after, list_before, after_removal, needed_at, entries_in_stretch, after_insertion, shared_at, stretch_list}
 pub use Rattle.rd_marks.specs.declared.bookmarks.Bookmarks.{Bookmarks}
 pub use Rattle.rd_marks.specs.declared.books.Book.{Book}
 pub use Rattle.rd_marks.specs.declared.commands.Command.{Command}

@@ -71,13 +71,13 @@ abbrev pub AreFresh : List Stretch → Type 0
 AreFresh ss = (i j : ℕ) → j < i → i < length ss → IsAlong ss i (suc (shared_at ss i)) (events (stretch_list ss j)) → ⊥
 
 -- the number of entries of a node if it is in the i-th stretch, otherwise 0
-abbrev pub number_if_in : ℕ → Node → ℕ
-number_if_in i p = if p.stretch == i then p.number else 0
+abbrev pub entries_in_stretch : ℕ → Node → ℕ
+entries_in_stretch i p = if p.stretch == i then p.number else 0
 
 -- the greatest number of entries among the nodes in the i-th stretch; 0 if none is there
 abbrev pub greatest_in : ℕ → List Node → ℕ
 greatest_in i [] = 0
-greatest_in i (p ∷ ps) = max (number_if_in i p) (greatest_in i ps)
+greatest_in i (p ∷ ps) = max (entries_in_stretch i p) (greatest_in i ps)
 
 -- the number of entries of the i-th stretch's list that are needed, because the next stretch shares
 -- them or a node has them

@@ -1,6 +1,6 @@
 -- Two commands with the same words are equal: after one keyword, arguments have the same shapes,
 -- and an argument is determined by its shape and its word.
-use Rattle.rd_script.proofs.Prelude.{◌≡◌, ℕ, Bool, ◌==◌, List, [], ◌∷◌, length, refl, sym, ◌∙◌, ap, arith, drop, slice_index_or, slice_split, decimal_injective, SegName, Command, yes_or_no, name_words, Argument, Byte, Long, Segment, Choice, Name, Kind, keyword_of, word_of, argument_words, arguments_of, IsSegmentInRange, IsArgumentInRange, AreArgumentsInRange, IsInRange, AreOne, Place, kind_of, place_arguments}
+use Rattle.rd_script.proofs.Prelude.{◌≡◌, ℕ, Bool, ◌==◌, List, [], ◌∷◌, length, refl, sym, ◌∙◌, ap, arith, drop, slice_index_or, slice_split, decimal_injective, SegName, Command, yes_or_no, name_words, Argument, Byte, Long, Segment, Choice, Name, Kind, keyword_of, word_of, argument_words, arguments_of, IsSegmentInRange, IsArgumentInRange, AreArgumentsInRange, IsInRange, IsSameCommand, Place, kind_of, place_arguments}
 use Rattle.rd_script.proofs.KeywordLemmas.{one_kind}
 use Rattle.rd_script.proofs.NumeralLemmas.{name_parts}
 
@@ -61,5 +61,5 @@ same_arguments (x ∷ xs) (y ∷ ys) a small below e =
     ap (λ z. z ∷ xs) same ∙ ap (λ zs. y ∷ zs) (same_arguments xs ys (a.1 same) small.1 below.1 (ap (drop 1) e))
 
 -- two commands with one keyword and the same words are the same
-pub one_command : (c d : Command) → IsInRange c → IsInRange d → keyword_of c ≡ keyword_of d → argument_words (arguments_of c) ≡ argument_words (arguments_of d) → AreOne c d
+pub one_command : (c d : Command) → IsInRange c → IsInRange d → keyword_of c ≡ keyword_of d → argument_words (arguments_of c) ≡ argument_words (arguments_of d) → IsSameCommand c d
 one_command c d small below k e = (k, same_arguments (arguments_of c) (arguments_of d) (alike_after_keyword c d k) small below e)

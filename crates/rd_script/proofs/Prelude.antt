@@ -21,7 +21,7 @@ pub use Rattle.rd_script.specs.Lines.{Holds, IsOneLine, ReadsLast, ReadsNext, Re
 pub use Rattle.rd_script.specs.Reading.{AreNoNames, ReadsCommand, ReadsNameless}
 pub use Rattle.rd_script.specs.Replies.{LineAnswer, text_of}
 pub use Rattle.rd_script.specs.Script.{RanToEnd, RunsScript, StoppedAtRead, StoppedAtWrite}
-pub use Rattle.rd_script.specs.Spelling.{AreOne, IsInRange, IsMisnamed, NamesBadly, Says, is_word, most_line_bytes, spelling}
+pub use Rattle.rd_script.specs.Spelling.{IsSameCommand, IsInRange, IsMisnamed, NamesBadly, Says, is_word, most_line_bytes, spelling}
 pub use Rattle.rd_script.specs.Streams.{Devices, devices}
 pub use Rattle.rd_script.specs.Texts.{yes_or_no}
 pub use Rattle.rd_script.specs.declared.answers.AnyRefusal.TheVariants.{Unread}

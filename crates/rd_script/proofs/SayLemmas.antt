@@ -1,6 +1,6 @@
 -- What a line spells, from its words; and that a line which spells a command is read as that
 -- command.
-use Rattle.rd_script.proofs.Prelude.{◌≡◌, ◌≢◌, ℕ, ◌<◌, ◌≤◌, ◌==◌, List, [], ◌∷◌, length, drop, Result, Ok, Err, sym, ◌∙◌, ap, subst, arith, slice_index_or, slice_split, IsOkAnd, Command, LineFault, Keyword, keyword_text, keyword_of, arguments_of, argument_words, names_after, most_line_bytes, spelling, IsInRange, AreOne, NamesBadly, IsMisnamed, Says, ReadsCommand}
+use Rattle.rd_script.proofs.Prelude.{◌≡◌, ◌≢◌, ℕ, ◌<◌, ◌≤◌, ◌==◌, List, [], ◌∷◌, length, drop, Result, Ok, Err, sym, ◌∙◌, ap, subst, arith, slice_index_or, slice_split, IsOkAnd, Command, LineFault, Keyword, keyword_text, keyword_of, arguments_of, argument_words, names_after, most_line_bytes, spelling, IsInRange, IsSameCommand, NamesBadly, IsMisnamed, Says, ReadsCommand}
 use Rattle.rd_script.specs.declared.faults.LineFault.TheVariants as fault
 use Rattle.rd_script.proofs.KeywordLemmas.{one_keyword}
 use Rattle.rd_script.proofs.NameReadLemmas.{not_badly_named}
@@ -64,7 +64,7 @@ not_misnamed line bad c small e =
     not_badly_named w.keyword w.behind w.bad c small (sym (one_keyword w.keyword (keyword_of c) (ap first_word same))) (ap (drop 1) same)
 
 -- a line that spells a command is read as that command
-pub one_said : (line : List ℕ) (r : Result Command LineFault) → Says line r → (c : Command) → length line ≤ most_line_bytes → IsInRange c → line ≡ spelling c → IsOkAnd r (λ d. AreOne c d)
+pub one_said : (line : List ℕ) (r : Result Command LineFault) → Says line r → (c : Command) → length line ≤ most_line_bytes → IsInRange c → line ≡ spelling c → IsOkAnd r (λ d. IsSameCommand c d)
 one_said line (Ok d) said c few small e =
     let same = sym (words_of_line line c small e) ∙ words_of_line line d said.1 said.2 in
     one_command c d small said.1 (one_keyword (keyword_of c) (keyword_of d) (ap first_word same)) (ap (drop 1) same)

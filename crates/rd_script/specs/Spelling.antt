@@ -27,8 +27,8 @@ abbrev pub IsInRange : Command → Type 0
 IsInRange command = AreArgumentsInRange (arguments_of command)
 
 -- two commands are the same: their keywords and arguments are equal (of names, the bytes count)
-abbrev pub AreOne : Command → Command → Type 0
-AreOne a b = (keyword_of a ≡ keyword_of b) × (arguments_of a ≡ arguments_of b)
+abbrev pub IsSameCommand : Command → Command → Type 0
+IsSameCommand a b = (keyword_of a ≡ keyword_of b) × (arguments_of a ≡ arguments_of b)
 
 -- whether these bytes are a word: at least one, each from 33 to 126
 abbrev pub is_word : List ℕ → Bool

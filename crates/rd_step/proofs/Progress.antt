@@ -40,10 +40,10 @@ Goes R pc a (Err refusal.ArrayEnd) = Unit {0}
 Goes R pc a (Err _) = ⊥
 
 -- the access of a row leads on, whatever content of the right kind it finds
-abbrev Leads : ℕ → Presence → Pc → Actor → Access → Type 0
-Leads R there pc a NoPlace = ⊥
-Leads R there pc a (At p op) = OfKind p (λ c. Goes R pc a (effect op c))
-Leads R there pc a (Make x) = (s : SegName) → (after_at R pc a (answer.Made s)).0.pc ≢ pc
+abbrev Leads : ℕ → Pc → Actor → Access → Type 0
+Leads R pc a NoPlace = ⊥
+Leads R pc a (At p op) = OfKind p (λ c. Goes R pc a (effect op c))
+Leads R pc a (Make x) = (s : SegName) → (after_at R pc a (answer.Made s)).0.pc ≢ pc
 
 -- a choice between two control points other than z is other than z
 other : (b : Bool) (x y z : Pc) → x ≢ z → y ≢ z → (if b then x else y) ≢ z
@@ -67,8 +67,8 @@ swap_out_leads : (R : ℕ) (a : Actor) (slot : ArrSlot) → (after_at R B2 a (an
 swap_out_leads R a slot = grind arith
 
 -- each row leads on, if the actor's words fit it
-row_leads : (R : ℕ) (there : Presence) (pc : Pc) (a : Actor) → words_fit_at pc a ≡ true → IfOk (need_at R pc a) (Leads R there pc a)
-row_leads R there pc a w = grind (arith, common_steps, swaps_lead, adds_lead, other, is_none, nat_le, nat_lt, is_some, take_leads, and_parts, swap_in_leads, swap_out_leads)
+row_leads : (R : ℕ) (pc : Pc) (a : Actor) → words_fit_at pc a ≡ true → IfOk (need_at R pc a) (Leads R pc a)
+row_leads R pc a w = grind (arith, common_steps, swaps_lead, adds_lead, other, is_none, nat_le, nat_lt, is_some, take_leads, and_parts, swap_in_leads, swap_out_leads)
 
 -- The places of accesses are there
 
@@ -94,7 +94,7 @@ works_on : (w : World) (pc : Pc) (a : Actor) (p : Place) (op : Operation) → 1 
 works_on w pc a p op some formed parts words needs =
     let there = is_there w.at in
     let place : IsAtPlace w.ring there (At p op) = IfOk-at_ok (IsAtPlace w.ring there) needs (row_place w.ring there pc a some parts words) in
-    let leads : Leads w.ring there pc a (At p op) = IfOk-at_ok (Leads w.ring there pc a) needs (row_leads w.ring there pc a words) in
+    let leads : Leads w.ring pc a (At p op) = IfOk-at_ok (Leads w.ring pc a) needs (row_leads w.ring pc a words) in
     let on = has_operand w p formed place in
     record { content = on.content; found = on.found; goes = at_kind w.ring there p (λ c. Goes w.ring pc a (effect op c)) leads on.content on.fits }
 
@@ -106,8 +106,8 @@ Ends R a act (Err refusal) = IsStepRefusal refusal
 goes_ends : (R : ℕ) (a : Actor) (p : Place) (c : Content) (r : Result Effect Refusal) → Goes R a.pc a r → Ends R a act.Go (result_map (effect_at p c) r)
 goes_ends R a p c r h = grind arith
 
-make_ends : (R : ℕ) (there : Presence) (a : Actor) (s : SegName) (x : ℕ) → Leads R there a.pc a (Make x) → Ends R a act.Go (make s (holding R x))
-make_ends R there a s x h = cond_both (nat_lt s.n MOST_SEGMENTS) _ _ (λ (r : Result Performed Refusal). Ends R a act.Go r) (λ e. h s) (λ e. tt)
+make_ends : (R : ℕ) (a : Actor) (s : SegName) (x : ℕ) → Leads R a.pc a (Make x) → Ends R a act.Go (make s (holding R x))
+make_ends R a s x h = cond_both (nat_lt s.n MOST_SEGMENTS) _ _ (λ (r : Result Performed Refusal). Ends R a act.Go r) (λ e. h s) (λ e. tt)
 
 -- a call moves its actor on from Idle, and a choice from E10
 call_ends : (pc x : Pc) (y : Access) → need_call pc ≡ Ok y → (Idle ≡ x → ⊥) → x ≢ pc
@@ -135,9 +135,8 @@ go_ends actor w a (At p op) some formed fits needs =
     let on = works_on w a.pc a p op some formed (parts_of w.ring there a fits) (words_of w.ring there a fits) needs in
     subst (λ (o : Option Content). Ends w.ring a act.Go (operate p op o)) (sym on.found) (goes_ends w.ring a p on.content (effect op on.content) on.goes)
 go_ends actor w a (Make x) some formed fits needs =
-    let there = is_there w.at in
-    make_ends w.ring there a (record { maker = actor; n = number_made w.at actor }) x
-    (IfOk-at_ok (Leads w.ring there a.pc a) needs (row_leads w.ring there a.pc a (words_of w.ring there a fits)))
+    make_ends w.ring a (record { maker = actor; n = number_made w.at actor }) x
+    (IfOk-at_ok (Leads w.ring a.pc a) needs (row_leads w.ring a.pc a (words_of w.ring (is_there w.at) a fits)))
 
 access_ends : (actor : ℕ) (w : World) (a : Actor) (act : Act) (y : Access) → 1 ≤ w.ring → IsWellFormed w → record_fits w.ring (is_there w.at) a ≡ true
     → need w.ring a act ≡ Ok y → Ends w.ring a act (perform w.ring actor w.at y)

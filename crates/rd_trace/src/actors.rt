@@ -51,7 +51,7 @@ impl Spelled for Actor {
 
     /// Returns the actor that a JSON value spells. Fails only if it spells none, with `BadTrace`.
     #[tactic(auto, using(crate::proofs::SpellLemmas::read_or_bad))]
-    fn read(_alloc: Global, value: &Value) -> Result<Actor, LoadTraceFault> {
+    fn from_value(_alloc: Global, value: &Value) -> Result<Actor, LoadTraceFault> {
         actor_in(value).ok_or(LoadTraceFault::BadTrace)
     }
 }
@@ -60,7 +60,7 @@ impl Written for Actor {
     ghost datum = { actor_data };
 
     /// Returns the JSON value of the actor. Fails only if memory is refused.
-    fn write(&self, alloc: Global) -> Result<Value, AllocError> {
+    fn to_value(&self, alloc: Global) -> Result<Value, AllocError> {
         actor_value(alloc, self)
     }
 }

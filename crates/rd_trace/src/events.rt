@@ -25,7 +25,7 @@ impl Spelled for Event {
 
     /// Returns the event that a JSON value spells. Fails only if it spells none, with `BadTrace`.
     #[tactic(auto, using(crate::proofs::SpellLemmas::given_or_bad))]
-    fn read(_alloc: Global, value: &Value) -> Result<Event, LoadTraceFault> {
+    fn from_value(_alloc: Global, value: &Value) -> Result<Event, LoadTraceFault> {
         event_in(value).ok_or(LoadTraceFault::BadTrace)
     }
 }

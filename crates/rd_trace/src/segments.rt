@@ -39,7 +39,7 @@ impl<const R: usize> Spelled for Vec<SegmentParts<R>> {
 
     /// Returns the list of segments that a JSON value spells. Fails with `BadTrace` if it spells
     /// none, and with `NoMemory` if memory is refused.
-    fn read(alloc: Global, value: &Value) -> Result<Vec<SegmentParts<R>>, LoadTraceFault> {
+    fn from_value(alloc: Global, value: &Value) -> Result<Vec<SegmentParts<R>>, LoadTraceFault> {
         match value.as_array() {
             None => Err(LoadTraceFault::BadTrace),
             Some(list) => list_in(alloc, list),
@@ -51,7 +51,7 @@ impl<const R: usize> Written for Vec<SegmentParts<R>> {
     ghost datum = { list_data };
 
     /// Returns the JSON value of the list of segments. Fails only if memory is refused.
-    fn write(&self, alloc: Global) -> Result<Value, AllocError> {
+    fn to_value(&self, alloc: Global) -> Result<Value, AllocError> {
         Ok(Value::Array(list_value(alloc, self)?))
     }
 }
@@ -63,7 +63,7 @@ impl<const R: usize> Spelled for SegmentParts<R> {
 
     /// Returns the segment that a JSON value spells. Fails only if it spells none, with `BadTrace`.
     #[tactic(auto, using(crate::proofs::SpellLemmas::read_or_bad))]
-    fn read(_alloc: Global, value: &Value) -> Result<SegmentParts<R>, LoadTraceFault> {
+    fn from_value(_alloc: Global, value: &Value) -> Result<SegmentParts<R>, LoadTraceFault> {
         segment_in(value).ok_or(LoadTraceFault::BadTrace)
     }
 }
@@ -72,7 +72,7 @@ impl<const R: usize> Written for SegmentParts<R> {
     ghost datum = { segment_data };
 
     /// Returns the JSON value of the segment. Fails only if memory is refused.
-    fn write(&self, alloc: Global) -> Result<Value, AllocError> {
+    fn to_value(&self, alloc: Global) -> Result<Value, AllocError> {
         segment_value(alloc, self)
     }
 }
@@ -82,7 +82,7 @@ impl Spelled for Cell {
 
     /// Returns the cell that a JSON value spells. Fails only if it spells none, with `BadTrace`.
     #[tactic(auto, using(crate::proofs::SpellLemmas::given_or_bad))]
-    fn read(_alloc: Global, value: &Value) -> Result<Cell, LoadTraceFault> {
+    fn from_value(_alloc: Global, value: &Value) -> Result<Cell, LoadTraceFault> {
         cell_in(value).ok_or(LoadTraceFault::BadTrace)
     }
 }
@@ -91,7 +91,7 @@ impl Written for Cell {
     ghost datum = { cell_data };
 
     /// Returns the JSON value of the cell. Fails only if memory is refused.
-    fn write(&self, alloc: Global) -> Result<Value, AllocError> {
+    fn to_value(&self, alloc: Global) -> Result<Value, AllocError> {
         cell_value(alloc, self)
     }
 }

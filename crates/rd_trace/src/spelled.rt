@@ -24,7 +24,7 @@ pub trait Spelled: Sized + Drop {
     /// # Errors
     ///
     /// `BadTrace` if it spells none; `NoMemory` if memory was refused.
-    fn read(alloc: Global, value: &Value) -> Result<Self, LoadTraceFault>
+    fn from_value(alloc: Global, value: &Value) -> Result<Self, LoadTraceFault>
         requires { fits }
         ensures { Reads itself (spells (view value.now)) result };
 }
@@ -35,7 +35,7 @@ pub trait Written: Spelled {
     ghost datum: { Self → Data };
 
     /// Returns the JSON value as which the thing is written. Fails only if memory is refused.
-    fn write(&self, alloc: Global) -> Result<Value, AllocError>
+    fn to_value(&self, alloc: Global) -> Result<Value, AllocError>
         ensures value { IfOk result (λ value. view value ≡ datum self.now) }
         ensures spelled { OnOk result (Self.spells (datum self.now) self.now) };
 }
@@ -51,7 +51,7 @@ pub fn list_in<T: Spelled>(alloc: Global, list: &Vec<Value>) -> Result<Vec<T>, L
 {
     let mut things = Vec::with_capacity(alloc, list.len())?;
     for value in list {
-        things.push_reserved(T::read(alloc, value)?);
+        things.push_reserved(T::from_value(alloc, value)?);
     }
     Ok(things)
 }
@@ -82,7 +82,7 @@ pub fn list_value<T: Written>(alloc: Global, things: &[T]) -> Result<Vec<Value>,
 {
     let mut values = Vec::with_capacity(alloc, things.len())?;
     for thing in things {
-        values.push_reserved(thing.write(alloc)?);
+        values.push_reserved(thing.to_value(alloc)?);
     }
     Ok(values)
 }

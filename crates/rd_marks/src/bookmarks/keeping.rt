@@ -8,7 +8,7 @@ ghost use Rattle.indexmap.specs.IndexMap.{spare};
 ghost use Rattle.rd_marks.specs.Changes.{shifted, IsLow};
 ghost use Rattle.rd_marks.specs.BookmarksFields.{nodes_of, IsPruned};
 ghost use Rattle.rd_marks.specs.Names.{mark_name_eq};
-ghost use Rattle.rd_marks.specs.Stretches.{greatest_in, number_if_in, IsWithin, AreNeededFrom};
+ghost use Rattle.rd_marks.specs.Stretches.{greatest_in, entries_in_stretch, IsWithin, AreNeededFrom};
 
 use super::super::names::MarkName;
 use super::super::stretches::{Grown, Node, Shift, Stretches};
@@ -103,14 +103,14 @@ fn greatest_in(names: &IndexMap<MarkName, Node>, i: usize) -> usize
         let Some((_, node)) = names.get_index(index) else {
             unreachable!();
         };
-        greatest = greatest.max(number_if_in(i, *node));
+        greatest = greatest.max(entries_in_stretch(i, *node));
     }
     greatest
 }
 
 /// Returns the number of entries of a node if it is in stretch `i`, otherwise 0.
-fn number_if_in(i: usize, node: Node) -> usize
-    ensures { result ≡ number_if_in i node }
+fn entries_in_stretch(i: usize, node: Node) -> usize
+    ensures { result ≡ entries_in_stretch i node }
 {
     if node.stretch == i { node.number } else { 0 }
 }

@@ -6,7 +6,7 @@
 ghost use Rattle.std.specs.Prelude.{◌≡◌, ◌≢◌, ◌≤◌, [], length, map, IfSome, IfNone};
 ghost use Rattle.std.specs.Result.{IsOkAnd};
 ghost use Rattle.rd_marks.specs.declared.commands.Command.{Command as SomeCommand};
-ghost use Rattle.rd_script.specs.Spelling.{spelling, IsInRange, AreOne, Says, most_line_bytes};
+ghost use Rattle.rd_script.specs.Spelling.{spelling, IsInRange, IsSameCommand, Says, most_line_bytes};
 ghost use Rattle.rd_script.specs.Reading.{ReadsCommand, ReadsNameless};
 
 use super::arguments::{
@@ -31,7 +31,7 @@ pub const MOST_LINE_BYTES: usize = 256;
 pub fn command_in(line: &[u8]) -> Result<Command, LineFault>
     ensures says { Says line.now result }
     ensures one { (c : SomeCommand) → length line.now ≤ most_line_bytes → IsInRange c
-        → line.now ≡ spelling c → IsOkAnd result (λ d. AreOne c d) }
+        → line.now ≡ spelling c → IsOkAnd result (λ d. IsSameCommand c d) }
 {
     if line.len() > MOST_LINE_BYTES {
         return Err(LineFault::LineTooLong);

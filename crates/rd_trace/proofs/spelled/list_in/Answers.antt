@@ -2,8 +2,8 @@ use Rattle.rd_trace.proofs.Prelude.{arith, take_all}
 use Rattle.rd_trace.proofs.SpellLemmas.{spell_each-more, spelled_at, part_passed_up}
 use Rattle.rd_trace.proofs.spelled.list_in.Goals as goal
 
-pub returns-in_err-read : goal.returns-in_err-read
-returns-in_err-read g c = grind (arith, part_passed_up, spelled_at)
+pub returns-in_err-from_value : goal.returns-in_err-from_value
+returns-in_err-from_value g c = grind (arith, part_passed_up, spelled_at)
 
 pub loop-value-preserved : goal.loop-value-preserved
 loop-value-preserved g c = grind (arith, spell_each-more)

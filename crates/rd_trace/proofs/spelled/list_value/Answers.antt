@@ -11,7 +11,7 @@ loop-thing-preserved g c =
     let i = c.loop-thing.thing-index in
     let x = c.thing-item.result in (
       rw (c.push_reserved.ensures.items, take_item xs i x (omega arith) c.thing-item.is)
-          (one_more_written g.T.Spelled.spells g.T.Written.datum c.loop-thing.values.items (take i xs) c.in_ok-write.field-0 x c.loop-thing.invariant.0 c.in_ok-write.ensures.value c.in_ok-write.ensures.spelled),
+          (one_more_written g.T.Spelled.spells g.T.Written.datum c.loop-thing.values.items (take i xs) c.in_ok-to_value.field-0 x c.loop-thing.invariant.0 c.in_ok-to_value.ensures.value c.in_ok-to_value.ensures.spelled),
       omega arith,
       omega arith,
     )

@@ -1,7 +1,7 @@
 use Rattle.rd_desk.proofs.Prelude.{subst, ◌∙◌, IsLegal, book_state, entries, number, opened_state, seen}
 use Rattle.rd_desk.proofs.HistoryLemmas.{is_legal}
 use Rattle.rd_desk.proofs.PassLemmas.{recorded_by}
-use Rattle.rd_desk.proofs.desks.Desk.record_and_put_back.Goals as goal
+use Rattle.rd_desk.proofs.desks.Desk.obey_and_put_back.Goals as goal
 
 pub put_back-requires-clause-value : goal.put_back-requires-clause-value
 put_back-requires-clause-value g c = let found = entries c.args.kept.history in let new = entries c.record-answer.new.self.history in let pass = c.args.pass.now in record {

@@ -1,5 +1,5 @@
 use Rattle.rd_lock.proofs.Prelude.{IsPassOf, IsSamePass, IsWaiting}
-use Rattle.rd_lock.proofs.locks.TicketLock.wait_for.Given as goal
+use Rattle.rd_lock.proofs.locks.TicketLock.take_when_served.Given as goal
 
 abbrev pub invariant-looks : goal.invariant-looks
 invariant-looks g l = record {

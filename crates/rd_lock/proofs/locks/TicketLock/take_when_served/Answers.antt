@@ -1,6 +1,6 @@
 use Rattle.rd_lock.proofs.Prelude.{rules, Some, lock_of}
 use Rattle.rd_lock.proofs.Waits.{polls}
-use Rattle.rd_lock.proofs.locks.TicketLock.wait_for.Goals as goal
+use Rattle.rd_lock.proofs.locks.TicketLock.take_when_served.Goals as goal
 
 pub load-requires : goal.load-requires
 load-requires g c = let pass = c.looks.pass in let i = c.looks.invariant in (
