@@ -8,7 +8,8 @@ clauses, definitions, types and files. A name that is not in the tree, or not in
 named for it, is a fault too. So is a number on docs/PROVED.md or docs/ARCHITECTURE.md that is not
 what `tools/definitions.py` gives: how many definitions and lines a guarantee reaches, and in which
 files. Such a fault names the right number. On every page a script of tools/ has to be there, and
-the check or measurement that it runs; and .ci/run has to be the README's test command.
+the check or measurement that it runs; .ci/run has to be the README's test command; and each link
+leads to a file and a heading that are there.
 
 The gate's programs see the files of their own folders alone. So the session of the README and the
 examples of the manual are in `examples/`, each a script beside its report, and the program
@@ -245,10 +246,15 @@ def gate_fault() -> str:
     return "" if run[first:] == wanted else "it is not the README's test command"
 
 
+def all_pages() -> list[Path]:
+    """All pages, the lessons among them."""
+    return sorted({*TOP.glob("*.md"), *TOP.glob("docs/*.md"), *CRATES.glob("*/README.md"), *EXAMPLES.glob("*.md")})
+
+
 def check_tools() -> int:
     """Prints each script that a page names and that is not there, and what is wrong with the gate;
     returns the exit status."""
-    pages = sorted({*TOP.glob("*.md"), *TOP.glob("docs/*.md"), *CRATES.glob("*/README.md"), *EXAMPLES.glob("*.md")})
+    pages = all_pages()
     pages.remove(TOP / "CHANGELOG.md")  # which may name what was there
     texts = [(page.relative_to(TOP), page.read_text(encoding="utf-8")) for page in pages]
     faults = [f"{page}: no {name}" for page, text in texts for name in unknown_tools(text)]
@@ -336,7 +342,38 @@ def check_numbers() -> int:
     return 1 if wrong else 0
 
 
+# ---- Links ---------------------------------------------------------------------------------------
+
+LINK = re.compile(r"\]\(([^)\s#:]*)(?:#([^)\s]+))?\)")  # a file of the repository, and a heading there
+
+
+def headings_of(page: Path) -> set[str]:
+    """The names by which links know the headings of a page."""
+    text = BLOCK.sub("", page.read_text(encoding="utf-8"))
+    headings = re.findall("^#+ (.*)", text, re.MULTILINE)
+    return {re.sub(r"[^\w -]", "", heading.lower()).replace(" ", "-") for heading in headings}
+
+
+def dead_links(page: Path) -> Iterator[str]:
+    """The links of a page that lead to no file, or to no heading of the page there."""
+    for name, heading in LINK.findall(page.read_text(encoding="utf-8")):
+        there = page.parent / name if name else page
+        if not there.exists() or heading and heading not in headings_of(there):
+            yield f"{name}#{heading}" if heading else name
+
+
+def check_links() -> int:
+    """Prints each link of a page that leads nowhere; returns the exit status."""
+    pages = all_pages()
+    faults = [f"{page.relative_to(TOP)}: no {link}" for page in pages for link in dead_links(page)]
+    for fault in faults:
+        print(f"WRONG {fault}")
+    if not faults:
+        print(f"ok    the links of {len(pages)} pages")
+    return 1 if faults else 0
+
+
 def main() -> int:
     """Runs all checks of the pages; returns the exit status."""
     Parser(__doc__, "python3 tools/check.py pages").parse_args()
-    return max(check_blocks(), check_names(), check_tools(), check_numbers())
+    return max(check_blocks(), check_names(), check_tools(), check_numbers(), check_links())

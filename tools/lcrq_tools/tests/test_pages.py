@@ -1,9 +1,13 @@
 """What `tools/check.py pages` finds on a page."""
 
+import tempfile
 import unittest
+from pathlib import Path
 
 from lcrq_tools.checks import pages
 from lcrq_tools.program import CRATES
+
+LINKS = "[a](#the-undo-of-a-step) [b](page.md) [c](page.md#a-comment) [d](other.md) [e](https://example.org/)\n"
 
 
 class Blocks(unittest.TestCase):
@@ -38,6 +42,16 @@ class Tools(unittest.TestCase):
 
     def test_a_name_that_is_a_word_of_a_sentence_is_none(self) -> None:
         self.assertEqual([*pages.unknown_tools("`tools/check.py` runs a check by its name")], [])
+
+
+class Links(unittest.TestCase):
+    """The links of a page."""
+
+    def test_a_link_leads_to_a_file_and_a_heading(self) -> None:
+        with tempfile.TemporaryDirectory() as folder:
+            page = Path(folder) / "page.md"
+            page.write_text("# The `undo` of a step\n\n```sh\n# a comment\n```\n" + LINKS, encoding="utf-8")
+            self.assertEqual([*pages.dead_links(page)], ["page.md#a-comment", "other.md"])
 
 
 class Numbers(unittest.TestCase):
