@@ -78,7 +78,8 @@ class Browser:
 
     def actions(self) -> Selenium:
         """Actions of the keys and the mouse, none so far."""
-        return ActionChains(self.driver)  # type: ignore[no-untyped-call]  # selenium has no type there
+        chains: Selenium = ActionChains  # selenium may have no types
+        return chains(self.driver)
 
     def press(self, key: str) -> None:
         """Presses a key."""
