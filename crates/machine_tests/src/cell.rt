@@ -141,7 +141,7 @@ const READS: &[(Operation, Content, Option<Answer>)] = &[
 fn a_read_answers_what_is_there(rt: HostRuntime) {
     for &(operation, content, answer) in READS {
         assert_eq!(rt;
-            operation.read(content),
+            operation.read_answer(content),
             answer,
             "{operation:?} of {content:?}"
         );

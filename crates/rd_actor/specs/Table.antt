@@ -76,21 +76,21 @@ need_at R B3 a = Ok (At place.ArrTail Read)
 need_at R Idle a = Err refusal.Idle
 
 -- the access of a call at this control point: none, and refused unless the actor is idle
-abbrev pub need_call : Pc → Result Access Refusal
-need_call Idle = Ok NoPlace
-need_call _ = Err refusal.NotIdle
+abbrev pub need_for_call : Pc → Result Access Refusal
+need_for_call Idle = Ok NoPlace
+need_for_call _ = Err refusal.NotIdle
 
 -- the access of a choice at this control point: none, and refused except at E10
-abbrev pub need_choice : Pc → Result Access Refusal
-need_choice Idle = Err refusal.Idle
-need_choice E10 = Ok NoPlace
-need_choice _ = Err refusal.NoChoice
+abbrev pub need_for_choice : Pc → Result Access Refusal
+need_for_choice Idle = Err refusal.Idle
+need_for_choice E10 = Ok NoPlace
+need_for_choice _ = Err refusal.NoChoice
 
 -- the one access for which an actor asks by this act, over rings of R cells, or why it is refused
 abbrev pub need : ℕ → Actor → Act → Result Access Refusal
 need R a act.Go = need_at R a.pc a
-need R a (act.Starve b) = need_choice a.pc
-need R a _ = need_call a.pc
+need R a (act.Starve b) = need_for_choice a.pc
+need R a _ = need_for_call a.pc
 
 -- the numbers in this row's access fit the words of the program: the index of a cell's next round
 -- is below 2^64 (Q5, Q7), and the number of an array slot is a byte (A2, B2)

@@ -399,8 +399,8 @@ fn pc_after_empty_pass(actor: &Actor) -> Pc
     if actor.pass == 1 { Pc::Q13 } else { Pc::Q14 }
 }
 
-/// Returns the record after a Q13 that read this next segment: the dequeue passes over its own
-/// segment a second time.
+/// Returns the record after a Q13 that read this next segment: the dequeue begins its second pass,
+/// at Q2, through the segment at which it works.
 fn second_pass(actor: &Actor, name: SegName) -> Actor
     ensures { result ≡ record actor.now { next = name; pass = 2; pc = Pc.Q2 } }
 {

@@ -78,7 +78,7 @@ pub enum Answer {
 
 impl Operation {
     /// Returns the answer of this operation if it is a read for this kind of content, else none.
-    pub fn read(self, content: Content) -> Option<Answer>
+    pub fn read_answer(self, content: Content) -> Option<Answer>
         ensures { result ≡ read_answer self content }
     {
         match (self, content) {

@@ -60,22 +60,22 @@ PlaysNamed remaining name before traced d result =
     ((name ≡ codes "-") × PlaysScript before traced d result)
     ⊎ ((name ≢ codes "-") × IsUnused d.input × PlaysFile remaining before traced d.output result)
 
--- what the program did for these options, by its result: `run` and `view` over the options' fresh
--- world, `load` over the book of a trace
-abbrev pub DoesOptions : {F : Type 0} → (F → Option (List ℕ)) → Options → Devices → Result ℕ ProgramFault → Type 0
-DoesOptions remaining (Run file actors ring trace) d result =
+-- what the program did for these options, with this result: `run` and `view` over the options'
+-- fresh world, `load` over the book of a trace
+abbrev pub FollowsOptions : {F : Type 0} → (F → Option (List ℕ)) → Options → Devices → Result ℕ ProgramFault → Type 0
+FollowsOptions remaining (Run file actors ring trace) d result =
     PlaysNamed remaining file.now (fresh_state (ring_length ring) actors) trace d result
-DoesOptions remaining (View files actors ring) d result =
+FollowsOptions remaining (View files actors ring) d result =
     IsUnused d.input
     × ViewsFiles remaining (length files.items) (fresh_state (ring_length ring) actors) d.output result
-DoesOptions remaining (Load file trace) d result = LoadsFile remaining trace d result
+FollowsOptions remaining (Load file trace) d result = LoadsFile remaining trace d result
 
 -- the outcome of these words: they give options, and the outcome is the result of doing what these
 -- ask for; or the outcome is a fault with which the words end, and neither stream was used
 abbrev pub ComesTo : {F : Type 0} → (F → Option (List ℕ)) → List Text → Devices → Outcome → Type 0
 ComesTo remaining words d outcome =
     ((options : Options) × (done : Result ℕ ProgramFault) × GivesOptions words options
-    × DoesOptions remaining options d done × (outcome ≡ Ok done))
+    × FollowsOptions remaining options d done × (outcome ≡ Ok done))
     ⊎ ((fault : OptionsFault) × EndsFor words fault × (outcome ≡ Err fault) × TouchesNothing d)
 
 -- the outcome of words that may have been taken from the system: if they were, the outcome of these

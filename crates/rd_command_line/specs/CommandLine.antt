@@ -58,12 +58,12 @@ abbrev pub trace_rule : Rule
 trace_rule = record (new_rule (codes "trace")) { long = Some (codes "trace"); action = Some SetTrue }
 
 -- the subcommand `run` without `--trace`: the script's file, and the options of the fresh world
-abbrev pub run_over_app : ValueNames → App
-run_over_app names = with_rule (with_rule (with_rule (new_app (codes "run")) file_rule) actors_rule) (ring_rule names)
+abbrev pub run_app_without_trace : ValueNames → App
+run_app_without_trace names = with_rule (with_rule (with_rule (new_app (codes "run")) file_rule) actors_rule) (ring_rule names)
 
 -- the subcommand `run`, with `--trace`
 abbrev pub run_app : ValueNames → App
-run_app names = with_rule (run_over_app names) trace_rule
+run_app names = with_rule (run_app_without_trace names) trace_rule
 
 -- the subcommand `view`: the files of the viewers' scripts, and the options of the fresh world
 abbrev pub view_app : ValueNames → App

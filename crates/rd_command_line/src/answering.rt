@@ -11,7 +11,7 @@ ghost use Rattle.rd_program.specs.declared.faults.ProgramFault.TheVariants.{Read
 ghost use Rattle.rd_program.specs.Program.{IsUnread};
 ghost use Rattle.rd_command_line.specs.Options.{AreInRange};
 ghost use Rattle.rd_command_line.specs.Outcomes.{is_shown};
-ghost use Rattle.rd_command_line.specs.Answering.{AreWholeTexts, ComesTo, DoesOptions, HasOutcome, LoadsFile, Performs, PlaysFile, PlaysNamed, ViewsFiles};
+ghost use Rattle.rd_command_line.specs.Answering.{AreWholeTexts, ComesTo, FollowsOptions, HasOutcome, LoadsFile, Performs, PlaysFile, PlaysNamed, ViewsFiles};
 
 use super::command_line::options;
 use super::outcomes::{Outcome, end};
@@ -82,12 +82,12 @@ pub fn answer<R: Files + Threads + Wait + Sync, S: AsStr, I: Source, O: Sink>(
     ensures shown { is_shown result ≡ true → O.has_failed output.new ≡ false }
 {
     let asked = options(alloc, words)?;
-    Ok(do_options(rt, alloc, asked, input, output))
+    Ok(follow_options(rt, alloc, asked, input, output))
 }
 
 /// Does what the options ask for. Returns the number of the script's lines, or for `view` the
 /// number of recorded calls. Fails as `play_named`, `view_files` or `load_file`.
-fn do_options<R: Files + Threads + Wait + Sync, I: Source, O: Sink>(
+fn follow_options<R: Files + Threads + Wait + Sync, I: Source, O: Sink>(
     rt: &R,
     alloc: Global,
     asked: Options<'_>,
@@ -97,7 +97,7 @@ fn do_options<R: Files + Threads + Wait + Sync, I: Source, O: Sink>(
     requires input_works { I.has_failed input.old ≡ false }
     requires output_works { O.has_failed output.old ≡ false }
     requires actors { AreInRange asked }
-    ensures { DoesOptions R.File.remaining asked.entry
+    ensures { FollowsOptions R.File.remaining asked.entry
         (devices I.Source O.Sink input.old input.new output.old output.new) result }
 {
     match asked {

@@ -11,7 +11,7 @@ ghost use Rattle.clap.specs.declared.builder.command.Command.TheViews.{out-Comma
 ghost use Rattle.clap.specs.declared.error.kind.ErrorKind.TheVariants.{InvalidValue};
 ghost use Rattle.rd_command_line.specs.Options.{IsMistake, AreInRange, flag_text};
 ghost use Rattle.rd_command_line.specs.CommandLine.{AreRings, BothNames, IsRings, GivesSubcommand, GivesWorld, GivesFile, GivesRun, GivesView, GivesLoad, GivesOptions, EndsFor};
-ghost use Rattle.rd_command_line.specs.CommandLine.{file_rule, files_rule, actors_rule, ring_rule, trace_rule, run_over_app, run_app, view_app, load_app, program_app};
+ghost use Rattle.rd_command_line.specs.CommandLine.{file_rule, files_rule, actors_rule, ring_rule, trace_rule, run_app_without_trace, run_app, view_app, load_app, program_app};
 
 use super::requests::{Options, OptionsFault, ring_of};
 use clap::error::ErrorKind;
@@ -227,12 +227,13 @@ fn run<'a>(alloc: Global) -> Result<Command<'a>, AllocError>
     ensures app { IfOk result (λ c. (names : _) × IsRings names × (app_of c ≡ run_app names)) }
     ensures local { IfOk result (λ c. (out-Command c).has_globals ≡ false) }
 {
-    run_over(alloc)?.arg(trace(alloc))
+    run_without_trace(alloc)?.arg(trace(alloc))
 }
 
 /// Returns the subcommand `run` for `clap`, without `--trace`. Fails only if memory is refused.
-fn run_over<'a>(alloc: Global) -> Result<Command<'a>, AllocError>
-    ensures app { IfOk result (λ c. (names : _) × IsRings names × (app_of c ≡ run_over_app names)) }
+fn run_without_trace<'a>(alloc: Global) -> Result<Command<'a>, AllocError>
+    ensures app { IfOk result (λ c. (names : _) × IsRings names
+        × (app_of c ≡ run_app_without_trace names)) }
     ensures local { IfOk result (λ c. (out-Command c).has_globals ≡ false) }
 {
     Command::new(alloc, "run")

@@ -91,7 +91,12 @@ impl ReachedByKey {
     /// Takes in a step under this key, which has the number `at` in the second run. Returns whether
     /// it comes there after all earlier steps under the key on which it depends; without a key it
     /// does nothing and returns true. Fails only if memory is refused.
-    fn take_in_under(&mut self, key: Option<Key>, wrote: bool, at: usize) -> Result<bool, AllocError>
+    fn take_in_under(
+        &mut self,
+        key: Option<Key>,
+        wrote: bool,
+        at: usize,
+    ) -> Result<bool, AllocError>
         ensures order { IfOk result (λ ok. IsTrue ok ↔ IsAfter (reached_of self.old) key wrote at) }
         ensures reached { OnOk result (reached_of self.new
             ≡ taken_in_under key wrote at (reached_of self.old)) }

@@ -18,7 +18,7 @@
 mod moving;
 mod queries;
 mod removal;
-mod starting;
+mod stepping;
 mod switching;
 
 ghost use Rattle.std.specs.Prelude.{◌≡◌, ◌⊎◌, ◌++◌, ◌+◌, ◌≤◌, ℕ, [], length, take, drop, Ok, Err, IsOk, OnOk, OnErr, IfOk, IfErr};

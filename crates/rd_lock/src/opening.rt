@@ -78,13 +78,14 @@ impl<T: Recorded> TicketLock<T> {
         Ok((TicketLock { table }, passes))
     }
 
-    /// Ends the lock and the given passes, and returns the value.
+    /// Ends the lock and the given passes, and returns the value. The passes have to be this lock's,
+    /// and none of them may hold the value.
     ///
     /// # Errors
     ///
-    /// `Busy`, with the two words, if a ticket is drawn and not finished; the value is then not
-    /// returned. Neither word is below what a given pass has seen. This never happens if all passes
-    /// of the lock are given.
+    /// `Busy`, with the two words, if a ticket is drawn and not finished, which can't be if all
+    /// passes of the lock are given; the value is then lost. Each word is at least the greatest that
+    /// a given pass has seen.
     pub fn close(self, passes: Vec<Pass<T>>) -> Result<T, Busy>
         requires own { AllByRecursion (IsPassOf self) passes.items }
         requires out { AllByRecursion IsOut passes.items }

@@ -32,8 +32,9 @@ abbrev pub marked_events : List Mark → MarkName → Option (List Event)
 marked_events [] name = None
 marked_events (m ∷ ms) name = if mark_name_eq name m.name then Some m.events else marked_events ms name
 
--- the book after setting a mark with the live events, after all others. It is refused with
--- MarkTaken if a mark has this name, and otherwise with TooManyMarks if there are MOST_MARKS
+-- the book after setting a mark of this name, last of all marks, with the live events. It is refused
+-- with MarkTaken if a mark has this name already, and otherwise with TooManyMarks if there are
+-- MOST_MARKS
 abbrev pub mark : BookState → MarkName → Result BookState Refusal
 mark b name =
     if is_some (marked_events b.marks name) then Err refusal.MarkTaken

@@ -14,7 +14,7 @@ pub(crate) use changes::{Grown, Shift};
 
 mod changes;
 mod following;
-mod lending;
+mod reading;
 
 use rd_step::Entry;
 use std::alloc::Global;

@@ -1,5 +1,5 @@
 -- After a step that puts nothing into a cell, the cell has its value or none.
-use Rattle.rd_origin.proofs.Prelude.{◌≡◌, ◌⊎◌, ℕ, Bool, false, not, ◌&&◌, sym, ◌∙◌, subst, Option, Result, Ok, IfOk, arith, IfOk-at_ok, Place, Access, Refusal, Contents, is_nothing, Performed, perform, OpReply, need, World, Stepped, step, no_access, Pc, E8, E12, A2, need_at, Event, took, is_first_cell, puts_into, Actor, Act, after, need_call, need_choice, is_at, puts_at, step_outcome}
+use Rattle.rd_origin.proofs.Prelude.{◌≡◌, ◌⊎◌, ℕ, Bool, false, not, ◌&&◌, sym, ◌∙◌, subst, Option, Result, Ok, IfOk, arith, IfOk-at_ok, Place, Access, Refusal, Contents, is_nothing, Performed, perform, OpReply, need, World, Stepped, step, no_access, Pc, E8, E12, A2, need_at, Event, took, is_first_cell, puts_into, Actor, Act, after, need_for_call, need_for_choice, is_at, puts_at, step_outcome}
 use Rattle.rd_origin.proofs.Values.{HoldsOnly, LeavesOnly, AccessKeeps, kept_access}
 use Rattle.rd_actor.specs.declared.actors.Act.TheVariants as act
 
@@ -53,11 +53,11 @@ abbrev pub AtNone : ℕ → ℕ → Contents → (Performed → Type 0) → Resu
 AtNone R n at P r = IfOk r (λ x. IfOk (perform R n at x) P)
 
 -- what holds of no access holds of the access of a call
-pub call_at_none : (R n : ℕ) (at : Contents) (P : Performed → Type 0) → P no_access → (pc : Pc) → AtNone R n at P (need_call pc)
+pub call_at_none : (R n : ℕ) (at : Contents) (P : Performed → Type 0) → P no_access → (pc : Pc) → AtNone R n at P (need_for_call pc)
 call_at_none R n at P h pc = grind arith
 
 -- what holds of no access holds of the access of a choice
-pub choice_at_none : (R n : ℕ) (at : Contents) (P : Performed → Type 0) → P no_access → (pc : Pc) → AtNone R n at P (need_choice pc)
+pub choice_at_none : (R n : ℕ) (at : Contents) (P : Performed → Type 0) → P no_access → (pc : Pc) → AtNone R n at P (need_for_choice pc)
 choice_at_none R n at P h pc = grind arith
 
 act_leaves : (v R n : ℕ) (at : Contents) (q : Place) (a : Actor) (act : Act) → HoldsOnly v at q → AtNone R n at (LeavesUnless v at a.pc q) (need R a act)

@@ -26,9 +26,9 @@ load_refusal (load.TraceMark mark step cause) = refused.TraceMark mark step caus
 load_refusal (load.TraceStep step cause) = refused.TraceStep step cause
 
 -- the refusal that the program shows for a trace that was not written whole
-abbrev pub trace_refusal : WriteTraceFault → AnyRefusal
-trace_refusal trace.NoMemory = refused.Refused refusal.NoMemory
-trace_refusal trace.Write = refused.Stopped script.Write
+abbrev pub write_trace_refusal : WriteTraceFault → AnyRefusal
+write_trace_refusal trace.NoMemory = refused.Refused refusal.NoMemory
+write_trace_refusal trace.Write = refused.Stopped script.Write
 
 -- the refusal that the program shows for a view that was not written whole
 abbrev pub view_refusal : ViewFault → AnyRefusal
@@ -42,7 +42,7 @@ refusal_of NoMemory = refused.Refused refusal.NoMemory
 refusal_of Read = refused.Stopped script.Read
 refusal_of (Script fault) = refused.Stopped fault
 refusal_of (Load fault) = load_refusal fault
-refusal_of (Trace fault) = trace_refusal fault
+refusal_of (Trace fault) = write_trace_refusal fault
 refusal_of (View fault) = view_refusal fault
 
 -- the line on standard error for a refusal: the program's name, and then the refusal

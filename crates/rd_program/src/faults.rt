@@ -3,7 +3,7 @@
 
 ghost use Rattle.std.specs.Prelude.{◌≡◌};
 ghost use Rattle.rd_program.specs.declared.faults.ProgramFault.TheVariants.{Script, Load, Trace, View};
-ghost use Rattle.rd_program.specs.Endings.{refusal_of, load_refusal, trace_refusal, view_refusal};
+ghost use Rattle.rd_program.specs.Endings.{refusal_of, load_refusal, write_trace_refusal, view_refusal};
 
 use rd_cell::Refusal;
 use rd_script::{AnyRefusal, ScriptFault};
@@ -44,7 +44,7 @@ impl ProgramFault {
             ProgramFault::Read => AnyRefusal::Stopped(ScriptFault::Read),
             ProgramFault::Script(fault) => AnyRefusal::Stopped(fault),
             ProgramFault::Load(fault) => load_refusal(fault),
-            ProgramFault::Trace(fault) => trace_refusal(fault),
+            ProgramFault::Trace(fault) => write_trace_refusal(fault),
             ProgramFault::View(fault) => view_refusal(fault),
         }
     }
@@ -66,8 +66,8 @@ fn load_refusal(fault: LoadTraceFault) -> AnyRefusal
 }
 
 /// Returns the refusal that the program shows for a trace that was not written whole.
-fn trace_refusal(fault: WriteTraceFault) -> AnyRefusal
-    ensures { result ≡ trace_refusal fault }
+fn write_trace_refusal(fault: WriteTraceFault) -> AnyRefusal
+    ensures { result ≡ write_trace_refusal fault }
 {
     match fault {
         WriteTraceFault::NoMemory => AnyRefusal::Refused(Refusal::NoMemory),

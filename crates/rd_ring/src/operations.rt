@@ -29,7 +29,7 @@ impl<const R: usize> Segment<R> {
             None => return Err(Refusal::NoSuchPlace),
             Some(found) => found,
         };
-        if let Some(answer) = operation.read(found) {
+        if let Some(answer) = operation.read_answer(found) {
             return Ok(Done::at(place, found, answer, Wrote::Nothing));
         }
         match (place, operation) {

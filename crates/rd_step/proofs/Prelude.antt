@@ -5,7 +5,7 @@ unfoldable pub use Rattle.rd_cell.proofs.Prelude.{number_made, number_made_from}
 pub use Rattle.rd_ring.proofs.Prelude.{Access, Add, AddArray, Answer, ArrSlot, At, COUNTER_END, Cas2, CasName, CasNext, CasTail, Cell, Content, Contents, Done, Effect, HasEffect, MOST_ACTORS, MOST_CELLS, MOST_SEGMENTS, Make, Makes, NoPlace, Operation, Performed, Place, RefusesMaking, SLOTS, SegName, Wrote, after_write, both_tests, can_hold, cell_of_halves, contents_after, counters_fit, effect, everywhere, first_test, holding, is_array, is_of, is_there, make, name_eq, operand, operate, part_from, perform, restore, root, share, slice_get-set_other, slice_get-set_same, wrote_by}
 pub use Rattle.rd_segments.proofs.Prelude.{ListOf, after-is_some, after_swap, after_write-inside, after_write-outside, by_name, by_number, contents_of_parts, count, count_in, each_segment, fresh_space, interferes, interferes-sym, is_cell_at, keeps-operate, name_eq-refl, name_eq-true, not_written, operand-covered, part_of_parts, perform_around, room_used, written-covers, ReturnsMakersRoom, UsesMakersRoom}
 pub use Rattle.rd_actor.specs.Actors.{calling, idle, poised}
-pub use Rattle.rd_actor.specs.Table.{IsRepresentable, after, after_at, after_take, need, need_at, need_call, need_choice, value_to_put}
+pub use Rattle.rd_actor.specs.Table.{IsRepresentable, after, after_at, after_take, need, need_at, need_for_call, need_for_choice, value_to_put}
 pub use Rattle.rd_actor.specs.Words.{words_fit, words_fit_at}
 pub use Rattle.rd_actor.specs.declared.actors.Actor.{Actor}
 pub use Rattle.rd_actor.specs.declared.actors.Op.{Op}

@@ -1,6 +1,6 @@
 -- Progress: the access for which an actor of a well-formed world asks suits its place, and the
 -- answer leads the actor to another control point.
-use Rattle.rd_step.proofs.Prelude.{◌≡◌, ◌≢◌, ℕ, ◌≤◌, Bool, true, false, if◌then◌else◌, nat_lt, nat_le, refl, sym, ◌∙◌, ap, subst, arith, Option, Some, is_some, is_none, ok_or, Result, Ok, Err, IfOk, holding, common_steps, cond_both, and_parts, IfOk-at_ok, fun_ext, MOST_SEGMENTS, Cell, SegName, Place, Wrote, ArrSlot, Content, Operation, Access, NoPlace, At, Make, Refusal, some_covers, is_nothing, written, Contents, is_there, operand, Effect, effect, Performed, operate, make, perform, swaps, adds, effect_at, result_map, after_write-outside, written-covers, ok_or_ok, Act, Actor, Pc, Idle, E4, E11, Q5, A2, B2, need, need_at, need_call, need_choice, after_take, after_at, after, words_fit_at, World, Event, Stepped, step, Presence, content_fits, record_fits, actor_fits, IsWellFormed, number_made, and_then_err, IsStepRefusal, SuitsContent, MovesOn, ChangesOnly}
+use Rattle.rd_step.proofs.Prelude.{◌≡◌, ◌≢◌, ℕ, ◌≤◌, Bool, true, false, if◌then◌else◌, nat_lt, nat_le, refl, sym, ◌∙◌, ap, subst, arith, Option, Some, is_some, is_none, ok_or, Result, Ok, Err, IfOk, holding, common_steps, cond_both, and_parts, IfOk-at_ok, fun_ext, MOST_SEGMENTS, Cell, SegName, Place, Wrote, ArrSlot, Content, Operation, Access, NoPlace, At, Make, Refusal, some_covers, is_nothing, written, Contents, is_there, operand, Effect, effect, Performed, operate, make, perform, swaps, adds, effect_at, result_map, after_write-outside, written-covers, ok_or_ok, Act, Actor, Pc, Idle, E4, E11, Q5, A2, B2, need, need_at, need_for_call, need_for_choice, after_take, after_at, after, words_fit_at, World, Event, Stepped, step, Presence, content_fits, record_fits, actor_fits, IsWellFormed, number_made, and_then_err, IsStepRefusal, SuitsContent, MovesOn, ChangesOnly}
 use Rattle.rd_step.proofs.Halves.{has_place, has_operand}
 use Rattle.rd_step.proofs.Fits.{PartsFit, parts_of, words_of}
 use Rattle.rd_step.proofs.Steps.{took, with_actor-same, with_actor-other}
@@ -110,16 +110,16 @@ make_ends : (R : ℕ) (a : Actor) (s : SegName) (x : ℕ) → Leads R a.pc a (Ma
 make_ends R a s x h = cond_both (nat_lt s.n MOST_SEGMENTS) _ _ (λ (r : Result Performed Refusal). Ends R a act.Go r) (λ e. h s) (λ e. tt)
 
 -- a call moves its actor on from Idle, and a choice from E10
-call_ends : (pc x : Pc) (y : Access) → need_call pc ≡ Ok y → (Idle ≡ x → ⊥) → x ≢ pc
+call_ends : (pc x : Pc) (y : Access) → need_for_call pc ≡ Ok y → (Idle ≡ x → ⊥) → x ≢ pc
 call_ends pc x y h ne = grind arith
 
-choice_ends : (pc : Pc) (b : Bool) (y : Access) → need_choice pc ≡ Ok y → (if b then E11 else E4) ≢ pc
+choice_ends : (pc : Pc) (b : Bool) (y : Access) → need_for_choice pc ≡ Ok y → (if b then E11 else E4) ≢ pc
 choice_ends pc b y h = grind arith
 
-call_place : (pc : Pc) (y : Access) → need_call pc ≡ Ok y → y ≡ NoPlace
+call_place : (pc : Pc) (y : Access) → need_for_call pc ≡ Ok y → y ≡ NoPlace
 call_place pc y h = grind arith
 
-choice_place : (pc : Pc) (y : Access) → need_choice pc ≡ Ok y → y ≡ NoPlace
+choice_place : (pc : Pc) (y : Access) → need_for_choice pc ≡ Ok y → y ≡ NoPlace
 choice_place pc y h = grind arith
 
 -- a call or a choice, which has no access, ends well if it moves its actor on
@@ -174,10 +174,10 @@ suits_content w n a x p op some formed has needs = by_act x needs
     suit : (r : Result Effect Refusal) → Goes w.ring a.pc a r → r ≡ Err refusal.NoSuchPlace → ⊥
     suit r h k = grind arith
 
-    no_call : (pc : Pc) → need_call pc ≡ Ok (At p op) → SuitsContent w.at p op
+    no_call : (pc : Pc) → need_for_call pc ≡ Ok (At p op) → SuitsContent w.at p op
     no_call pc h = grind arith
 
-    no_choice : (pc : Pc) → need_choice pc ≡ Ok (At p op) → SuitsContent w.at p op
+    no_choice : (pc : Pc) → need_for_choice pc ≡ Ok (At p op) → SuitsContent w.at p op
     no_choice pc h = grind arith
 
     by_act : (x : Act) → need w.ring a x ≡ Ok (At p op) → SuitsContent w.at p op

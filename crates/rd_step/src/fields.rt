@@ -50,13 +50,13 @@ fn put_back<const R: usize>(space: &mut Space<R>, place: Option<Place>, content:
 {
     match (place, content) {
         (Some(place), Some(content)) => space.restore(place, content),
-        (Some(place), None) => take_away(space, place),
+        (Some(place), None) => unmake_at(space, place),
         _ => {}
     }
 }
 
-/// Removes the segment whose making wrote this place, which is the last one of its maker.
-fn take_away<const R: usize>(space: &mut Space<R>, place: Place)
+/// Unmakes the segment whose whole is this place. It has to be the last one of its maker.
+fn unmake_at<const R: usize>(space: &mut Space<R>, place: Place)
     requires can { CanPutBack (contents space.old) (Some place) None }
     requires small { R ≤ MOST_CELLS }
     ensures done { contents space.new ≡ restore (Some place) None (contents space.old) }

@@ -1,15 +1,15 @@
 -- The result of loading a text.
-use Rattle.rd_trace.proofs.Prelude.{◌≡◌, ◌≤◌, ◌<◌, ◌+◌, inl, inr, ℕ, List, [], ◌∷◌, length, codes, Option, Some, None, option_map, Result, Ok, Err, refl, sym, ap, ◌∙◌, subst, arith, option_or, IsDistinct, Data, World, Refusal, Mark, book_state, loaded_state, first_refused, first_refused_mark, Replays, MOST_MARKS, HaveDifferentNames, LoadTraceFault, BadTrace, Flawed, TraceMark, TraceStep, Start, number_at, IsStart, HasActorCount, Trace, IsEitherVersion, HasValue, Reads, view, AnyBook, any_state, IsTraceText, IsTraceRing, LoadsValue, LoadsTrace, read, Book, NoMemory}
+use Rattle.rd_trace.proofs.Prelude.{◌≡◌, ◌≤◌, ◌<◌, ◌+◌, inl, inr, ℕ, List, [], ◌∷◌, length, codes, Option, Some, None, option_map, Result, Ok, Err, refl, sym, ap, ◌∙◌, subst, arith, option_or, IsDistinct, Data, World, Refusal, Mark, book_state, loaded_state, first_refused, first_refused_mark, Replays, MOST_MARKS, HaveDifferentNames, LoadTraceFault, BadTrace, Flawed, TraceMark, TraceStep, Start, number_at, IsStart, HasActorsInRange, Trace, IsEitherVersion, HasValue, Reads, view, AnyBook, any_state, IsTraceText, IsTraceRing, LoadsValue, LoadsTrace, read, Book, NoMemory}
 use Rattle.std.specs.Prelude.{IsOkAnd, MatchResult}
 use Rattle.serde_json.proofs.OnLiterals.{serde_json_on_literals}
 
 -- What holds of a session that a value spells
 
-start_counted : {R : ℕ} (d : Data) (start : Start R) → IsStart d start → HasActorCount start
+start_counted : {R : ℕ} (d : Data) (start : Start R) → IsStart d start → HasActorsInRange start
 start_counted d start h = grind arith
 
-pub counted : {R : ℕ} (d : Data) (t : Trace R) → IsEitherVersion d t → HasActorCount t.start
-counted {R} d t (inl h) = subst (λ (start : Start R). HasActorCount start) (sym h.actors.2) (h.actors.1.some, h.actors.1.few)
+pub counted : {R : ℕ} (d : Data) (t : Trace R) → IsEitherVersion d t → HasActorsInRange t.start
+counted {R} d t (inl h) = subst (λ (start : Start R). HasActorsInRange start) (sym h.actors.2) (h.actors.1.some, h.actors.1.few)
 counted d t (inr h) = start_counted h.start.0 t.start h.start.2
 
 none_differ : HaveDifferentNames []

@@ -30,21 +30,21 @@ pub record IsFreshStart (d : Data) (count : ℕ) : Type 0 where
   pub members : member_count d ≡ Some 1
   pub fresh : IsActorCount (codes "fresh") d count
 
--- if the start is fresh, it has 1 to 16 actors
-abbrev pub HasActorCount : {R : ℕ} → Start R → Type 0
-HasActorCount (start.Fresh count) = (1 ≤ count) × (count ≤ MOST_ACTORS)
-HasActorCount (start.Parts p) = Unit {0}
+-- the start is the parts of a world, or fresh with 1 to 16 actors
+abbrev pub HasActorsInRange : {R : ℕ} → Start R → Type 0
+HasActorsInRange (start.Fresh count) = (1 ≤ count) × (count ≤ MOST_ACTORS)
+HasActorsInRange (start.Parts p) = Unit {0}
 
 -- an object has this array at the key `array`
-abbrev pub IsArrayAt : Data → ArrayParts → Type 0
-IsArrayAt d a = (e : Data) × (get (codes "array") d ≡ Some e) × IsArray e a
+abbrev pub HasArray : Data → ArrayParts → Type 0
+HasArray d a = (e : Data) × (get (codes "array") d ≡ Some e) × IsArray e a
 
 -- a JSON value spells parts of a world: it is an object of just five members, one for each of the
 -- parts
 pub record IsParts {R : ℕ} (d : Data) (p : Parts R) : Type 0 where
   pub members : member_count d ≡ Some 5
   pub actors : SpellEachAt IsActor (codes "actors") d p.actors.items
-  pub array : IsArrayAt d p.array
+  pub array : HasArray d p.array
   pub qhead : name_at (codes "qhead") d ≡ Some p.qhead
   pub qtail : name_at (codes "qtail") d ≡ Some p.qtail
   pub segments : SpellEachAt IsSegmentList (codes "segments") d p.segments.items

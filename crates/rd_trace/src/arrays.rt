@@ -9,7 +9,7 @@ ghost use Rattle.rd_segments.specs.declared.array.ArrayParts.{ArrayParts};
 ghost use Rattle.rd_trace.specs.Spelled.{Gives, SpellEach, items_by};
 ghost use Rattle.rd_trace.specs.Arrays.{slot_content, slot_of, content_data, slot_data, filled_slots, IsArray, array_data};
 
-use super::members::{array_at, member_count, number_at};
+use super::members::{items_at, member_count, number_at};
 use rd_cell::ArrSlot;
 use rd_cell::limits::SLOTS;
 use rd_step::ArrayParts;
@@ -26,7 +26,7 @@ const HEAD: &str = "head";
 const TAIL: &str = "tail";
 
 /// Returns the array that a JSON value spells; none if it spells none.
-pub fn array_in(value: &Value) -> Option<ArrayParts>
+pub fn array_parts_in(value: &Value) -> Option<ArrayParts>
     ensures some { IfSome result (IsArray (view value.now)) }
     ensures none { IfNone result ((parts : ArrayParts) → IsArray (view value.now) parts → ⊥) }
 {
@@ -36,12 +36,12 @@ pub fn array_in(value: &Value) -> Option<ArrayParts>
     Some(ArrayParts {
         head: number_at(value, HEAD)?,
         tail: number_at(value, TAIL)?,
-        cells: slots_in(array_at(value, CELLS)?)?,
+        cells: slots_in(items_at(value, CELLS)?)?,
     })
 }
 
 /// Returns the JSON value of the array. Fails only if memory is refused.
-pub fn array_value(alloc: Global, array: &ArrayParts) -> Result<Value, AllocError>
+pub fn array_parts_value(alloc: Global, array: &ArrayParts) -> Result<Value, AllocError>
     ensures { IfOk result (λ value. view value ≡ array_data array.now) }
 {
     let cells = slots_value(alloc, &array.cells)?;

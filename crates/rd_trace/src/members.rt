@@ -23,7 +23,7 @@ pub fn number_at(value: &Value, key: &str) -> Option<u64>
 }
 
 /// Returns the JSON values of the list at a key of an object; none if it has no list there.
-pub fn array_at<'a>(value: &'a Value, key: &str) -> Option<&'a Vec<Value>>
+pub fn items_at<'a>(value: &'a Value, key: &str) -> Option<&'a Vec<Value>>
     ensures { option_map (λ list. items_view list.now.items) result
         ≡ items_at key.now (view value.now) }
 {

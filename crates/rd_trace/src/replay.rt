@@ -5,7 +5,7 @@ ghost use Rattle.std.specs.Prelude.{◌≡◌, ◌<◌, ◌≤◌, ◌++◌, [],
 ghost use Rattle.rd_step.specs.Prelude.{MOST_CELLS};
 ghost use Rattle.rd_marks.specs.Book.{book_state};
 ghost use Rattle.rd_marks.specs.NameBytes.{MOST_MARKS};
-ghost use Rattle.rd_trace.specs.Starts.{HasActorCount};
+ghost use Rattle.rd_trace.specs.Starts.{HasActorsInRange};
 ghost use Rattle.rd_marks.specs.Rules.{GoThrough, HaveDifferentNames};
 ghost use Rattle.rd_trace.specs.Bookmarks.{saved_mark};
 ghost use Rattle.rd_trace.specs.Saved.{saved_trace, loaded_state};
@@ -35,7 +35,7 @@ pub fn replay<const R: usize>(
 ) -> Result<Book<R>, LoadTraceFault>
     requires positive { 1 ≤ R }
     requires small { R ≤ MOST_CELLS }
-    requires counted { HasActorCount session.start }
+    requires counted { HasActorsInRange session.start }
     requires names { HaveDifferentNames (map saved_mark session.marks.items) }
     requires few { length session.marks.items ≤ MOST_MARKS }
     ensures { Replays (λ book. book_state book ≡ loaded_state (saved_trace session.entry))
@@ -53,7 +53,7 @@ pub fn replay<const R: usize>(
 fn world_of<const R: usize>(alloc: Global, start: Start<R>) -> Result<World<R>, LoadTraceFault>
     requires positive { 1 ≤ R }
     requires small { R ≤ MOST_CELLS }
-    requires counted { HasActorCount start }
+    requires counted { HasActorsInRange start }
     ensures { MakesWorld start.entry result }
 {
     match start {

@@ -20,7 +20,7 @@ ghost use Rattle.rd_trace.specs.Writing.{IsTextOf};
 use super::bookmarks::{SavedMark, marks_in, put_marks};
 use super::events::put_next;
 use super::faults::LoadTraceFault;
-use super::members::{array_at, member_count, number_at};
+use super::members::{items_at, member_count, number_at};
 use super::spelled::list_at;
 use super::starts::{Start, actors_at, start_in, start_value};
 use super::texts::put_number;
@@ -32,7 +32,7 @@ use serde_json::Value;
 use std::alloc::{AllocError, Global};
 
 /// The number of members of a trace of version 1.
-const FIRST_MEMBERS: usize = 4;
+const VERSION_1_MEMBERS: usize = 4;
 
 /// The number of members of a trace of version 2.
 const MEMBERS: usize = 6;
@@ -98,8 +98,8 @@ pub fn session_in<const R: usize>(
     ensures { Reads saved_trace (IsEitherVersion (view value.now)) result }
 {
     match (number_at(value, VERSION), member_count(value)) {
-        (Some(1), Some(FIRST_MEMBERS)) => first_session_in(alloc, value),
-        (Some(WRITTEN), Some(MEMBERS)) => second_session_in(alloc, value),
+        (Some(1), Some(VERSION_1_MEMBERS)) => version_1_session_in(alloc, value),
+        (Some(WRITTEN), Some(MEMBERS)) => version_2_session_in(alloc, value),
         _ => Err(LoadTraceFault::BadTrace),
     }
 }
@@ -107,7 +107,7 @@ pub fn session_in<const R: usize>(
 /// Returns the session that an object with the version 1 and four members spells: over a fresh
 /// world, with nothing undone and no bookmark. Fails with `BadTrace` if it spells none, and with
 /// `NoMemory` if memory is refused.
-fn first_session_in<const R: usize>(
+fn version_1_session_in<const R: usize>(
     alloc: Global,
     value: &Value,
 ) -> Result<SavedSession<R>, LoadTraceFault>
@@ -130,7 +130,7 @@ fn first_session_in<const R: usize>(
 
 /// Returns the session that an object with the version 2 and six members spells. Fails with
 /// `BadTrace` if it spells none, and with `NoMemory` if memory is refused.
-fn second_session_in<const R: usize>(
+fn version_2_session_in<const R: usize>(
     alloc: Global,
     value: &Value,
 ) -> Result<SavedSession<R>, LoadTraceFault>
@@ -143,7 +143,7 @@ fn second_session_in<const R: usize>(
     let Some(start) = value.get(START) else {
         return Err(LoadTraceFault::BadTrace);
     };
-    let Some(marks) = array_at(value, MARKS) else {
+    let Some(marks) = items_at(value, MARKS) else {
         return Err(LoadTraceFault::BadTrace);
     };
     Ok(SavedSession {

@@ -11,7 +11,7 @@ ghost use Rattle.rd_trace.specs.Segments.{cell_of, cell_data, IsSegment, IsSegme
 
 use super::actors::value_in;
 use super::faults::LoadTraceFault;
-use super::members::{array_at, member_count, number_at};
+use super::members::{items_at, member_count, number_at};
 use super::names::{next_in, next_value};
 use super::spelled::{Spelled, Written, list_in, list_value};
 use rd_cell::Cell;
@@ -111,7 +111,7 @@ fn segment_in<const R: usize>(value: &Value) -> Option<SegmentParts<R>>
         tail: number_at(value, TAIL)?,
         closed: value.get(CLOSED)?.as_bool()?,
         next: next_in(value.get(NEXT)?)?,
-        cells: cells_in(array_at(value, CELLS)?)?,
+        cells: cells_in(items_at(value, CELLS)?)?,
     })
 }
 

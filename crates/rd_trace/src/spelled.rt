@@ -7,7 +7,7 @@ ghost use Rattle.serde_json.specs.View.{view, items_view};
 ghost use Rattle.rd_trace.specs.Spelled.{Reads, itself, elements, SpellEach, SpellEachAt, AreSpelled};
 
 use super::faults::LoadTraceFault;
-use super::members::array_at;
+use super::members::items_at;
 use serde_json::Value;
 use std::alloc::{AllocError, Global};
 
@@ -69,7 +69,7 @@ pub fn list_at<T: Spelled>(
     requires { T.fits }
     ensures { Reads elements (SpellEachAt T.spells key.now (view value.now)) result }
 {
-    match array_at(value, key) {
+    match items_at(value, key) {
         None => Err(LoadTraceFault::BadTrace),
         Some(list) => list_in(alloc, list),
     }

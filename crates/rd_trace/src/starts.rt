@@ -8,9 +8,9 @@ ghost use Rattle.rd_step.specs.Prelude.{MOST_CELLS, model};
 ghost use Rattle.rd_trace.specs.Names.{name_at};
 ghost use Rattle.rd_trace.specs.Numbers.{member_count};
 ghost use Rattle.rd_trace.specs.Spelled.{Reads, itself};
-ghost use Rattle.rd_trace.specs.Starts.{IsActorCount, IsArrayAt, IsParts, IsStart, IsStartValue, fresh_data, parts_object, parts_data};
+ghost use Rattle.rd_trace.specs.Starts.{IsActorCount, HasArray, IsParts, IsStart, IsStartValue, fresh_data, parts_object, parts_data};
 
-use super::arrays::{array_in, array_value};
+use super::arrays::{array_parts_in, array_parts_value};
 use super::faults::LoadTraceFault;
 use super::members::{member_count, number_at};
 use super::names::{name_in, name_value};
@@ -93,7 +93,7 @@ fn parts_in<const R: usize>(alloc: Global, value: &Value) -> Result<Parts<R>, Lo
     let Some(qtail) = name_at(value, QTAIL) else {
         return Err(LoadTraceFault::BadTrace);
     };
-    let Some(array) = slots_at(value) else {
+    let Some(array) = array_member(value) else {
         return Err(LoadTraceFault::BadTrace);
     };
     Ok(Parts {
@@ -106,11 +106,11 @@ fn parts_in<const R: usize>(alloc: Global, value: &Value) -> Result<Parts<R>, Lo
 }
 
 /// Returns the array that an object spells at the key `array`; none if it spells no array there.
-fn slots_at(value: &Value) -> Option<ArrayParts>
-    ensures some { IfSome result (IsArrayAt (view value.now)) }
-    ensures none { IfNone result ((parts : ArrayParts) → IsArrayAt (view value.now) parts → ⊥) }
+fn array_member(value: &Value) -> Option<ArrayParts>
+    ensures some { IfSome result (HasArray (view value.now)) }
+    ensures none { IfNone result ((parts : ArrayParts) → HasArray (view value.now) parts → ⊥) }
 {
-    array_in(value.get(ARRAY)?)
+    array_parts_in(value.get(ARRAY)?)
 }
 
 /// Returns the name of a segment at a key of an object; none if it has no name there.
@@ -148,7 +148,7 @@ fn parts_value<const R: usize>(alloc: Global, parts: &Parts<R>) -> Result<Value,
     ensures spelled { OnOk result (IsParts (parts_data parts.now) parts.now) }
 {
     let actors = list_value(alloc, &parts.actors)?;
-    let slots = array_value(alloc, &parts.array)?;
+    let slots = array_parts_value(alloc, &parts.array)?;
     let qhead = name_value(alloc, parts.qhead)?;
     let qtail = name_value(alloc, parts.qtail)?;
     let segments = list_value(alloc, &parts.segments)?;

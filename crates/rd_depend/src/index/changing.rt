@@ -11,7 +11,7 @@ ghost use Rattle.rd_depend.specs.Moved.{moved_to};
 
 use super::DependIndex;
 use super::keys::Key;
-use super::lists::{grow, move_all, put_in, reserve_in, take_last_in, truncate_all};
+use super::lists::{grow, move_all, put_in, remove_above_in_all, reserve_in, take_last_in};
 use rd_cell::limits::MOST_STEPS;
 use rd_cell::{Place, Wrote};
 use rd_step::Entry;
@@ -173,7 +173,7 @@ impl DependIndex {
     {
         if n < self.len() {
             self.len = n as usize;
-            truncate_all(&mut self.by_actor, n as u32);
+            remove_above_in_all(&mut self.by_actor, n as u32);
             self.by_key.truncate(n as u32);
         }
     }

@@ -215,20 +215,22 @@ fn count_up_to(positions: &[u32], k: u32) -> usize
     positions.partition_point(|p| *p <= k)
 }
 
-/// Removes the positions above `n` from each list, if it ascends.
-pub(crate) fn truncate_all(lists: &mut Vec<Vec<u32>>, n: u32)
+/// Removes the positions above `n` from each list. Each list has to ascend; nothing is said of what
+/// is left of one that doesn't.
+pub(crate) fn remove_above_in_all(lists: &mut Vec<Vec<u32>>, n: u32)
     ensures lists { (i : ℕ) → IsAscending (list_at lists.old.items i)
         → list_at lists.new.items i ≡ before_first (nat_lt n) (list_at lists.old.items i) }
     ensures capacity { (i : ℕ) → capacity_at lists.new.items i ≡ capacity_at lists.old.items i }
     ensures number { length lists.new.items ≡ length lists.old.items }
 {
     for index in 0..lists.len() {
-        truncate_list(&mut lists[index], n);
+        remove_above(&mut lists[index], n);
     }
 }
 
-/// Removes the positions above `n` from a list, if it ascends.
-fn truncate_list(list: &mut Vec<u32>, n: u32)
+/// Removes the positions above `n` from a list, which has to ascend; nothing is said of what is left
+/// of one that doesn't.
+fn remove_above(list: &mut Vec<u32>, n: u32)
     ensures items { IsAscending list.old.items
         → list.new.items ≡ before_first (nat_lt n) list.old.items }
     ensures capacity { vec_capacity list.new ≡ vec_capacity list.old }

@@ -9,7 +9,8 @@ ghost use Rattle.std.specs.Prelude.{◌≡◌, ◌<◌, length};
 
 use super::keys::Key;
 use super::lists::{
-    move_all, put_if, put_in, reserve_if, reserve_in, take_last_if, take_last_in, truncate_all,
+    move_all, put_if, put_in, remove_above_in_all, reserve_if, reserve_in, take_last_if,
+    take_last_in,
 };
 use indexmap::IndexSet;
 use std::alloc::{AllocError, Global};
@@ -258,8 +259,8 @@ impl Table {
     pub(crate) fn truncate(&mut self, n: u32)
         ensures { Cuts n self.old self.new }
     {
-        truncate_all(&mut self.all, n);
-        truncate_all(&mut self.writes, n);
+        remove_above_in_all(&mut self.all, n);
+        remove_above_in_all(&mut self.writes, n);
     }
 }
 

@@ -5,7 +5,7 @@ ghost use Rattle.rd_journal.specs.Moves.{IsMovedBack, IsMovedForward};
 ghost use Rattle.rd_journal.specs.State.{back, forward};
 
 use super::Session;
-use super::starting::{step_all, undo_after};
+use super::stepping::{step_all_again, undo_after};
 
 impl<const R: usize> Session<R> {
     ghost use Rattle.rd_journal.specs.Sessions.{journal, state, GoesAlong};
@@ -33,7 +33,7 @@ impl<const R: usize> Session<R> {
         ensures state { forward (state self.old) n ≡ Ok (state self.new) }
         ensures along { GoesAlong self.old self.new }
     {
-        step_all(&mut self.world, &self.entries.ahead(n as usize));
+        step_all_again(&mut self.world, &self.entries.ahead(n as usize));
         self.entries.step_forward(n as usize);
         self.undone -= n as usize;
     }

@@ -10,7 +10,7 @@ ghost use Rattle.rd_journal.specs.Laws.{IsStepAfter};
 
 use super::super::entry_list::EntryList;
 use super::Session;
-use super::starting::undo_after;
+use super::stepping::undo_after;
 use rd_cell::{Place, Refusal};
 use rd_depend::Probes;
 use rd_step::{Entry, Event, World};

@@ -12,7 +12,7 @@ ghost use Rattle.rd_journal.specs.State.{switch};
 use super::super::entry_list::EntryList;
 use super::super::indexing::index_instead;
 use super::Session;
-use super::starting::{step_all, undo_after};
+use super::stepping::{step_all_again, undo_after};
 use rd_cell::Refusal;
 use rd_cell::limits::MOST_STEPS;
 use rd_step::{Entry, World};
@@ -80,7 +80,7 @@ impl<const R: usize> Session<R> {
         index_instead(&mut self.index, &self.entries, n, given)?;
         undo_after(&mut self.world, &self.entries.live(), n);
         self.entries.exchange(n, given);
-        step_all(&mut self.world, &self.entries.live().after(n));
+        step_all_again(&mut self.world, &self.entries.live().after(n));
         self.undone = 0;
         Ok(())
     }

@@ -8,7 +8,7 @@ returns-in-Some-Some-clause-done g c =
 
 pub returns-in-Some-None-clause-done : goal.returns-in-Some-None-clause-done
 returns-in-Some-None-clause-done g c =
-    c.take_away.ensures.done ∙ (λ i. restore (sym c.in-Some-None.is-0 i) (sym c.in-Some-None.is-1 i) (contents c.args.space.now))
+    c.unmake_at.ensures.done ∙ (λ i. restore (sym c.in-Some-None.is-0 i) (sym c.in-Some-None.is-1 i) (contents c.args.space.now))
 
 pub returns-in_default-clause-done : goal.returns-in_default-clause-done
 returns-in_default-clause-done g c = λ i. restore (sym c.in_default.is-0 i) c.args.content (contents c.args.space.now)
@@ -20,7 +20,7 @@ returns-in-Some-Some-clause-room g c =
 pub returns-in-Some-None-clause-room : goal.returns-in-Some-None-clause-room
 returns-in-Some-None-clause-room g c =
     let same : room_returned c.args.place c.args.content ≡ room_returned (Some c.in-Some-None.place) None = λ i. room_returned (c.in-Some-None.is-0 i) (c.in-Some-None.is-1 i) in
-    subst (λ (returned : ℕ → ℕ). ReturnsMakersRoom returned (makers_room c.args.space.now) (makers_room c.take_away.new.space)) (sym same) c.take_away.ensures.room
+    subst (λ (returned : ℕ → ℕ). ReturnsMakersRoom returned (makers_room c.args.space.now) (makers_room c.unmake_at.new.space)) (sym same) c.unmake_at.ensures.room
 
 pub returns-in_default-clause-room : goal.returns-in_default-clause-room
 returns-in_default-clause-room g c = keeps_returns _ _ _ (λ m. grind arith) (record { makers = refl; same = λ m. refl })

@@ -14,5 +14,5 @@ returns-in_err-list_at-2 g c =
     part_passed_up elements itself (SpellEachAt IsSegmentList (codes "segments") d) (IsParts {R = g.row.R} d) (λ p h. (p.segments.items, h.segments)) c.in_err-list_at-2.field-0.0
     c.from_residual-in_err-list_at-2.result c.from_residual-in_err-list_at-2.ensures.1 c.in_err-list_at-2.ensures
 
-pub returns-in_default-slots_at : goal.returns-in_default-slots_at
-returns-in_default-slots_at g c = λ p h. c.in_default-slots_at.ensures.none p.array h.array
+pub returns-in_default-array_member : goal.returns-in_default-array_member
+returns-in_default-array_member g c = λ p h. c.in_default-array_member.ensures.none p.array h.array

@@ -31,8 +31,8 @@ undo_after-requires g c =
       ),
     )
 
-pub step_all-requires : goal.step_all-requires
-step_all-requires g c =
+pub step_all_again-requires : goal.step_all_again-requires
+step_all_again-requires g c =
     let self = c.args.self.now in
     let j = journal self in (
       omega (arith, c.undo_after.new.world.small),
@@ -51,9 +51,9 @@ invariant_of-self-2 g c =
     grind (arith, take-append-le, append-nil) in
     record {
       kept =
-          (exchanged n j (whole_journal (opened_with self.opened) (model c.step_all.new.world) c.exchange.new.self) given c.after.result c.live.result (model c.undo_after.new.world) (room c.step_all.new.world)
+          (exchanged n j (whole_journal (opened_with self.opened) (model c.step_all_again.new.world) c.exchange.new.self) given c.after.result c.live.result (model c.undo_after.new.world) (room c.step_all_again.new.world)
           refl (is_session self).runs c.requires.within c.requires.few c.live.ensures c.undo_after.ensures.leads
-          (given_again j.live given _ _ _ n c.requires.within c.after.ensures c.live-2.ensures c.exchange.ensures.live) c.step_all.ensures.ran
+          (given_again j.live given _ _ _ n c.requires.within c.after.ensures c.live-2.ensures c.exchange.ensures.live) c.step_all_again.ensures.ran
           (record { live = c.exchange.ensures.live; undone = c.exchange.ensures.ahead })).session;
       within = omega arith;
       indexed = subst (λ (xs : List Entry). IsIndexOf c.index_instead.new.index xs) all c.in_ok-index_instead.ensures.ok;
@@ -65,7 +65,7 @@ returns-clause-state g c =
     let j = journal self in
     let n = c.args.n in
     let given = c.args.given.now in
-    (exchanged n j (with_undone 0 (whole_journal (opened_with self.opened) (model c.step_all.new.world) c.exchange.new.self)) given c.after.result c.live.result (model c.undo_after.new.world) (room c.step_all.new.world)
+    (exchanged n j (with_undone 0 (whole_journal (opened_with self.opened) (model c.step_all_again.new.world) c.exchange.new.self)) given c.after.result c.live.result (model c.undo_after.new.world) (room c.step_all_again.new.world)
     refl (is_session self).runs c.requires.within c.requires.few c.live.ensures c.undo_after.ensures.leads
-    (given_again j.live given _ _ _ n c.requires.within c.after.ensures c.live-2.ensures c.exchange.ensures.live) c.step_all.ensures.ran
+    (given_again j.live given _ _ _ n c.requires.within c.after.ensures c.live-2.ensures c.exchange.ensures.live) c.step_all_again.ensures.ran
     (record { live = c.exchange.ensures.live; undone = refl })).state

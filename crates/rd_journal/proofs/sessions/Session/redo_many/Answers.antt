@@ -6,8 +6,8 @@ use Rattle.rd_journal.proofs.sessions.Session.redo_many.Goals as goal
 pub ahead-requires : goal.ahead-requires
 ahead-requires g c = grind (arith, length-take)
 
-pub step_all-requires : goal.step_all-requires
-step_all-requires g c = grind (arith, first_run, room_first)
+pub step_all_again-requires : goal.step_all_again-requires
+step_all_again-requires g c = grind (arith, first_run, room_first)
 
 pub step_forward-requires : goal.step_forward-requires
 step_forward-requires g c = grind (arith, length-take)
@@ -16,13 +16,13 @@ pub invariant_of-self : goal.invariant_of-self
 invariant_of-self g c =
     let self = c.args.self.now in
     let old = whole_journal (opened_with self.opened) (model self.world) self.entries in
-    let new = whole_journal (opened_with self.opened) (model c.step_all.new.world) c.step_forward.new.self in
+    let new = whole_journal (opened_with self.opened) (model c.step_all_again.new.world) c.step_forward.new.self in
     let n = c.args.n in
     let moved : IsMovedForward n old new = record { live = c.step_forward.ensures.live; undone = c.step_forward.ensures.ahead } in
     record {
       kept =
-          moved_forward n old new c.ahead.result (room self.world) (room c.step_all.new.world) refl self.kept c.ahead.ensures c.step_all.ensures.ran
-          c.step_all.ensures.room moved;
+          moved_forward n old new c.ahead.result (room self.world) (room c.step_all_again.new.world) refl self.kept c.ahead.ensures c.step_all_again.ensures.ran
+          c.step_all_again.ensures.room moved;
       within = omega (arith, self.within, ap length moved.undone, length-drop n old.undone);
       indexed = subst (λ (es : List Entry). IsIndexOf self.index es) (sym c.step_forward.ensures.kept) self.indexed;
     }
@@ -31,7 +31,7 @@ pub returns-clause-entries : goal.returns-clause-entries
 returns-clause-entries g c =
     let self = c.args.self.now in
     let old = whole_journal (opened_with self.opened) (model self.world) self.entries in
-    forward_undone self.undone c.args.n old (whole_journal (opened_with self.opened) (model c.step_all.new.world) c.step_forward.new.self)
+    forward_undone self.undone c.args.n old (whole_journal (opened_with self.opened) (model c.step_all_again.new.world) c.step_forward.new.self)
     (omega (arith, c.requires.enough, length-take self.undone old.undone)) (record { live = c.step_forward.ensures.live; undone = c.step_forward.ensures.ahead })
 
 pub returns-clause-state : goal.returns-clause-state

@@ -5,10 +5,10 @@ use Rattle.rd_cell.specs.declared.places.Place.TheVariants as place
 use Rattle.rd_cell.specs.declared.places.Wrote.TheVariants as wrote
 use Rattle.rd_cell.specs.declared.operations.Answer.TheVariants as answer
 
-pub returns-in-Some-read-clause-ok : goal.returns-in-Some-read-clause-ok
-returns-in-Some-read-clause-ok g c =
-    reads_at c.args.self.now c.args.place c.args.operation c.in-Some.found c.in-Some-read.answer c.at.result
-    (sym c.in-Some.ensures) (sym c.in-Some-read.ensures) c.at.ensures
+pub returns-in-Some-read_answer-clause-ok : goal.returns-in-Some-read_answer-clause-ok
+returns-in-Some-read_answer-clause-ok g c =
+    reads_at c.args.self.now c.args.place c.args.operation c.in-Some.found c.in-Some-read_answer.answer c.at.result
+    (sym c.in-Some.ensures) (sym c.in-Some-read_answer.ensures) c.at.ensures
 
 pub cas2_cell-won-requires : goal.cas2_cell-won-requires
 cas2_cell-won-requires g c = (

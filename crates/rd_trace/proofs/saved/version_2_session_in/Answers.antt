@@ -1,12 +1,12 @@
 use Rattle.rd_trace.proofs.Prelude.{codes, ◌∙◌, arith, none-some, view, Gives, SpellEachAt, elements, event_of, saved_trace, IsVersion2}
 use Rattle.rd_trace.proofs.SpellLemmas.{part_passed_up}
-use Rattle.rd_trace.proofs.saved.second_session_in.Goals as goal
+use Rattle.rd_trace.proofs.saved.version_2_session_in.Goals as goal
 
 pub returns-in_default : goal.returns-in_default
 returns-in_default g c = λ t h. none-some h.start.0 (c.in_default.ensures ∙ h.start.1)
 
-pub returns-in_default-array_at : goal.returns-in_default-array_at
-returns-in_default-array_at g c = λ t h. none-some h.marks.0 (c.in_default-array_at.ensures ∙ h.marks.1)
+pub returns-in_default-items_at : goal.returns-in_default-items_at
+returns-in_default-items_at g c = λ t h. none-some h.marks.0 (c.in_default-items_at.ensures ∙ h.marks.1)
 
 pub returns-in_err-start_in : goal.returns-in_err-start_in
 returns-in_err-start_in g c = grind arith

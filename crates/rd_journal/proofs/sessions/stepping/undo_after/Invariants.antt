@@ -1,5 +1,5 @@
 use Rattle.rd_journal.proofs.Prelude.{ℕ, ◌+◌, ◌≤◌, length, take, drop, World, model, room, LeadsTo, room_returned_by}
-use Rattle.rd_journal.proofs.sessions.starting.undo_after.Given as goal
+use Rattle.rd_journal.proofs.sessions.stepping.undo_after.Given as goal
 
 abbrev pub invariant-loop-last : goal.invariant-loop-last
 invariant-loop-last g l = record {

@@ -1,7 +1,7 @@
 use Rattle.rd_step.proofs.Prelude.{sym, ◌∙◌, subst, arith, Some, None, Place, restore, CanPutBack, contents, room_returned, ReturnsMakersRoom}
 use Rattle.rd_segments.specs.Space.{makers_room}
 use Rattle.rd_step.proofs.WorldLemmas.{made_whole, last_some, last_taken}
-use Rattle.rd_step.proofs.fields.take_away.Goals as goal
+use Rattle.rd_step.proofs.fields.unmake_at.Goals as goal
 
 pub unmake-requires : goal.unmake-requires
 unmake-requires g c = grind (arith, made_whole, last_some)

@@ -1,5 +1,5 @@
 use Rattle.rd_journal.proofs.Prelude.{◌≡◌, ◌++◌, List, Ok, take, drop, model, room, run, Entry, events, IsRunFrom, HasRoom}
-use Rattle.rd_journal.proofs.sessions.starting.step_all.Given as goal
+use Rattle.rd_journal.proofs.sessions.stepping.step_all_again.Given as goal
 
 abbrev pub invariant-loop-next : goal.invariant-loop-next
 invariant-loop-next g l = record {

@@ -58,16 +58,16 @@ impl Stretches {
         ensures succeeds { of.number ≡ n → IsOk result }
     {
         let own = self.own_node(of);
-        if let Some(entries) = self.slice(own, n) {
+        if let Some(entries) = self.slice_after(own, n) {
             return Ok(CowSlice::Borrowed(entries));
         }
-        Ok(CowSlice::Owned(self.copy(alloc, own, n)?))
+        Ok(CowSlice::Owned(self.copy_entries_after(alloc, own, n)?))
     }
 
     /// Returns the entries of a node after the first `n`, or `None` if the node's stretch shares
     /// one of them or there is no such stretch.
     #[tactic(auto, using(crate::proofs::Reading::stretch_at, crate::proofs::Reading::lent, crate::proofs::StretchLists::total, crate::proofs::Starting::stretch_within))]
-    fn slice(&self, of: Node, n: usize) -> Option<&[Entry]>
+    fn slice_after(&self, of: Node, n: usize) -> Option<&[Entry]>
         requires present { IsWithin self.now.list.items of }
         requires own { IsOwn self.now.list.items of }
         requires within { n ≤ of.number }
@@ -90,7 +90,12 @@ impl Stretches {
     /// `AllocError` if memory for the copy was refused, which never happens if there is nothing to
     /// copy.
     #[tactic(auto, using(crate::proofs::Reading::without_last, crate::proofs::Reading::read_on))]
-    fn copy(&self, alloc: Global, of: Node, n: usize) -> Result<Vec<Entry>, AllocError>
+    fn copy_entries_after(
+        &self,
+        alloc: Global,
+        of: Node,
+        n: usize,
+    ) -> Result<Vec<Entry>, AllocError>
         requires present { IsWithin self.now.list.items of }
         requires within { n ≤ of.number }
         ensures ok { IfOk result (λ entries. entries.items

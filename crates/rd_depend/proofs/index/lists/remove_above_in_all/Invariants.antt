@@ -1,5 +1,5 @@
 use Rattle.rd_depend.proofs.Prelude.{◌≡◌, ℕ, ◌<◌, ◌≤◌, length, nat_lt, list_at, capacity_at, before_first, IsAscending}
-use Rattle.rd_depend.proofs.index.lists.truncate_all.Given as goal
+use Rattle.rd_depend.proofs.index.lists.remove_above_in_all.Given as goal
 
 abbrev pub invariant-loop-index : goal.invariant-loop-index
 invariant-loop-index l = record {

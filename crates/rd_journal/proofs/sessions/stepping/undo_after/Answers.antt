@@ -1,6 +1,6 @@
 use Rattle.rd_journal.proofs.Prelude.{◌≡◌, ℕ, ◌+◌, ◌-◌, ◌≤◌, List, take, drop, sym, ap, subst, arith, take_all, drop_all, World, model, room, Entry, LeadsTo, room_returned_by}
 use Rattle.rd_journal.proofs.Runs.{one_more, one_before, may_step_back}
-use Rattle.rd_journal.proofs.sessions.starting.undo_after.Goals as goal
+use Rattle.rd_journal.proofs.sessions.stepping.undo_after.Goals as goal
 
 pub loop-last-init : goal.loop-last-init
 loop-last-init g c =

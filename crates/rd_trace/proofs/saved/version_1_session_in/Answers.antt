@@ -1,6 +1,6 @@
 use Rattle.rd_trace.proofs.Prelude.{codes, view, Gives, SpellEachAt, elements, event_of, saved_trace, IsVersion1}
 use Rattle.rd_trace.proofs.SpellLemmas.{part_passed_up}
-use Rattle.rd_trace.proofs.saved.first_session_in.Goals as goal
+use Rattle.rd_trace.proofs.saved.version_1_session_in.Goals as goal
 
 pub returns-in_default : goal.returns-in_default
 returns-in_default g c = λ t h. c.in_default.ensures.none h.actors.0 h.actors.1

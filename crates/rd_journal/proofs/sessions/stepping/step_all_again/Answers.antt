@@ -2,7 +2,7 @@ use Rattle.rd_journal.proofs.Prelude.{◌≡◌, ◌∙◌, ◌+◌, ◌<◌, Li
 use Rattle.rd_journal.proofs.ListLemmas.{drop_one_less}
 use Rattle.rd_journal.proofs.RoomLemmas.{redo_room, redone_room}
 use Rattle.rd_journal.proofs.Runs.{ran_more}
-use Rattle.rd_journal.proofs.sessions.starting.step_all.Goals as goal
+use Rattle.rd_journal.proofs.sessions.stepping.step_all_again.Goals as goal
 
 pub loop-next-init : goal.loop-next-init
 loop-next-init g c = record { ran = refl; rest = c.requires.runs; more = λ rest has. has; room = c.requires.room }

@@ -1,5 +1,5 @@
 use Rattle.rd_marks.proofs.Prelude.{◌≡◌, ◌++◌, ◌-◌, ◌+◌, ◌≤◌, reverse, vec_len, vec_capacity, entries_at, IsWithin}
-use Rattle.rd_marks.proofs.stretches.Stretches.copy.Given as goal
+use Rattle.rd_marks.proofs.stretches.Stretches.copy_entries_after.Given as goal
 
 abbrev pub invariant-loop-at : goal.invariant-loop-at
 invariant-loop-at l = record {
