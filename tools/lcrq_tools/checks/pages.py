@@ -1,15 +1,15 @@
 """Compares each block of lines and replies in README.md, docs/MANUAL.md and docs/RECIPES.md with the
 file of it that the gate compares with the program.
 
-    python3 tools/check.py pages
+    python3 tools/check.py pages [--store]
 
 And it looks up what docs/PROVED.md and the READMEs of the crates name in backticks: functions,
 clauses, definitions, types and files. A name that is not in the tree, or not in the file that is
 named for it, is a fault too. So is a number on docs/PROVED.md or docs/ARCHITECTURE.md that is not
 what `tools/definitions.py` gives: how many definitions and lines a guarantee reaches, and in which
-files. Such a fault names the right number. On every page a script of tools/ has to be there, and
-the check or measurement that it runs; .ci/run has to be the README's test command; and each link
-leads to a file and a heading that are there.
+files. Such a fault names the right number, and --store puts it there. On every page a script of
+tools/ has to be there, and the check or measurement that it runs; .ci/run has to be the README's
+test command; and each link leads to a file and a heading that are there.
 
 The gate's programs see the files of their own folders alone. So the session of the README and the
 examples of the manual are in `examples/`, each a script beside its report, and the program
@@ -330,13 +330,24 @@ def reading() -> Iterator[tuple[str, str, str]]:
     yield "files of undo_at", said_in(FILES, text), str(definitions.reached_from(FOLLOWED).totals()[1])
 
 
-def check_numbers() -> int:
+def with_numbers(text: str, said: str, wanted: str) -> str:
+    """A text with other numbers in place of those that it says, in one row or sentence of it."""
+    old, new = said.split(" | "), wanted.split(" | ")
+    found = re.search(r"(\D+)".join(rf"(?<![\d,]){number}(?![\d,])" for number in old), text)
+    if not found or len(old) == 1:
+        return text
+    return text[:found.start()] + new[0] + "".join(map("".join, zip(found.groups(), new[1:]))) + text[found.end():]
+
+
+def check_numbers(is_stored: bool) -> int:
     """Prints each number of definitions, files and lines on the pages that `definitions.py` doesn't
-    give, with the one that it gives; returns the exit status."""
+    give, with the one that it gives, or stores that one; returns the exit status."""
     rows = [(PROVED, row) for row in guarantees()] + [(ARCHITECTURE, row) for row in reading()]
     wrong = [(page, row) for page, row in rows if row[1] != row[2]]
     for page, (name, said, wanted) in wrong:
         print(f"WRONG {page.relative_to(TOP)}: {name}: it has {said}, and it should have {wanted}")
+        if is_stored:
+            page.write_text(with_numbers(page.read_text(encoding="utf-8"), said, wanted), encoding="utf-8")
     if not wrong:
         print(f"ok    {len(rows)} numbers of definitions, files and lines")
     return 1 if wrong else 0
@@ -375,5 +386,7 @@ def check_links() -> int:
 
 def main() -> int:
     """Runs all checks of the pages; returns the exit status."""
-    Parser(__doc__, "python3 tools/check.py pages").parse_args()
-    return max(check_blocks(), check_names(), check_tools(), check_numbers(), check_links())
+    parser = Parser(__doc__, "python3 tools/check.py pages")
+    parser.add_argument("--store", action="store_true", help="put the right numbers of definitions, files and lines")
+    is_stored: bool = parser.parse_args().store
+    return max(check_blocks(), check_names(), check_tools(), check_numbers(is_stored), check_links())

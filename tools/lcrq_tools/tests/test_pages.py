@@ -57,6 +57,13 @@ class Links(unittest.TestCase):
 class Numbers(unittest.TestCase):
     """Numbers on pages."""
 
+    def test_numbers_are_stored_in_one_row_or_sentence(self) -> None:
+        row = "| a | 12 | 1,034 | 5 |\n| b | 34 | 5 |"
+        self.assertEqual(pages.with_numbers(row, "34 | 5", "35 | 6"), "| a | 12 | 1,034 | 5 |\n| b | 35 | 6 |")
+        sentence = "237 in 63\nfiles, with 1,084 lines"
+        self.assertEqual(pages.with_numbers(sentence, "237 | 63 | 1,084", "1 | 2 | 3"), "1 in 2\nfiles, with 3 lines")
+        self.assertEqual(pages.with_numbers(sentence, "no such sentence", "3"), sentence)
+
     def test_a_row_has_its_numbers_with_commas(self) -> None:
         self.assertEqual(pages.in_row([3, 1234]), "3 | 1,234")
         self.assertEqual(pages.said_in(pages.MINUTES, "in all\n 95 minutes in all"), "95")
