@@ -1,5 +1,5 @@
--- The table of control points, one row a control point: the access for which an actor asks there,
--- and how it goes on.
+-- The table of control points, one row for each control point: the access for which an actor asks
+-- there, and how it goes on.
 use Rattle.std.specs.Prelude.{ℕ, ◌+◌, ◌%◌, ◌^◌, ◌<◌, Bool, true, false, ◌==◌, ◌&&◌, ◌||◌, nat_lt, nat_le, if◌then◌else◌, Option, Some, None, is_some, is_none, Result, Ok, Err}
 use Rattle.std.specs.Bool.{beq}
 use Rattle.rd_cell.specs.declared.cells.Cell.{Cell}

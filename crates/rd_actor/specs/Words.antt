@@ -1,4 +1,4 @@
--- Which words fit an actor's control point, one row a control point.
+-- Which words fit an actor's control point, one row for each control point.
 use Rattle.std.specs.Prelude.{Bool, true, false, not, ◌==◌, ◌&&◌, ◌||◌, nat_lt, nat_le, Option, Some, is_some, is_none}
 use Rattle.rd_cell.specs.declared.limits.TheConstants.{SLOTS}
 use Rattle.rd_cell.specs.Places.{root, name_eq}
@@ -8,22 +8,22 @@ use Rattle.rd_actor.specs.declared.actors.Op.TheVariants as op
 use Rattle.rd_actor.specs.declared.actors.Pc.{Pc}
 use Rattle.rd_actor.specs.declared.actors.Pc.TheVariants.{Idle, E1, E2, E3, E4, E5, E6, E7, E8, E9, E10, E11, E12, E13, E14, Q1, Q2, Q3, Q4, Q5, Q6, Q7, Q8, Q9, Q10, Q11, Q12, Q13, Q14, A1, A2, B1, B2, B3}
 
--- whether this is a call of an enqueue, not on the array
+-- whether this is an enqueue that is not on the array; false if there is no call
 abbrev pub is_enqueue : Option Op → Bool
 is_enqueue (Some (op.Enq x)) = true
 is_enqueue _ = false
 
--- whether this is a call of a dequeue, not on the array
+-- whether this is a dequeue that is not on the array; false if there is no call
 abbrev pub is_dequeue : Option Op → Bool
 is_dequeue (Some op.Deq) = true
 is_dequeue _ = false
 
--- whether this is a call of an enqueue on the array
+-- whether this is an enqueue on the array; false if there is no call
 abbrev pub is_array_enqueue : Option Op → Bool
 is_array_enqueue (Some (op.AEnq x)) = true
 is_array_enqueue _ = false
 
--- whether this is a call of a dequeue on the array
+-- whether this is a dequeue on the array; false if there is no call
 abbrev pub is_array_dequeue : Option Op → Bool
 is_array_dequeue (Some op.ADeq) = true
 is_array_dequeue _ = false

@@ -153,7 +153,7 @@ pub struct Actor {
 
 impl Actor {
     /// Returns the record of an actor in no call: its names are the root, its numbers 0 and its
-    /// bits 0, and it has no value.
+    /// bits false, and it has no value.
     pub fn idle() -> Actor
         ensures { result ≡ idle }
     {

@@ -1,7 +1,7 @@
 //! The table of control points: the access for which an actor asks at each, and how it goes on.
 //!
-//! A row a control point, in the table's order. `need` has the column of accesses, `after` those of
-//! the words set and of the next control point. The helpers below have the rows that choose between
+//! It has one row for each control point. `need` has the column of accesses, `after` those of the
+//! words set and of the next control point. The helpers below have the rows that choose between
 //! control points.
 
 ghost use Rattle.std.specs.Prelude.{◌≡◌, ◌+◌, ◌%◌, ◌^◌, ◌<◌, ◌≤◌, true, false, nat_le, if◌then◌else◌, Some, None};
@@ -13,9 +13,10 @@ ghost use Rattle.rd_actor.specs.Table.{value_to_put, cell_with, need, need_at, I
 use super::actors::{Act, Actor, Op, OpReply, Pc};
 use rd_cell::{Access, Answer, ArrSlot, Cell, Content, Operation, Place, Refusal, SegName};
 
-/// Returns the one access that the actor's next step makes, over rings of `R` cells. The contract
-/// holds if the numbers in the access fit the program's words (`IsRepresentable`), as they do for
-/// every actor of a well-formed world. Only the accesses of Q5, Q7, A2 and B2 might have others.
+/// Returns the one access of the step that the actor makes by this act, over rings of `R` cells, 1
+/// to 64. The contract holds if the numbers in the access fit the program's words
+/// (`IsRepresentable`), as they do for every actor of a well-formed world. Only the accesses of Q5,
+/// Q7, A2 and B2 might have others.
 ///
 /// # Errors
 ///
@@ -92,8 +93,8 @@ fn need_at<const R: usize>(actor: &Actor) -> Result<Access, Refusal>
     }
 }
 
-/// Returns the actor's next record after its access got this answer, and the call's reply if the
-/// step ended the call.
+/// Returns the actor's next record after this act, whose access got this answer, and the call's
+/// reply if the step ended the call.
 pub fn after<const R: usize>(actor: &Actor, act: Act, answer: Answer) -> (Actor, Option<OpReply>)
     requires { R ≤ MOST_CELLS }
     ensures { result ≡ after R actor.now act answer }
@@ -400,7 +401,7 @@ fn pc_after_empty_pass(actor: &Actor) -> Pc
 }
 
 /// Returns the record after a Q13 that read this next segment: the dequeue begins its second pass,
-/// at Q2, through the segment at which it works.
+/// at Q2, over the segment on which it works.
 fn second_pass(actor: &Actor, name: SegName) -> Actor
     ensures { result ≡ record actor.now { next = name; pass = 2; pc = Pc.Q2 } }
 {
@@ -456,7 +457,7 @@ fn cell_at<const R: usize>(actor: &Actor, position: u64) -> Place
     Place::Cell(actor.crq, index_of::<R>(position))
 }
 
-/// Returns the number of this position's cell in a ring of `R` cells.
+/// Returns the number of this position's cell in a ring of `R` cells, 1 to 64.
 fn index_of<const R: usize>(position: u64) -> u8
     requires positive { 1 ≤ R }
     requires small { R ≤ MOST_CELLS }
@@ -512,7 +513,8 @@ fn cas2_to_put(actor: &Actor) -> Operation
 }
 
 /// Returns the operation of Q5 and Q7: a CAS2 from the cell that was read, with this value or none,
-/// to an empty cell at the index of the next round.
+/// to an empty cell at the index of the next round. The contract holds if this index is below 2^64,
+/// as it is in a well-formed world.
 fn move_on<const R: usize>(actor: &Actor, val: Option<u64>) -> Operation
     requires { R ≤ MOST_CELLS }
     ensures { actor.now.h + R < 2 ^ 64

@@ -1,5 +1,5 @@
-//! Which words fit an actor's control point, one row a control point. The words of every actor in a
-//! world fit: `World::assemble` refuses others, and every step keeps this.
+//! Which words fit an actor's control point, one row for each control point. The words of every
+//! actor in a world fit: `World::assemble` refuses others, and every step keeps this.
 
 ghost use Rattle.std.specs.Prelude.{◌≡◌};
 ghost use Rattle.rd_actor.specs.Words.{words_fit, has_idle_words, is_enqueue, is_dequeue, is_array_enqueue, is_array_dequeue, enqueue_fits, pass_fits};
@@ -67,28 +67,28 @@ fn pass_fits(actor: &Actor) -> bool
     is_dequeue(actor.op) && (actor.pass == 1 || actor.pass == 2)
 }
 
-/// Whether this is a call of an enqueue, not on the array.
+/// Whether this is an enqueue that is not on the array; false if there is no call.
 fn is_enqueue(op: Option<Op>) -> bool
     ensures { result ≡ is_enqueue op }
 {
     matches!(op, Some(Op::Enq(_)))
 }
 
-/// Whether this is a call of a dequeue, not on the array.
+/// Whether this is a dequeue that is not on the array; false if there is no call.
 fn is_dequeue(op: Option<Op>) -> bool
     ensures { result ≡ is_dequeue op }
 {
     matches!(op, Some(Op::Deq))
 }
 
-/// Whether this is a call of an enqueue on the array.
+/// Whether this is an enqueue on the array; false if there is no call.
 fn is_array_enqueue(op: Option<Op>) -> bool
     ensures { result ≡ is_array_enqueue op }
 {
     matches!(op, Some(Op::AEnq(_)))
 }
 
-/// Whether this is a call of a dequeue on the array.
+/// Whether this is a dequeue on the array; false if there is no call.
 fn is_array_dequeue(op: Option<Op>) -> bool
     ensures { result ≡ is_array_dequeue op }
 {

@@ -38,8 +38,9 @@ contents_after did = after_write_at (written did.place did.wrote) did.given
 abbrev pub done_of : Performed → Done
 done_of did = record { place = did.place; old = did.old; answer = did.answer; wrote = did.wrote }
 
--- the number of the maker's first segment, from the n-th on, that is not there. At most this many
--- names are tried; if all of them are there, it is the number after the last
+-- the number of the maker's first segment, from number n on, that is not there. The first argument
+-- says how many names are tried at most; if all of them are there, the answer is the number after
+-- the last
 unfoldable pub number_made_from : ℕ → Contents → ℕ → ℕ → ℕ
 number_made_from zero at maker n = n
 number_made_from (suc more) at maker n =
@@ -108,8 +109,8 @@ Makes s given old new =
 abbrev pub Restores : (Place → Bool) → Place → Option Content → Contents → Contents → Type 0
 Restores looked_at p o old new = (q : Place) → looked_at q ≡ true → new q ≡ restore (Some p) o old q
 
--- why no further segment is made: `SegmentsEnd` if the maker has made as many as it may, else
--- `NoMemory` if there is no room for one more
+-- why no further segment is made by a maker that has made `number` segments and has room for `room`
+-- more: `SegmentsEnd` if it has made as many as it may, else `NoMemory` if it has no room
 abbrev pub RefusesMaking : ℕ → ℕ → Refusal → Type 0
 RefusesMaking number room refusal.SegmentsEnd = MOST_SEGMENTS ≤ number
 RefusesMaking number room refusal.NoMemory = (number < MOST_SEGMENTS) × (room ≡ 0)

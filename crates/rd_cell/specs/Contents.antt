@@ -37,8 +37,8 @@ is_cell (content.Cell c) = true
 is_cell _ = false
 
 -- what each place that the written place covers gets of a content, or of none: a half of a cell
--- gets its half, any other place all of it. No cell is found with, or given, a content of another
--- kind (`laws::the_content_of_a_cell_is_a_cell`)
+-- gets its half, any other place all of it. What is found at, or written over, a cell's place is
+-- always a cell (`laws::the_content_of_a_cell_is_a_cell`)
 abbrev pub share : Place → Option Content → Contents
 share (place.Cell s i) (Some (content.Cell c)) q = half c q
 share p o q = o

@@ -83,19 +83,22 @@ read_answer ReadValue (content.Val val) = Some (answer.Value val)
 read_answer ReadSafeAndIndex (content.Idx safe idx) = Some (answer.SafeAndIndex safe idx)
 read_answer _ _ = None
 
--- whether an operation keeps a segment's counters at most at their end: all do, except the array's
--- fetch-and-add and a compare-and-swap that would set the tail past 2^62
+-- whether an operation may be done on a segment: any may, except the array's fetch-and-add, which
+-- has another limit, and a compare-and-swap that would set the tail past 2^62. One that is not for
+-- the content found there may too: `NoSuchPlace` refuses it
 abbrev pub suits_segments : Operation → Bool
 suits_segments AddArray = false
 suits_segments (CasTail old new) = nat_le new COUNTER_END
 suits_segments _ = true
 
--- whether an operation keeps the array's counters at most at their end: all do, except a segment's
--- fetch-and-add, whose limit is higher
+-- whether an operation may be done on the array: any may, except a segment's fetch-and-add, whose
+-- limit is higher. One that is not for the content found there may too: `NoSuchPlace` refuses it
 abbrev pub suits_array : Operation → Bool
 suits_array Add = false
 suits_array _ = true
 
--- whether an operation at this place keeps its counter, if it has one, at most at its end
+-- whether an operation may be done at this place: by the rule of the array for its places, and by
+-- that of segments for all others. This is about limits alone: that the place is there, with the
+-- right kind of content, is `SuitsContent` of rd_step
 abbrev pub suits : Place → Operation → Bool
 suits p op = if is_array p then suits_array op else suits_segments op

@@ -27,7 +27,7 @@ pub struct Done {
     /// What the access answered.
     pub answer: Answer,
     /// Which part of its place the access wrote: nothing if it was a read, a compare-and-swap that
-    /// lost, or no access; the index half if it was a CAS2 that won and left the cell's value; else
+    /// lost, or no access; the index half if it was a CAS2 that won and kept the cell's value; else
     /// all.
     pub wrote: Wrote,
 }

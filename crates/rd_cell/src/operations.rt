@@ -29,7 +29,7 @@ pub enum Operation {
         /// The name that is put there.
         new: SegName,
     },
-    /// Compare-and-swap of a next, from none.
+    /// Compare-and-swap of a next, from none to this name.
     CasNext(SegName),
     /// Compare-and-swap of a tail, from open at one count to open at another.
     CasTail {
@@ -45,7 +45,7 @@ pub enum Operation {
         /// The cell that is put there.
         new: Cell,
     },
-    /// Swap of a slot of the array.
+    /// Swap of a slot of the array: puts this in, and answers what was there.
     Swap(ArrSlot),
 }
 

@@ -33,8 +33,8 @@ pub enum Place {
     Tail(SegName),
     /// The name of the segment that follows a segment, or none.
     Next(SegName),
-    /// One cell of a segment, by its index from 0: its two halves together, which a double-word
-    /// compare-and-swap reads.
+    /// One cell of a segment, by its number from 0: its two halves together, on which a double-word
+    /// compare-and-swap works.
     Cell(SegName, u8),
     /// The value half of a cell.
     Val(SegName, u8),
@@ -53,7 +53,7 @@ pub enum Place {
 /// Which part of its place an access wrote.
 #[derive(Clone, Copy, Debug, PartialEq, Eq)]
 pub enum Wrote {
-    /// Nothing: it only read.
+    /// Nothing: it only read, its compare-and-swap lost, or there was no access.
     Nothing,
     /// All that the place names.
     Place,
@@ -173,7 +173,8 @@ fn is_of(name: SegName, place: Place) -> bool
     }
 }
 
-/// The constant `ROOT` is the root of the definitions: segment 0 of maker 0.
+/// The constant `ROOT` is the root of the definitions: segment 0 of maker 0. The function does
+/// nothing: this law is its contract.
 pub fn the_root_is_the_first_of_no_maker()
     ensures { ROOT ≡ root }
 {}

@@ -11,11 +11,11 @@ pub enum Refusal {
     NoActor,
     /// 2: a call by an actor that is in the middle of one.
     NotIdle,
-    /// 3: a step of an actor that is in no call.
+    /// 3: a step or a choice of an actor that is in no call.
     Idle,
     /// 4: the actor is at a choice, which `Starve` makes.
     NeedsChoice,
-    /// 5: a choice by an actor that is at none.
+    /// 5: a choice by an actor that is in a call, but at no choice.
     NoChoice,
     /// 6: a fetch-and-add on a segment's counter that is 2^62.
     CounterEnd,

@@ -27,7 +27,8 @@ use std::thread::Threads;
 
 /// Does what the words of a command line ask for, over the files and the three streams. Then writes
 /// the outcome's message, if it has one, and returns the exit status. `words` is a fault if the
-/// words could not be taken from the system.
+/// words could not be taken from the system. It may wait, in `view`. None of the streams may have
+/// failed before.
 pub fn perform<R: Files + Threads + Wait + Sync, S: AsStr + Drop, I: Source, O: Sink, E: Sink>(
     rt: &R,
     alloc: Global,
@@ -48,7 +49,7 @@ pub fn perform<R: Files + Threads + Wait + Sync, S: AsStr + Drop, I: Source, O: 
 }
 
 /// Does what the words ask for, and returns the outcome. If `words` is a fault, returns this fault,
-/// and uses neither stream.
+/// and uses neither stream. Neither may have failed before.
 fn outcome_of<R: Files + Threads + Wait + Sync, S: AsStr + Drop, I: Source, O: Sink>(
     rt: &R,
     alloc: Global,
@@ -67,7 +68,8 @@ fn outcome_of<R: Files + Threads + Wait + Sync, S: AsStr + Drop, I: Source, O: S
 }
 
 /// Does what the words of a command line ask for, and returns the outcome. The first word is the
-/// program's name. It may wait, in `view`.
+/// program's name. If the words give no options, neither stream is used. It may wait, in `view`.
+/// Neither stream may have failed before.
 pub fn answer<R: Files + Threads + Wait + Sync, S: AsStr, I: Source, O: Sink>(
     rt: &R,
     alloc: Global,
@@ -86,7 +88,8 @@ pub fn answer<R: Files + Threads + Wait + Sync, S: AsStr, I: Source, O: Sink>(
 }
 
 /// Does what the options ask for. Returns the number of the script's lines, or for `view` the
-/// number of recorded calls. Fails as `play_named`, `view_files` or `load_file`.
+/// number of recorded calls. Fails as `play_named`, `view_files` or `load_file` does. The numbers
+/// in the options must be in range, and neither stream may have failed before.
 fn follow_options<R: Files + Threads + Wait + Sync, I: Source, O: Sink>(
     rt: &R,
     alloc: Global,
@@ -125,7 +128,8 @@ fn follow_options<R: Files + Threads + Wait + Sync, I: Source, O: Sink>(
 }
 
 /// Runs the script on the input if the name is `-`, else the script in the file of this name.
-/// Returns the number of its lines. Fails as `play`, and with `Read` if the file can't be opened.
+/// Returns the number of its lines. Fails as `play` does, and with `Read` if the file can't be
+/// opened. Neither stream may have failed before.
 fn play_named<R: Files, I: Source, O: Sink>(
     rt: &R,
     alloc: Global,
@@ -147,8 +151,8 @@ fn play_named<R: Files, I: Source, O: Sink>(
     }
 }
 
-/// Runs the script in the file of this name, and returns the number of its lines. Fails as `play`,
-/// and with `Read` if the file can't be opened.
+/// Runs the script in the file of this name, and returns the number of its lines. Fails as `play`
+/// does, and with `Read` if the file can't be opened. The output must not have failed before.
 fn play_file<R: Files, O: Sink>(
     rt: &R,
     alloc: Global,
@@ -165,9 +169,9 @@ fn play_file<R: Files, O: Sink>(
     play(alloc, &mut ReadSource::new(file), output, setup, trace)
 }
 
-/// Runs the scripts in the files of these names, each by its own viewer, and returns the number of
-/// recorded calls. All files are read before the first command is asked. Fails as `whole_files` or
-/// `view`.
+/// Runs the scripts in the files of these names, 1 to 64, each by its own viewer, and returns the
+/// number of recorded calls. All files are read before the first command is asked. Fails as
+/// `whole_files` or `view` does. The output must not have failed before.
 fn view_files<R: Files + Threads + Wait + Sync, O: Sink>(
     rt: &R,
     alloc: Global,
@@ -210,8 +214,8 @@ fn whole_files<R: Files>(
 }
 
 /// Loads the trace in the file of this name, and runs the script on the input over its book.
-/// Returns the number of the script's lines. Fails as `whole_text` or `resume`, and with `Read` if
-/// the file can't be opened.
+/// Returns the number of the script's lines. Fails as `whole_text` or `resume` does, and with
+/// `Read` if the file can't be opened. Neither stream may have failed before.
 fn load_file<R: Files, I: Source, O: Sink>(
     rt: &R,
     alloc: Global,

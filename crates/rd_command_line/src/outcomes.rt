@@ -20,9 +20,10 @@ const TOO_MANY_FILES: &str = "lcrqdb: 1 to 64 files\n";
 /// done. `Err(fault)`: the command line gives no options.
 pub type Outcome = Result<Result<u64, ProgramFault>, OptionsFault>;
 
-/// Ends the program after an outcome: writes the outcome's message, if it has one, and returns the
-/// exit status. The status is the same if a stream fails, and a stream that gets no message is not
-/// called. If memory for a text of `clap` is refused, the program ends as after `NoMemory`.
+/// Writes the message of an outcome, if it has one, and returns the exit status with which the
+/// program ends. The status is the same if a stream fails, and a stream that gets no message is not
+/// called. Standard error must not have failed before, nor must standard output if the outcome is
+/// `Shown`. If memory for a text of `clap` is refused, the program ends as after `NoMemory`.
 pub fn end<O: Sink, E: Sink>(
     alloc: Global,
     outcome: &Outcome,
@@ -40,8 +41,9 @@ pub fn end<O: Sink, E: Sink>(
     }
 }
 
-/// Ends the program after a command line that gives no options: writes the fault's message, and
-/// returns the exit status. If memory for a text of `clap` is refused, the program ends as after
+/// Writes the message for a command line that gives no options, and returns the exit status with
+/// which the program ends. Standard error must not have failed before, nor must standard output if
+/// the fault is `Shown`. If memory for a text of `clap` is refused, the program ends as after
 /// `NoMemory`.
 fn end_unasked<O: Sink, E: Sink>(
     alloc: Global,
@@ -77,8 +79,8 @@ fn end_unasked<O: Sink, E: Sink>(
     }
 }
 
-/// Writes a text to a stream. If the stream fails, it took a beginning of the text, and nothing
-/// more is done about it.
+/// Writes a text to a stream that has not failed. If the stream fails, it took a beginning of the
+/// text, and nothing more is done about it.
 fn show<K: Sink>(stream: &mut K, text: &str)
     requires { K.has_failed stream.old ≡ false }
     ensures { Takes (sink_stream K.Sink stream.old stream.new) text.now }

@@ -24,7 +24,7 @@ abbrev pub touched_or_written : Bool → Entry → Option Place
 touched_or_written false x = x.place
 touched_or_written true x = written x.place x.wrote
 
--- whether an entry is to be kept in the list for this
+-- whether an entry is to be kept in the list for this actor or key
 abbrev pub touches : Touch → Entry → Bool
 touches (By a) x = a == x.event.actor
 touches (Under w k) x = is_under k (touched_or_written w x)
@@ -49,12 +49,12 @@ abbrev pub number_of : (Entry → Bool) → List Entry → ℕ
 number_of test [] = 0
 number_of test (x ∷ xs) = one_if (test x) + number_of test xs
 
--- the positions that the index keeps in the list for this
+-- the positions that the index keeps in the list for this actor or key
 abbrev pub kept : DependIndex → Touch → List ℕ
 kept index (By a) = list_at index.by_actor.items a
 kept index (Under w k) = kept_in index.by_key w k
 
--- the number of positions for which the list for this has room left
+-- the number of positions for which the list for this actor or key has room left
 abbrev pub spare : DependIndex → Touch → ℕ
 spare index (By a) = spare_at index.by_actor.items a
 spare index (Under w k) = spare_in index.by_key w k
@@ -74,7 +74,7 @@ pub record HasRoomFor (index : DependIndex) (entries : List Entry) : Type 0 wher
   pub lists : (t : Touch) → number_of (touches t) entries ≤ spare index t
 
 -- each list has room for the positions of all of the given entries that it is to keep, once the
--- positions of the entries that go are removed
+-- positions of the entries in `gone` are removed
 pub record HasRoomInstead (index : DependIndex) (gone given : List Entry) : Type 0 where
   pub lists : (t : Touch) → number_of (touches t) given ≤ spare index t + number_of (touches t) gone
 
@@ -86,7 +86,7 @@ KeepsRoom old new = (t : Touch) → spare new t ≡ spare old t
 abbrev pub LosesNoRoom : DependIndex → DependIndex → Type 0
 LosesNoRoom old new = (t : Touch) → spare old t ≤ spare new t
 
--- each list has room for as many more positions as it kept of these entries, which went
+-- these entries were removed, and each list has room for as many more positions as it kept of them
 abbrev pub GivesRoom : DependIndex → DependIndex → List Entry → Type 0
 GivesRoom old new gone = (t : Touch) → spare new t ≡ spare old t + number_of (touches t) gone
 
@@ -110,7 +110,7 @@ pub record IsIndex (index : DependIndex) : Type 0 where
   pub entries : List Entry
   pub is : IsIndexOf index entries
 
--- the number of positions that the list for this can have before it has to grow
+-- the number of positions that the list for this actor or key can have before it has to grow
 abbrev pub capacity : DependIndex → Touch → ℕ
 capacity index (By a) = capacity_at index.by_actor.items a
 capacity index (Under w k) = capacity_in index.by_key w k

@@ -107,14 +107,14 @@ pub record AreReadyAt (t : Table) (wrote : Bool) (o : Option ℕ) : Type 0 where
 abbrev pub HasLast : Table → Option Key → Bool → Type 0
 HasLast t o wrote = (w : Bool) (k : Key) → o ≡ Some k → is_kept_in w wrote ≡ true → 1 ≤ length (kept_in t w k)
 
--- the lists are as before, no room was lost, and the keys have their indices
+-- the lists are as before, no room was lost, and the keys that were there have their old indices
 pub record KeepsLists (old new : Table) : Type 0 where
   pub lists : (w : Bool) (k : Key) → kept_in new w k ≡ kept_in old w k
   pub room : (w : Bool) (k : Key) → spare_in old w k ≤ spare_in new w k
   pub slots : (k : Key) (i : ℕ) → slot_in old.keys.keys k ≡ Some i → slot_in new.keys.keys k ≡ Some i
 
 -- the position was put at the end of those of the key's lists that are to keep the step, which lost
--- room for at most one. The other lists are as before, and the keys have their indices
+-- room for at most one. The other lists are as before, and the keys have their old indices
 pub record Puts (k : Option Key) (wrote : Bool) (position : ℕ) (old new : Table) : Type 0 where
   pub lists : (w : Bool) (q : Key) → kept_in new w q ≡ (if is_kept_in w wrote && is_that q k then kept_in old w q ++ position ∷ [] else kept_in old w q)
   pub room : (w : Bool) (q : Key) → spare_in old w q ≤ spare_in new w q + one_if (is_kept_in w wrote && is_that q k)

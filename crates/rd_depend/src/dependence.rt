@@ -55,7 +55,7 @@ fn some_overlap(a: Option<Place>, b: Option<Place>) -> bool
 }
 
 /// Returns the number, from 1, of the first step after the `k`-th that depends on it; `None` if no
-/// later step does.
+/// later step does. There must be a `k`-th step, counted from 1.
 pub fn first_dependant(entries: &[Entry], k: u64) -> Option<u64>
     requires some { 1 ≤ k }
     requires within { k ≤ length entries.now }

@@ -162,8 +162,8 @@ impl<'a> StepsByActor<'a> {
         Ok(steps)
     }
 
-    /// Adds a step, with its number in the run, in front of those of its actor. Fails only if
-    /// memory is refused.
+    /// Adds a step, with its number in the run, in front of those of its actor. There must be a
+    /// list for each number that an actor may have. Fails only if memory is refused.
     fn push(&mut self, at: usize, entry: &'a Entry) -> Result<(), AllocError>
         requires { length self.old.steps.items ≡ ACTORS }
         ensures number { length self.new.steps.items ≡ ACTORS }
@@ -174,7 +174,7 @@ impl<'a> StepsByActor<'a> {
         Ok(())
     }
 
-    /// Removes and returns the first step that is left of the actor, if there is one.
+    /// Removes and returns the first step that is left of the actor; `None` if none is left.
     pub(crate) fn pop(&mut self, actor: u8) -> Option<NumberedStep<'a>>
         ensures { MatchOption result (left_of self.old actor ≡ [])
             (λ p. (n : ℕ) → left_of self.old n

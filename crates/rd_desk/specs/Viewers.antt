@@ -1,4 +1,4 @@
--- How the runs of viewers end that each ask a list of commands.
+-- How the runs of viewers end, where each viewer asks a list of commands.
 use Rattle.std.specs.Prelude.{◌≡◌, List, [], ◌∷◌, Option, Some, None, Vec}
 use Rattle.std.specs.declared.alloc.Global.{Global}
 use Rattle.rd_marks.specs.declared.commands.Command.{Command}

@@ -20,7 +20,7 @@ impl<const R: usize> Desk<R> {
     ghost use Rattle.rd_desk.specs.declared.gates.DeskRefusal.TheVariants.{TicketsEnded};
 
     /// Asks one command and returns the book's answer. It waits for the viewers that drew a ticket
-    /// before.
+    /// before. The pass must be one of this desk, and in no call.
     ///
     /// # Errors
     ///
@@ -38,7 +38,8 @@ impl<const R: usize> Desk<R> {
         }
     }
 
-    /// Asks one command if the lock is free, and returns the book's answer. It never waits.
+    /// Asks one command if the lock is free, and returns the book's answer. It never waits. The
+    /// pass must be one of this desk, and in no call.
     ///
     /// # Errors
     ///
@@ -58,9 +59,9 @@ impl<const R: usize> Desk<R> {
         }
     }
 
-    /// Lets the book do the command, records the call, puts the book back into the lock, and
-    /// returns the book's answer. Fails with `HistoryFull` or `NotRecorded` if the call can't be
-    /// recorded; the book doesn't do the command then, and is put back too.
+    /// Lets the book do the command, records the call, puts the book back into the lock, which this
+    /// pass must hold, and returns the book's answer. Fails with `HistoryFull` or `NotRecorded` if
+    /// the call can't be recorded; the book doesn't do the command then, and is put back too.
     fn obey_and_put_back(
         &self,
         pass: &mut DeskPass<R>,

@@ -29,8 +29,8 @@ pub struct Desk<const R: usize> {
 }
 
 impl<const R: usize> Desk<R> {
-    /// Returns a desk over the book, with an empty history, and one pass for each viewer. The
-    /// passes are numbered from 1.
+    /// Returns a desk over the book for 1 to 64 viewers, with an empty history, and one pass for
+    /// each viewer. The passes are numbered from 1.
     ///
     /// # Errors
     ///
@@ -61,7 +61,8 @@ impl<const R: usize> Desk<R> {
 
     /// Compares two passes: the history that one has seen begins with the history that the other
     /// has seen. Returns the ticket that is served now, and both passes, which have then seen it
-    /// served. Neither had seen a later ticket served.
+    /// served. Neither had seen a later ticket served. Both must be passes of this desk, and in no
+    /// call.
     pub fn meet(&self, one: DeskPass<R>, other: DeskPass<R>) -> (u64, DeskPass<R>, DeskPass<R>)
         requires own { IsViewerOf self.now one × IsViewerOf self.now other }
         ensures own { IsViewerOf self.now result.1 × IsViewerOf self.now result.2 }
@@ -73,13 +74,14 @@ impl<const R: usize> Desk<R> {
         self.lock.meet(one, other)
     }
 
-    /// Ends the desk, and returns the book and the history that led to it.
+    /// Ends the desk, and returns the book and the history that led to it. The passes must be ones
+    /// of this desk, and in no call.
     ///
     /// # Errors
     ///
     /// `Busy` with the two words of the lock if they differ. Neither is below what a pass in
     /// `passes` has seen. The book and the history are lost then. This never happens if all passes
-    /// are handed in; a pass that was dropped inside a call may still hold the book.
+    /// of the desk are handed in; a pass that was dropped inside a call may still hold the book.
     pub fn close(self, passes: Vec<DeskPass<R>>) -> Result<(Book<R>, History), Busy>
         requires own { AllByRecursion (IsViewerOf self) passes.items }
         ensures ok { IfOk result (λ closed. IsClosedOver self.entry.lock passes.entry.items

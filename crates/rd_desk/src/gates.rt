@@ -18,7 +18,7 @@ pub enum DeskRefusal {
     NotRecorded,
     /// 29: all tickets of the lock are drawn.
     TicketsEnded,
-    /// 30: the lock isn't free. Only `try_ask` returns it.
+    /// 30: the lock isn't free; with its two words, which differ. Only `try_ask` returns it.
     Busy(Busy),
 }
 
@@ -37,8 +37,8 @@ pub trait Gate {
     /// the pass after.
     ghost told: { Self → Self.Pass → Command → Answer → Self.Pass → Type 0 };
 
-    /// Asks one command and returns the answer. It may wait. The implementing type says which
-    /// refusals it returns.
+    /// Asks one command and returns the answer. It may wait. The pass must be one that the gate
+    /// takes. The implementing type says which refusals it returns.
     fn ask<R: Wait>(&self, rt: &R, pass: &mut Self::Pass, command: Command) -> Answer
         requires own { takes self.now pass.old }
         ensures own { takes self.now pass.new }

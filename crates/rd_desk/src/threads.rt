@@ -43,8 +43,9 @@ impl<G: Gate> Promise<Done<G>> for Asked<G> {
     ghost kept_by = { λ asked done. IsDone (G.takes asked.gate.value) (G.told asked.gate.value) asked.pass.value asked.commands.value.items done };
 }
 
-/// Asks each command in order, and returns the pass with the answers. If the word `refused` has
-/// this viewer's index, it asks nothing and returns the pass as it was, with `None`.
+/// Asks each command in order, and returns the pass with the answers. The gate must take the pass,
+/// and the list `answers` must be empty and have room for an answer to each command. If the word
+/// `refused` has this viewer's index, it asks nothing and returns the pass as it was, with `None`.
 fn ask_all<R: Wait, G: Gate>(
     rt: &R,
     gate: &G,
@@ -71,6 +72,8 @@ fn ask_all<R: Wait, G: Gate>(
 
 /// Starts a thread for each viewer, in order, and returns their handles. For a viewer whose thread
 /// is refused, it returns what the closure gives back: the pass as it was, since it asks nothing.
+/// The gate must take the passes, and the lists must be empty and have room: `started` for each
+/// viewer, and those in `answers` for the answers to its commands.
 fn start_all<'s, E: 's, R: Threads + Wait + Sync, G: Gate + Sync>(
     scope: &'s Scope<'s, E>,
     rt: &'s R,
@@ -115,7 +118,7 @@ fn start_all<'s, E: 's, R: Threads + Wait + Sync, G: Gate + Sync>(
 }
 
 /// Waits for each thread, in order, and returns what each viewer gave back. The list `dones` must
-/// have room for this.
+/// be empty and have room for this.
 fn join_all<R: Threads, G: Gate>(
     rt: &R,
     started: Vec<Started<G>>,
@@ -134,8 +137,9 @@ fn join_all<R: Threads, G: Gate>(
     dones
 }
 
-/// Runs all viewers, each in its own thread of one scope, and returns what each gave back. All
-/// lists must have their room.
+/// Runs all viewers, each in its own thread of one scope, and returns what each gave back. The gate
+/// must take the passes, and the lists in `room` must be empty and have room for all that they will
+/// have.
 pub(crate) fn run_all<R: Threads + Wait + Sync, G: Gate + Sync>(
     rt: &R,
     gate: &G,

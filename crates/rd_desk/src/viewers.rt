@@ -32,7 +32,7 @@ pub enum Ran<P> {
 
 /// Asks each viewer's commands in order, each viewer in its own thread, and waits for all threads.
 /// Returns each viewer's pass with its answers. If a viewer's thread was refused, it returns the
-/// pass as it was, with `None`.
+/// pass as it was, with `None`. The gate must take the passes.
 ///
 /// # Errors
 ///
@@ -57,7 +57,7 @@ pub fn ask_viewers<R: Threads + Wait + Sync, G: Gate + Sync>(
 }
 
 /// Asks each viewer's commands as `ask_viewers` does, and returns how the run of each ended. It
-/// drops the pass of a viewer whose thread was refused.
+/// drops the pass of a viewer whose thread was refused. The gate must take the passes.
 ///
 /// # Errors
 ///
@@ -81,8 +81,8 @@ pub fn run_viewers<R: Threads + Wait + Sync, G: Gate + Sync>(
     Ok(rans_of::<G>(dones, rans))
 }
 
-/// Returns how the run of each viewer ended, from what it gave back. The list `rans` must have room
-/// for this. It drops the pass of a viewer without answers.
+/// Returns how the run of each viewer ended, from what it gave back. The list `rans` must be empty
+/// and have room for this. It drops the pass of a viewer without answers.
 fn rans_of<G: Gate>(dones: Vec<Done<G>>, mut rans: Vec<Ran<G::Pass>>) -> Vec<Ran<G::Pass>>
     requires { (rans.items ≡ []) × (length dones.items ≤ vec_capacity rans) }
     ensures { result.items ≡ map ran_of dones.items }

@@ -30,8 +30,8 @@ pub record IsRun (j : Journal) : Type 0 where
 abbrev pub entry_of : Journal → ℕ → Result Entry Refusal
 entry_of j k = ok_or (numbered j.live k) (refusal.NoSuchStep (length j.live))
 
--- the answer to undoing a step alone, by the number of the first step that depends on it: done if
--- there is none, else `Depended` with the number
+-- the answer to undoing a step alone, given the number of the first step that depends on it, if
+-- there is one: done if there is none, else `Depended` with the number
 abbrev pub unless_depended : Option ℕ → Result Unit Refusal
 unless_depended None = Ok tt
 unless_depended (Some j) = Err (refusal.Depended j)

@@ -45,7 +45,7 @@ abbrev pub IsRunWithout : ℕ → Journal → Journal → Type 0
 IsRunWithout k old new = run old.start (without (events old.live) k) ≡ Ok (record { world = new.world; entries = new.live })
 
 -- the answer to undoing the k-th live step alone: `NoSuchStep` if there is no such step, `Depended`
--- with the first live step that depends on it if there is one, else done
+-- with the number of the first live step that depends on it if there is one, else done
 abbrev pub answer_at : Journal → ℕ → Result Unit Refusal
 answer_at j k = and_then (entry_of j k) (λ _. unless_depended (first_dependant j.live k))
 

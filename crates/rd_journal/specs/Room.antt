@@ -33,7 +33,7 @@ pub record IsNotIndexed (stepped : Result Stepped Refusal) (undone : List Entry)
   pub lacks : LacksIndexRoom index undone (after.entry ∷ [])
 
 -- the event may be refused memory: fewer than `MOST_STEPS` steps are live, and one of three things
--- is so. No step is undone and the live entries fill the room; or the step makes a segment that
+-- holds. No step is undone and the live entries fill the room; or the step makes a segment that
 -- nothing else refuses, and its maker has no room; or the index has no room for the step's entry
 pub record IsOutOfMemory (j : Journal) (capacity : ℕ) (room : ℕ → ℕ) (index : DependIndex) (e : Event) : Type 0 where
   pub not_full : length j.live < MOST_STEPS

@@ -69,7 +69,7 @@ live_event s k = ok_or (numbered s.live k) (refusal.NoSuchStep (length s.live))
 
 -- the state after undoing the k-th live step alone, which becomes the front of the undone ones. It
 -- is refused with `NoSuchStep` if there is no such step, and with `Depended` if a later live step
--- depends on it, by the number of the first one that does
+-- depends on it, with the number of the first one that does
 abbrev pub undo_at : State → ℕ → Result State Refusal
 undo_at s k =
     and_then (live_event s k) (λ e.

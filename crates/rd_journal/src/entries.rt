@@ -74,7 +74,7 @@ impl Entries {
         self.first(self.live)
     }
 
-    /// Returns the entries of the first `n` steps ahead.
+    /// Returns the entries of the first `n` steps ahead. At least `n` steps must be ahead.
     pub(crate) fn ahead(&self, n: usize) -> EntryList<'_>
         requires within { n ≤ length (ahead_entries self.now) }
         ensures { result ≡ take n (ahead_entries self.now) }
@@ -82,7 +82,8 @@ impl Entries {
         self.first(self.live + n).after(self.live)
     }
 
-    /// Returns the first `n` entries of the live ones and, after them, those ahead.
+    /// Returns the first `n` of the live entries followed by those ahead. There must be at least
+    /// `n` of both together.
     fn first(&self, n: usize) -> EntryList<'_>
         requires within { n ≤ self.now.live + self.now.ahead }
         ensures { result ≡ take n (all_entries self.now) }
@@ -104,7 +105,7 @@ impl Entries {
         self.live + self.ahead
     }
 
-    /// Returns the entry of the live step at this position, from 0.
+    /// Returns the entry of the live step at this position, from 0, which must be below `live_len`.
     pub(crate) fn live_at(&self, position: usize) -> &Entry
         requires within { position < length (live_entries self.now) }
         ensures { result.now ≡ get_or (live_entries self.now) position result.now }
@@ -112,8 +113,8 @@ impl Entries {
         self.at(position)
     }
 
-    /// Returns the entry at this position, from 0, in the list of the live entries and those
-    /// ahead.
+    /// Returns the entry at this position, from 0, in the list of the live entries followed by
+    /// those ahead. The position must be below `kept_len`.
     pub(crate) fn kept_at(&self, position: usize) -> &Entry
         requires within { position < length (kept_entries self.now) }
         ensures { result.now ≡ get_or (kept_entries self.now) position result.now }
@@ -121,7 +122,7 @@ impl Entries {
         self.at(position)
     }
 
-    /// Returns the entry of the step ahead at this position, from 0.
+    /// Returns the entry of the step ahead at this position, from 0. There must be such a step.
     pub(crate) fn ahead_at(&self, position: usize) -> &Entry
         requires within { position < length (ahead_entries self.now) }
         ensures { result.now ≡ get_or (ahead_entries self.now) position result.now }
@@ -129,7 +130,8 @@ impl Entries {
         self.at(self.live + position)
     }
 
-    /// Returns the entry whose slot's number is at index `place` of the order.
+    /// Returns the entry whose slot's number is at index `place` of the order, which must be below
+    /// the order's length.
     fn at(&self, place: usize) -> &Entry
         requires { place < length (all_entries self.now) }
         ensures { result.now ≡ get_or (all_entries self.now) place result.now }
@@ -137,7 +139,8 @@ impl Entries {
         entry_at(&self.slots, &self.order, place)
     }
 
-    /// Moves the border back: the last `n` live entries become the next ones ahead.
+    /// Moves the border back: the last `n` live entries become the next ones ahead. At least `n`
+    /// must be live.
     pub(crate) fn step_back(&mut self, n: usize)
         requires enough { n ≤ length (live_entries self.old) }
         ensures live { live_entries self.new ≡ take (length (live_entries self.old) - n)
@@ -152,7 +155,8 @@ impl Entries {
         self.ahead += n;
     }
 
-    /// Moves the border forward: the next `n` entries ahead become the last live ones.
+    /// Moves the border forward: the next `n` entries ahead become the last live ones. At least `n`
+    /// must be ahead.
     pub(crate) fn step_forward(&mut self, n: usize)
         requires enough { n ≤ length (ahead_entries self.old) }
         ensures live { live_entries self.new ≡ live_entries self.old
@@ -165,8 +169,8 @@ impl Entries {
         self.ahead -= n;
     }
 
-    /// Makes the `k`-th live entry, counted from 1, the next one ahead. All others stay in their
-    /// order.
+    /// Makes the `k`-th live entry, counted from 1, the next one ahead. There must be such an
+    /// entry. All others stay in their order.
     pub(crate) fn undo_alone(&mut self, k: usize)
         requires some { 1 ≤ k }
         requires position { k ≤ length (live_entries self.old) }
@@ -185,9 +189,9 @@ impl Entries {
     /// Puts the `k`-th live entry, counted from 1, and those that depend on it, directly or through
     /// others, behind the other live ones, and returns their number. Both parts keep their order.
     ///
-    /// The index must be that of the entries before the `k`-th, with room for all others.
-    /// Afterwards it is that of the entries before the `k`-th, followed by those put behind, with
-    /// room for the others.
+    /// There must be a `k`-th live entry. The index must be that of the entries before it, with
+    /// room for all others. Afterwards it is that of the entries before the `k`-th, followed by
+    /// those put behind, with room for the others.
     pub(crate) fn gather_closure(&mut self, k: usize, index: &mut DependIndex) -> usize
         requires some { 1 ≤ k }
         requires position { k ≤ length (live_entries self.old) }
@@ -232,7 +236,8 @@ impl Entries {
     }
 
     /// Keeps the first `n` live entries, puts the given ones after them, for which there must be
-    /// room, and discards all others. The kept and the given ones are then live, and none is ahead.
+    /// room, and discards all others. At least `n` entries must be live, and at most `MOST_STEPS`
+    /// may be kept or given. The kept and the given ones are then live, and none is ahead.
     pub(crate) fn exchange(&mut self, n: usize, given: &[Entry])
         requires within { n ≤ length (live_entries self.old) }
         requires room { n + length given.now ≤ entries_capacity self.old }
@@ -248,8 +253,9 @@ impl Entries {
         }
     }
 
-    /// Makes an entry the last live one, if none is ahead. The entry is written over the first
-    /// discarded one, or into a new slot if there is none.
+    /// Makes an entry the last live one. No entry may be ahead, fewer than `MOST_STEPS` may be
+    /// live, and there must be room for one more. The entry is written over the first discarded
+    /// one, or into a new slot if there is none.
     fn push(&mut self, entry: &Entry)
         requires none_ahead { ahead_entries self.old ≡ [] }
         requires room { length (live_entries self.old) < entries_capacity self.old }

@@ -33,7 +33,8 @@ impl<'a> Model for EntryList<'a> {
 }
 
 impl<'a> EntryList<'a> {
-    /// Returns the list of the entries in the slots of these numbers.
+    /// Returns the list of the entries in the slots of these numbers. Each number must be below the
+    /// number of slots.
     pub(crate) fn new(slots: &'a [Entry], numbers: &'a [u32]) -> EntryList<'a>
         requires { All (λ n. n < length slots.now) numbers.now }
         ensures { result ≡ at_numbers slots.now numbers.now }
@@ -68,7 +69,7 @@ impl<'a> EntryList<'a> {
         }
     }
 
-    /// Returns the entries after the first `n`.
+    /// Returns the entries after the first `n`, which must be at most `len`.
     pub fn after(&self, n: usize) -> EntryList<'a>
         requires { n ≤ length self.now }
         ensures { result ≡ drop n self.now }
@@ -91,7 +92,8 @@ impl EventList for EntryList<'_> {
     }
 }
 
-/// Returns the entry whose slot's number is at this position, from 0, among the numbers.
+/// Returns the entry whose slot's number is at this position, from 0, among the numbers. The
+/// position must be below their count, and each number below the number of slots.
 pub(crate) fn entry_at<'a>(slots: &'a [Entry], numbers: &[u32], position: usize) -> &'a Entry
     requires within { position < length numbers.now }
     requires below { All (λ n. n < length slots.now) numbers.now }
@@ -100,7 +102,7 @@ pub(crate) fn entry_at<'a>(slots: &'a [Entry], numbers: &[u32], position: usize)
     &slots[numbers[position] as usize]
 }
 
-/// Returns the numbers after the first `n`.
+/// Returns the numbers after the first `n`. There must be at least `n`.
 fn numbers_after(numbers: &[u32], n: usize) -> &[u32]
     requires { n ≤ length numbers.now }
     ensures { result.now ≡ drop n numbers.now }

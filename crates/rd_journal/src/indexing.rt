@@ -19,7 +19,9 @@ use std::alloc::AllocError;
 /// The greatest number of positions that are removed from the index one by one.
 const MOST_SINGLE_REMOVALS: usize = 1_000;
 
-/// Replaces the entries after the first `n` in the index by the given ones.
+/// Replaces the entries after the first `n` in the index by the given ones. The index must be that
+/// of the live entries followed by those ahead. There must be at least `n` of these, and at most
+/// `MOST_STEPS` entries afterwards.
 ///
 /// # Errors
 ///
@@ -50,7 +52,8 @@ pub(crate) fn index_instead(
 }
 
 /// Removes the positions after the first `n` from the index: a few one by one, and many by one pass
-/// over all its lists. The room that they had is kept.
+/// over all its lists. The room that they had is kept. The index must be that of the live entries
+/// followed by those ahead, of which there must be at least `n`.
 pub(crate) fn cut_index(index: &mut DependIndex, entries: &Entries, n: usize)
     requires indexed { IsIndexOf index.old (kept_entries entries.now) }
     requires within { n ≤ length (kept_entries entries.now) }
@@ -65,7 +68,7 @@ pub(crate) fn cut_index(index: &mut DependIndex, entries: &Entries, n: usize)
 }
 
 /// Removes the positions after the first `n` from the index, one by one. The room that they had is
-/// kept.
+/// kept. The preconditions are those of `cut_index`.
 fn pop_after(index: &mut DependIndex, entries: &Entries, n: usize)
     requires indexed { IsIndexOf index.old (kept_entries entries.now) }
     requires within { n ≤ length (kept_entries entries.now) }
@@ -77,7 +80,8 @@ fn pop_after(index: &mut DependIndex, entries: &Entries, n: usize)
     }
 }
 
-/// Puts into the index the entries after those that it has already. There must be room for them.
+/// Puts the entries into the index that it does not have yet. The index must be that of the first
+/// so many of the live entries followed by those ahead, and have room for the others.
 pub(crate) fn fill_index(index: &mut DependIndex, entries: &Entries)
     requires indexed { IsIndexOf index.old (take (position_count index.old)
         (kept_entries entries.now)) }
@@ -90,7 +94,8 @@ pub(crate) fn fill_index(index: &mut DependIndex, entries: &Entries)
     }
 }
 
-/// Puts an entry at the index's next position, for which there must be room.
+/// Puts an entry at the index's next position, for which there must be room. There must be fewer
+/// than `MOST_STEPS` positions.
 #[tactic(auto, using(rd_depend::proofs::IndexRoom::room_left))]
 pub(crate) fn put_back(index: &mut DependIndex, entry: &Entry)
     requires few { position_count index.old < MOST_STEPS }

@@ -280,9 +280,10 @@ impl<const R: usize> Session<R> {
     }
 
     /// Keeps the first `n` live steps, undoes the others, and makes the steps of the given entries
-    /// again, which become the last live ones. Undone steps are discarded. Room for the entries,
-    /// for the makings among them and in the index of dependants is asked for before the first
-    /// undo.
+    /// again, which become the last live ones. At least `n` steps must be live. The entries of the
+    /// kept steps followed by the given ones must be those of a run from the start, and at most
+    /// `MOST_STEPS`. Undone steps are discarded. Room for the entries, for the makings among them
+    /// and in the index of dependants is asked for before the first undo.
     ///
     /// # Errors
     ///
@@ -310,9 +311,9 @@ impl<const R: usize> Session<R> {
     }
 
     /// Goes along the session's track, which is the live steps with those ahead of them: the
-    /// track's first `n` steps become the live ones, and no step is undone. The track stays as it
-    /// is. The call copies no entry and takes no memory, and its time grows only with the number of
-    /// steps that it undoes or makes again.
+    /// track's first `n` steps become the live ones, and no step is undone. The track must have at
+    /// least `n` steps, and stays as it is. The call copies no entry and takes no memory, and its
+    /// time grows only with the number of steps that it undoes or makes again.
     pub fn go_along(&mut self, n: u64)
         requires within { n ≤ length (track self.old) }
         ensures state { state self.new ≡ record {

@@ -1,4 +1,5 @@
--- Lists and histories. A history is a list of entries, each with the number of the pass that put it
+-- Lists and histories. A history is a list of entries, each with the number of the pass that put
+-- it.
 use Rattle.std.specs.Prelude.{◌≡◌, ◌≢◌, ◌⊎◌, ℕ, zero, suc, ◌<◌, ◌≤◌, ◌==◌, cond, List, [], ◌∷◌, ◌++◌, length, map}
 use mathlib.Core.Path.{sym}
 use native.Mathlib.Nat.{suc-ne-zero}

@@ -14,7 +14,8 @@ impl<T: Recorded> TicketLock<T> {
     /// passes. In contracts, what one of them has seen is then a beginning of what the other has
     /// seen.
     ///
-    /// Their seats are joined into one, which makes the load and is split again.
+    /// Their seats are joined into one, which makes the load and is split again. The passes must be
+    /// this lock's, and neither wait nor hold.
     pub fn meet(&self, one: Pass<T>, other: Pass<T>) -> (u64, Pass<T>, Pass<T>)
         requires own { IsPassOf self.now one × IsPassOf self.now other }
         requires out { IsOut one × IsOut other }

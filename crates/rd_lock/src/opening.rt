@@ -16,7 +16,8 @@ use std::alloc::Global;
 use std::snapshot::Snapshot;
 
 impl<T: Recorded> TicketLock<T> {
-    /// Returns a lock over the value, and its passes, whose numbers are 1 to `seats`.
+    /// Returns a lock over the value, and its passes, whose numbers are 1 to `seats`. There must be
+    /// at least one seat, and the value's history must be empty.
     ///
     /// # Errors
     ///
@@ -36,7 +37,8 @@ impl<T: Recorded> TicketLock<T> {
     }
 
     /// Returns a lock over the value, and its passes, whose numbers are 1 to `seats`. Both words
-    /// begin at `first`, so `2^63 - first` tickets are left to draw.
+    /// begin at `first`, so `2^63 - first` tickets are left to draw. There must be at least one
+    /// seat, `first` must be at most 2^63, and the value's history must be empty.
     ///
     /// # Errors
     ///
@@ -83,9 +85,9 @@ impl<T: Recorded> TicketLock<T> {
     ///
     /// # Errors
     ///
-    /// `Busy`, with the two words, if a ticket is drawn and not finished, which can't be if all
-    /// passes of the lock are given; the value is then lost. Each word is at least the greatest that
-    /// a given pass has seen.
+    /// `Busy`, with the two words, if a ticket is drawn and not finished; the value is then lost.
+    /// This can't be if all passes of the lock are given. Each word is at least the greatest that a
+    /// given pass has seen.
     pub fn close(self, passes: Vec<Pass<T>>) -> Result<T, Busy>
         requires own { AllByRecursion (IsPassOf self) passes.items }
         requires out { AllByRecursion IsOut passes.items }

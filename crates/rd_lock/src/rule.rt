@@ -5,7 +5,7 @@
 use crate::views::{Opened, Recorded, View};
 use atomic_table::TableRule;
 
-/// The index of the word `served`, which joining and splitting seats load too.
+/// The index of the word `served`. The steps that join or split seats load it too.
 pub const SERVED: usize = 0;
 
 /// The index of the word `next`.

@@ -13,8 +13,9 @@ use super::views::{Opened, Recorded};
 use atomic_table::{Closed, Table};
 use std::alloc::{AllocFailed, Global};
 
-/// Allocates a table with the value in its slot, and returns it with its first seat. Fails only if
-/// memory is refused, and then returns the value.
+/// Allocates a table with the value in its slot, and returns it with its first seat. The value's
+/// history must be empty, and `about` must be of this value, with both words at most 2^63. Fails
+/// only if memory is refused, and then returns the value.
 pub(crate) fn make_table<T: Recorded>(
     alloc: Global,
     value: T,
@@ -48,7 +49,7 @@ pub(crate) fn make_table<T: Recorded>(
 }
 
 /// Joins the seats of the given passes into one, if there are any, and closes the table. Returns
-/// its last words and slots.
+/// its last words and slots. The passes must be the table's, and neither wait nor hold.
 pub(crate) fn close_table<T: Recorded>(
     table: LockTable<T>,
     mut passes: Vec<Pass<T>>,

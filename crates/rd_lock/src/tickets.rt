@@ -40,8 +40,9 @@ pub enum TryTakeError {
 impl<T: Recorded> TicketLock<T> {
     ghost use Rattle.rd_lock.specs.declared.tickets.TryTakeError.TheVariants as TryTakeError;
 
-    /// Takes the value and returns it, if the lock is free. It makes one load and at most one
-    /// compare-and-exchange of the words, and never waits.
+    /// Takes the value and returns it, if the lock is free. The pass must be this lock's, and
+    /// neither wait nor hold. The call makes one load and at most one compare-and-exchange of the
+    /// words, and never waits.
     ///
     /// # Errors
     ///
@@ -76,8 +77,9 @@ impl<T: Recorded> TicketLock<T> {
         Err(TryTakeError::Busy(Busy { next, served }))
     }
 
-    /// Draws a ticket, waits until it is served, and returns the value. It tries the draw again
-    /// whenever another pass was first, and waits by loading the word `served`.
+    /// Draws a ticket, waits until it is served, and returns the value. The pass must be this
+    /// lock's, and neither wait nor hold. The call tries the draw again whenever another pass was
+    /// first, and waits by loading the word `served`.
     ///
     /// # Errors
     ///
@@ -106,7 +108,8 @@ impl<T: Recorded> TicketLock<T> {
         unreachable!()
     }
 
-    /// Waits until the pass's ticket is served, takes the value and returns it.
+    /// Waits until the pass's ticket is served, takes the value and returns it. The pass must be
+    /// this lock's, and wait with this ticket.
     fn take_when_served<R: Wait>(&self, rt: &R, pass: &mut Pass<T>, ticket: u64) -> T
         requires own { IsPassOf self.now pass.old }
         requires ticket { (ticket < 2 ^ 63) × IsWaiting pass.old ticket }
@@ -128,6 +131,9 @@ impl<T: Recorded> TicketLock<T> {
     }
 
     /// Puts the value back and ends the pass's ticket, so that the next one is served.
+    ///
+    /// The pass must be this lock's, and hold. The value must have the lock's origin, and the
+    /// history with which the pass found it, followed by entries of this pass only.
     #[tactic(auto, using(crate::proofs::Lists::own_signed))]
     pub fn put_back(&self, pass: &mut Pass<T>, value: T)
         requires own { IsPassOf self.now pass.old }

@@ -1,5 +1,5 @@
 //! The bookmarks in the order in which they were set, each a name with the node of its entries. One
-//! more node, `here`, is where their entries are known to agree with the session's track.
+//! more node, `here`, shows how far their entries are known to agree with the session's track.
 
 ghost use Rattle.std.specs.Prelude.{◌≡◌, ◌<◌, ◌≤◌, ◌++◌, [], ◌∷◌, None, map, length, slice_get, is_some, option_map, IsOk, IfOk, IfSome, OnOk, OnErr};
 ghost use Rattle.std.specs.List.{IsDistinct};
@@ -77,7 +77,7 @@ impl Bookmarks {
     }
 
     /// Returns the node of the entries of the bookmark of this name, or `None` if no bookmark has
-    /// it.
+    /// this name.
     pub(crate) fn find(&self, name: &MarkName) -> Option<Node>
         ensures found { option_map (λ node. entries_in self.now node) result
             ≡ lookup (mark_name_eq name.now) (lists_in self.now) }
@@ -104,7 +104,7 @@ impl Bookmarks {
     }
 
     /// Returns the event of this number, counted from 1, among the entries of a node. `None` if the
-    /// node has no such entry.
+    /// node has no such entry. The stretches must have the node's entries.
     pub(crate) fn event_at(&self, of: Node, n: u64) -> Option<Event>
         requires { IsNodeIn self.now of }
         ensures { result ≡ numbered (events (entries_in self.now of)) n }
@@ -112,7 +112,8 @@ impl Bookmarks {
         self.stretches.event_at(of, n)
     }
 
-    /// Returns the events of the entries of a node, in a list of their own.
+    /// Returns the events of the entries of a node, in a list of their own. The stretches must have
+    /// the node's entries.
     ///
     /// # Errors
     ///
@@ -125,14 +126,16 @@ impl Bookmarks {
         self.stretches.events(alloc, of)
     }
 
-    /// Sets a bookmark of this name, which none may have, at the live steps, after all others. It
-    /// adds only the entries that aren't kept yet, and asks for all memory before it adds the
-    /// first.
+    /// Sets a bookmark of this name, which none may have, at the live steps, as the last in the
+    /// list. There must be fewer than `MOST_MARKS` bookmarks. The bookmarks must be at runs from
+    /// the session's start, and the events of `here` must begin the session's track. It adds only
+    /// the entries that aren't kept yet, and asks for all memory before it adds the first.
     ///
     /// # Errors
     ///
     /// `AllocError` if memory for the added entries or for the name was refused. This never happens
-    /// if there is room for another name and all entries are kept already. The bookmarks stay then.
+    /// if there is room for another name and all entries of the live steps are kept already. The
+    /// bookmarks stay then.
     pub(crate) fn set<const R: usize>(
         &mut self,
         alloc: Global,
@@ -179,7 +182,8 @@ impl Bookmarks {
         }
     }
 
-    /// Returns whether the events of two nodes are causally equivalent. It skips the entries with
+    /// Returns whether the events of two nodes of these bookmarks are causally equivalent. The
+    /// answer is right if they are those of runs from one start. The call skips the entries with
     /// which both begin.
     ///
     /// # Errors

@@ -104,14 +104,14 @@ impl<const R: usize> Book<R> {
         })
     }
 
-    /// Sets a bookmark of this name at the live steps, after all others.
+    /// Sets a bookmark of this name at the live steps, as the last one in the list of bookmarks.
     ///
     /// # Errors
     ///
     /// In this order: `MarkTaken` if a bookmark has this name; `TooManyMarks` if there are
     /// `MOST_MARKS`; `NoMemory` if memory for its entries or its name was refused. `NoMemory` can't
-    /// happen if there is room for another name and some bookmark's steps begin with the live ones,
-    /// or no step is live. A refusal changes nothing.
+    /// happen if there is room for another name and either no step is live or some bookmark's steps
+    /// begin with the live ones. A refusal changes nothing.
     pub fn mark(&mut self, name: MarkName) -> Result<(), Refusal>
         ensures ok { OnOk result (mark (book_state self.old) name ≡ Ok (book_state self.new)) }
         ensures err { IfErr result (λ refusal. (mark (book_state self.old) name ≡ Err refusal)

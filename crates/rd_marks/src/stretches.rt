@@ -2,9 +2,9 @@
 //! keeps the number of entries that its list shares with the list of the stretch before it, and the
 //! entries after these. So lists that begin alike share what they have in common.
 //!
-//! A node is the first so many entries of one stretch's list. No earlier list begins with the same
-//! events as a stretch's list, up to the first entry of its own. So the numbers of shared entries
-//! between two nodes tell how many entries both begin with.
+//! A node is the first so many entries of one stretch's list. No earlier list begins with the
+//! events that a stretch's list shares and the first event of its own. So the numbers of shared
+//! entries between two nodes tell how many entries both begin with.
 
 ghost use Rattle.std.specs.Prelude.{◌≡◌, ◌<◌, ◌≤◌, ◌^◌, ℕ, [], length, take, min};
 ghost use Rattle.rd_step.specs.Run.{events};
@@ -22,8 +22,8 @@ use std::alloc::Global;
 /// A list of entries, as the number that it shares with the list before it and the rest.
 #[derive(Drop)]
 struct Stretch {
-    /// The number of entries that its list shares with the list of the stretch before it; 0 in the
-    /// first stretch.
+    /// The number of entries that the stretch's list shares with the list of the stretch before it;
+    /// 0 in the first stretch.
     shared: usize,
     /// The entries after the shared ones.
     entries: Vec<Entry>,
@@ -110,8 +110,9 @@ impl Stretches {
         }
     }
 
-    /// Returns the node that has the same entries and is in the stretch that keeps the last one, or
-    /// in the first stretch if it has no entries.
+    /// Returns the node that has the same entries and is in the stretch that keeps the last of
+    /// them, or in the first stretch if it has no entries. The stretches must have the node's
+    /// entries.
     pub(crate) fn own_node(&self, of: Node) -> Node
         requires within { IsWithin self.now.list.items of }
         ensures number { result.number ≡ of.number }
@@ -126,7 +127,8 @@ impl Stretches {
         at
     }
 
-    /// Returns the number of entries with which both nodes begin.
+    /// Returns the number of entries with which both nodes begin. The stretches must have the
+    /// entries of both.
     pub(crate) fn common(&self, one: Node, other: Node) -> usize
         requires one { IsWithin self.now.list.items one }
         requires other { IsWithin self.now.list.items other }

@@ -29,7 +29,8 @@ is_call _ = true
 abbrev pub is_at : Option Place → Place → Bool
 is_at touched cell = option_map_or (λ p. place_eq p cell) touched false
 
--- whether the place is the whole of a segment, whose cell 0 is this cell
+-- whether there is a place, it is the whole of a segment, and this cell is the cell 0 of that
+-- segment
 abbrev pub is_first_cell : Option Place → Place → Bool
 is_first_cell (Some (place.Whole s)) (place.Cell t i) = name_eq s t && (i == 0)
 is_first_cell _ _ = false

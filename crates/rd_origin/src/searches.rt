@@ -13,7 +13,7 @@ use rd_journal::EntryList;
 use rd_step::Entry;
 
 /// Returns the greatest number below this one whose step passes the test; none if no such step
-/// does.
+/// does. It must be possible to call the test with any entry.
 pub(crate) fn last_below<F: Fn(&Entry) -> bool>(
     steps: &EntryList,
     below: u64,
@@ -68,7 +68,8 @@ fn is_at(place: Option<Place>, cell: Place) -> bool
     }
 }
 
-/// Whether the place is the whole of a segment, whose cell 0 is this cell.
+/// Whether there is a place, it is the whole of a segment, and this cell is the cell 0 of that
+/// segment.
 fn is_first_cell(place: Option<Place>, cell: Place) -> bool
     ensures { result ≡ is_first_cell place cell }
 {

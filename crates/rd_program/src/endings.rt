@@ -10,7 +10,8 @@ use rd_script::{AnyRefusal, Sink, Text, WriteFault, set_text, write_all};
 use std::process::ExitCode;
 
 /// Writes the line of the fault, if there is one, to standard error, and returns the exit status:
-/// 0, or 1 after a fault. The status is the same if standard error fails.
+/// 0, or 1 after a fault. The status is the same if standard error fails, but it must not have
+/// failed before.
 pub fn end<E: Sink>(outcome: &Result<u64, ProgramFault>, errors: &mut E) -> ExitCode
     requires { E.has_failed errors.old ≡ false }
     ensures { EndsAs outcome.now (exit_status result) (sink_stream E.Sink errors.old errors.new) }
@@ -24,8 +25,8 @@ pub fn end<E: Sink>(outcome: &Result<u64, ProgramFault>, errors: &mut E) -> Exit
     }
 }
 
-/// Writes the program's name and the line of a refusal to a stream. Fails if the stream fails,
-/// which has then taken a beginning of this text.
+/// Writes the program's name and the line of a refusal to a stream that has not failed. Fails if
+/// the stream fails; it has then taken a beginning of this text.
 fn write_line<K: Sink>(stream: &mut K, refusal: AnyRefusal) -> Result<(), WriteFault>
     requires { K.has_failed stream.old ≡ false }
     ensures { Takes (sink_stream K.Sink stream.old stream.new) (error_line refusal) }

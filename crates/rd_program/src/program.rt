@@ -16,7 +16,8 @@ use std::alloc::Global;
 use std::io::{ErrorKind, Read};
 
 /// Runs a script over a fresh world and writes its report. If the trace is asked for, it follows
-/// the report of a run that came to its end. Returns the number of the script's lines.
+/// the report of a run that came to its end. Returns the number of the script's lines. Neither the
+/// reader nor the writer may have failed before.
 ///
 /// # Errors
 ///
@@ -43,7 +44,8 @@ pub fn play<S: Source, K: Sink>(
 }
 
 /// Runs a script over a book, writes its report, and after it the trace if that is asked for.
-/// Returns the number of the script's lines. Fails with `Script` or `Trace`, as `play`.
+/// Returns the number of the script's lines. Fails with `Script` or `Trace`, as `play` does.
+/// Neither the reader nor the writer may have failed before.
 fn play_over<S: Source, K: Sink>(
     alloc: Global,
     reader: &mut S,
@@ -61,7 +63,8 @@ fn play_over<S: Source, K: Sink>(
     Ok(lines)
 }
 
-/// Writes the trace of a book if the trace is asked for, else nothing. Fails as `write_any_trace`.
+/// Writes the trace of a book if the trace is asked for, else nothing. Fails as `write_any_trace`
+/// does. The writer must not have failed before.
 fn write_if<K: Sink>(
     alloc: Global,
     writer: &mut K,
@@ -80,7 +83,7 @@ fn write_if<K: Sink>(
 
 /// Loads a text as a trace, runs a script over its book, and writes the script's report. If the
 /// trace of the session is asked for, it follows the report of a run that came to its end. Returns
-/// the number of the script's lines.
+/// the number of the script's lines. Neither the reader nor the writer may have failed before.
 ///
 /// # Errors
 ///

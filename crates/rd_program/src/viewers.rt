@@ -18,7 +18,8 @@ use std::sync::Wait;
 use std::thread::Threads;
 
 /// Runs 1 to 64 scripts over a fresh world, each by a viewer in its own thread. Writes for each
-/// viewer the answers to its lines, and last the number of recorded calls, which it returns.
+/// viewer the answers to its lines, and last the number of recorded calls, which it returns. The
+/// writer must not have failed before.
 ///
 /// # Errors
 ///
@@ -45,8 +46,8 @@ pub fn view<R: Threads + Wait + Sync, K: Sink>(
     }
 }
 
-/// Runs the scripts over a book, writes the answers, and returns the number of recorded calls.
-/// Fails with `View` if the view was not written whole.
+/// Runs 1 to 64 scripts over a book, writes the answers to a writer that has not failed, and
+/// returns the number of recorded calls. Fails with `View` if the view was not written whole.
 fn view_over<R: Threads + Wait + Sync, K: Sink, const N: usize>(
     rt: &R,
     alloc: Global,

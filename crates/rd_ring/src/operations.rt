@@ -10,7 +10,9 @@ use rd_cell::{Answer, Content, Done, Operation, Place, Refusal, Wrote};
 impl<const R: usize> Segment<R> {
     ghost use Rattle.rd_ring.specs.Segments.{part};
 
-    /// Does an operation at a place, and returns what the entry of the step records of it.
+    /// Does an operation at a place of this segment, whichever segment the place names, and returns
+    /// what the entry of the step records of it. The operation must not be `AddArray`, nor a
+    /// `CasTail` to a count above 2^62.
     ///
     /// # Errors
     ///
@@ -62,7 +64,8 @@ impl<const R: usize> Segment<R> {
     }
 
     /// Puts an old content back at one of the segment's places. This undoes each operation that
-    /// writes there.
+    /// writes there. The place must be there, the content must be of its kind, and a counter in it
+    /// at most 2^62.
     pub fn restore(&mut self, place: Place, content: Content)
         requires there { IsTrue (is_some (operand (part self.old) place)) }
         requires kind { IsTrue (can_hold place content) }

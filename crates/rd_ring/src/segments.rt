@@ -58,7 +58,7 @@ impl<const R: usize> Segment<R> {
     }
 
     /// Returns a new segment that already holds a value: it is fresh, except that its tail counter
-    /// is 1 and the value is in cell 0.
+    /// is 1 and the value is in cell 0. `R` must be at least 1.
     pub fn holding(value: u64) -> Self
         requires positive { 1 ≤ R }
         requires small { R ≤ MOST_CELLS }
@@ -75,7 +75,7 @@ impl<const R: usize> Segment<R> {
         }
     }
 
-    /// Returns the segment with these words.
+    /// Returns the segment with these words, whose counters must be at most 2^62.
     pub fn from_parts(parts: SegmentParts<R>) -> Self
         requires { IsTrue (counters_fit parts) }
         ensures { (q : Place) → part result q ≡ part_from parts.entry q }
@@ -205,7 +205,7 @@ impl<const R: usize> Segment<R> {
     }
 
     /// Changes the tail from open at the count `old` to open at the count `new` (compare-and-swap),
-    /// and returns whether it won.
+    /// and returns whether it won. `new` must be at most 2^62.
     pub fn cas_tail(&mut self, old: u64, new: u64) -> bool
         requires { new ≤ COUNTER_END }
         ensures { (c : Content) → part self.old (Place.Tail root) ≡ Some c
@@ -232,7 +232,8 @@ impl<const R: usize> Segment<R> {
         won
     }
 
-    /// Changes a cell from `old` to `new` (CAS2), and returns whether it won.
+    /// Changes the cell of this number from `old` to `new` (CAS2), and returns whether it won. The
+    /// number must be below `R`.
     pub fn cas2_cell(&mut self, i: u8, old: Cell, new: Cell) -> bool
         requires { i < R }
         ensures { (c : Content) → operand (part self.old) (Place.Cell root i) ≡ Some c
@@ -245,7 +246,8 @@ impl<const R: usize> Segment<R> {
         won
     }
 
-    /// Sets the head counter to this old value. This undoes a write of the head.
+    /// Sets the head counter to this old value, which must be at most 2^62. This undoes a write of
+    /// the head.
     pub fn restore_head(&mut self, count: u64)
         requires { count ≤ COUNTER_END }
         ensures { RestoresAt Place.Head (Content.Number count) self.old self.new }
@@ -253,7 +255,8 @@ impl<const R: usize> Segment<R> {
         self.head = count;
     }
 
-    /// Sets the tail's closed bit and counter to these old values. This undoes a write of the tail.
+    /// Sets the tail's closed bit and counter to these old values. The counter must be at most
+    /// 2^62. This undoes a write of the tail.
     pub fn restore_tail(&mut self, closed: bool, count: u64)
         requires { count ≤ COUNTER_END }
         ensures { RestoresAt Place.Tail (Content.Tail closed count) self.old self.new }
@@ -269,7 +272,8 @@ impl<const R: usize> Segment<R> {
         self.next = next;
     }
 
-    /// Sets a cell to this old one. This undoes a write of the whole cell.
+    /// Sets the cell of this number, which must be below `R`, to this old one. This undoes a write
+    /// of the whole cell.
     pub fn restore_cell(&mut self, i: u8, cell: Cell)
         requires { i < R }
         ensures { RestoresAt (λ s. Place.Cell s i) (Content.Cell cell) self.old self.new }
@@ -277,7 +281,8 @@ impl<const R: usize> Segment<R> {
         self.cells[usize::from(i)] = cell;
     }
 
-    /// Sets a cell's value to this old one. This undoes a write of the value half.
+    /// Sets the value of the cell of this number, which must be below `R`, to this old one. This
+    /// undoes a write of the value half.
     pub fn restore_value(&mut self, i: u8, val: Option<u64>)
         requires { i < R }
         ensures { RestoresAt (λ s. Place.Val s i) (Content.Val val) self.old self.new }
@@ -285,7 +290,8 @@ impl<const R: usize> Segment<R> {
         self.cells[usize::from(i)].val = val;
     }
 
-    /// Sets a cell's safe bit and index to these old ones. This undoes a write of the index half.
+    /// Sets the safe bit and the index of the cell of this number, which must be below `R`, to
+    /// these old ones. This undoes a write of the index half.
     pub fn restore_index(&mut self, i: u8, safe: bool, idx: u64)
         requires { i < R }
         ensures { RestoresAt (λ s. Place.Idx s i) (Content.Idx safe idx) self.old self.new }

@@ -44,7 +44,8 @@ abbrev pub report_of : List LineAnswer → List ℕ
 report_of answers = flat_map text_of answers
 
 -- the lines were done one after another, with these answers: by the headline, the book went from
--- `before` to `after` with the commands that the lines spell, and keeps `kept` now
+-- `before` to `after` with the commands that the lines spell, and `kept` is the journal that it
+-- keeps now
 pub record AreObeyedLines (before : BookState) (lines : List (List ℕ)) (answers : List LineAnswer) (after : BookState) (kept : Journal) : Type 0 where
   -- for each line, the command that it spells, or its fault
   pub said : List (Result Command LineFault)

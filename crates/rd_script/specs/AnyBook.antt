@@ -14,13 +14,14 @@ any_state (Two book) = book_state book
 any_state (Four book) = book_state book
 any_state (Eight book) = book_state book
 
--- what a book keeps
+-- the journal that a book keeps
 abbrev pub any_journal : AnyBook → Journal
 any_journal (Two book) = journal (session_of book)
 any_journal (Four book) = journal (session_of book)
 any_journal (Eight book) = journal (session_of book)
 
--- the state of a book in which nothing was done yet, over the fresh world
+-- the state of a book in which nothing was done yet, over the fresh world with rings of R cells and
+-- this many actors
 abbrev pub fresh_state : ℕ → ℕ → BookState
 fresh_state R actors = record { session = record { start = fresh_world R actors; live = []; undone = [] }; marks = [] }
 

@@ -66,7 +66,7 @@ trace_step_words step cause = codes "28 TraceStep" ++ spaced_number step ++ code
 abbrev pub trace_mark_words : ℕ → ℕ → Refusal → List ℕ
 trace_mark_words mark step cause = codes "32 TraceMark" ++ spaced_number mark ++ spaced_number step ++ codes " cause " ++ refusal_words cause
 
--- the words of a busy lock: the ticket to be drawn next, and the ticket that is served
+-- the words for the tickets of a busy lock: the one to be drawn next, and the one that is served
 abbrev pub busy_words : ℕ → ℕ → List ℕ
 busy_words next served = codes " next" ++ spaced_number next ++ codes " served" ++ spaced_number served
 

@@ -24,7 +24,7 @@ access_word (Some place) wrote.Nothing = codes "read"
 access_word (Some place) wrote.Place = codes "wrote"
 access_word (Some place) wrote.Index = codes "wrote index"
 
--- the words of the answer of an access
+-- the words of the answer of an access, or a hyphen if that is nothing
 abbrev pub access_answer : Answer → List ℕ
 access_answer answer.Nothing = codes "-"
 access_answer (answer.Found content) = content_words content

@@ -32,6 +32,7 @@ devices source sink reader reader' writer writer' = record {
 abbrev pub IsUnused : Stream → Type 0
 IsUnused s = Keeps s.before s.after × (s.failed ≡ false)
 
--- a stream got nothing: it has what it had, and has failed only if it had failed before
+-- a stream got nothing: it has what it had, and has failed exactly if it had failed before, which
+-- the flag says
 abbrev pub GetsNothing : Bool → Stream → Type 0
 GetsNothing had_failed s = (s.after ≡ s.before) × (s.failed ≡ had_failed)

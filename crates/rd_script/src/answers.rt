@@ -19,13 +19,14 @@ pub enum AnyRefusal {
     Stopped(ScriptFault),
     /// 26: parts make no world.
     Flawed(Flaw),
-    /// 21: the history takes no more.
+    /// 21: the history takes no more calls.
     HistoryFull,
     /// 27: a text is no trace.
     BadTrace,
-    /// 28: an event of a trace was refused.
+    /// 28: a live event of a trace, or an undone one after them, was refused.
     TraceStep {
-        /// The event's number in the trace, from 1.
+        /// The event's number in the trace, from 1. The undone events are numbered after the live
+        /// ones.
         step: u64,
         /// Why it was refused.
         cause: Refusal,
@@ -39,7 +40,7 @@ pub enum AnyRefusal {
         /// The ticket that is served.
         served: u64,
     },
-    /// 31: the history was refused its memory, and the command was not obeyed.
+    /// 31: memory for the history was refused, and the command was not obeyed.
     NotRecorded,
     /// 32: an event of a bookmark of a trace was refused.
     TraceMark {

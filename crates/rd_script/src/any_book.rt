@@ -30,8 +30,8 @@ pub enum AnyBook {
 }
 
 impl AnyBook {
-    /// Returns a book over the fresh world of this many actors and this ring, with no step and no
-    /// bookmark. Fails only if memory was refused.
+    /// Returns a book over the fresh world of this many actors, 1 to 16, and of rings of this size,
+    /// with no step and no bookmark. Fails only if memory was refused.
     pub fn fresh(alloc: Global, ring: Ring, actors: u8) -> Result<AnyBook, AllocError>
         requires some { 1 ≤ actors }
         requires few { actors ≤ MOST_ACTORS }
@@ -44,7 +44,8 @@ impl AnyBook {
         }
     }
 
-    /// Runs a script over the book. Returns the number of its lines.
+    /// Runs a script over the book, and returns the number of its lines. Neither the reader nor the
+    /// writer may have failed before.
     ///
     /// # Errors
     ///
@@ -68,8 +69,8 @@ impl AnyBook {
     }
 }
 
-/// Returns a book over the fresh world of this many actors, with no step and no bookmark. Fails
-/// only if memory was refused.
+/// Returns a book over the fresh world of this many actors, 1 to 16, and of rings of `R` cells, 1
+/// to 64, with no step and no bookmark. Fails only if memory was refused.
 fn fresh_book<const R: usize>(alloc: Global, actors: u8) -> Result<Book<R>, AllocError>
     requires some { 1 ≤ actors }
     requires few { actors ≤ MOST_ACTORS }

@@ -1,8 +1,9 @@
 //! Where bytes come from and where they go.
 //!
 //! A source gives one byte or the end, and a sink takes one or more bytes of a slice. Each has, for
-//! contracts alone, its bytes, if they are known, and whether it has failed. A call that a signal
-//! interrupts is made again and is no fault, for a reader as for a writer; any other error is one.
+//! contracts alone, its bytes, if they are known, and whether it has failed. One that has failed
+//! must not be called again. A call that a signal interrupts is made again and is no fault, for a
+//! reader as for a writer; any other error is one.
 
 mod portions;
 pub mod sinks;

@@ -30,7 +30,7 @@ impl From<ReadFault> for ScriptFault {
 
     ghost from_gives = { λ _ fault. fault ≡ Read };
 
-    /// A source that failed is the fault `Read`.
+    /// Returns `Read`, the fault for a source that failed.
     fn from(_fault: ReadFault) -> ScriptFault {
         ScriptFault::Read
     }
@@ -41,7 +41,7 @@ impl From<WriteFault> for ScriptFault {
 
     ghost from_gives = { λ _ fault. fault ≡ Write };
 
-    /// A sink that failed is the fault `Write`.
+    /// Returns `Write`, the fault for a sink that failed.
     fn from(_fault: WriteFault) -> ScriptFault {
         ScriptFault::Write
     }

@@ -29,10 +29,12 @@ use rd_marks::{Book, Command};
 use rd_step::Event;
 
 /// Runs a script over a book: reads its lines to the end, obeys each when it is complete and writes
-/// its answer at once. Returns the number of lines.
+/// its answer at once. Returns the number of lines. Neither the reader nor the writer may have
+/// failed before.
 ///
-/// This is where the headline is promised of the program: the clause `runs` has it, at the end and
-/// at each fault, of the commands that the lines spell and of their answers.
+/// This is where the headline is promised of the program: the clause `runs` states it of the
+/// commands that the lines spell and of their answers, whether the run comes to the end or stops at
+/// a fault.
 ///
 /// # Errors
 ///
@@ -66,7 +68,9 @@ pub fn run<S: Source, K: Sink, const R: usize>(
     Err(ScriptFault::Read)
 }
 
-/// Obeys a line and writes its answer, whose line is made in the buffer `text`.
+/// Obeys a line and writes its answer, whose line is made in the buffer `text`. Fails if the writer
+/// fails or takes nothing; it has then taken a beginning of the answer's line. It must not have
+/// failed before.
 fn do_line<K: Sink, const R: usize>(
     book: &mut Book<R>,
     line: &Line,
@@ -86,7 +90,7 @@ fn do_line<K: Sink, const R: usize>(
     write_all(writer, text.as_slice())
 }
 
-/// Obeys a line, and makes the text the line of its answer.
+/// Obeys a line, if it spells a command, and replaces the text by the line of its answer.
 fn answer_line<const R: usize>(book: &mut Book<R>, line: &Line, text: &mut Text)
     ensures answers { (bytes : List ℕ) → Holds line.now bytes
         → (said : Result SomeCommand LineFault) × (answer : SomeAnswer) × Says bytes said
@@ -103,7 +107,7 @@ fn answer_line<const R: usize>(book: &mut Book<R>, line: &Line, text: &mut Text)
     }
 }
 
-/// Makes an event happen, and makes the text the line of its answer.
+/// Makes an event happen, and replaces the text by the line of its answer.
 fn answer_event<const R: usize>(book: &mut Book<R>, event: Event, text: &mut Text)
     ensures answers { (answer : Result Reply Refusal)
         × Happened (book_state book.old) event
@@ -118,7 +122,7 @@ fn answer_event<const R: usize>(book: &mut Book<R>, event: Event, text: &mut Tex
     }
 }
 
-/// Obeys a command, and makes the text the line of its answer.
+/// Obeys a command, and replaces the text by the line of its answer.
 fn answer_command<const R: usize>(book: &mut Book<R>, command: Command, text: &mut Text)
     ensures answers { (answer : Result Reply Refusal)
         × IsObeyed (book_state book.old) command
@@ -133,7 +137,8 @@ fn answer_command<const R: usize>(book: &mut Book<R>, command: Command, text: &m
     }
 }
 
-/// Writes the line of an answer, in as few calls as the writer needs.
+/// Writes the line of an answer, in as few calls as the writer needs. The writer must not have
+/// failed before.
 ///
 /// # Errors
 ///

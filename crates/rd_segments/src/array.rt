@@ -1,4 +1,5 @@
-//! The array queue's two counters and 64 slots. Morrison and Afek's queue has an infinite array.
+//! The array queue's two counters and 64 slots. Morrison and Afek's queue has an infinite array
+//! instead.
 
 ghost use Rattle.std.specs.Prelude.{◌≡◌, ◌↔◌, is_some, length, Some, Err, IsTrue, IfOk, IfErr, OnErr};
 ghost use Rattle.std.specs.List.{All};
@@ -64,6 +65,7 @@ impl ArrayParts {
     }
 
     /// Does an operation at a place of the array, and returns what it found, answered and wrote.
+    /// The operation must not be `Add`, a segment's fetch-and-add.
     ///
     /// # Errors
     ///
@@ -91,7 +93,8 @@ impl ArrayParts {
         }
     }
 
-    /// Puts an old content back at a place of the array. This undoes a fetch-and-add or a swap.
+    /// Puts an old content back at a place of the array, which must be there and be able to hold
+    /// it. This undoes a fetch-and-add or a swap.
     pub(crate) fn restore(&mut self, place: Place, content: Content)
         requires there { IsTrue (is_some (array_part self.old place)) }
         requires kind { IsTrue (can_hold place content) }
@@ -121,8 +124,9 @@ fn is_empty(slot: &ArrSlot) -> bool
 }
 
 /// Does a read or a fetch-and-add on a counter of the array, and returns what it found, answered
-/// and wrote. Fails with `ArrayEnd` if a fetch-and-add finds 64, and with `NoSuchPlace` for any
-/// other operation; the counter then stays.
+/// and wrote. The operation must not be `Add`, a segment's fetch-and-add. Fails with `ArrayEnd` if
+/// a fetch-and-add finds 64, and with `NoSuchPlace` for any other operation; the counter then
+/// stays.
 fn operate_on_counter(
     counter: &mut u64,
     place: Place,

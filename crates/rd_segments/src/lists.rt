@@ -24,8 +24,9 @@ pub fn find<const R: usize>(makers: &Vec<Vec<Segment<R>>>, name: SegName) -> Opt
 }
 
 /// Does an operation at a place of the segment of this name, and returns what it found, answered
-/// and wrote. Fails with `NoSuchPlace` if there is no such segment, and otherwise as
-/// `Segment::operate` does; nothing changes then.
+/// and wrote. The place must name this segment too, and the operation must be one that
+/// `Segment::operate` allows. Fails with `NoSuchPlace` if there is no such segment, and otherwise
+/// as `Segment::operate` does; nothing changes then.
 pub fn operate_in<const R: usize>(
     makers: &mut Vec<Vec<Segment<R>>>,
     name: SegName,
@@ -49,7 +50,8 @@ pub fn operate_in<const R: usize>(
     makers[maker][n].operate(place, operation)
 }
 
-/// Puts an old content back at a place of the segment of this name. That place must be there.
+/// Puts an old content back at a place of the segment of this name. That place must be there, name
+/// this segment too, and be able to hold the content.
 pub fn restore_in<const R: usize>(
     makers: &mut Vec<Vec<Segment<R>>>,
     name: SegName,
@@ -67,7 +69,8 @@ pub fn restore_in<const R: usize>(
     makers[usize::from(name.maker)][name.n as usize].restore(place, content);
 }
 
-/// Makes the maker's next segment, which holds this value, and returns its name.
+/// Makes the maker's next segment, which holds this value, and returns its name. The maker must
+/// have a list.
 ///
 /// # Errors
 ///
@@ -123,7 +126,7 @@ fn make_next<const R: usize>(
     }
 }
 
-/// Removes the maker's last segment, and so gives its room back.
+/// Removes the maker's last segment, which must be there, and so gives its room back.
 pub fn unmake_in<const R: usize>(makers: &mut Vec<Vec<Segment<R>>>, maker: u8)
     requires small { R ≤ MOST_CELLS }
     requires has_one { 0 < count makers.old.items maker }
@@ -136,7 +139,8 @@ pub fn unmake_in<const R: usize>(makers: &mut Vec<Vec<Segment<R>>>, maker: u8)
     take_last(&mut makers[usize::from(maker)]);
 }
 
-/// Removes the last segment of one maker's list, and so gives its room back.
+/// Removes the last segment of one maker's list, which must not be empty, and so gives its room
+/// back.
 fn take_last<const R: usize>(list: &mut Vec<Segment<R>>)
     requires small { R ≤ MOST_CELLS }
     requires has_one { 0 < length list.old.items }
@@ -147,11 +151,11 @@ fn take_last<const R: usize>(list: &mut Vec<Segment<R>>)
     let _last = list.pop();
 }
 
-/// Makes room for this many more segments of the maker.
+/// Makes room for this many more segments of the maker, which must have a list.
 ///
 /// # Errors
 ///
-/// Only if memory was refused for the growth. No segment changes.
+/// Only if memory was refused for the growth. No segment changes in either case.
 pub fn make_room_in<const R: usize>(
     makers: &mut Vec<Vec<Segment<R>>>,
     maker: u8,

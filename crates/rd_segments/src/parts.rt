@@ -10,7 +10,8 @@ ghost use Rattle.rd_segments.specs.Parts.{part_of_parts, each_segment, IsOfParts
 use rd_ring::{Segment, SegmentParts};
 use std::alloc::{AllocError, Global};
 
-/// Returns the makers' lists with the segments that these parts describe.
+/// Returns the makers' lists with the segments that these parts describe, whose counters must be at
+/// most 2^62.
 ///
 /// # Errors
 ///
@@ -33,8 +34,8 @@ pub fn lists_from_parts<const R: usize>(
     Ok(makers)
 }
 
-/// Returns one maker's list with the segments that these parts describe. Fails only if memory is
-/// refused.
+/// Returns one maker's list with the segments that these parts describe, whose counters must be at
+/// most 2^62. Fails only if memory is refused.
 fn list_from_parts<const R: usize>(
     alloc: Global,
     parts: &Vec<SegmentParts<R>>,

@@ -78,7 +78,7 @@ impl<const R: usize> Space<R> {
     }
 
     /// Returns the space with these parts: element m of `segments` has maker m's segments, in the
-    /// order of their making.
+    /// order of their making. The segments' counters must be at most 2^62.
     ///
     /// # Errors
     ///
@@ -107,7 +107,7 @@ impl<const R: usize> Space<R> {
     }
 
     /// Returns the parts of each maker's segments. `from_parts` makes an equal space from these,
-    /// the names at the queue's ends and the array.
+    /// together with the names at the queue's ends and the array.
     ///
     /// # Errors
     ///
@@ -167,7 +167,9 @@ impl<const R: usize> Space<R> {
         }
     }
 
-    /// Does an operation at a place, and returns what it found, answered and wrote.
+    /// Does an operation at a place, and returns what it found, answered and wrote. `Add` must not
+    /// be asked of the array, nor `AddArray` of any other place, nor a `CasTail` to a count above
+    /// 2^62.
     ///
     /// # Errors
     ///
@@ -194,7 +196,8 @@ impl<const R: usize> Space<R> {
         }
     }
 
-    /// Makes the maker's next segment, which holds this value, and returns its name.
+    /// Makes the maker's next segment, which holds this value, and returns its name. The maker must
+    /// have a list.
     ///
     /// # Errors
     ///
@@ -215,7 +218,7 @@ impl<const R: usize> Space<R> {
         make_in(&mut self.makers, maker, value)
     }
 
-    /// Removes the maker's last segment, and so gives its room back.
+    /// Removes the maker's last segment, which must be there, and so gives its room back.
     pub fn unmake(&mut self, maker: u8)
         requires { 0 < making_count self.old maker }
         ensures gone { contents self.new ≡ restore
@@ -229,7 +232,7 @@ impl<const R: usize> Space<R> {
         unmake_in(&mut self.makers, maker);
     }
 
-    /// Puts an old content back at a place, which must be there.
+    /// Puts an old content back at a place, which must be there and be able to hold it.
     pub fn restore(&mut self, place: Place, content: Content)
         requires there { IsTrue (is_some (operand (contents self.old) place)) }
         requires kind { IsTrue (can_hold place content) }
@@ -245,11 +248,12 @@ impl<const R: usize> Space<R> {
         }
     }
 
-    /// Gives a maker room for this many more segments; making them then needs no memory.
+    /// Gives a maker room for this many more segments; making them then needs no memory. The maker
+    /// must have a list.
     ///
     /// # Errors
     ///
-    /// Only if memory was refused for the growth. No place changes.
+    /// Only if memory was refused for the growth. No place changes in either case.
     pub fn make_room(&mut self, maker: u8, more: usize) -> Result<(), AllocError>
         requires { maker < lists self.old }
         ensures unchanged { contents self.new ≡ contents self.old }

@@ -1,4 +1,5 @@
-//! The event, one step of one actor, and the entry that the journal keeps of it and undoes it from.
+//! The event, which is one step of one actor, and the entry that the journal keeps of it and from
+//! which it is undone.
 
 ghost use Rattle.std.specs.Prelude.{◌≡◌};
 ghost use Rattle.rd_cell.specs.Places.{written};

@@ -16,8 +16,9 @@ use rd_actor::Actor;
 use rd_cell::{Access, Answer, Content, Done, Place, Refusal, Wrote};
 use rd_segments::Space;
 
-/// Puts back an old record of one actor and, if a place is named, its old content. Without an old
-/// content, the place is the whole of a segment, which is removed.
+/// Puts back an old record of one actor and, if a place is given, the old content of that place. A
+/// place without an old content is the whole of its maker's last segment, which is removed. The
+/// actor must be there. A given place must be there too, and be able to hold a given content.
 pub fn revert_fields<const R: usize>(
     space: &mut Space<R>,
     actors: &mut Vec<Actor>,
@@ -39,8 +40,9 @@ pub fn revert_fields<const R: usize>(
     set_actor(actors, actor, words);
 }
 
-/// Puts the old content back at a place, if one is named. Without an old content, it removes the
-/// segment that the step made.
+/// Puts the old content back at a place, if one is given; it must be there and be able to hold the
+/// content. A place without an old content is the whole of its maker's last segment, which is
+/// removed.
 fn put_back<const R: usize>(space: &mut Space<R>, place: Option<Place>, content: Option<Content>)
     requires can { CanPutBack (contents space.old) place content }
     requires small { R ≤ MOST_CELLS }
@@ -88,8 +90,9 @@ pub fn set_actor(actors: &mut Vec<Actor>, number: u8, words: Actor)
     actors[usize::from(number) - 1] = words;
 }
 
-/// Does an access of this actor, and returns what it found, answered and wrote. Fails with the
-/// refusal of the operation or of the making, and with `NoMemory` if a making has no room and
+/// Does an access of this actor, and returns what it found, answered and wrote. The actor must have
+/// a list, of at most 65,535 segments, and an operation must suit its place (`suits`). Fails with
+/// the refusal of the operation or of the making, and with `NoMemory` if a making has no room and
 /// memory is refused; no place changes then.
 pub fn perform<const R: usize>(
     space: &mut Space<R>,
@@ -135,7 +138,8 @@ fn nothing_done() -> Done
 }
 
 /// Makes the actor's next segment, which holds this value, and returns what the step records of it.
-/// Fails as `Space::make` does, with `SegmentsEnd` or `NoMemory`; no place changes then.
+/// The actor must have a list, of at most 65,535 segments. Fails as `Space::make` does, with
+/// `SegmentsEnd` or `NoMemory`; no place changes then.
 fn make<const R: usize>(space: &mut Space<R>, actor: u8, value: u64) -> Result<Done, Refusal>
     requires small { R ≤ MOST_CELLS }
     requires maker_there { actor < lists space.old }

@@ -20,8 +20,9 @@ use rd_segments::ArrayParts;
 /// The first condition of a well-formed world that parts fail, with its number, 1 to 8.
 #[derive(Clone, Copy, Debug, PartialEq, Eq)]
 pub enum Flaw {
-    /// 1: there aren't 1 to 16 actors, there isn't a list of segments for each maker from 0 to
-    /// their number, maker 0 has not just one segment, or another maker has more than 65,535.
+    /// 1: there aren't 1 to 16 actors; the lists of segments aren't one for each maker from 0 to
+    /// the number of actors; maker 0 doesn't have exactly one segment; or another maker has more
+    /// than 65,535.
     Makers,
     /// 2: one of the queue's ends, or a next, names a segment that is not there.
     PlaceNames,

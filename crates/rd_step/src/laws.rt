@@ -87,17 +87,17 @@ pub fn runs_keep_the_ring()
     ensures { (w : Model) (es : List Event) (r : Ran) → run w es ≡ Ok r → r.world.ring ≡ w.ring }
 {}
 
-/// A well-formed world refuses a step only for these causes: there is no such actor, the actor's
-/// control point does not take the act, or a counter or a maker's segments are at their end. It
-/// never refuses a step because a place is not there.
+/// A well-formed world, whose rings have at least one cell, refuses a step only for these causes:
+/// there is no such actor, the actor's control point does not take the act, or a counter or a
+/// maker's segments are at their end. It never refuses a step because a place is not there.
 #[tactic(auto, using(crate::proofs::Progress::refused_in_cases))]
 pub fn steps_are_refused_in_their_cases_alone()
     ensures { (w : Model) (e : Event) (refusal : Refusal) → 1 ≤ w.ring → IsWellFormed w
         → step w e ≡ Err refusal → IsStepRefusal refusal }
 {}
 
-/// Each operation for which an actor of a well-formed world asks finds a content of the right kind
-/// at its place.
+/// In a well-formed world whose rings have at least one cell, each operation for which an actor
+/// asks finds a content of the right kind at its place.
 #[tactic(auto, using(crate::proofs::Progress::suits_content))]
 pub fn operations_suit_their_contents()
     ensures { (w : Model) (n : ℕ) (a : Actor) (act : Act) (p : Place) (op : Operation) → 1 ≤ w.ring
@@ -105,8 +105,8 @@ pub fn operations_suit_their_contents()
         → w.actor n ≡ Some a → need w.ring a act ≡ Ok (At p op) → SuitsContent w.at p op }
 {}
 
-/// In a well-formed world, a step leaves its actor at another control point: the table has a row
-/// for each answer that can come, and no row leads to itself.
+/// In a well-formed world whose rings have at least one cell, a step leaves its actor at another
+/// control point: the table has a row for each answer that can come, and no row leads to itself.
 pub fn steps_move_their_actors()
     ensures { (w : Model) (e : Event) (s : Stepped) → 1 ≤ w.ring → IsWellFormed w → step w e ≡ Ok s
         → MovesOn e w s.world }

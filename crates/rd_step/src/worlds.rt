@@ -45,8 +45,8 @@ impl<const R: usize> Drop for World<R> {
 impl<const R: usize> World<R> {
     ghost use Rattle.rd_step.specs.CodeWorld.{model, room, makers_room};
 
-    /// Returns the fresh world: the root is the only segment and is fresh, and this many actors are
-    /// idle.
+    /// Returns the fresh world: the root is the only segment and is fresh, and this many actors,
+    /// which must be 1 to 16, are idle.
     ///
     /// # Errors
     ///
@@ -78,7 +78,7 @@ impl<const R: usize> World<R> {
     }
 
     /// Returns the poised world: the fresh one, except that each actor a is in an enqueue of the
-    /// value a, about to draw a position on the root.
+    /// value a, about to draw a position on the root. There must be 1 to 16 actors.
     ///
     /// # Errors
     ///
@@ -236,10 +236,10 @@ impl<const R: usize> World<R> {
         })
     }
 
-    /// Makes the step of an entry again, in a world where this step leaves just this entry. The
-    /// actor goes on with the answer that the entry keeps, and the access is done again only if it
-    /// wrote something. This writes no entry and can't fail, since the maker of a segment must have
-    /// room.
+    /// Makes the step of an entry again. In this world the step of the entry's event must leave
+    /// just this entry, and its actor must have room if it makes a segment. The actor goes on with
+    /// the answer that the entry keeps, and the access is done again only if it wrote something.
+    /// This writes no entry and can't fail.
     pub fn step_again(&mut self, entry: &Entry)
         requires goes { (after : Model) × (step (model self.old) entry.now.event
             ≡ Ok (record { world = after; entry = entry.now })) }
@@ -265,8 +265,12 @@ impl<const R: usize> World<R> {
         }
     }
 
-    /// Puts back an old record of one actor and, if a place is named, its old content. Without an
-    /// old content, it removes the segment that was made there. Nothing else changes.
+    /// Puts back an old record of one actor and, if a place is given, the old content of that
+    /// place. A place without an old content is the whole of its maker's last segment, which is
+    /// removed. Nothing else changes.
+    ///
+    /// The actor must be there. A given place must be there too, and be able to hold a given
+    /// content. The world so changed must be well-formed.
     pub fn revert(
         &mut self,
         actor: u8,
@@ -291,8 +295,9 @@ impl<const R: usize> World<R> {
         );
     }
 
-    /// Gives an actor room for this many more segments; making them then needs no memory. A making
-    /// uses room for one segment, undoing it gives this back, and no other call lessens the room.
+    /// Gives an actor, which must be there, room for this many more segments; making them then
+    /// needs no memory. A making uses room for one segment, undoing it gives this back, and no
+    /// other call lessens the room.
     ///
     /// # Errors
     ///

@@ -86,8 +86,8 @@ pub fn put_events(text: &mut String, events: &[Event]) -> Result<(), AllocError>
     Ok(())
 }
 
-/// Appends the text of an event to a list that has this many in the text, with a comma before it
-/// unless it is the first. Fails only if memory is refused.
+/// Appends the text of an event to a list of which the text has this many events already, with a
+/// comma before it unless it is the first. Fails only if memory is refused.
 pub fn put_next(text: &mut String, count: usize, event: Event) -> Result<(), AllocError>
     ensures ok { OnOk result (string_bytes text.new
         ≡ string_bytes text.old ++ (comma_if (nat_lt 0 count) ++ compact_text (event_data event))) }
@@ -115,8 +115,8 @@ fn put_event(text: &mut String, event: Event) -> Result<(), AllocError>
     }
 }
 
-/// Appends the text of an event that ends with a number: the opening with the word, the actor and
-/// the number. Fails only if memory is refused.
+/// Appends the text of an event that ends with a number: the opening with the word, the actor, the
+/// number and the closing bracket. Fails only if memory is refused.
 fn put_long(text: &mut String, opening: &str, actor: u8, x: u64) -> Result<(), AllocError>
     ensures ok { OnOk result (string_bytes text.new
         ≡ string_bytes text.old ++ (opening.now

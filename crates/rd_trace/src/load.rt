@@ -70,12 +70,12 @@ fn parse_value(alloc: Global, text: &[u8]) -> Result<Value, LoadTraceFault>
     }
 }
 
-/// Returns the book of the session that a JSON value spells. The value is dropped before the first
-/// event happens.
+/// Returns the book of the session that a JSON value spells. The value must have the number `R`,
+/// from 1 to 64, at the key `ring`. It is dropped before the first event happens.
 ///
 /// # Errors
 ///
-/// As `load_trace`.
+/// Those of `load_trace`.
 fn book_of<const R: usize>(alloc: Global, value: Value) -> Result<Book<R>, LoadTraceFault>
     requires positive { 1 ≤ R }
     requires small { R ≤ MOST_CELLS }

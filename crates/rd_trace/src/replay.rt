@@ -22,7 +22,8 @@ use rd_marks::Book;
 use rd_step::{Event, Unassembled, World, common_beginning};
 use std::alloc::Global;
 
-/// Returns the book of a session that was read, by making its events happen.
+/// Returns the book of a session that was read, by making its events happen. A fresh start must
+/// have 1 to 16 actors. There must be at most 64 bookmarks, with different names.
 ///
 /// # Errors
 ///
@@ -48,8 +49,9 @@ pub fn replay<const R: usize>(
     Ok(book)
 }
 
-/// Returns the world of a start. Fails with `Flawed` and the first flaw if the start makes no
-/// well-formed world, and with `NoMemory` if memory is refused.
+/// Returns the world of a start. A fresh start must have 1 to 16 actors. Fails with `Flawed` and
+/// the first flaw if the start makes no well-formed world, and with `NoMemory` if memory is
+/// refused.
 fn world_of<const R: usize>(alloc: Global, start: Start<R>) -> Result<World<R>, LoadTraceFault>
     requires positive { 1 ≤ R }
     requires small { R ≤ MOST_CELLS }
@@ -70,8 +72,8 @@ fn world_of<const R: usize>(alloc: Global, start: Start<R>) -> Result<World<R>, 
 }
 
 /// Sets bookmarks in a book that has none, each at its own events, and leaves the last one's events
-/// live. Fails with `TraceMark` at the first event that is refused, and with `NoMemory` if memory
-/// is refused.
+/// live. There must be at most 64 bookmarks, with different names. Fails with `TraceMark` at the
+/// first event that is refused, and with `NoMemory` if memory is refused.
 fn set_marks<const R: usize>(book: &mut Book<R>, marks: &[SavedMark]) -> Result<(), LoadTraceFault>
     requires names { HaveDifferentNames (map saved_mark marks.now) }
     requires few { length marks.now ≤ MOST_MARKS }

@@ -83,7 +83,7 @@ pub fn ring_in(value: &Value) -> Option<Ring>
 }
 
 /// Returns the session over rings of `R` cells that a JSON value spells, as a trace of version 1 or
-/// 2.
+/// 2. The value must have the number `R`, at most 64, at the key `ring`.
 ///
 /// # Errors
 ///
@@ -104,9 +104,9 @@ pub fn session_in<const R: usize>(
     }
 }
 
-/// Returns the session that an object with the version 1 and four members spells: over a fresh
-/// world, with nothing undone and no bookmark. Fails with `BadTrace` if it spells none, and with
-/// `NoMemory` if memory is refused.
+/// Returns the session that an object with the version 1, rings of `R` cells and four members
+/// spells: over a fresh world, with nothing undone and no bookmark. Fails with `BadTrace` if it
+/// spells none, and with `NoMemory` if memory is refused.
 fn version_1_session_in<const R: usize>(
     alloc: Global,
     value: &Value,
@@ -128,8 +128,8 @@ fn version_1_session_in<const R: usize>(
     })
 }
 
-/// Returns the session that an object with the version 2 and six members spells. Fails with
-/// `BadTrace` if it spells none, and with `NoMemory` if memory is refused.
+/// Returns the session that an object with the version 2, rings of `R` cells and six members
+/// spells. Fails with `BadTrace` if it spells none, and with `NoMemory` if memory is refused.
 fn version_2_session_in<const R: usize>(
     alloc: Global,
     value: &Value,

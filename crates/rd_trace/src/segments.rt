@@ -96,7 +96,7 @@ impl Written for Cell {
     }
 }
 
-/// Returns the segment that a JSON value spells; none if it spells none.
+/// Returns the segment that a JSON value spells; none if it spells none. `R` must be at most 64.
 fn segment_in<const R: usize>(value: &Value) -> Option<SegmentParts<R>>
     requires { R ≤ MOST_CELLS }
     ensures some { IfSome result (IsSegment (view value.now)) }

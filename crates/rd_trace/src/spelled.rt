@@ -16,7 +16,7 @@ pub trait Spelled: Sized + Drop {
     /// Whether a JSON value spells a thing.
     ghost spells: { Data → Self → Type 0 };
 
-    /// What a caller of `read` must know; by default nothing.
+    /// What a caller of `from_value` must know; by default nothing.
     ghost fits: { Type 0 } = { Unit {0} };
 
     /// Returns the thing of this kind that a JSON value spells.

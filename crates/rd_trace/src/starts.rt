@@ -48,7 +48,7 @@ pub enum Start<const R: usize> {
     Parts(Parts<R>),
 }
 
-/// Returns the start that a JSON value spells.
+/// Returns the start that a JSON value spells. `R` must be at most 64.
 ///
 /// # Errors
 ///
@@ -80,8 +80,8 @@ pub fn actors_at(value: &Value, key: &str) -> Option<u8>
     Some(actors as u8)
 }
 
-/// Returns the parts that a JSON object of five members spells. Fails with `BadTrace` if it spells
-/// none, and with `NoMemory` if memory is refused.
+/// Returns the parts that a JSON object of five members spells. `R` must be at most 64. Fails with
+/// `BadTrace` if it spells none, and with `NoMemory` if memory is refused.
 fn parts_in<const R: usize>(alloc: Global, value: &Value) -> Result<Parts<R>, LoadTraceFault>
     requires small { R ≤ MOST_CELLS }
     requires members { member_count (view value.now) ≡ Some 5 }

@@ -15,7 +15,12 @@ use std::alloc::Global;
 /// Writes a book as a trace of version 2, with a line feed after it: its start, live events, undone
 /// events and bookmarks, and the number of cells of its rings. With rings of 2, 4 or 8 cells,
 /// loading the text gives the same book, unless memory is refused. `load_trace` refuses any other
-/// number.
+/// number. The writer must not have failed before.
+///
+/// # Errors
+///
+/// `NoMemory` if memory was refused; nothing was written. `Write` if the writer failed or took
+/// nothing; it has then taken a beginning of the text.
 #[tactic(auto, using(crate::proofs::SpellLemmas::passed_up))]
 pub fn write_trace<K: Sink, const R: usize>(
     alloc: Global,
@@ -35,7 +40,12 @@ pub fn write_trace<K: Sink, const R: usize>(
     }
 }
 
-/// Writes a book over rings of 2, 4 or 8 cells as a trace, as `write_trace` does.
+/// Writes a book over rings of 2, 4 or 8 cells as a trace, as `write_trace` does. The writer must
+/// not have failed before.
+///
+/// # Errors
+///
+/// Those of `write_trace`.
 pub fn write_any_trace<K: Sink>(
     alloc: Global,
     writer: &mut K,

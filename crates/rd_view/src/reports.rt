@@ -19,7 +19,8 @@ pub type ParsedLine = Result<Command, LineFault>;
 
 /// Returns the text of a view: for each viewer in order its heading and the answers to its lines,
 /// and last the number of recorded calls. A viewer whose thread was not started has no answers: it
-/// gets one line, which says that memory was refused. Fails only if memory is refused.
+/// gets one line, which says that memory was refused. The two lists must be equally long. Fails
+/// only if memory is refused.
 pub fn text_of_view(
     alloc: Global,
     said: &[Vec<ParsedLine>],

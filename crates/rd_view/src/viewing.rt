@@ -25,7 +25,8 @@ use std::thread::Threads;
 type ViewerAnswers = Vec<Option<Vec<Answer>>>;
 
 /// Runs 1 to 64 scripts over the book, each by a viewer in its own thread, and writes the answers
-/// to their lines. Returns the history of the recorded calls. The book is lost.
+/// to their lines. Returns the history of the recorded calls. The book is lost. The writer must not
+/// have failed before.
 ///
 /// # Errors
 ///
@@ -66,9 +67,9 @@ fn lines_of_all(alloc: Global, scripts: &[Vec<u8>]) -> Result<Vec<Vec<ParsedLine
     Ok(said)
 }
 
-/// Asks the commands of each viewer's lines over one desk, and closes it. Returns the answers to
-/// each viewer, and the history. Fails with `NoMemory` if memory is refused, and with `Busy` if the
-/// desk can't be closed.
+/// Opens a desk over the book for 1 to 64 viewers, asks the commands of each viewer's lines, and
+/// closes the desk. Returns the answers to each viewer, and the history; the book is lost. Fails
+/// with `NoMemory` if memory is refused, and with `Busy` if the desk can't be closed.
 fn run_over_desk<R: Threads + Wait + Sync, const N: usize>(
     rt: &R,
     alloc: Global,
@@ -95,8 +96,8 @@ fn run_over_desk<R: Threads + Wait + Sync, const N: usize>(
     }
 }
 
-/// Returns each viewer's pass with the commands of its lines, in order. Fails only if memory is
-/// refused.
+/// Returns each viewer's pass with the commands of its lines, in order. There must be as many
+/// passes as lists of lines. Fails only if memory is refused.
 fn passes_with_commands<const N: usize>(
     alloc: Global,
     passes: Vec<DeskPass<N>>,

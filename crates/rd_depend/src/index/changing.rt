@@ -1,4 +1,4 @@
-//! The calls that change the index, and what they do to its lists.
+//! The calls that change the index, and the keys under which it keeps an entry.
 
 ghost use Rattle.std.specs.Prelude.{◌≡◌, ◌+◌, ◌<◌, ◌≤◌, ◌++◌, ◌∷◌, [], length, take, drop, not, true, List, Some, IsOk, IfOk, OnOk, OnErr};
 ghost use Rattle.rd_step.specs.declared.entries.Entry.{Entry as SomeEntry};
@@ -46,8 +46,9 @@ struct Slots {
 }
 
 impl DependIndex {
-    /// Puts the entry at the next position. This costs one access by the actor's number, and one
-    /// look-up of each of its keys: of its place, of a cell's value half, and of its segment.
+    /// Puts the entry at the next position. There must be fewer than `MOST_STEPS` positions. This
+    /// costs one access by the actor's number, and one look-up of each of its keys: of its place,
+    /// of a cell's value half, and of its segment.
     ///
     /// # Errors
     ///
@@ -70,7 +71,8 @@ impl DependIndex {
         Ok(())
     }
 
-    /// Puts these entries at the next positions, in their order, all or none.
+    /// Puts these entries at the next positions, in their order, all or none. The index must be
+    /// that of some list of entries, which has at most `MOST_STEPS` entries together with these.
     ///
     /// # Errors
     ///
@@ -96,7 +98,8 @@ impl DependIndex {
     }
 
     /// Makes room for these entries: pushing them in their order then succeeds, also after
-    /// positions were removed. No room is lost.
+    /// positions were removed. No room is lost. The index must be that of some list of entries,
+    /// which has at most `MOST_STEPS` entries together with these.
     ///
     /// # Errors
     ///
@@ -145,8 +148,9 @@ impl DependIndex {
         self.pop(entry);
     }
 
-    /// Moves position `k` to `n`; the positions above `k` up to `n` become one less. It goes over
-    /// all lists, and takes no memory.
+    /// Moves position `k` to `n`; the positions above `k` up to `n` become one less. The index must
+    /// be that of some list of entries, `k` at least 1 and at most `n`, and `n` at most the number
+    /// of positions. It goes over all lists, and takes no memory.
     pub fn move_to(&mut self, k: u64, n: u64)
         requires index { IsIndex self.old }
         requires some { 1 ≤ k }
@@ -179,7 +183,9 @@ impl DependIndex {
     }
 
     /// Makes room for one more position in each list that is to keep the entry, and returns the
-    /// indices of its keys, which are added if they are missing. Fails only if memory is refused.
+    /// indices of its keys, which are added if they are missing. `homes` must be those of the
+    /// entry. Fails only if memory is refused, which is asked for only if room is missing; no
+    /// position has changed then, and no room is lost.
     fn reserve(&mut self, entry: &Entry, homes: &Homes) -> Result<Slots, AllocError>
         requires { homes.now ≡ homes_of entry.now }
         ensures same { Keeps self.old self.new }
@@ -206,7 +212,8 @@ impl DependIndex {
         })
     }
 
-    /// Puts the entry at the next position, for which there must be room.
+    /// Puts the entry at the next position, for which there must be room. There must be fewer than
+    /// `MOST_STEPS` positions, and `homes` and `slots` must be those of the entry.
     fn put(&mut self, entry: &Entry, homes: &Homes, slots: Slots)
         requires few { position_count self.old < MOST_STEPS }
         requires homes { homes.now ≡ homes_of entry.now }
@@ -224,7 +231,7 @@ impl DependIndex {
     }
 
     /// Pushes these entries in their order until one is refused memory, and returns the number that
-    /// were pushed.
+    /// were pushed. The preconditions are those of `push_all`.
     fn push_some(&mut self, entries: &[Entry]) -> usize
         requires index { IsIndex self.old }
         requires few { position_count self.old + length entries.now ≤ MOST_STEPS }
@@ -242,7 +249,7 @@ impl DependIndex {
         entries.len()
     }
 
-    /// Removes the last positions, whose entries must be these.
+    /// Removes the last positions, whose entries must be these, in this order.
     fn pop_all(&mut self, entries: &[Entry])
         requires { EndsWith self.old entries.now }
         ensures index { (es : List SomeEntry) → IsIndexOf self.old (es ++ entries.now)

@@ -24,7 +24,8 @@ use rd_step::Entry;
 
 impl DependIndex {
     /// Returns the first position after `k` whose entry depends on the given one; `None` if there
-    /// is no such position. It makes at least one probe and at most 96, and takes no memory.
+    /// is no such position. `k` must be at most the number of positions, and fewer than 2^32 probes
+    /// counted before. It makes at least one probe and at most 96, and takes no memory.
     pub fn first(&self, k: u64, entry: &Entry, probes: &mut Probes) -> Option<u64>
         requires within { k ≤ position_count self.now }
         requires counted { probe_count probes.old < 2 ^ 32 }
@@ -41,8 +42,9 @@ impl DependIndex {
         }
     }
 
-    /// Whether the entry depends on one of the entries after the first `n`. It looks first at the
-    /// positions of the entry's actor, which mostly decide, and takes no memory.
+    /// Whether the entry depends on one of the entries after the first `n`, which must be at most
+    /// the number of positions. It looks first at the positions of the entry's actor, since these
+    /// decide in most cases, and takes no memory.
     pub fn depends_after(&self, n: u64, entry: &Entry) -> bool
         requires { n ≤ position_count self.now }
         ensures { (es : List SomeEntry) → IsIndexOf self.now es
@@ -76,9 +78,9 @@ impl DependIndex {
         earlier(by_value, earlier(own, whole))
     }
 
-    /// Returns the first position above `k` that is kept under the key, among all positions or
-    /// among those that wrote; `None` if there is no key or no such position. It makes at most 19
-    /// probes.
+    /// Returns the first position above `k` that is kept under the key, among all positions or only
+    /// those of steps that wrote there; `None` if there is no key or no such position. It makes at
+    /// most 19 probes.
     fn first_under(
         &self,
         k: u32,
@@ -100,8 +102,9 @@ impl DependIndex {
         Positions::found(self.by_key.kept_under(key, among), probes).first_above(k, probes)
     }
 
-    /// Returns the first position above `k` of a step of this actor, if there is one. It makes at
-    /// most 19 probes.
+    /// Returns the first position above `k` of a step of this actor; `None` if there is none. The
+    /// actor's positions must ascend and be fewer than 2^17; otherwise nothing is said of the
+    /// result. It makes at most 19 probes.
     fn first_by(&self, k: u32, actor: u8, probes: &mut Probes) -> Option<u64>
         requires { probe_count probes.old < 2 ^ 34 }
         ensures answer { IsAscending (list_at self.now.by_actor.items actor)

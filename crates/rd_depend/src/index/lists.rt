@@ -7,14 +7,15 @@ ghost use Rattle.rd_depend.specs.Tables.{one_if, list_at, capacity_at, spare_at,
 
 use std::alloc::{AllocError, Global};
 
-/// The number of positions for which a full list makes room at least.
+/// The least number of positions for which a full list makes room.
 const POSITIONS: usize = 8;
 
 /// Adds empty lists until there are at least this many.
 ///
 /// # Errors
 ///
-/// `AllocError` if memory is refused. No list that was there has changed then.
+/// `AllocError` if memory is refused. No list that was there has changed then, but some empty lists
+/// may have been added.
 pub(crate) fn grow(
     lists: &mut Vec<Vec<u32>>,
     alloc: Global,
@@ -31,7 +32,8 @@ pub(crate) fn grow(
     Ok(())
 }
 
-/// Makes room for one more position in the list of this number, unless it has room.
+/// Makes room for one more position in the list of this number, unless it has room. There must be
+/// such a list.
 ///
 /// # Errors
 ///
@@ -47,8 +49,8 @@ pub(crate) fn reserve_in(lists: &mut Vec<Vec<u32>>, index: usize) -> Result<(), 
     reserve(&mut lists[index])
 }
 
-/// Makes room for one more position in the list of this number, if `wanted` and unless it has room.
-/// Fails only if memory is refused.
+/// If `wanted`, makes room for one more position in the list of this number, unless it has room.
+/// There must be such a list, even if not `wanted`. Fails only if memory is refused.
 pub(crate) fn reserve_if(
     lists: &mut Vec<Vec<u32>>,
     wanted: bool,
@@ -151,7 +153,8 @@ pub(crate) fn take_last_if(lists: &mut Vec<Vec<u32>>, wanted: bool, index: usize
 }
 
 /// Moves position `k` to `n` in each list: `k` becomes `n`, if it is there, and the positions above
-/// `k` up to `n` become one less.
+/// `k` up to `n` become one less. `k` must be at least 1 and at most `n`. Each list has to ascend;
+/// nothing is said of what becomes of one that doesn't.
 pub(crate) fn move_all(lists: &mut Vec<Vec<u32>>, k: u32, n: u32)
     requires some { 1 ≤ k }
     requires order { k ≤ n }
@@ -165,7 +168,8 @@ pub(crate) fn move_all(lists: &mut Vec<Vec<u32>>, k: u32, n: u32)
 }
 
 /// Moves position `k` to `n` in a list: `k` becomes `n`, if it is there, and the positions above
-/// `k` up to `n` become one less.
+/// `k` up to `n` become one less. `k` must be at least 1 and at most `n`. The list has to ascend;
+/// nothing is said of what becomes of one that doesn't.
 fn move_among(positions: &mut [u32], k: u32, n: u32)
     requires some { 1 ≤ k }
     requires order { k ≤ n }
@@ -179,8 +183,8 @@ fn move_among(positions: &mut [u32], k: u32, n: u32)
     turn(&mut positions[start..end], k, n);
 }
 
-/// Subtracts 1 from each position. But if the first one is `k`, that one moves to the end and
-/// becomes `n`.
+/// Subtracts 1 from each position that is above 0. But if the first one is `k`, that one moves to
+/// the end and becomes `n`.
 fn turn(positions: &mut [u32], k: u32, n: u32)
     ensures { positions.new ≡ turned k n positions.old }
 {
@@ -193,7 +197,7 @@ fn turn(positions: &mut [u32], k: u32, n: u32)
     }
 }
 
-/// Subtracts 1 from each position.
+/// Subtracts 1 from each position that is above 0.
 fn lower(positions: &mut [u32])
     ensures { positions.new ≡ map (λ p. p - 1) positions.old }
 {
@@ -202,8 +206,9 @@ fn lower(positions: &mut [u32])
     }
 }
 
-/// Returns the number of positions that are at most `k`, if they ascend. In most lists all are, so
-/// it looks at the last one first.
+/// Returns the number of positions that are at most `k`. The positions have to ascend; nothing is
+/// said of the number for ones that don't. In most lists all are at most `k`, so it looks at the
+/// last one first.
 fn count_up_to(positions: &[u32], k: u32) -> usize
     ensures within { result ≤ length positions.now }
     ensures count { IsAscending positions.now → result ≡ position_or_len (nat_lt k) positions.now }
@@ -228,8 +233,8 @@ pub(crate) fn remove_above_in_all(lists: &mut Vec<Vec<u32>>, n: u32)
     }
 }
 
-/// Removes the positions above `n` from a list, which has to ascend; nothing is said of what is left
-/// of one that doesn't.
+/// Removes the positions above `n` from a list. The list has to ascend; nothing is said of what is
+/// left of one that doesn't.
 fn remove_above(list: &mut Vec<u32>, n: u32)
     ensures items { IsAscending list.old.items
         → list.new.items ≡ before_first (nat_lt n) list.old.items }

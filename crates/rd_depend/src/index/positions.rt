@@ -30,7 +30,7 @@ impl<'a> Positions<'a> {
         self.items.len()
     }
 
-    /// Returns the position at this index, and counts a probe.
+    /// Returns the position at this index, which must be below `len`, and counts a probe.
     pub(crate) fn look(&self, index: usize, probes: &mut Probes) -> u32
         requires within { index < length self.now.items.now }
         requires few { probe_count probes.old < 2 ^ 63 }

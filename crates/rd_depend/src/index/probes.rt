@@ -25,7 +25,7 @@ impl Probes {
         self.count
     }
 
-    /// Counts one more probe.
+    /// Counts one more probe. Fewer than 2^63 must be counted before.
     pub(crate) fn tick(&mut self)
         requires { probe_count self.old < 2 ^ 63 }
         ensures { probe_count self.new ≡ probe_count self.old + 1 }

@@ -10,7 +10,8 @@ use super::probes::Probes;
 
 impl<'a> Positions<'a> {
     /// Returns the number of positions that are at most `k`, by binary search. It makes at most 17
-    /// probes, and so needs fewer than 2^17 positions.
+    /// probes. The positions have to ascend and be fewer than 2^17; otherwise nothing is said of
+    /// the number, except that it is at most `len`.
     pub(crate) fn count_up_to(&self, k: u32, probes: &mut Probes) -> usize
         requires { probe_count probes.old < 2 ^ 62 }
         ensures within { result ≤ length self.now.items.now }
@@ -35,7 +36,9 @@ impl<'a> Positions<'a> {
         low
     }
 
-    /// Returns the first position above `k`, if there is one. It makes at most 18 probes.
+    /// Returns the first position above `k`; `None` if there is none. It makes at most 18 probes.
+    /// The positions have to ascend and be fewer than 2^17; otherwise nothing is said of the
+    /// result.
     pub(crate) fn first_above(&self, k: u32, probes: &mut Probes) -> Option<u64>
         requires { probe_count probes.old < 2 ^ 61 }
         ensures first { IsAscending self.now.items.now → length self.now.items.now < 2 ^ 17
@@ -51,7 +54,9 @@ impl<'a> Positions<'a> {
         }
     }
 
-    /// Returns the last position up to `k`, if there is one. It makes at most 18 probes.
+    /// Returns the last position up to `k`; `None` if there is none. It makes at most 18 probes.
+    /// The positions have to ascend and be fewer than 2^17; otherwise nothing is said of the
+    /// result.
     pub(crate) fn last_up_to(&self, k: u32, probes: &mut Probes) -> Option<u64>
         requires { probe_count probes.old < 2 ^ 61 }
         ensures last { IsAscending self.now.items.now → length self.now.items.now < 2 ^ 17

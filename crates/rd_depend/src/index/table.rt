@@ -30,7 +30,7 @@ pub(crate) enum Among {
 impl Among {
     ghost use Rattle.rd_depend.specs.Tables.{is_writes};
 
-    /// Returns `Writes` if the test holds, and `Touches` if not.
+    /// Returns `Writes` if `only_writes` is true, and `Touches` if not.
     pub(crate) fn writes_if(only_writes: bool) -> Among
         ensures { is_writes result ≡ only_writes }
     {
@@ -76,7 +76,7 @@ impl Table {
         }
     }
 
-    /// Returns the index of the key, if it is in the table.
+    /// Returns the index of the key; `None` if it isn't in the table.
     pub(crate) fn slot(&self, key: Key) -> Option<usize>
         ensures slot { result ≡ slot_in self.now.keys.keys key }
         ensures within { IfSome result (λ i. i < length self.now.keys.keys) }
@@ -199,7 +199,7 @@ impl Table {
     }
 
     /// Puts a position at the end of the list at this index, and of the list of writes there if the
-    /// step wrote. Without an index it does nothing.
+    /// step wrote. These lists must have room for it. Without an index it does nothing.
     pub(crate) fn put(&mut self, slot: Option<usize>, position: u32, wrote: bool)
         requires { AreReadyAt self.old wrote slot }
         ensures { (k : Option Kept) → AreReady self.old k wrote slot
@@ -211,7 +211,7 @@ impl Table {
     }
 
     /// Puts a position at the end of the list at this index, and of the list of writes there if the
-    /// step wrote.
+    /// step wrote. A key must have this index, and these lists must have room for the position.
     fn put_at(&mut self, slot: usize, position: u32, wrote: bool)
         requires { IsReadyAt self.old wrote slot }
         ensures { (k : Kept) → IsReady self.old k wrote slot
@@ -222,7 +222,7 @@ impl Table {
     }
 
     /// Removes the last position from the key's list, and from its list of writes if the step
-    /// wrote. Without a key it does nothing.
+    /// wrote. These lists must not be empty. Without a key it does nothing.
     pub(crate) fn take_last(&mut self, key: Option<Key>, wrote: bool)
         requires { HasLast self.old key wrote }
         ensures { TakesLast key wrote self.old self.new }
@@ -233,7 +233,7 @@ impl Table {
     }
 
     /// Removes the last position from the key's list, and from its list of writes if the step
-    /// wrote.
+    /// wrote. These lists must not be empty.
     fn take_last_under(&mut self, key: Key, wrote: bool)
         requires { HasLast self.old (Some key) wrote }
         ensures { TakesLast (Some key) wrote self.old self.new }
@@ -245,7 +245,8 @@ impl Table {
     }
 
     /// Moves position `k` to `n` in each list: `k` becomes `n`, if it is there, and the positions
-    /// above `k` up to `n` become one less.
+    /// above `k` up to `n` become one less. `k` must be at least 1 and at most `n`. Each list has
+    /// to ascend; nothing is said of what becomes of one that doesn't.
     pub(crate) fn move_to(&mut self, k: u32, n: u32)
         requires some { 1 ≤ k }
         requires order { k ≤ n }
@@ -255,7 +256,8 @@ impl Table {
         move_all(&mut self.writes, k, n);
     }
 
-    /// Removes the positions above `n` from each list.
+    /// Removes the positions above `n` from each list. Each list has to ascend; nothing is said of
+    /// what is left of one that doesn't.
     pub(crate) fn truncate(&mut self, n: u32)
         ensures { Cuts n self.old self.new }
     {

@@ -1,5 +1,6 @@
-//! The last writer of a place, by look-ups. It is the last position that wrote under one of three
-//! keys: the place's own, the key of a cell's value half, and the key of the whole of its segment.
+//! The last writer of a place, by look-ups. It is the last position of a step that wrote under one
+//! of three keys: the place's own, the key of a cell's value half, and the key of the whole of its
+//! segment.
 
 ghost use Rattle.std.specs.Prelude.{◌≡◌, ◌+◌, ◌<◌, ◌≤◌, ◌^◌, true, IsSome, List, take};
 ghost use Rattle.rd_step.specs.declared.entries.Entry.{Entry as SomeEntry};
@@ -19,7 +20,8 @@ use rd_cell::Place;
 
 impl DependIndex {
     /// Returns the last position up to `n` whose entry wrote this place, or one of the places that
-    /// it names; `None` if no such entry did. It makes at least one probe and at most 57, and takes
+    /// it names; `None` if no such entry did. `n` must be at most the number of positions, and
+    /// fewer than 2^32 probes counted before. It makes at least one probe and at most 57, and takes
     /// no memory.
     pub fn last_writer(&self, n: u64, place: Place, probes: &mut Probes) -> Option<u64>
         requires within { n ≤ position_count self.now }

@@ -17,6 +17,12 @@ use rd_step::Entry;
 /// Puts, of the numbers of the first `live` entries, the `k`-th, counted from 1, and those whose
 /// entries depend on its entry, directly or through others, behind the rest. Both parts keep their
 /// order. Returns how long the second part is.
+///
+/// `k` must be at least 1 and at most `live`, and `live` at most `MOST_STEPS` and the length of the
+/// order. `gathered` must be empty, with room for as many numbers as the order has, and is empty
+/// again afterwards. The index must be that of the entries before the `k`-th, with room for the
+/// other live ones; afterwards it is that of the entries before the `k`-th, followed by the second
+/// part.
 pub(crate) fn gather(
     slots: &[Entry],
     order: &mut Vec<u32>,
@@ -77,7 +83,7 @@ pub(crate) fn gather(
     live - front
 }
 
-/// Returns the entry in the slot of this number.
+/// Returns the entry in the slot of this number. There must be such a slot.
 fn entry_in(slots: &[Entry], number: u32) -> &Entry
     requires { number < length slots.now }
     ensures { result.now ≡ slice_index_or slots.now number result.now }

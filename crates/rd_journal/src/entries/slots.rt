@@ -9,7 +9,8 @@ use rd_step::Entry;
 use std::alloc::AllocError;
 
 /// Puts an entry at index `place` of the order: into the slot whose number is there, or at the end
-/// of the order into a new slot.
+/// of the order into a new slot. The index must be below `MOST_STEPS`, at most the order's length,
+/// and below the capacity of both lists.
 pub(crate) fn put_at(slots: &mut Vec<Entry>, order: &mut Vec<u32>, place: usize, entry: &Entry)
     requires ordered { IsOrder (length slots.old.items) order.old.items }
     requires within { place ≤ length order.old.items }
@@ -50,7 +51,8 @@ pub(crate) fn make_room_in<T>(items: &mut Vec<T>, needed: usize) -> Result<(), A
 }
 
 /// Moves the `k`-th of the first `live` numbers, counted from 1, behind the others of these, which
-/// keep their order.
+/// keep their order. `k` must be at least 1 and at most `live`, and there must be at least `live`
+/// numbers.
 pub(crate) fn move_after(order: &mut Vec<u32>, k: usize, live: usize)
     requires some { 1 ≤ k }
     requires position { k ≤ live }

@@ -11,7 +11,7 @@ impl<const R: usize> Session<R> {
     ghost use Rattle.rd_journal.specs.Sessions.{journal, state, GoesAlong};
 
     /// Undoes the last `n` live steps, the last one first, each by the old record and the old
-    /// content in its entry.
+    /// content in its entry. At least `n` steps must be live.
     pub(super) fn undo_many(&mut self, n: u64)
         requires enough { n ≤ length (journal self.old).live }
         ensures entries { IsMovedBack n (journal self.old) (journal self.new) }
@@ -24,9 +24,9 @@ impl<const R: usize> Session<R> {
         self.undone += n as usize;
     }
 
-    /// Makes the `n` steps again that were undone last, one after another. Their entries are those
-    /// of a run from the present world, so no step is refused, and each leaves the entry that it
-    /// has.
+    /// Makes the `n` steps again that were undone last, one after another. At least `n` steps must
+    /// be undone. Their entries are those of a run from the present world, so no step is refused,
+    /// and each leaves the entry that it has.
     pub(super) fn redo_many(&mut self, n: u64)
         requires enough { n ≤ length (journal self.old).undone }
         ensures entries { IsMovedForward n (journal self.old) (journal self.new) }

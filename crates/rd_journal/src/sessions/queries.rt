@@ -73,7 +73,7 @@ impl<const R: usize> Session<R> {
     }
 
     /// Returns the number of the first live step after the `k`-th that depends on it; `None` if no
-    /// later live step does.
+    /// later live step does. There must be a `k`-th live step, counted from 1.
     pub(super) fn first_dependant(&self, k: u64) -> Option<u64>
         requires some { 1 ≤ k }
         requires within { k ≤ length (journal self.now).live }
@@ -119,7 +119,7 @@ impl<const R: usize> Session<R> {
         Ok(world)
     }
 
-    /// Returns the session's world, to which the live events lead from its start.
+    /// Returns the session's world, to which the live events lead from the session's start.
     pub fn world(&self) -> &World<R>
         ensures value { model result.now ≡ (journal self.now).world }
         ensures run { run_of (state self.now)

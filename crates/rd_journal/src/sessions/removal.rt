@@ -13,7 +13,7 @@ impl<const R: usize> Session<R> {
     ghost use Rattle.rd_journal.specs.Sessions.{journal, capacity};
 
     /// Undoes the `k`-th live step alone, counted from 1, by the old record and the old content in
-    /// its entry. No later live step may depend on it.
+    /// its entry. There must be such a step, and no later live step may depend on it.
     pub(super) fn undo_alone(&mut self, k: u64)
         requires some { 1 ≤ k }
         requires position { k ≤ length (journal self.old).live }
@@ -29,7 +29,8 @@ impl<const R: usize> Session<R> {
     }
 
     /// Undoes the `k`-th live step, counted from 1, and all later ones that depend on it, directly
-    /// or through others. If no step depends on it directly, it is undone alone.
+    /// or through others. If no later live step depends on it, it is undone alone. There must be a
+    /// `k`-th live step.
     pub(super) fn roll_back(&mut self, k: u64)
         requires some { 1 ≤ k }
         requires position { k ≤ length (journal self.old).live }
@@ -44,10 +45,11 @@ impl<const R: usize> Session<R> {
     }
 
     /// Undoes the `k`-th live step, counted from 1, and all later ones that depend on it, directly
-    /// or through others. Their entries are first moved behind the other live ones, none of which
-    /// depends on them. While they are gathered, the index is that of the entries before the `k`-th
-    /// and of those gathered so far, so it shows whether the next one depends on one of these. Then
-    /// all entries from the `k`-th position on are put into the index again, in their new order.
+    /// or through others. There must be a `k`-th live step. The entries of these steps are first
+    /// moved behind the other live ones, none of which depends on them. While they are gathered,
+    /// the index is that of the entries before the `k`-th and of those gathered so far, so it shows
+    /// whether the next one depends on one of these. Then all entries from the `k`-th position on
+    /// are put into the index again, in their new order.
     fn undo_block(&mut self, k: u64)
         requires some { 1 ≤ k }
         requires position { k ≤ length (journal self.old).live }

@@ -11,8 +11,9 @@ use super::super::entry_list::EntryList;
 use rd_inverse::unstep;
 use rd_step::World;
 
-/// Undoes all but the first `n` of the steps that led to the world, the last one first. It gives
-/// the room of their makings back, and takes no memory.
+/// Undoes all but the first `n` of the steps, the last one first. There must be at least `n`, and
+/// they must be those of a run that led to this world. The call gives the room of their makings
+/// back, and takes no memory.
 pub(super) fn undo_after<const R: usize>(world: &mut World<R>, steps: &EntryList, n: usize)
     requires within { n ≤ length steps.now }
     requires leads { (start : Model) × LeadsTo start (model world.old) steps.now }

@@ -24,7 +24,9 @@ impl<const R: usize> Session<R> {
     ghost use Rattle.rd_journal.specs.Sessions.{journal, state, room, capacity, index, GoesAlong, KeepsItsSteps};
 
     /// Makes room for the given entries after the first `kept` live ones, and for the makings among
-    /// them once the other live steps are undone. Memory is asked for only if room is missing.
+    /// them once the other live steps are undone. At least `kept` steps must be live, and at most
+    /// `MOST_STEPS` may be kept or given. Memory is asked for only if room is missing. The steps
+    /// and the world stay as they are.
     ///
     /// # Errors
     ///
@@ -54,7 +56,8 @@ impl<const R: usize> Session<R> {
 
     /// Replaces all entries after the first `n` live ones by the given ones in the index, undoes
     /// the live steps after the first `n`, and makes the given steps again. These then replace all
-    /// others.
+    /// others. The preconditions are those of `switch`, and `make_room_to_switch` must have made
+    /// room for the entries and their makings.
     ///
     /// # Errors
     ///
@@ -85,7 +88,8 @@ impl<const R: usize> Session<R> {
         Ok(())
     }
 
-    /// Makes the next `n` steps ahead again, after which no step is undone.
+    /// Makes the next `n` steps ahead again, after which no step is undone. At least `n` steps must
+    /// be ahead.
     pub(super) fn redo_ahead(&mut self, n: usize)
         requires within { n ≤ length (ahead_entries self.old.entries) }
         ensures entries { IsSwitched (length (journal self.old).live)
@@ -138,8 +142,8 @@ fn makings_of(entries: &[Entry]) -> [usize; ACTOR_NUMBERS]
     counts
 }
 
-/// Returns, for each actor's number, the given number of makings without as many as that actor has
-/// among the dropped entries; 0 if those are more.
+/// Returns, for each actor's number, the given number of makings less the number that the actor has
+/// among the dropped entries; 0 if that is more than the given one.
 fn makings_missing(dropped: &EntryList, given: [usize; ACTOR_NUMBERS]) -> [usize; ACTOR_NUMBERS]
     ensures { (m : ℕ) → m < ACTOR_NUMBERS
         → get_or result m 0 ≡ get_or given m 0 - room_returned_by dropped.now m }

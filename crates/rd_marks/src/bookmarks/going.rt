@@ -16,9 +16,11 @@ use std::alloc::Global;
 impl Bookmarks {
     ghost use Rattle.rd_marks.specs.Bookmarks.{lists_in, entries_in, here_in, IsNodeIn, IsInPieces};
 
-    /// Makes the steps of a node the live ones, and leaves no undone step. If the session's track
-    /// is known to have these steps, the session moves along it. Otherwise it keeps the live steps
-    /// with which both lists begin, and makes the rest of the node's steps again.
+    /// Makes the steps of a node of these bookmarks the live ones, and leaves no undone step. The
+    /// node's entries must be those of a run from the session's start, and the events of `here`
+    /// must begin the session's track. If the session's track is known to have these steps, the
+    /// session moves along it. Otherwise it keeps the live steps with which both lists begin, and
+    /// makes the rest of the node's steps again.
     ///
     /// # Errors
     ///
@@ -63,8 +65,9 @@ impl Bookmarks {
 }
 
 /// Makes the steps of a node the live ones, and leaves no undone step. It keeps the live steps with
-/// which both lists begin, and makes the rest of the node's steps again. The search for the kept
-/// ones starts at `here`, whose events must begin the session's track.
+/// which both lists begin, and makes the rest of the node's steps again. The node's entries must be
+/// those of a run from the session's start. The search for the kept steps starts at `here`, whose
+/// events must begin the session's track.
 ///
 /// # Errors
 ///

@@ -1,5 +1,5 @@
-//! Adding a bookmark after all others, removing the entries that no bookmark needs, and moving each
-//! node to where its entries are.
+//! Adding a bookmark at the end of the list, removing the entries that no bookmark needs, and
+//! moving each node to where its entries are.
 
 ghost use Rattle.std.specs.Prelude.{◌≡◌, ◌<◌, ◌≤◌, ◌++◌, [], ◌∷◌, None, suc, map, length};
 ghost use Rattle.std.specs.List.{All};
@@ -14,8 +14,8 @@ use super::super::names::MarkName;
 use super::super::stretches::{Grown, Node, Shift, Stretches};
 use indexmap::IndexMap;
 
-/// Adds a bookmark of this name, which none may have, after all others, in room that was made
-/// before. The nodes of the others move as the stretches were renumbered.
+/// Adds a bookmark of this name, which none may have, at the end of the list, in room that was made
+/// before. The nodes of the others are renumbered as the stretches were.
 pub(super) fn put(names: &mut IndexMap<MarkName, Node>, name: MarkName, grown: Grown)
     requires new { lookup (mark_name_eq name) names.old.entries ≡ None }
     requires room { 0 < spare names.old }
@@ -31,7 +31,7 @@ pub(super) fn put(names: &mut IndexMap<MarkName, Node>, name: MarkName, grown: G
 }
 
 /// Returns where `here` is after the first `len` live entries were added: at the node of these, or,
-/// if `here` has more entries, at its old node as the stretches were renumbered.
+/// if `here` has more entries, at its old node, renumbered as the stretches were.
 pub(super) fn here_after(here: Node, len: usize, grown: Grown) -> Node
     requires { IsLow here }
     ensures near { here.number ≤ len → result ≡ grown.node }
@@ -65,8 +65,8 @@ pub(super) fn prune(
     }
 }
 
-/// Removes the entries of stretch `i` that neither a bookmark nor the next stretch needs. All
-/// entries of the stretches after it must be needed.
+/// Removes the entries of stretch `i` that neither a bookmark nor the next stretch needs. There
+/// must be a stretch `i`, and all entries of the stretches after it must be needed.
 fn trim(stretches: &mut Stretches, names: &mut IndexMap<MarkName, Node>, here: &mut Node, i: usize)
     requires there { i < length stretches.old.list.items }
     requires within { All (λ m. IsWithin stretches.old.list.items m.1) names.old.entries }

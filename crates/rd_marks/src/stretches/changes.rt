@@ -26,8 +26,9 @@ pub(crate) enum Shift {
 impl Shift {
     ghost use Rattle.rd_marks.specs.Changes.{shifted, IsLow};
 
-    /// Returns the node that has the same entries after the stretches were renumbered. If a stretch
-    /// was removed, the node must have none of this stretch's own entries.
+    /// Returns the node that has the same entries after the stretches were renumbered. A node with
+    /// entries must have a stretch number below 2^64 - 1. If a stretch was removed, the node must
+    /// have none of this stretch's own entries.
     pub(crate) fn shifted(self, node: Node) -> Node
         requires { IsLow node }
         ensures { result ≡ shifted self node }
@@ -41,7 +42,7 @@ impl Shift {
 }
 
 /// Returns the node that has the same entries after a stretch was inserted with number `i`. A node
-/// without entries stays as it is.
+/// without entries stays as it is, and one with entries must have a stretch number below 2^64 - 1.
 fn after_insertion(i: usize, node: Node) -> Node
     requires { IsLow node }
     ensures { result ≡ after_insertion i node }
@@ -82,10 +83,11 @@ impl Stretches {
     ghost use Rattle.rd_marks.specs.Stretches.{list_before, shared_at, entries_at, IsWithin, IsEnd, IsAlong, IsDeepest};
     ghost use Rattle.rd_marks.specs.Changes.{IsGrown, IsShrunk, KeepsItsSteps};
 
-    /// Inserts the live entries after those of node `at`: at the end of its stretch if `at` has all
-    /// entries of the stretch's list, otherwise in a new stretch. The events of `at` must begin the
-    /// live ones, and no list may begin with one live event more. Returns the node of the entries
-    /// of `at` with the inserted ones after them, and how the stretches were renumbered.
+    /// Inserts the live entries that come after those of node `at`: at the end of its stretch if
+    /// `at` has all entries of the stretch's list, otherwise in a new stretch. The events of `at`
+    /// must begin the live ones, and no list may begin with one live event more. Returns the node
+    /// of the entries of `at` with the inserted ones after them, and how the stretches were
+    /// renumbered.
     ///
     /// # Errors
     ///
@@ -130,8 +132,9 @@ impl Stretches {
         }
     }
 
-    /// Appends the live entries after those of node `at` to its stretch, whose list must end there.
-    /// Returns the node of the longer list, and that no stretch was renumbered.
+    /// Appends the live entries that come after those of node `at` to its stretch, whose list must
+    /// end there. There must be such entries. The other preconditions are those of `grow`. Returns
+    /// the node of the longer list, and that no stretch was renumbered.
     ///
     /// # Errors
     ///
@@ -157,8 +160,9 @@ impl Stretches {
         })
     }
 
-    /// Puts the live entries after those of node `at` into a new stretch, which shares the entries
-    /// of `at`. Returns the node of the new stretch's list, and how the stretches were renumbered.
+    /// Puts the live entries that come after those of node `at` into a new stretch, which shares
+    /// the entries of `at`. There must be such entries. The other preconditions are those of
+    /// `grow`. Returns the node of the new stretch's list, and how the stretches were renumbered.
     ///
     /// # Errors
     ///
@@ -194,8 +198,8 @@ impl Stretches {
     }
 
     /// Returns the number with which a stretch that shares the entries of node `at` can be
-    /// inserted. It belongs to the first later stretch that shares at most as many entries as `at`
-    /// has. If there is none, it is the number of stretches.
+    /// inserted. It is the number of the first later stretch that shares at most as many entries as
+    /// `at` has. If there is none, it is the count of all stretches.
     fn next_off(&self, at: Node) -> usize
         requires { IsWithin self.now.list.items at }
         ensures there { result ≤ length self.now.list.items }
@@ -214,8 +218,8 @@ impl Stretches {
     }
 
     /// Removes the entries after the first `n` from the list of stretch `i`, and gives their room
-    /// back. The next stretch must share none of them. The whole stretch goes if none of its own
-    /// entries is left. Returns how the stretches were renumbered.
+    /// back. There must be a stretch `i`, and the next one must share none of them. The whole
+    /// stretch goes if none of its own entries is left. Returns how the stretches were renumbered.
     #[tactic(auto, using(crate::proofs::Reading::stretch_at, crate::proofs::StretchUses::left))]
     pub(crate) fn shrink(&mut self, i: usize, n: usize) -> Shift
         requires there { i < length self.old.list.items }

@@ -32,8 +32,9 @@ impl Stretches {
         at
     }
 
-    /// Returns the number of live steps with which the list of stretch `i` begins. It must begin
-    /// with the first `n`, and its entries after these must be the stretch's own.
+    /// Returns the number of live steps with which the list of stretch `i` begins. There must be
+    /// such a stretch. Its list must begin with the first `n` live steps, and its entries after
+    /// these must be the stretch's own.
     #[tactic(auto, using(crate::proofs::Reading::along_steps))]
     fn along(&self, i: usize, n: usize, live: &EntryList) -> usize
         requires there { i < length self.now.list.items }
@@ -51,7 +52,8 @@ impl Stretches {
     }
 }
 
-/// Returns the node of the first `number` entries of stretch `i`, or `at` if that has as many.
+/// Returns the node of the first `number` entries of stretch `i`, or `at` if that has as many. It
+/// must not have more.
 fn farther(at: Node, i: usize, number: usize) -> Node
     requires { at.number ≤ number }
     ensures more { at.number < number → result ≡ record { stretch = i; number = number } }
@@ -64,7 +66,7 @@ fn farther(at: Node, i: usize, number: usize) -> Node
     }
 }
 
-/// Returns the entries after the first `n`.
+/// Returns the entries after the first `n`. There must be at least `n`.
 fn own_after(entries: &[Entry], n: usize) -> &[Entry]
     requires { n ≤ length entries.now }
     ensures { result.now ≡ drop n entries.now }

@@ -38,7 +38,7 @@ impl Stretches {
     }
 
     /// Returns the entries of a node after the first `n`: lent if they all lie in one stretch,
-    /// otherwise copied.
+    /// otherwise copied. The node must have at least `n`.
     ///
     /// # Errors
     ///
@@ -65,7 +65,8 @@ impl Stretches {
     }
 
     /// Returns the entries of a node after the first `n`, or `None` if the node's stretch shares
-    /// one of them or there is no such stretch.
+    /// one of them or there is no such stretch. The node must have at least `n` entries, and its
+    /// last one must be its stretch's own, unless it is in the first stretch.
     #[tactic(auto, using(crate::proofs::Reading::stretch_at, crate::proofs::Reading::lent, crate::proofs::StretchLists::total, crate::proofs::Starting::stretch_within))]
     fn slice_after(&self, of: Node, n: usize) -> Option<&[Entry]>
         requires present { IsWithin self.now.list.items of }
@@ -83,7 +84,8 @@ impl Stretches {
         Some(&stretch.entries[n - stretch.shared..of.number - stretch.shared])
     }
 
-    /// Returns a copy of the entries of a node after the first `n`.
+    /// Returns a copy of the entries of a node after the first `n`. The node must have at least
+    /// `n`.
     ///
     /// # Errors
     ///

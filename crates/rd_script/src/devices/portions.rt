@@ -56,7 +56,7 @@ impl Portion {
     }
 
     /// Replaces the portion's bytes by the next ones of the reader, none only at the reader's end.
-    /// Fails if the reader fails.
+    /// Fails if the reader fails; the portion then has no byte.
     pub fn fill<R: Read>(&mut self, reader: &mut R) -> Result<(), ReadFault>
         ensures ok { OnOk result (Consumes (R.remaining reader.old) (R.remaining reader.new)
             (pending_bytes self.new)) }
@@ -76,8 +76,9 @@ impl Portion {
     }
 }
 
-/// Reads the next bytes of a reader, none only at its end, and returns how many they are. A read
-/// that a signal interrupts is made again, up to 2^64 - 1 times, and is no fault.
+/// Reads the next bytes of a reader into a slice, which must not be empty, and returns how many
+/// they are: none only at the reader's end. Fails if the reader fails. A read that a signal
+/// interrupts is made again, up to 2^64 - 1 times, and is no fault.
 fn read_some<R: Read>(reader: &mut R, bytes: &mut [u8]) -> io::Result<usize>
     requires room { 0 < length bytes.old }
     ensures len { length bytes.new ≡ length bytes.old }

@@ -19,8 +19,8 @@ pub trait Sink {
     // Whether a call failed.
     ghost has_failed: { Self → Bool };
 
-    /// Takes the first bytes of a slice, at least one, and returns how many. To take none is a
-    /// fault, after which there is no further call.
+    /// Takes the first bytes of a slice, which must not be empty, and returns how many: at least
+    /// one. Fails if it can take none, and must not be called again after that.
     fn take(&mut self, given: &[u8]) -> Result<usize, WriteFault>
         requires working { has_failed self.old ≡ false }
         requires some { 0 < length given.now }
@@ -32,8 +32,8 @@ pub trait Sink {
         ensures fails { OnErr result (has_failed self.new ≡ true) };
 }
 
-/// Writes the whole of a text to a sink, in as few calls as the sink needs. Fails if the sink
-/// fails, which has then taken a beginning of the text.
+/// Writes the whole of a text to a sink that has not failed, in as few calls as the sink needs.
+/// Fails if the sink fails; it has then taken a beginning of the text.
 pub fn write_all<K: Sink>(writer: &mut K, text: &[u8]) -> Result<(), WriteFault>
     requires { K.has_failed writer.old ≡ false }
     ensures ok { OnOk result (Appends (K.contents writer.old) (K.contents writer.new) text.now) }
@@ -74,7 +74,8 @@ impl<W: Write> Sink for WriteSink<W> {
 
     ghost has_failed = { λ s. s.failed };
 
-    /// Writes the first bytes of a slice to the writer, and returns how many.
+    /// Writes the first bytes of a slice to the writer, and returns how many. Fails if the writer
+    /// fails or takes none.
     fn take(&mut self, given: &[u8]) -> Result<usize, WriteFault> {
         let taken = write_some(&mut self.inner, given);
         self.failed = taken.is_err();
@@ -85,9 +86,9 @@ impl<W: Write> Sink for WriteSink<W> {
     }
 }
 
-/// Calls the writer once with the bytes, and returns how many of the first ones it took. To take
-/// none is a fault. A write that a signal interrupts is made again, up to 2^64 - 1 times, and is no
-/// fault.
+/// Offers the writer some bytes, at least one, and returns how many of the first ones it took.
+/// Fails if the writer fails or takes none. A write that a signal interrupts is made again, up to
+/// 2^64 - 1 times, and is no fault.
 fn write_some<W: Write>(writer: &mut W, given: &[u8]) -> io::Result<usize>
     requires some { 0 < length given.now }
     ensures count { IfOk result (λ n. (0 < n) × (n ≤ length given.now)) }

@@ -20,7 +20,8 @@ pub trait Source {
     // Whether a call failed.
     ghost has_failed: { Self → Bool };
 
-    /// Returns the next byte, or none at the end. After a fault there is no further call.
+    /// Gives the next byte, or none at the end. Fails if the source fails, and must not be called
+    /// again after that.
     fn byte(&mut self) -> Result<Option<u8>, ReadFault>
         requires { has_failed self.old ≡ false }
         ensures gives { IfOk result (GivesByte (bytes self.old) (bytes self.new)) }
@@ -56,7 +57,8 @@ impl<R: Read> Source for ReadSource<R> {
 
     ghost has_failed = { λ s. s.failed };
 
-    /// Returns the next byte of the reader, which is read if no byte is left of the portion.
+    /// Gives the reader's next byte, or none at its end. Reads from the reader only if no byte is
+    /// left of the portion. Fails if the reader fails.
     fn byte(&mut self) -> Result<Option<u8>, ReadFault> {
         if self.portion.is_empty() {
             let filled = self.portion.fill(&mut self.inner);

@@ -40,8 +40,8 @@ pub fn number_alone(words: &[&[u8]]) -> Option<u64>
     number_in(number)
 }
 
-/// Returns the actor and the value that two words spell, or `None` if the words aren't just these
-/// two.
+/// Returns the actor, from 0 to 255, and the value that two words spell. `None` if there aren't
+/// exactly two words, or if they don't spell these.
 pub fn actor_and_value(words: &[&[u8]]) -> Option<(u8, u64)>
     ensures some { IfSome result (λ r. map (λ word. word.now) words.now
         ≡ decimal r.0 ∷ decimal r.1 ∷ []) }
@@ -54,8 +54,8 @@ pub fn actor_and_value(words: &[&[u8]]) -> Option<(u8, u64)>
     Some((byte_in(actor)?, number_in(value)?))
 }
 
-/// Returns the actor and the choice (`yes` or `no`) that two words spell, or `None` if the words
-/// aren't just these two.
+/// Returns the actor, from 0 to 255, and the choice (`yes` or `no`) that two words spell. `None` if
+/// there aren't exactly two words, or if they don't spell these.
 pub fn actor_and_choice(words: &[&[u8]]) -> Option<(u8, bool)>
     ensures some { IfSome result (λ r. map (λ word. word.now) words.now
         ≡ decimal r.0 ∷ yes_or_no r.1 ∷ []) }
@@ -114,7 +114,7 @@ pub fn two_names(words: &[&[u8]]) -> Result<(MarkName, MarkName), LineFault>
     let [one, other] = words else {
         return Err(LineFault::BadLine);
     };
-    // A word that is none makes a bad line, whatever the other one is.
+    // If either of them is no word, the line is bad, whatever the other one is.
     if !is_word(one) || !is_word(other) {
         return Err(LineFault::BadLine);
     }

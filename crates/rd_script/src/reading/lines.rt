@@ -34,7 +34,7 @@ pub enum Reading {
 }
 
 /// Replaces the line in the buffer by the next one of the source, and returns how that ended. The
-/// buffer is empty if there is no line.
+/// buffer is empty if there is no line. The source must not have failed before.
 ///
 /// # Errors
 ///

@@ -1,4 +1,5 @@
-//! Numbers that a word spells: decimal digits without leading zeros.
+//! Numbers and segments' names that a word spells. A number is decimal digits without leading
+//! zeros, and a segment's name is two numbers with a full stop between them.
 //!
 //! A number has just one spelling. Std reads it; but std also accepts a plus sign and leading
 //! zeros, so words that begin with these are rejected first.
@@ -66,8 +67,8 @@ pub fn segment_in(word: &[u8]) -> Option<SegName>
     segment_of(parts.as_slice())
 }
 
-/// Returns the segment's name whose maker and number these two parts spell, or `None` if the parts
-/// aren't just these two.
+/// Returns the segment's name whose maker and number two parts spell. `None` if there aren't
+/// exactly two parts, or if they spell no such numbers.
 fn segment_of(parts: &[&[u8]]) -> Option<SegName>
     ensures spelled { IfSome result (λ s. map (λ part. part.now) parts.now
         ≡ decimal s.maker ∷ decimal s.n ∷ []) }

@@ -34,8 +34,8 @@ pub fn lines(alloc: Global, text: &[u8]) -> Result<Vec<Result<Command, LineFault
     Ok(said)
 }
 
-/// Returns the text without the line feed at its end, if it has one there. Between the line feeds
-/// of the result are the lines of the text, which must not be empty.
+/// Returns a text, which must not be empty, without the line feed at its end, if it has one there.
+/// The lines of the text are what stands between the line feeds of the result.
 fn without_last_feed(text: &[u8]) -> &[u8]
     requires { text.now ≢ [] }
     ensures { slice_split (λ byte. byte == 10) result.now ≡ lines_of text.now }

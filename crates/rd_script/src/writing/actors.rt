@@ -8,7 +8,7 @@ use super::numbers::{bit_number, put_words_and_number};
 use super::texts::{Text, put};
 use rd_actor::{Actor, Op};
 
-/// Appends to the text all words of an actor, after `actor`.
+/// Appends to the text the word `actor` and all words of an actor.
 pub fn put_actor(text: &mut Text, actor: &Actor)
     ensures { PutsUpTo 355 text.old.items text.new.items (actor_words actor.now) }
 {
@@ -18,7 +18,7 @@ pub fn put_actor(text: &mut Text, actor: &Actor)
     put_read(text, actor);
 }
 
-/// Appends to the text `actor`, the actor's control point, and its call.
+/// Appends to the text the word `actor`, the actor's control point, and its call.
 fn put_call(text: &mut Text, actor: &Actor)
     ensures { PutsUpTo 40 text.old.items text.new.items (call_words actor.now) }
 {

@@ -1,4 +1,4 @@
-//! Numbers and bits appended to a text. A number is written as decimal digits without leading
+//! Numbers, bits and choices in a text. A number is written as decimal digits without leading
 //! zeros.
 
 ghost use Rattle.std.specs.Prelude.{◌≡◌, ◌≤◌, ◌++◌, length};

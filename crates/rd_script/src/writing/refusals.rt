@@ -9,8 +9,8 @@ use super::texts::{Text, put};
 use crate::faults::{LineFault, ScriptFault};
 use rd_cell::Refusal;
 
-/// Appends to the text the number, the name and the data of a refusal: the number of live steps, or
-/// a step's number, if it has one.
+/// Appends to the text the number and the name of a refusal, and after them its data, if it has
+/// any: the number of live steps, or a step's number.
 pub fn put_refusal(text: &mut Text, refusal: Refusal)
     ensures { PutsUpTo 38 text.old.items text.new.items (refusal_words refusal) }
 {
