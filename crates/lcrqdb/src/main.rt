@@ -9,7 +9,7 @@
 //! three streams from `main`. Standard output has no buffer, so that a reply is written at once.
 #![tactic(auto)]
 
-use rd_command_line::{perform, process_words};
+use rd_command_line::{command_line_words, perform};
 use rd_script::{ReadSource, WriteSink};
 use std::process::ExitCode;
 
@@ -18,7 +18,7 @@ fn main(rt: HostRuntime) -> ExitCode {
     perform(
         &rt,
         rt.alloc(),
-        process_words(&rt),
+        command_line_words(&rt),
         &mut ReadSource::new(rt.stdin()),
         &mut WriteSink::new(rt.stdout()),
         &mut WriteSink::new(rt.stderr()),

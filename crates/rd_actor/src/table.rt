@@ -78,14 +78,20 @@ fn need_at<const R: usize>(actor: &Actor) -> Result<Access, Refusal>
             Place::Idx(crq, index_of::<R>(actor.h)),
             Operation::ReadSafeAndIndex,
         )),
-        Pc::Q5 => Ok(Access::At(cell_at::<R>(actor, actor.h), move_on::<R>(actor, actor.val))),
-        Pc::Q6 => Ok(Access::At(cell_at::<R>(actor, actor.h), mark_unsafe(actor))),
-        Pc::Q7 => Ok(Access::At(cell_at::<R>(actor, actor.h), move_on::<R>(actor, None))),
+        Pc::Q5 => Ok(Access::At(
+            cell_at::<R>(actor, actor.h),
+            cas2_to_move_on::<R>(actor, actor.val),
+        )),
+        Pc::Q6 => Ok(Access::At(cell_at::<R>(actor, actor.h), cas2_to_mark_unsafe(actor))),
+        Pc::Q7 => Ok(Access::At(
+            cell_at::<R>(actor, actor.h),
+            cas2_to_move_on::<R>(actor, None),
+        )),
         Pc::Q8 | Pc::Q9 | Pc::Q11 => Ok(Access::At(Place::Tail(crq), Operation::Read)),
-        Pc::Q12 => Ok(Access::At(Place::Tail(crq), move_tail(actor))),
+        Pc::Q12 => Ok(Access::At(Place::Tail(crq), cas_to_raise_tail(actor))),
         Pc::Q14 => Ok(Access::At(Place::QHead, cas_name(actor, actor.next))),
         Pc::A1 => Ok(Access::At(Place::ArrTail, Operation::AddArray)),
-        Pc::A2 => Ok(Access::At(slot_at(actor.t), swap_in(actor))),
+        Pc::A2 => Ok(Access::At(slot_at(actor.t), swap_to_put(actor))),
         Pc::B1 => Ok(Access::At(Place::ArrHead, Operation::AddArray)),
         Pc::B2 => Ok(Access::At(slot_at(actor.h), Operation::Swap(ArrSlot::Top))),
         Pc::B3 => Ok(Access::At(Place::ArrTail, Operation::Read)),
@@ -118,7 +124,7 @@ fn after_at<const R: usize>(actor: &Actor, answer: Answer) -> (Actor, Option<OpR
 {
     let next = match (actor.pc, answer) {
         (Pc::E1, Answer::Found(Content::Name(name))) => with_tail_segment(actor, name),
-        (Pc::E2, Answer::Found(Content::Next(Some(name)))) => help_tail(actor, name),
+        (Pc::E2, Answer::Found(Content::Next(Some(name)))) => with_next_segment(actor, name),
         (Pc::E2, Answer::Found(Content::Next(None))) => with_pc(actor, Pc::E4),
         (Pc::E3, _) => with_pc(actor, Pc::E1),
         (Pc::E4, Answer::Found(Content::Tail { closed, count })) => after_tail_add(
@@ -199,7 +205,7 @@ fn with_tail_segment(actor: &Actor, name: SegName) -> Actor
 
 /// Returns the record after an E2 that read this next segment: the enqueue goes on to move the
 /// queue's tail to it.
-fn help_tail(actor: &Actor, name: SegName) -> Actor
+fn with_next_segment(actor: &Actor, name: SegName) -> Actor
     ensures { result ≡ record actor.now { next = name; pc = Pc.E3 } }
 {
     Actor {
@@ -475,7 +481,7 @@ fn slot_at(position: u64) -> Place
 }
 
 /// Returns the operation of A2: a swap of the enqueue's value into the slot.
-fn swap_in(actor: &Actor) -> Operation
+fn swap_to_put(actor: &Actor) -> Operation
     ensures { result ≡ Swap (ArrSlot.Value (value_to_put actor.now.op)) }
 {
     Operation::Swap(ArrSlot::Value(value_to_put(actor.op)))
@@ -515,7 +521,7 @@ fn cas2_to_put(actor: &Actor) -> Operation
 /// Returns the operation of Q5 and Q7: a CAS2 from the cell that was read, with this value or none,
 /// to an empty cell at the index of the next round. The contract holds if this index is below 2^64,
 /// as it is in a well-formed world.
-fn move_on<const R: usize>(actor: &Actor, val: Option<u64>) -> Operation
+fn cas2_to_move_on<const R: usize>(actor: &Actor, val: Option<u64>) -> Operation
     requires { R ≤ MOST_CELLS }
     ensures { actor.now.h + R < 2 ^ 64
         → result ≡ Cas2 (cell_with actor.now.safe actor.now.idx val)
@@ -536,7 +542,7 @@ fn move_on<const R: usize>(actor: &Actor, val: Option<u64>) -> Operation
 }
 
 /// Returns the operation of Q6: a CAS2 from the cell that was read to the same cell, marked unsafe.
-fn mark_unsafe(actor: &Actor) -> Operation
+fn cas2_to_mark_unsafe(actor: &Actor) -> Operation
     ensures { result ≡ Cas2 (cell_with actor.now.safe actor.now.idx actor.now.val)
         (cell_with false actor.now.idx actor.now.val) }
 {
@@ -555,7 +561,7 @@ fn mark_unsafe(actor: &Actor) -> Operation
 }
 
 /// Returns the operation of Q12: a compare-and-swap that raises the open tail to the head.
-fn move_tail(actor: &Actor) -> Operation
+fn cas_to_raise_tail(actor: &Actor) -> Operation
     ensures { result ≡ CasTail actor.now.t actor.now.h }
 {
     Operation::CasTail {

@@ -11,7 +11,7 @@ use Rattle.clap.specs.declared.error.kind.ErrorKind.TheVariants as kind
 use Rattle.clap.specs.declared.parser.matches.ArgMatches.{ArgMatches}
 use Rattle.rd_command_line.specs.declared.requests.Options.{Options}
 use Rattle.rd_command_line.specs.Options.{fault_by, options_fault}
-use Rattle.rd_command_line.specs.CommandLine.{AreRings, BothNames, EndsFor, HasFault, GivesOptions, GivesSubcommand, GivesNothing, is_request, program_app}
+use Rattle.rd_command_line.specs.CommandLine.{AreRings, BothNames, GivesFault, HasFault, GivesOptions, GivesSubcommand, GivesNoOptions, is_request, program_app}
 
 -- clap's clauses on matches are exact for the program's command
 pub program_is_simple : (names : BothNames) → is_simple (program_app names) ≡ true
@@ -22,25 +22,25 @@ pub program_is_free : (names : BothNames) → is_simple_and_free (program_app na
 program_is_free names = refl
 
 -- an error whose kind clap finds in the words is a reason why they give no options
-EndsFor-fault_by : (words : List Text) (k : ErrorKind) (e : Error) → kind_of e ≡ k → HasFault words k → EndsFor words (fault_by k e)
-EndsFor-fault_by words kind.DisplayHelp e is fault = (ap is_request is, subst (HasFault words) (sym is) fault)
-EndsFor-fault_by words kind.DisplayVersion e is fault = (ap is_request is, subst (HasFault words) (sym is) fault)
-EndsFor-fault_by words kind.OutOfMemory e is fault = tt
-EndsFor-fault_by words _ e is fault = (ap is_request is, inl (subst (HasFault words) (sym is) fault))
+GivesFault-fault_by : (words : List Text) (k : ErrorKind) (e : Error) → kind_of e ≡ k → HasFault words k → GivesFault words (fault_by k e)
+GivesFault-fault_by words kind.DisplayHelp e is fault = (ap is_request is, subst (HasFault words) (sym is) fault)
+GivesFault-fault_by words kind.DisplayVersion e is fault = (ap is_request is, subst (HasFault words) (sym is) fault)
+GivesFault-fault_by words kind.OutOfMemory e is fault = tt
+GivesFault-fault_by words _ e is fault = (ap is_request is, inl (subst (HasFault words) (sym is) fault))
 
 -- the program's fault is a reason why the words give no options, for an error that says that memory
 -- ran out, or whose kind clap finds in the words
-EndsFor-options_fault : (words : List Text) (names : BothNames) (e : Error) → AreRings names → HasKind (fault_of (program_app names) words) e → EndsFor words (options_fault e)
-EndsFor-options_fault words names e rings (inl memory) = subst (λ k. EndsFor words (fault_by k e)) (sym memory) tt
-EndsFor-options_fault words names e rings (inr among) =
-    EndsFor-fault_by words (kind_of e) e refl (record { names = names; rings = rings; among = among })
+GivesFault-options_fault : (words : List Text) (names : BothNames) (e : Error) → AreRings names → HasKind (fault_of (program_app names) words) e → GivesFault words (options_fault e)
+GivesFault-options_fault words names e rings (inl memory) = subst (λ k. GivesFault words (fault_by k e)) (sym memory) tt
+GivesFault-options_fault words names e rings (inr among) =
+    GivesFault-fault_by words (kind_of e) e refl (record { names = names; rings = rings; among = among })
 
 -- the program's fault is a reason why the words give no options, for an error of clap on a command
 -- that is the program's
-pub EndsFor-error : (words : List Text) (app : App) (names : BothNames) (e : Error) → AreRings names → app ≡ program_app names
-    → (is_simple_and_free app ≡ true → HasKind (fault_of app words) e) → EndsFor words (options_fault e)
-EndsFor-error words app names e rings is kinds =
-    EndsFor-options_fault words names e rings (subst (λ a. is_simple_and_free a ≡ true → HasKind (fault_of a words) e) is kinds (program_is_free names))
+pub GivesFault-error : (words : List Text) (app : App) (names : BothNames) (e : Error) → AreRings names → app ≡ program_app names
+    → (is_simple_and_free app ≡ true → HasKind (fault_of app words) e) → GivesFault words (options_fault e)
+GivesFault-error words app names e rings is kinds =
+    GivesFault-options_fault words names e rings (subst (λ a. is_simple_and_free a ≡ true → HasKind (fault_of a words) e) is kinds (program_is_free names))
 
 -- if matches of the program's command give these options, the words do
 pub Reads-matches : (words : List Text) (app : App) (names : BothNames) (m : ArgMatches) (o : Options) → AreRings names → app ≡ program_app names
@@ -53,9 +53,9 @@ Reads-matches words app names m o rings is faultless matches tells = record {
 }
 
 -- if matches of the program's command give no options, the words give none
-pub GivesNothing-matches : (words : List Text) (app : App) (names : BothNames) (m : ArgMatches) → AreRings names → app ≡ program_app names
-    → (is_simple_and_free app ≡ true → fault_of app words ≡ []) → HasMatchesOf app words m → ((o : Options) → GivesSubcommand (subcommand_rows_of m) o → ⊥) → GivesNothing words
-GivesNothing-matches words app names m rings is faultless matches nothing = record {
+pub GivesNoOptions-matches : (words : List Text) (app : App) (names : BothNames) (m : ArgMatches) → AreRings names → app ≡ program_app names
+    → (is_simple_and_free app ≡ true → fault_of app words ≡ []) → HasMatchesOf app words m → ((o : Options) → GivesSubcommand (subcommand_rows_of m) o → ⊥) → GivesNoOptions words
+GivesNoOptions-matches words app names m rings is faultless matches nothing = record {
   names = names;
   rings = rings;
   faultless = subst (λ a. is_simple_and_free a ≡ true → fault_of a words ≡ []) is faultless (program_is_free names);

@@ -15,7 +15,7 @@ use Rattle.rd_command_line.specs.declared.requests.Options.{Options}
 use Rattle.rd_command_line.specs.declared.requests.Options.TheVariants.{Run, View, Load}
 use Rattle.rd_command_line.specs.declared.requests.OptionsFault.{OptionsFault}
 use Rattle.rd_command_line.specs.Outcomes.{Ends, Outcome}
-use Rattle.rd_command_line.specs.CommandLine.{EndsFor, GivesOptions}
+use Rattle.rd_command_line.specs.CommandLine.{GivesFault, GivesOptions}
 
 -- the text is all that an opened file has left to give, as `remaining` says; where `remaining` says
 -- nothing, it may be any text
@@ -76,7 +76,7 @@ abbrev pub ComesTo : {F : Type 0} → (F → Option (List ℕ)) → List Text �
 ComesTo remaining words d outcome =
     ((options : Options) × (done : Result ℕ ProgramFault) × GivesOptions words options
     × FollowsOptions remaining options d done × (outcome ≡ Ok done))
-    ⊎ ((fault : OptionsFault) × EndsFor words fault × (outcome ≡ Err fault) × TouchesNothing d)
+    ⊎ ((fault : OptionsFault) × GivesFault words fault × (outcome ≡ Err fault) × TouchesNothing d)
 
 -- the outcome of words that may have been taken from the system: if they were, the outcome of these
 -- words; if not, the fault, with neither stream used

@@ -154,7 +154,7 @@ pub record HasFault (words : List Text) (kind : ErrorKind) : Type 0 where
 
 -- clap, with `names` as the lists of ring sizes, finds no fault in the words, but the values that
 -- it finds give no options
-pub record GivesNothing (words : List Text) : Type 0 where
+pub record GivesNoOptions (words : List Text) : Type 0 where
   pub names : BothNames
   pub rings : AreRings names
   pub faultless : fault_of (program_app names) words ≡ []
@@ -163,8 +163,8 @@ pub record GivesNothing (words : List Text) : Type 0 where
 -- why these words end with this fault. `NoMemory` may come of any words, and `TooManyFiles` of
 -- options with too many files; `Shown` comes of a request for help or the version. `Refused` comes
 -- of any other fault of clap, or of values that give no options
-abbrev pub EndsFor : List Text → OptionsFault → Type 0
-EndsFor words NoMemory = ⊤
-EndsFor words TooManyFiles = (options : Options) × GivesOptions words options × (MOST_VIEWERS < file_count options)
-EndsFor words (Shown error) = (is_request (kind_of error) ≡ true) × HasFault words (kind_of error)
-EndsFor words (Refused error) = (is_request (kind_of error) ≡ false) × (HasFault words (kind_of error) ⊎ GivesNothing words)
+abbrev pub GivesFault : List Text → OptionsFault → Type 0
+GivesFault words NoMemory = ⊤
+GivesFault words TooManyFiles = (options : Options) × GivesOptions words options × (MOST_VIEWERS < file_count options)
+GivesFault words (Shown error) = (is_request (kind_of error) ≡ true) × HasFault words (kind_of error)
+GivesFault words (Refused error) = (is_request (kind_of error) ≡ false) × (HasFault words (kind_of error) ⊎ GivesNoOptions words)

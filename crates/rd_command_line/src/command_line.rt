@@ -10,7 +10,7 @@ ghost use Rattle.clap.specs.Words.{app_of, found_of, kind_of, rows_of, rule_of, 
 ghost use Rattle.clap.specs.declared.builder.command.Command.TheViews.{out-Command};
 ghost use Rattle.clap.specs.declared.error.kind.ErrorKind.TheVariants.{InvalidValue};
 ghost use Rattle.rd_command_line.specs.Options.{IsMistake, AreInRange, flag_text};
-ghost use Rattle.rd_command_line.specs.CommandLine.{AreRings, BothNames, IsRings, GivesSubcommand, GivesWorld, GivesFile, GivesRun, GivesView, GivesLoad, GivesOptions, EndsFor};
+ghost use Rattle.rd_command_line.specs.CommandLine.{AreRings, BothNames, IsRings, GivesSubcommand, GivesWorld, GivesFile, GivesRun, GivesView, GivesLoad, GivesOptions, GivesFault};
 ghost use Rattle.rd_command_line.specs.CommandLine.{file_rule, files_rule, actors_rule, ring_rule, trace_rule, run_app_without_trace, run_app, view_app, load_app, program_app};
 
 use super::requests::{Options, OptionsFault, ring_of};
@@ -38,7 +38,7 @@ static RINGS: [&str; 3] = ["2", "4", "8"];
 /// `NoMemory` if memory was refused.
 pub fn options<'a, S: AsStr>(alloc: Global, words: &'a [S]) -> Result<Options<'a>, OptionsFault>
     ensures ok { IfOk result (GivesOptions (map S.text words.entry.now)) }
-    ensures err { IfErr result (EndsFor (map S.text words.entry.now)) }
+    ensures err { IfErr result (GivesFault (map S.text words.entry.now)) }
     ensures actors { IfOk result AreInRange }
 {
     let mut command = program(alloc)?;
@@ -47,7 +47,7 @@ pub fn options<'a, S: AsStr>(alloc: Global, words: &'a [S]) -> Result<Options<'a
         let error = command.error(ErrorKind::MissingRequiredArgument, "an option is missing")?;
         return Err(OptionsFault::Refused(error));
     };
-    if options.has_many_files() {
+    if options.has_too_many_files() {
         return Err(OptionsFault::TooManyFiles);
     }
     Ok(options)
@@ -58,20 +58,20 @@ pub fn options<'a, S: AsStr>(alloc: Global, words: &'a [S]) -> Result<Options<'a
 /// # Errors
 ///
 /// `NoMemory` if memory was refused; `Refused` if a word is not UTF-8.
-pub fn process_words<R: Env + Alloc<A = Global>>(rt: &R) -> Result<Vec<String>, OptionsFault>
+pub fn command_line_words<R: Env + Alloc<A = Global>>(rt: &R) -> Result<Vec<String>, OptionsFault>
     ensures err { IfErr result (IsMistake InvalidValue) }
 {
     let alloc = rt.alloc();
     match env::args(rt) {
         Ok(words) => words.collect(alloc).map_err(|_| OptionsFault::NoMemory),
         Err(error) if error.kind() == io::ErrorKind::OutOfMemory => Err(OptionsFault::NoMemory),
-        Err(_) => Err(not_text(alloc)),
+        Err(_) => Err(not_utf8_fault(alloc)),
     }
 }
 
 /// Returns the fault for a word that is not UTF-8: `Refused`, or `NoMemory` if memory for the error
 /// is refused.
-pub fn not_text(alloc: Global) -> OptionsFault
+pub fn not_utf8_fault(alloc: Global) -> OptionsFault
     ensures { IsMistake InvalidValue result }
 {
     match mistake_in_text(alloc) {
@@ -191,13 +191,13 @@ fn file_from<'a>(matches: &ArgMatches<'a>) -> Option<(&'a str, bool)>
         → GivesFile (rows_of (found_of matches.now)) file trace → ⊥ }
 {
     let file = matches.get_str("file")?;
-    let trace = choice_of(matches.get_str("trace")?)?;
+    let trace = flag_of(matches.get_str("trace")?)?;
     Some((file, trace))
 }
 
 /// Returns whether a flag is set, by the text that `clap` keeps for it: `true` or `false`. Returns
 /// none for any other text.
-fn choice_of(text: &str) -> Option<bool>
+fn flag_of(text: &str) -> Option<bool>
     ensures some { IfSome result (λ choice. text.now ≡ flag_text choice) }
     ensures none { IsNone result → (choice : Bool) → text.now ≢ flag_text choice }
 {

@@ -11,6 +11,6 @@ mod outcomes;
 mod requests;
 
 pub use answering::{answer, perform};
-pub use command_line::{not_text, options, process_words};
+pub use command_line::{command_line_words, not_utf8_fault, options};
 pub use outcomes::{Outcome, end};
 pub use requests::{Options, OptionsFault};

@@ -37,7 +37,7 @@ pub fn end<O: Sink, E: Sink>(
 {
     match outcome {
         Ok(done) => rd_program::end(done, errors),
-        Err(fault) => end_unasked(alloc, fault, output, errors),
+        Err(fault) => show_options_fault(alloc, fault, output, errors),
     }
 }
 
@@ -45,7 +45,7 @@ pub fn end<O: Sink, E: Sink>(
 /// which the program ends. Standard error must not have failed before, nor must standard output if
 /// the fault is `Shown`. If memory for a text of `clap` is refused, the program ends as after
 /// `NoMemory`.
-fn end_unasked<O: Sink, E: Sink>(
+fn show_options_fault<O: Sink, E: Sink>(
     alloc: Global,
     fault: &OptionsFault,
     output: &mut O,

@@ -58,7 +58,7 @@ pub enum Options<'a> {
 
 impl<'a> Options<'a> {
     /// Whether `view` names more files than there may be viewers.
-    pub(crate) fn has_many_files(&self) -> bool
+    pub(crate) fn has_too_many_files(&self) -> bool
         ensures many { result ≡ true → MOST_VIEWERS < file_count self.now }
         ensures few { result ≡ false → file_count self.now ≤ MOST_VIEWERS }
     {

@@ -1,13 +1,13 @@
 -- The causal closure is the least set that has its step and, with each member, what depends on it;
 -- and lone undos that remove the step remove all of the closure.
-use Rattle.rd_depend.proofs.Prelude.{◌≡◌, ◌≢◌, ℕ, zero, suc, ◌+◌, ◌-◌, ◌<◌, ◌≤◌, ◌==◌, ◌||◌, inl, inr, Bool, true, false, nat_lt, if◌then◌else◌, refl, sym, ◌∙◌, ap, subst, arith, List, [], ◌∷◌, ◌++◌, length, take, drop, slice_get, Option, Some, None, option_and_then, eq-eqb, ne_eqb, cases_Bool, cond-false, cond-true, le-ltb, lt-ltb, ltb-false, ltb-true, AreLoneUndos, IsInClosure, closure_from, number_after, closure, position_from, cases_eq, common_steps, depends, depends_on_one, false≢true, first_dependant, numbered, or_cases, or_left, or_right, Entry}
+use Rattle.rd_depend.proofs.Prelude.{◌≡◌, ◌≢◌, ℕ, zero, suc, ◌+◌, ◌-◌, ◌<◌, ◌≤◌, ◌==◌, ◌||◌, inl, inr, Bool, true, false, nat_lt, if◌then◌else◌, refl, sym, ◌∙◌, ap, subst, arith, List, [], ◌∷◌, ◌++◌, length, take, drop, slice_get, Option, Some, None, option_and_then, eq-eqb, ne_eqb, cases_Bool, cond-false, cond-true, le-ltb, lt-ltb, ltb-false, ltb-true, AreLoneUndos, IsInClosure, closure_from, number_after, closure, position_from, cases_eq, common_steps, depends, depends_on_any, false≢true, first_dependant, numbered, or_cases, or_left, or_right, Entry}
 use Rattle.rd_step.specs.Dependence.IsInClosure.{itself, dependant}
 
 -- The marks are closed
 
 -- each entry that depends on x also depends on one of xs
 abbrev Covers : Entry → List Entry → Type 0
-Covers x xs = (z : Entry) → depends x z ≡ true → depends_on_one xs z ≡ true
+Covers x xs = (z : Entry) → depends x z ≡ true → depends_on_any xs z ≡ true
 
 or_last : (a b c d : Bool) → d ≡ (b || c) → (a || d) ≡ ((a || b) || c)
 or_last a b c d h = grind arith
@@ -15,15 +15,15 @@ or_last a b c d h = grind arith
 or_none : (a : Bool) → (a || false) ≡ a
 or_none a = grind arith
 
-on_one-last : (xs : List Entry) (y z : Entry) → depends_on_one (xs ++ y ∷ []) z ≡ (depends_on_one xs z || depends y z)
+on_one-last : (xs : List Entry) (y z : Entry) → depends_on_any (xs ++ y ∷ []) z ≡ (depends_on_any xs z || depends y z)
 on_one-last [] y z = or_none (depends y z)
-on_one-last (x ∷ xs) y z = or_last (depends x z) (depends_on_one xs z) (depends y z) (depends_on_one (xs ++ y ∷ []) z) (on_one-last xs y z)
+on_one-last (x ∷ xs) y z = or_last (depends x z) (depends_on_any xs z) (depends y z) (depends_on_any (xs ++ y ∷ []) z) (on_one-last xs y z)
 
 last_covers : (xs : List Entry) (x : Entry) → Covers x (xs ++ x ∷ [])
-last_covers xs x z h = on_one-last xs x z ∙ or_right (depends_on_one xs z) (depends x z) h
+last_covers xs x z h = on_one-last xs x z ∙ or_right (depends_on_any xs z) (depends x z) h
 
 still_covers : (d : Bool) (xs : List Entry) (x y : Entry) → Covers x xs → Covers x (if d then xs ++ y ∷ [] else xs)
-still_covers true xs x y c z h = on_one-last xs y z ∙ or_left (depends_on_one xs z) (depends y z) (c z h)
+still_covers true xs x y c z h = on_one-last xs y z ∙ or_left (depends_on_any xs z) (depends y z) (c z h)
 still_covers false xs x y c z h = c z h
 
 some_same : {X : Type 0} (x y : X) → Some x ≡ Some y → x ≡ y
@@ -34,7 +34,7 @@ covered_is_marked : (xs ys : List Entry) (j : ℕ) (x y : Entry) → Covers x xs
     → slice_get (closure_from xs ys) j ≡ Some true
 covered_is_marked xs [] j x y c at h = cc
 covered_is_marked xs (z ∷ ys) zero x y c at h = grind (arith, some_same)
-covered_is_marked xs (z ∷ ys) (suc j) x y c at h = grind (arith, still_covers, covered_is_marked (if depends_on_one xs z then xs ++ z ∷ [] else xs) ys j x y (still_covers (depends_on_one xs z) xs x z c) at h)
+covered_is_marked xs (z ∷ ys) (suc j) x y c at h = grind (arith, still_covers, covered_is_marked (if depends_on_any xs z then xs ++ z ∷ [] else xs) ys j x y (still_covers (depends_on_any xs z) xs x z c) at h)
 
 -- an entry that depends on an earlier marked one is marked
 dependant_is_marked : (xs ys : List Entry) (i j : ℕ) (x y : Entry) → i < j → slice_get (closure_from xs ys) i ≡ Some true → slice_get ys i ≡ Some x
@@ -42,7 +42,7 @@ dependant_is_marked : (xs ys : List Entry) (i j : ℕ) (x y : Entry) → i < j �
 dependant_is_marked xs [] i j x y low m at_i at_j h = cc
 dependant_is_marked xs (z ∷ ys) i zero x y low m at_i at_j h = absurd (omega arith)
 dependant_is_marked xs (z ∷ ys) zero (suc j) x y low m at_i at_j h = grind (arith, some_same, slice_get, covered_is_marked, last_covers)
-dependant_is_marked xs (z ∷ ys) (suc i) (suc j) x y low m at_i at_j h = grind (arith, dependant_is_marked (if depends_on_one xs z then xs ++ z ∷ [] else xs) ys i j x y (omega arith) m at_i at_j h)
+dependant_is_marked xs (z ∷ ys) (suc i) (suc j) x y low m at_i at_j h = grind (arith, dependant_is_marked (if depends_on_any xs z then xs ++ z ∷ [] else xs) ys i j x y (omega arith) m at_i at_j h)
 
 marks_are_closed : (es : List Entry) (k i j : ℕ) (x y : Entry) → i < j → slice_get (closure es k) i ≡ Some true → slice_get es i ≡ Some x
     → slice_get es j ≡ Some y → depends x y ≡ true → slice_get (closure es k) j ≡ Some true
@@ -72,7 +72,7 @@ members_are_marked es k j some within (dependant i _ x y h low at_i at_j d) = gr
 
 -- each entry after the p-th that depends on one of xs is in the closure of the k-th
 abbrev AreMembers : List Entry → ℕ → ℕ → List Entry → Type 0
-AreMembers es k p xs = (q : ℕ) (y : Entry) → p < q → numbered es q ≡ Some y → depends_on_one xs y ≡ true → IsInClosure es k q
+AreMembers es k p xs = (q : ℕ) (y : Entry) → p < q → numbered es q ≡ Some y → depends_on_any xs y ≡ true → IsInClosure es k q
 
 -- ys are the entries of es after the p-th
 abbrev StandFrom : List Entry → ℕ → List Entry → Type 0
@@ -89,11 +89,11 @@ stand_here es p y ys h =
     subst (λ (n : ℕ). numbered es n ≡ Some y) same (h 0 y refl)
 
 -- the same holds one entry later, with that entry in the block if it depends on one of the block
-one_more : (es : List Entry) (k p : ℕ) (xs : List Entry) (y : Entry) (d : Bool) → depends_on_one xs y ≡ d → AreMembers es k p xs → numbered es (suc p) ≡ Some y
+one_more : (es : List Entry) (k p : ℕ) (xs : List Entry) (y : Entry) (d : Bool) → depends_on_any xs y ≡ d → AreMembers es k p xs → numbered es (suc p) ≡ Some y
     → AreMembers es k (suc p) (if d then xs ++ y ∷ [] else xs)
 one_more es k p xs y false e ms at q z low at_q h = ms q z (omega arith) at_q h
 one_more es k p xs y true e ms at q z low at_q h =
-    elim (or_cases (depends_on_one xs z) (depends y z) (sym (on_one-last xs y z) ∙ h)) [
+    elim (or_cases (depends_on_any xs z) (depends y z) (sym (on_one-last xs y z) ∙ h)) [
       | inl a ↦ ms q z (omega arith) at_q a
       | inr b ↦ dependant (suc p) q y z (ms (suc p) y (omega arith) at e) low at at_q b
     ]
@@ -103,12 +103,12 @@ marked_is_member : (es : List Entry) (k p : ℕ) (xs ys : List Entry) (j : ℕ) 
 marked_is_member es k p xs [] j ms at h = cc
 marked_is_member es k p xs (y ∷ ys) zero ms at h =
     let same : suc p ≡ suc (p + 0) = omega arith in
-    subst (λ (n : ℕ). IsInClosure es k n) same (ms (suc p) y (omega arith) (stand_here es p y ys at) (some_same (depends_on_one xs y) true h))
+    subst (λ (n : ℕ). IsInClosure es k n) same (ms (suc p) y (omega arith) (stand_here es p y ys at) (some_same (depends_on_any xs y) true h))
 marked_is_member es k p xs (y ∷ ys) (suc j) ms at h =
     let same : suc (suc p + j) ≡ suc (p + suc j) = omega arith in
     subst (λ (n : ℕ). IsInClosure es k n) same
-    (marked_is_member es k (suc p) (if depends_on_one xs y then xs ++ y ∷ [] else xs) ys j
-    (one_more es k p xs y (depends_on_one xs y) refl ms (stand_here es p y ys at)) (stand_on es p y ys at) h)
+    (marked_is_member es k (suc p) (if depends_on_any xs y then xs ++ y ∷ [] else xs) ys j
+    (one_more es k p xs y (depends_on_any xs y) refl ms (stand_here es p y ys at)) (stand_on es p y ys at) h)
 
 -- with one more entry in front of the list, a member of a closure has a number one greater and is a
 -- member still

@@ -1,6 +1,6 @@
 -- The first dependant of a step, from the first later positions in the lists of its actor, its
 -- place and its segment.
-use Rattle.rd_depend.proofs.Prelude.{◌≡◌, ℕ, zero, suc, ◌+◌, ◌<◌, ◌≤◌, Bool, true, false, not, ◌||◌, ◌==◌, if◌then◌else◌, nat_lt, List, [], ◌∷◌, length, drop, Option, Some, None, refl, sym, ap, subst, ◌∙◌, arith, nat_tests, is_some, SegName, Place, some_overlap, is_nothing, written, interfere, Entry, Wrote, position_from, depends, depends_on_one, symmetric, DependIndex, At, In, is_under, is_under_some, own_key, value_of_place, whole_key, AscendsFrom, IsAscending, find, earlier, Touch, By, touched_or_written, is_value_written, touches, positions_from, positions, kept, IsIndexOf}
+use Rattle.rd_depend.proofs.Prelude.{◌≡◌, ℕ, zero, suc, ◌+◌, ◌<◌, ◌≤◌, Bool, true, false, not, ◌||◌, ◌==◌, if◌then◌else◌, nat_lt, List, [], ◌∷◌, length, drop, Option, Some, None, refl, sym, ap, subst, ◌∙◌, arith, nat_tests, is_some, SegName, Place, some_overlap, is_nothing, written, interfere, Entry, Wrote, position_from, depends, depends_on_any, symmetric, DependIndex, At, In, is_under, is_under_some, own_key, value_key_of_place, whole_key, AscendsFrom, IsAscending, find, earlier, Touch, By, touched_or_written, is_value_written, touches, positions_from, positions, kept, IsIndexOf}
 use Rattle.rd_depend.proofs.IndexPositions.{positions-ascend, positions-number, number-within, ascending}
 use Rattle.rd_cell.specs.declared.places.Place.TheVariants as place
 
@@ -59,16 +59,16 @@ first-after x k es =
     ∙ scanned x k (k + 1) (drop k es) (omega arith)
 
 -- a scan finds an entry that depends on x exactly if x depends on one of the entries
-pub found-on : (x : Entry) (n : ℕ) (ys : List Entry) → is_some (position_from (depends x) n ys) ≡ depends_on_one ys x
+pub found-on : (x : Entry) (n : ℕ) (ys : List Entry) → is_some (position_from (depends x) n ys) ≡ depends_on_any ys x
 found-on x n [] = refl
-found-on x n (y ∷ ys) = by (depends x y) (found-on x (n + 1) ys) ∙ ap (λ (b : Bool). b || depends_on_one ys x) (symmetric x y)
+found-on x n (y ∷ ys) = by (depends x y) (found-on x (n + 1) ys) ∙ ap (λ (b : Bool). b || depends_on_any ys x) (symmetric x y)
   where
-    by : (b : Bool) → is_some (position_from (depends x) (n + 1) ys) ≡ depends_on_one ys x
-        → is_some (if b then Some n else position_from (depends x) (n + 1) ys) ≡ (b || depends_on_one ys x)
+    by : (b : Bool) → is_some (position_from (depends x) (n + 1) ys) ≡ depends_on_any ys x
+        → is_some (if b then Some n else position_from (depends x) (n + 1) ys) ≡ (b || depends_on_any ys x)
     by b h = grind arith
 
 -- a position above k is found exactly if the step depends on one of the entries after the first k
-pub found-after : (x : Entry) (k : ℕ) (es : List Entry) → is_some (find (nat_lt k) (positions (depends x) es)) ≡ depends_on_one (drop k es) x
+pub found-after : (x : Entry) (k : ℕ) (es : List Entry) → is_some (find (nat_lt k) (positions (depends x) es)) ≡ depends_on_any (drop k es) x
 found-after x k es = ap is_some (first-after x k es) ∙ found-on x (k + 1) (drop k es)
 
 -- which places overlap
@@ -85,7 +85,7 @@ overlaps-cell s i o = grind arith
 -- whether a step at a place is kept under one of the three keys at which a search for place p
 -- looks: of a cell's value half, of what else p names, and of the whole of its segment
 abbrev pub overlaps_under : Place → Option Place → Bool
-overlaps_under p o = is_under_some (value_of_place p) o || (is_under (own_key p) o || is_under_some (whole_key p) o)
+overlaps_under p o = is_under_some (value_key_of_place p) o || (is_under (own_key p) o || is_under_some (whole_key p) o)
 
 pub overlaps-keys : (p : Place) (o : Option Place) → some_overlap (Some p) o ≡ overlaps_under p o
 overlaps-keys p o = grind (arith, overlaps-whole, overlaps-cell)
@@ -126,7 +126,7 @@ meets p v y = interfere (Some p) v y.place y.wrote
 -- two other keys for touches if the access wrote anything, else for writes
 abbrev pub looks : Place → Wrote → Entry → Bool
 looks p v y =
-    is_under_some (value_of_place p) (touched_or_written (not (is_value_written v)) y)
+    is_under_some (value_key_of_place p) (touched_or_written (not (is_value_written v)) y)
     || (is_under (own_key p) (touched_or_written (is_nothing v) y) || is_under_some (whole_key p) (touched_or_written (is_nothing v) y))
 
 looked : (p : Place) (v : Wrote) (y : Entry) → looks p v y ≡ meets p v y
@@ -139,7 +139,7 @@ none_found k n (x ∷ xs) = none_found k (n + 1) xs
 
 -- the first of what is found under the three keys is the first step that interferes with the access
 pub found_at : (p : Place) (v : Wrote) (k : ℕ) (es : List Entry) (value own whole both all : Option ℕ)
-    → value ≡ find (nat_lt k) (positions (λ y. is_under_some (value_of_place p) (touched_or_written (not (is_value_written v)) y)) es)
+    → value ≡ find (nat_lt k) (positions (λ y. is_under_some (value_key_of_place p) (touched_or_written (not (is_value_written v)) y)) es)
     → own ≡ find (nat_lt k) (positions (λ y. is_under (own_key p) (touched_or_written (is_nothing v) y)) es)
     → whole ≡ find (nat_lt k) (positions (λ y. is_under_some (whole_key p) (touched_or_written (is_nothing v) y)) es)
     → both ≡ earlier own whole → all ≡ earlier value both → all ≡ find (nat_lt k) (positions (meets p v) es)

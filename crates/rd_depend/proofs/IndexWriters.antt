@@ -1,6 +1,6 @@
 -- The last writer of a place, from the last positions up to a number in the lists of the place and
 -- its segment.
-use Rattle.rd_depend.proofs.Prelude.{nat_lt, common_steps, Place, some_overlap, Entry, DependIndex, is_under, is_under_some, own_key, value_of_place, whole_key, IsAscending, before_first, last_or, later, Touch, touched_or_written, touches, positions_from, positions, kept, IsIndexOf, one_further, last_position, writes_to, ◌≡◌, ℕ, zero, suc, ◌+◌, ◌-◌, ◌<◌, ◌≤◌, Bool, true, false, ◌||◌, List, [], ◌∷◌, length, get_or, take, Option, Some, None, refl, ap, ◌∙◌, arith}
+use Rattle.rd_depend.proofs.Prelude.{nat_lt, common_steps, Place, some_overlap, Entry, DependIndex, is_under, is_under_some, own_key, value_key_of_place, whole_key, IsAscending, before_first, last_or, later, Touch, touched_or_written, touches, positions_from, positions, kept, IsIndexOf, one_further, last_position, writes_to, ◌≡◌, ℕ, zero, suc, ◌+◌, ◌-◌, ◌<◌, ◌≤◌, Bool, true, false, ◌||◌, List, [], ◌∷◌, length, get_or, take, Option, Some, None, refl, ap, ◌∙◌, arith}
 use Rattle.rd_depend.proofs.IndexCuts.{positions-up_to}
 use Rattle.rd_depend.proofs.IndexFirst.{kept-ascends, kept-short, overlaps-keys}
 
@@ -52,7 +52,7 @@ none_last (x ∷ xs) = ap (one_further false) (none_last xs)
 -- the last of what is found under the three keys is the last step that wrote the place, or one of
 -- the places that it names
 pub last_at : (p : Place) (es : List Entry) (value own whole both all : Option ℕ)
-    → value ≡ last_position (λ y. is_under_some (value_of_place p) (touched_or_written true y)) es → own ≡ last_position (λ y. is_under (own_key p) (touched_or_written true y)) es
+    → value ≡ last_position (λ y. is_under_some (value_key_of_place p) (touched_or_written true y)) es → own ≡ last_position (λ y. is_under (own_key p) (touched_or_written true y)) es
     → whole ≡ last_position (λ y. is_under_some (whole_key p) (touched_or_written true y)) es → both ≡ later own whole → all ≡ later value both
     → all ≡ last_position (writes_to p) es
 last_at p es value own whole both all a b c two three =

@@ -1,6 +1,6 @@
 -- Two steps of a run depend on each other exactly if they have one actor, or one of them wrote
 -- under a key where the other touched.
-use Rattle.rd_depend.proofs.Prelude.{common_steps, false≢true, or_cases, or_parts, SegName, Place, segment_of, some_overlap, is_nothing, written, name_eq-refl, some_overlap-sym, Entry, depends, Key, At, In, is_under, is_under_some, own_key, value_of_place, whole_key, ◌≡◌, Bool, true, false, ◌||◌, inl, inr, Option, Some, None, refl, sym, ◌∙◌, arith, ne_eqb, option_map}
+use Rattle.rd_depend.proofs.Prelude.{common_steps, false≢true, or_cases, or_parts, SegName, Place, segment_of, some_overlap, is_nothing, written, name_eq-refl, some_overlap-sym, Entry, depends, Key, At, In, is_under, is_under_some, own_key, value_key_of_place, whole_key, ◌≡◌, Bool, true, false, ◌||◌, inl, inr, Option, Some, None, refl, sym, ◌∙◌, arith, ne_eqb, option_map}
 use Rattle.rd_depend.proofs.IndexFirst.{overlaps_under, overlaps-keys}
 use Rattle.rd_depend.proofs.TakingOut.{AreApart}
 use Rattle.rd_depend.proofs.TouchedKeys.{wrote_under, is_whole_of}
@@ -23,7 +23,7 @@ apart_of_free x y made_x made_y h = grind (arith, or_parts, meet, some_overlap-s
 -- Where they depend on each other they meet under a key
 
 -- a step that wrote a cell wrote under the key of its value half
-wrote_value : (x : Entry) (p : Place) (k : Key) → written x.place x.wrote ≡ Some p → value_of_place p ≡ Some k → wrote_under k x.place x.wrote ≡ true
+wrote_value : (x : Entry) (p : Place) (k : Key) → written x.place x.wrote ≡ Some p → value_key_of_place p ≡ Some k → wrote_under k x.place x.wrote ≡ true
 wrote_value x p k w e = grind arith
 
 wrote_own : (x : Entry) (p : Place) → written x.place x.wrote ≡ Some p → wrote_under (own_key p) x.place x.wrote ≡ true
@@ -39,8 +39,8 @@ made_it t o h = grind arith
 -- of two steps that are apart, neither wrote a place that overlaps the other's
 never_meet : (x y : Entry) (p : Place) → AreApart x y → written x.place x.wrote ≡ Some p → overlaps_under p y.place ≡ true → ⊥
 never_meet x y p apart w h =
-    elim (or_cases (is_under_some (value_of_place p) y.place) (is_under (own_key p) y.place || is_under_some (whole_key p) y.place) h) [
-      | inl a ↦ by_value (value_of_place p) refl a
+    elim (or_cases (is_under_some (value_key_of_place p) y.place) (is_under (own_key p) y.place || is_under_some (whole_key p) y.place) h) [
+      | inl a ↦ by_value (value_key_of_place p) refl a
       | inr b ↦
           elim (or_cases (is_under (own_key p) y.place) (is_under_some (whole_key p) y.place) b) [
             | inl c ↦ apart.first (own_key p) (wrote_own x p w) c
@@ -48,7 +48,7 @@ never_meet x y p apart w h =
           ]
     ]
   where
-    by_value : (o : Option Key) → value_of_place p ≡ o → is_under_some o y.place ≡ true → ⊥
+    by_value : (o : Option Key) → value_key_of_place p ≡ o → is_under_some o y.place ≡ true → ⊥
     by_value None e a = cc
     by_value (Some k) e a = apart.first k (wrote_value x p k w e) a
 

@@ -41,13 +41,13 @@ abbrev pub place_key : Option Place → Option Key
 place_key o = option_map (λ p. At (index_half p)) o
 
 -- the key of the value half, if this place is a cell
-abbrev pub value_of_place : Place → Option Key
-value_of_place (place.Cell s i) = Some (At (place.Val s i))
-value_of_place _ = None
+abbrev pub value_key_of_place : Place → Option Key
+value_key_of_place (place.Cell s i) = Some (At (place.Val s i))
+value_key_of_place _ = None
 
 -- the key of the value half of this place, if there is a place and it is a cell
 abbrev pub value_key : Option Place → Option Key
-value_key o = option_and_then value_of_place o
+value_key o = option_and_then value_key_of_place o
 
 -- the key of the place's segment, also for the whole of a segment; none for the queue's ends and
 -- the array

@@ -10,8 +10,8 @@ ghost use Rattle.rd_depend.specs.Beginnings.{NeitherBegins};
 ghost use Rattle.rd_depend.specs.Equivalence.{DecidesEquivalence};
 ghost use Rattle.rd_depend.specs.ComparedSteps.{GoesOn, IsOutOfOrder, left_of, reached_of};
 
-use super::keeping_order::{ReachedByKey, StepsByActor, is_alike};
-use rd_step::{Entry, common_beginning};
+use super::keeping_order::{ReachedByKey, StepsByActor, are_alike};
+use rd_step::{Entry, common_beginning_len};
 use std::alloc::{AllocError, Global};
 
 /// Whether the events of two runs from one start are causally equivalent: one list is the other, up
@@ -26,7 +26,7 @@ pub fn are_equivalent(alloc: Global, a: &[Entry], b: &[Entry]) -> Result<bool, A
     ensures answer { IfOk result (DecidesEquivalence a.now b.now) }
     ensures memory { OnErr result (NeitherBegins (events a.now) (events b.now)) }
 {
-    let common = common_beginning(&a, &b);
+    let common = common_beginning_len(&a, &b);
     compare(alloc, &a[common..], &b[common..])
 }
 
@@ -69,7 +69,7 @@ fn goes_on(
     let Some(other) = left.pop(entry.event.actor) else {
         return Ok(false);
     };
-    if !is_alike(entry, other.entry) {
+    if !are_alike(entry, other.entry) {
         return Ok(false);
     }
     reached.take_in(entry, other.at)

@@ -22,7 +22,7 @@ use rd_step::Entry;
 use std::alloc::{AllocError, Global};
 
 /// The number of values that an actor's number, a `u8`, can have.
-const ACTORS: usize = 256;
+const ACTOR_NUMBERS: usize = 256;
 
 /// How far the steps under one key reached in the second run. Each field is the greatest number of
 /// such a step there, from 1, or 0 if there is none.
@@ -165,8 +165,8 @@ impl<'a> StepsByActor<'a> {
     /// Adds a step, with its number in the run, in front of those of its actor. There must be a
     /// list for each number that an actor may have. Fails only if memory is refused.
     fn push(&mut self, at: usize, entry: &'a Entry) -> Result<(), AllocError>
-        requires { length self.old.steps.items ≡ ACTORS }
-        ensures number { length self.new.steps.items ≡ ACTORS }
+        requires { length self.old.steps.items ≡ ACTOR_NUMBERS }
+        ensures number { length self.new.steps.items ≡ ACTOR_NUMBERS }
         ensures ok { OnOk result ((n : ℕ) → left_of self.new n
             ≡ with_first (left_of self.old) entry.entry.now.event.actor (at, entry.entry.now) n) }
     {
@@ -200,7 +200,7 @@ impl<'a> StepsByActor<'a> {
 }
 
 /// Whether the two steps have the same event and the same place, and wrote the same part of it.
-pub(crate) fn is_alike(a: &Entry, b: &Entry) -> bool
+pub(crate) fn are_alike(a: &Entry, b: &Entry) -> bool
     ensures { IsTrue result ↔ AreAlike a.now b.now }
 {
     a.event == b.event && a.place == b.place && a.wrote == b.wrote
@@ -208,11 +208,11 @@ pub(crate) fn is_alike(a: &Entry, b: &Entry) -> bool
 
 /// Returns an empty list for each number that an actor may have. Fails only if memory is refused.
 fn empty_lists<'a>(alloc: Global) -> Result<Vec<Vec<NumberedStep<'a>>>, AllocError>
-    ensures { IfOk result (λ lists. (length lists.items ≡ ACTORS)
+    ensures { IfOk result (λ lists. (length lists.items ≡ ACTOR_NUMBERS)
         × ((n : ℕ) → list_at lists.items n ≡ [])) }
 {
     let mut lists = Vec::new(alloc);
-    for _actor in 0..ACTORS {
+    for _actor in 0..ACTOR_NUMBERS {
         lists.push(Vec::new(alloc))?;
     }
     Ok(lists)

@@ -49,7 +49,7 @@ module _ {T O : Type 0} {K : Ghosts T Call O} where
 
     -- what a viewer knows after a call that may wait. The answer is never `Busy` (`waits`). A
     -- viewer that had seen all tickets drawn gets `TicketsEnded` (`ended`)
-    pub record KnowsAfterCall : Type 0 where
+    pub record KnowsAfterAsk : Type 0 where
       pub outcome : KnowsOutcome
       pub waits : IfErr answer IsNotBusy
       pub ended : next_seen old ≡ 2 ^ 63 → answer ≡ Err TicketsEnded

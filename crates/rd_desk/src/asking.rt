@@ -7,7 +7,7 @@
 ghost use Rattle.std.specs.Prelude.{◌≡◌, ◌^◌, Err, IfErr};
 ghost use Rattle.rd_lock.specs.Locks.{next_seen, IsPassOf, IsTaken};
 ghost use Rattle.rd_desk.specs.Desks.{opened_state, viewers, IsViewerOf};
-ghost use Rattle.rd_desk.specs.Asking.{KnowsAfterCall, KnowsOutcome, IsNotBusy};
+ghost use Rattle.rd_desk.specs.Asking.{KnowsAfterAsk, KnowsOutcome, IsNotBusy};
 
 use super::desks::{Desk, DeskPass};
 use super::gates::{Answer, DeskRefusal};
@@ -30,7 +30,7 @@ impl<const R: usize> Desk<R> {
     pub fn ask<W: Wait>(&self, rt: &W, pass: &mut DeskPass<R>, command: Command) -> Answer
         requires own { IsViewerOf self.now pass.old }
         ensures own { IsViewerOf self.now pass.new }
-        ensures outcome { KnowsAfterCall (opened_state self.now) pass.old pass.new command result }
+        ensures outcome { KnowsAfterAsk (opened_state self.now) pass.old pass.new command result }
     {
         match self.lock.take(rt, pass) {
             Ok(kept) => self.obey_and_put_back(pass, kept, command),

@@ -47,13 +47,13 @@ pub trait Gate {
 
 impl<const N: usize> Gate for Desk<N> {
     ghost use Rattle.rd_desk.specs.Desks.{opened_state, IsViewerOf};
-    ghost use Rattle.rd_desk.specs.Asking.{KnowsAfterCall};
+    ghost use Rattle.rd_desk.specs.Asking.{KnowsAfterAsk};
 
     type Pass = DeskPass<N>;
 
     ghost takes = { λ desk pass. IsViewerOf desk pass };
 
-    ghost told = { λ desk pass command answer after. KnowsAfterCall (opened_state desk) pass after command answer };
+    ghost told = { λ desk pass command answer after. KnowsAfterAsk (opened_state desk) pass after command answer };
 
     /// Asks one command as `Desk::ask` does, with the same refusals.
     fn ask<R: Wait>(&self, rt: &R, pass: &mut DeskPass<N>, command: Command) -> Answer {

@@ -1,6 +1,6 @@
 -- The causal closure of a step gathered behind the other entries: the parts of the list meanwhile,
 -- and the run that it still is.
-use Rattle.rd_journal.proofs.Prelude.{◌≡◌, ℕ, zero, suc, ◌-◌, ◌<◌, ◌≤◌, Bool, true, false, if◌then◌else◌, sym, ◌∙◌, ap, subst, arith, inl, inr, List, [], ◌∷◌, ◌++◌, length, take, drop, get_or, Ok, cases_Bool, or_parts, append-nil, append_assoc, World, run, depends, depends_on_one, items_where_true, items_where_false, closure_of, without_closure, closure_from, Entry, run-cons, events, beginning, commutes}
+use Rattle.rd_journal.proofs.Prelude.{◌≡◌, ℕ, zero, suc, ◌-◌, ◌<◌, ◌≤◌, Bool, true, false, if◌then◌else◌, sym, ◌∙◌, ap, subst, arith, inl, inr, List, [], ◌∷◌, ◌++◌, length, take, drop, get_or, Ok, cases_Bool, or_parts, append-nil, append_assoc, World, run, depends, depends_on_any, items_where_true, items_where_false, closure_of, without_closure, closure_from, Entry, run-cons, events, beginning, commutes}
 
 -- The closure, cut at its first entry
 
@@ -30,7 +30,7 @@ gathering_first l (suc i) x some below here =
     record { outside = c.outside ∙ ap (λ (n : ℕ). take n l ++ items_where_false (closure_from (x ∷ []) (drop (suc i) l)) (drop (suc i) l)) (sym same); inside = c.inside }
 
 -- if the next entry depends on one that goes, it goes too
-pub joins : (l before block later : List Entry) (k : ℕ) (x : Entry) → Gathering l k before block (x ∷ later) → depends_on_one block x ≡ true
+pub joins : (l before block later : List Entry) (k : ℕ) (x : Entry) → Gathering l k before block (x ∷ later) → depends_on_any block x ≡ true
     → Gathering l k before (block ++ x ∷ []) later
 joins l before block later k x g h = grind (arith, append_assoc)
 
@@ -45,10 +45,10 @@ gathered_inside l before block k g = g.inside ∙ append-nil block
 
 -- a step that depends on none of the steps right before it may go before them
 pub moved_before : (u w : World) (b : List Entry) (y : Entry) (zs : List Entry) → run u (events (b ++ (y ∷ zs))) ≡ Ok (record { world = w; entries = b ++ (y ∷ zs) })
-    → depends_on_one b y ≡ false → run u (events (y ∷ (b ++ zs))) ≡ Ok (record { world = w; entries = y ∷ (b ++ zs) })
+    → depends_on_any b y ≡ false → run u (events (y ∷ (b ++ zs))) ≡ Ok (record { world = w; entries = y ∷ (b ++ zs) })
 moved_before u w [] y zs h free = h
 moved_before u w (x ∷ b) y zs h free =
-    let both = or_parts (depends x y) (depends_on_one b y) free in
+    let both = or_parts (depends x y) (depends_on_any b y) free in
     let first = beginning u x (b ++ (y ∷ zs)) w h in
     let then_y = beginning first.after y (b ++ zs) w (moved_before first.after w b y zs first.rest both.1) in
     let sw = commutes u x.event y.event (record { world = first.after; entry = x }) (record { world = then_y.after; entry = y }) first.goes then_y.goes both.0 in
@@ -64,7 +64,7 @@ pub gathered_run : (u w : World) (b ys : List Entry) → run u (events (b ++ ys)
     → let zs = items_where_false (closure_from b ys) ys ++ (b ++ items_where_true (closure_from b ys) ys) in run u (events zs) ≡ Ok (record { world = w; entries = zs })
 gathered_run u w b [] h = h
 gathered_run u w b (y ∷ ys) h =
-    elim (cases_Bool (depends_on_one b y)) [
+    elim (cases_Bool (depends_on_any b y)) [
       | inl e ↦
           let more : run u (events ((b ++ y ∷ []) ++ ys)) ≡ Ok (record { world = w; entries = (b ++ y ∷ []) ++ ys }) =
           subst (λ (zs : List Entry). run u (events zs) ≡ Ok (record { world = w; entries = zs })) (sym (append_assoc b (y ∷ []) ys)) h in

@@ -1,6 +1,6 @@
 -- The loop that gathers the closure of a step: what it has done so far, and what it has done at the
 -- end.
-use Rattle.rd_journal.proofs.Prelude.{common_steps, count_by, append_assoc, take-append-drop, take-take, length-take-le, length-set, get_or-take, drop_at, drop-append-le, drop-set-lt, drop_all, take_at, take_more_set, sum_by-append, sum_by-cons, sum_by_push, depends_on_one, closure_of, without_closure, Entry, DependIndex, IsIndexOf, HasRoomFor, at_numbers, IsOrder, ◌≡◌, ℕ, ◌+◌, ◌-◌, ◌<◌, ◌≤◌, Bool, true, false, cond, refl, sym, ◌∙◌, ap, subst, arith, List, [], ◌∷◌, ◌++◌, length, take, drop, set, get_or, length-append, length-drop}
+use Rattle.rd_journal.proofs.Prelude.{common_steps, count_by, append_assoc, take-append-drop, take-take, length-take-le, length-set, get_or-take, drop_at, drop-append-le, drop-set-lt, drop_all, take_at, take_more_set, sum_by-append, sum_by-cons, sum_by_push, depends_on_any, closure_of, without_closure, Entry, DependIndex, IsIndexOf, HasRoomFor, at_numbers, IsOrder, ◌≡◌, ℕ, ◌+◌, ◌-◌, ◌<◌, ◌≤◌, Bool, true, false, cond, refl, sym, ◌∙◌, ap, subst, arith, List, [], ◌∷◌, ◌++◌, length, take, drop, set, get_or, length-append, length-drop}
 use Rattle.rd_journal.proofs.Gathering.{Gathering, gathering_first, joins, gathered_outside, gathered_inside}
 use Rattle.rd_journal.proofs.RoomLemmas.{fits_between}
 use Rattle.rd_journal.proofs.ListLemmas.{drop_one_less}
@@ -129,7 +129,7 @@ before_next es ns now gathered old index k live front next v x u n e rest has = 
 -- if the next entry goes, its number is gathered
 pub joined : (es : List Entry) (ns now gathered : List ℕ) (old index new : DependIndex) (k live front next v : ℕ) (x : Entry)
     → UnderWay es ns now gathered old index k live front next → next < live → Next es ns live next v → x ≡ get_or es v x
-    → depends_on_one (at_numbers es gathered) x ≡ true → ((zs : List Entry) → IsIndexOf index zs → IsIndexOf new (zs ++ x ∷ []))
+    → depends_on_any (at_numbers es gathered) x ≡ true → ((zs : List Entry) → IsIndexOf index zs → IsIndexOf new (zs ++ x ∷ []))
     → ((rest : List Entry) → HasRoomFor index (x ∷ rest) → HasRoomFor new rest) → drop (next + 1) now ≡ drop (next + 1) ns
     → UnderWay es ns now (gathered ++ v ∷ []) old new k live front (next + 1)
 joined es ns now gathered old index new k live front next v x u low n e depends put room later =
@@ -155,7 +155,7 @@ joined es ns now gathered old index new k live front next v x u low n e depends 
 -- if the next entry stays, its number is put after those that stay
 pub stayed : (es : List Entry) (ns now gathered : List ℕ) (old index : DependIndex) (k live front next v : ℕ) (x : Entry)
     → UnderWay es ns now gathered old index k live front next → next < live → live ≤ length ns → Next es ns live next v → x ≡ get_or es v x
-    → depends_on_one (at_numbers es gathered) x ≡ false → drop (next + 1) now ≡ drop (next + 1) ns
+    → depends_on_any (at_numbers es gathered) x ≡ false → drop (next + 1) now ≡ drop (next + 1) ns
     → UnderWay es ns (set now front v) gathered old index k live (front + 1) (next + 1)
 stayed es ns now gathered old index k live front next v x u low within n e depends later = grind (arith, common_steps, set, take_more_set, at_more, length-set, drop-set-lt, count_more, count_next, length-append, append_assoc, drop-append-le, before_next)
 

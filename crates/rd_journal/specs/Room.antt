@@ -19,7 +19,7 @@ pub record HasRoom (undone : List Entry) (room : ℕ → ℕ) : Type 0 where
   pub at : (m : ℕ) → room_returned_by undone m ≤ room m
 
 -- each maker that is an actor of the world has the room that undoing these entries gave back
-pub record HasRoomForAll (w : World) (given : List Entry) (room : ℕ → ℕ) : Type 0 where
+pub record HasRoomForActors (w : World) (given : List Entry) (room : ℕ → ℕ) : Type 0 where
   pub at : (m : ℕ) → IsSome (w.actor m) → room_returned_by given m ≤ room m
 
 -- the index has no room for the given entries, even once the entries that go are removed
@@ -35,7 +35,7 @@ pub record IsNotIndexed (stepped : Result Stepped Refusal) (undone : List Entry)
 -- the event may be refused memory: fewer than `MOST_STEPS` steps are live, and one of three things
 -- holds. No step is undone and the live entries fill the room; or the step makes a segment that
 -- nothing else refuses, and its maker has no room; or the index has no room for the step's entry
-pub record IsOutOfMemory (j : Journal) (capacity : ℕ) (room : ℕ → ℕ) (index : DependIndex) (e : Event) : Type 0 where
+pub record AsksForMemory (j : Journal) (capacity : ℕ) (room : ℕ → ℕ) (index : DependIndex) (e : Event) : Type 0 where
   pub not_full : length j.live < MOST_STEPS
   pub asked : ((j.undone ≡ []) × (capacity ≡ length j.live)) ⊎ FindsNoRoom (step j.world e) (makes_segment j.world e) (room e.actor)
       ⊎ IsNotIndexed (step j.world e) j.undone index
@@ -45,8 +45,8 @@ abbrev pub ComesAfterRoom : ℕ → ℕ → Refusal → Type 0
 ComesAfterRoom live capacity cause = (cause ≡ refusal.TooLong) ⊎ (cause ≡ refusal.NoMemory) ⊎ (live < capacity)
 
 -- the room of each maker once the dropped entries are undone
-abbrev pub room_without : List Entry → (ℕ → ℕ) → ℕ → ℕ
-room_without dropped room m = room m + room_returned_by dropped m
+abbrev pub room_after_undoing : List Entry → (ℕ → ℕ) → ℕ → ℕ
+room_after_undoing dropped room m = room m + room_returned_by dropped m
 
 -- some maker has no room for the makings among these entries
 abbrev pub LacksRoomForMakings : List Entry → (ℕ → ℕ) → Type 0
@@ -57,4 +57,4 @@ LacksRoomForMakings given room = (m : ℕ) × (room m < room_returned_by given m
 -- index
 abbrev pub LacksRoom : ℕ → Journal → List Entry → ℕ → (ℕ → ℕ) → DependIndex → Type 0
 LacksRoom n j given capacity room index =
-    (capacity < n + length given) ⊎ LacksRoomForMakings given (room_without (drop n j.live) room) ⊎ LacksIndexRoom index (drop n j.live ++ j.undone) given
+    (capacity < n + length given) ⊎ LacksRoomForMakings given (room_after_undoing (drop n j.live) room) ⊎ LacksIndexRoom index (drop n j.live ++ j.undone) given

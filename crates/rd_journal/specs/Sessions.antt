@@ -8,7 +8,7 @@ use Rattle.rd_step.specs.declared.entries.Event.{Event}
 use Rattle.rd_step.specs.declared.entries.Entry.{Entry}
 use Rattle.rd_journal.specs.Journal.{Journal, events, IsRunFrom}
 use Rattle.rd_journal.specs.Entries.{live_entries, ahead_entries, entries_capacity}
-use Rattle.rd_journal.specs.Room.{IsOutOfMemory, LacksRoom}
+use Rattle.rd_journal.specs.Room.{AsksForMemory, LacksRoom}
 use Rattle.rd_journal.specs.SessionFields.{opened_with}
 use Rattle.rd_journal.specs.State.{State, state_of, apply}
 use Rattle.rd_cell.specs.declared.refusal.Refusal.TheVariants as refusal
@@ -60,7 +60,7 @@ pub record KeepsItsSteps {R : ℕ} (old new : Session R) : Type 0 where
 -- the session may refuse the event so: as its state refuses it, or for lack of memory where room is
 -- missing
 abbrev pub MayRefuse : {R : ℕ} → Session R → Event → Refusal → Type 0
-MayRefuse s e cause = (apply (state s) e ≡ Err cause) ⊎ ((cause ≡ refusal.NoMemory) × IsOutOfMemory (journal s) (capacity s) (room s) (index s) e)
+MayRefuse s e cause = (apply (state s) e ≡ Err cause) ⊎ ((cause ≡ refusal.NoMemory) × AsksForMemory (journal s) (capacity s) (room s) (index s) e)
 
 -- the session lacks room for going to these events: the first `kept` live steps stay, and room is
 -- missing for the entries of the other events (`given`)

@@ -28,7 +28,7 @@ const MOST_SINGLE_REMOVALS: usize = 1_000;
 /// `AllocError` if memory is refused, which is asked for only if room is missing once the entries
 /// after the first `n` are removed. The index is then that of the entries from before.
 #[inline(always)]
-pub(crate) fn index_instead(
+pub(crate) fn replace_in_index(
     index: &mut DependIndex,
     entries: &Entries,
     n: usize,

@@ -17,9 +17,9 @@
 
 mod moving;
 mod queries;
-mod removal;
 mod stepping;
 mod switching;
+mod undoing;
 
 ghost use Rattle.std.specs.Prelude.{◌≡◌, ◌⊎◌, ◌++◌, ◌+◌, ◌≤◌, ℕ, [], length, take, drop, Ok, Err, IsOk, OnOk, OnErr, IfOk, IfErr};
 ghost use Rattle.rd_step.specs.Prelude.{model, room as world_room};
@@ -32,7 +32,7 @@ ghost use Rattle.rd_journal.specs.State.{apply, reply_to, MayLackMemory, undo_at
 ghost use Rattle.rd_journal.specs.Moves.{IsStepOf, IsMovedBack, IsMovedForward, IsBeforeLast, IsUndoneAlone, IsRunWithout, IsSwitched, IsRolledBack, IsWithoutClosure, answer_at, roll_answer};
 
 use super::entries::Entries;
-use super::indexing::index_instead;
+use super::indexing::replace_in_index;
 use rd_cell::Refusal;
 use rd_cell::limits::MOST_STEPS;
 use rd_depend::DependIndex;
@@ -140,7 +140,7 @@ impl<const R: usize> Session<R> {
         let live = self.entries.live_len();
         self.entries.make_room_for(live + 1)?;
         let entry = self.world.step(event)?;
-        if index_instead(&mut self.index, &self.entries, live, from_ref(&entry)).is_err() {
+        if replace_in_index(&mut self.index, &self.entries, live, from_ref(&entry)).is_err() {
             unstep(&mut self.world, &entry);
             return Err(Refusal::NoMemory);
         }

@@ -1,6 +1,6 @@
 -- Draws of a ticket: in `take`, by a pass that waits afterwards, and in `try_take`, by one that
 -- doesn't.
-use Rattle.rd_lock.proofs.Prelude.{◌≡◌, ◌≢◌, ℕ, ◌+◌, ◌^◌, ◌<◌, eqb, List, [], ◌∷◌, set, sym, refl, ap, ◌∙◌, subst, arith, eq-eqb, ne_eqb, length, Option, AllByRecursion, Allows, Continues, Draws, Facts, HasTicket, Holds, IsAloneAt, IsFound, IsKept, IsPlaced, LoadsServed, Lock, LockRule, Me, MemberFits, Out, PassView, Place, Stage, StageFits, Tries, View, Waits, ℕ_discrete, after_next, away, dite, either, get_elem?, home, in_hand, keeps, knows_next, knows_served, only, set_here, some, some-ne-none, ticket, view_of}
+use Rattle.rd_lock.proofs.Prelude.{◌≡◌, ◌≢◌, ℕ, ◌+◌, ◌^◌, ◌<◌, eqb, List, [], ◌∷◌, set, sym, refl, ap, ◌∙◌, subst, arith, eq-eqb, ne_eqb, length, Option, AllByRecursion, Allows, Continues, Draws, Facts, HasTicket, Holds, IsAloneAt, IsFound, IsKept, IsPlaced, LoadsServed, Lock, LockRule, Me, MemberFits, Out, PassView, Place, Stage, StageFits, Tries, View, Waits, ℕ_discrete, after_next, away, dite, either, get_elem?, home, in_hand, keeps, with_next_seen, with_served_seen, only, set_here, some, some-ne-none, ticket, view_of}
 use Rattle.rd_lock.proofs.Lists.{inside}
 use Rattle.rd_lock.proofs.Facts.{put, put_here, put_else}
 use Rattle.rd_lock.proofs.Keeps.{alone_with, allowed, moved, Owed, place_still, single, still, takes_home, unmoved}
@@ -20,7 +20,7 @@ module _ {T E O : Type 0} (lock : Lock T E O) where
   drawn_suits : (f : Facts T E) (id j : ℕ) (place : Place T) (p q : PassView E O) → MemberFits lock f id p → j ≢ id → MemberFits lock f j q → MemberFits lock (drawn f id place) j q
   drawn_suits f id j place p q mine ne h = grind arith
 
-  drawer_suits : (f : Facts T E) (id : ℕ) (place : Place T) (p : PassView E O) → MemberFits lock f id p → MemberFits lock (drawn f id place) id (knows_next (f.next + 1) p)
+  drawer_suits : (f : Facts T E) (id : ℕ) (place : Place T) (p : PassView E O) → MemberFits lock f id p → MemberFits lock (drawn f id place) id (with_next_seen (f.next + 1) p)
   drawer_suits f id place p h = grind arith
 
   -- another seat's stage still fits after a draw that doesn't take the value away from that seat
@@ -30,12 +30,12 @@ module _ {T E O : Type 0} (lock : Lock T E O) where
   -- the new facts are kept after a draw, whether the drawer then waits or holds
   drawn_kept : (f : Facts T E) (views : List (View E O)) (id : ℕ) (p : PassView E O) (s : Stage E) (place : Place T) → IsKept lock f views → get_elem? views id ≡ some (view_of (p ∷ []) Out) → f.next < 2 ^ 63
       → ticket s ≡ some f.next → StageFits lock (drawn f id place) id s → IsAloneAt s (p ∷ []) → ((j : ℕ) → j ≢ id → f.place ≡ away j → place ≡ away j)
-      → IsPlaced lock (drawn f id place) (set views id (view_of (knows_next (f.next + 1) p ∷ []) s)) place
-      → IsKept lock (drawn f id place) (set views id (view_of (knows_next (f.next + 1) p ∷ []) s))
-  drawn_kept f views id p s place kept at room has stage alone stays placed = let v : View E O = view_of (p ∷ []) Out in let w : View E O = view_of (knows_next (f.next + 1) p ∷ []) s in
+      → IsPlaced lock (drawn f id place) (set views id (view_of (with_next_seen (f.next + 1) p ∷ []) s)) place
+      → IsKept lock (drawn f id place) (set views id (view_of (with_next_seen (f.next + 1) p ∷ []) s))
+  drawn_kept f views id p s place kept at room has stage alone stays placed = let v : View E O = view_of (p ∷ []) Out in let w : View E O = view_of (with_next_seen (f.next + 1) p ∷ []) s in
       let fits = kept.each_view id v at in let g = drawn f id place in let order = kept.order in
       moved lock f g views id v w kept at (omega arith) (omega arith) kept.names
-      (maps_fit lock f g id (knows_next (f.next + 1)) v s (λ q. refl) (drawer_suits f id place) stage alone fits) refl refl
+      (maps_fit lock f g id (with_next_seen (f.next + 1)) v s (λ q. refl) (drawer_suits f id place) stage alone fits) refl refl
       (λ j u ne here h. others_fit lock f g j u (λ q. drawn_suits f id j place p q fits.members.0 ne) (drawn_stays f id j place (stays j ne)) h)
       (λ t low high. dite (ℕ_discrete t f.next)
       (λ e. (w, subst (λ (k : ℕ). get_elem? (set views id w) k ≡ some w) (sym (put_here f.taker f.next id t e)) (set_here views id w (inside views id v at)), has ∙ ap (λ (k : ℕ). some k) (sym e)))
@@ -114,7 +114,7 @@ module _ {T E O : Type 0} (lock : Lock T E O) where
   -- the draw of `try_take`, after the load of the ticket that it expects, is allowed
   pub tries : (slots id : ℕ) (m m1 : Me (Option T) (View E O)) (n : ℕ) → length m.0.members ≡ 1 → m.0.stage ≡ Out → m.1 ≡ in_hand m.0.stage → LoadsServed m n m1 → n < 2 ^ 63
       → Allows (LockRule lock) slots id m1 1 (λ x. either (eqb x n) (n + 1) x) (Tries history origin n m1)
-  tries slots id m m1 n one out hand loads room = let p = knows_served n (only m.0.members one) in let v : View E O = view_of (p ∷ []) Out in let then = Tries history origin n (v, []) in
+  tries slots id m m1 n one out hand loads room = let p = with_served_seen n (only m.0.members one) in let v : View E O = view_of (p ∷ []) Out in let then = Tries history origin n (v, []) in
       let is : m1 ≡ (v, []) = (subst (λ (y : Me (Option T) (View E O)). LoadsServed y n m1) (single m one Out out hand) loads).after in
       subst (λ (y : Me (Option T) (View E O)). Allows (LockRule lock) slots id y 1 (draw n) (Tries history origin n y)) (sym is) (allowed lock slots id (v, []) 1 (draw n) then (λ f views kept at.
       let fits = kept.each_view id v at in let words = fits.members.0.words.1 in let order = kept.order in dite (ℕ_discrete f.next n)

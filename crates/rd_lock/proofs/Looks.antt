@@ -1,5 +1,5 @@
 -- Loads of the words, and views that change only in what their members know.
-use Rattle.rd_lock.proofs.Prelude.{◌≡◌, ◌≢◌, ℕ, ◌^◌, ◌≤◌, List, map, set, sym, refl, ap, ◌∙◌, arith, Option, map-map, Allows, AreComparable, Facts, Holds, IsAloneAt, IsKept, IsNewestNext, IsNewestServed, LoadsNext, LoadsServed, Lock, LockRule, Me, MemberFits, Out, PassView, Stage, StageFits, View, ViewFits, Waits, after_next, after_served, get_elem?, knows_next, knows_served, some, view_of}
+use Rattle.rd_lock.proofs.Prelude.{◌≡◌, ◌≢◌, ℕ, ◌^◌, ◌≤◌, List, map, set, sym, refl, ap, ◌∙◌, arith, Option, map-map, Allows, AreComparable, Facts, Holds, IsAloneAt, IsKept, IsNewestNext, IsNewestServed, LoadsNext, LoadsServed, Lock, LockRule, Me, MemberFits, Out, PassView, Stage, StageFits, View, ViewFits, Waits, after_next, after_served, get_elem?, with_next_seen, with_served_seen, some, view_of}
 use Rattle.rd_lock.proofs.Lists.{every_from, every_map, pairwise_from, pairwise_map, pairwise_all, in_order}
 use Rattle.rd_lock.proofs.Keeps.{knows_more, allowed, unmoved}
 
@@ -31,10 +31,10 @@ module _ {T E O : Type 0} (lock : Lock T E O) where
   pub one_seat : (f : Facts T E) (i j : ℕ) (p q : PassView E O) → seats ≡ 1 → MemberFits lock f i p → MemberFits lock f j q → j ≡ i
   one_seat f i j p q one a b = let x = a.numbered in let y = b.numbered in let same : q.pass ≡ p.pass = omega arith in sym b.owned ∙ (ap f.owner same ∙ a.owned)
 
-  next_suits : (f : Facts T E) (id : ℕ) (p : PassView E O) → MemberFits lock f id p → MemberFits lock f id (knows_next f.next p)
+  next_suits : (f : Facts T E) (id : ℕ) (p : PassView E O) → MemberFits lock f id p → MemberFits lock f id (with_next_seen f.next p)
   next_suits f id p h = grind arith
 
-  pub served_suits : (f : Facts T E) (id : ℕ) (p : PassView E O) → f.served ≤ f.next → MemberFits lock f id p → MemberFits lock f id (knows_served f.served p)
+  pub served_suits : (f : Facts T E) (id : ℕ) (p : PassView E O) → f.served ≤ f.next → MemberFits lock f id p → MemberFits lock f id (with_served_seen f.served p)
   served_suits f id p order h = grind arith
 
   pub newest_next : (f : Facts T E) (views : List (View E O)) (id : ℕ) (v : View E O) → IsKept lock f views → ViewFits lock f id v → IsNewestNext f.next v
@@ -46,14 +46,14 @@ module _ {T E O : Type 0} (lock : Lock T E O) where
   -- the rule is kept after a load of the word `next`
   pub next_kept : (f : Facts T E) (views : List (View E O)) (id : ℕ) (v : View E O) → IsKept lock f views → get_elem? views id ≡ some v → IsKept lock f (set views id (after_next f.next v.stage v))
   next_kept f views id v kept at = let fits = kept.each_view id v at in
-      knows_more lock f views id v (after_next f.next v.stage v) kept at refl (map-map (λ p. p.pass) (knows_next f.next) v.members)
-      (maps_fit f f id (knows_next f.next) v v.stage (λ p. refl) (next_suits f id) fits.stage fits.alone fits)
+      knows_more lock f views id v (after_next f.next v.stage v) kept at refl (map-map (λ p. p.pass) (with_next_seen f.next) v.members)
+      (maps_fit f f id (with_next_seen f.next) v v.stage (λ p. refl) (next_suits f id) fits.stage fits.alone fits)
 
   -- the rule is kept after a load of the word `served`
   pub served_kept : (f : Facts T E) (views : List (View E O)) (id : ℕ) (v : View E O) → IsKept lock f views → get_elem? views id ≡ some v → IsKept lock f (set views id (after_served f.served v.stage v))
   served_kept f views id v kept at = let fits = kept.each_view id v at in
-      knows_more lock f views id v (after_served f.served v.stage v) kept at refl (map-map (λ p. p.pass) (knows_served f.served) v.members)
-      (maps_fit f f id (knows_served f.served) v v.stage (λ p. refl) (λ p. served_suits f id p kept.order) fits.stage fits.alone fits)
+      knows_more lock f views id v (after_served f.served v.stage v) kept at refl (map-map (λ p. p.pass) (with_served_seen f.served) v.members)
+      (maps_fit f f id (with_served_seen f.served) v v.stage (λ p. refl) (λ p. served_suits f id p kept.order) fits.stage fits.alone fits)
 
   pub looks_next : (slots id : ℕ) (me : Me (Option T) (View E O)) → Allows (LockRule lock) slots id me 1 (λ n. n) (LoadsNext me)
   looks_next slots id me = allowed lock slots id me 1 (λ n. n) (LoadsNext me) (λ f views kept at. unmoved lock id me 1 (λ n. n) (LoadsNext me) f views (after_next f.next me.0.stage me.0) refl

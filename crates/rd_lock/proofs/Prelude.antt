@@ -17,7 +17,7 @@ pub use Rattle.rd_lock.specs.Histories.{Adds, AreAll, AreComparable, Continues, 
 pub use Rattle.rd_lock.specs.Locks.{IsOut, IsPassOf, IsSamePass, IsWaiting, me, next_seen, number, seen}
 pub use Rattle.rd_lock.specs.Opening.{IsClosedOver, IsEnded, IsEndedWith}
 pub use Rattle.rd_lock.specs.Rule.{Apart, Facts, HasPass, HasTicket, IsAloneAt, IsKept, IsPlaced, KnowsOpening, Lock, LockRule, MemberFits, Place, StageFits, ViewFits, away, first_of_members, home, in_hand, lock_of, newcomer, newcomers, numbers_of, opening_view, other_members, single_slot, ticket, view_of}
-pub use Rattle.rd_lock.specs.Steps.{Draws, IsFound, IsNewestNext, IsNewestServed, LoadsNext, LoadsServed, Polls, Releases, Tries, after_next, after_served, has_put, knows_next, knows_served}
+pub use Rattle.rd_lock.specs.Steps.{Draws, IsFound, IsNewestNext, IsNewestServed, LoadsNext, LoadsServed, Polls, Releases, Tries, after_next, after_served, with_put, with_next_seen, with_served_seen}
 pub use Rattle.rd_lock.specs.declared.passes.Pass.{Pass}
 pub use Rattle.rd_lock.specs.declared.views.PassView.{PassView}
 pub use Rattle.rd_lock.specs.declared.views.Recorded.{Ghosts}

@@ -1,5 +1,5 @@
 -- The release, which gives the value back.
-use Rattle.rd_lock.proofs.Prelude.{Adds, Allows, Continues, Facts, Holds, IsKept, KnowsOpening, Lock, LockRule, Me, MemberFits, NamesUpTo, Out, PassView, Place, Releases, Stage, StageFits, View, away, get_elem?, gives, has_put, home, homes_after, only, signed, single_slot, some, some-injective, ticket, view_of, ◌≡◌, ◌≢◌, ℕ, ◌+◌, ◌%◌, ◌^◌, ◌<◌, ◌≤◌, List, [], ◌∷◌, ◌++◌, sym, refl, ap, ◌∙◌, subst, arith, Some, length, Option}
+use Rattle.rd_lock.proofs.Prelude.{Adds, Allows, Continues, Facts, Holds, IsKept, KnowsOpening, Lock, LockRule, Me, MemberFits, NamesUpTo, Out, PassView, Place, Releases, Stage, StageFits, View, away, get_elem?, gives, with_put, home, homes_after, only, signed, single_slot, some, some-injective, ticket, view_of, ◌≡◌, ◌≢◌, ℕ, ◌+◌, ◌%◌, ◌^◌, ◌<◌, ◌≤◌, List, [], ◌∷◌, ◌++◌, sym, refl, ap, ◌∙◌, subst, arith, Some, length, Option}
 use Rattle.rd_lock.proofs.Lists.{one_of, every_append, continues_same, continues_on, names_signed}
 use Rattle.rd_lock.proofs.Keeps.{allowed, moved, Owed, still}
 use Rattle.rd_lock.proofs.Looks.{others_fit, one_seat, newest_served}
@@ -22,7 +22,7 @@ module _ {T E O : Type 0} (lock : Lock T E O) where
   }
 
   -- the pass that put still fits
-  putter_suits : (f : Facts T E) (id : ℕ) (x : T) (p : PassView E O) → MemberFits lock f id p → MemberFits lock (done f x) id (has_put (history x) (f.served + 1) p)
+  putter_suits : (f : Facts T E) (id : ℕ) (x : T) (p : PassView E O) → MemberFits lock f id p → MemberFits lock (done f x) id (with_put (history x) (f.served + 1) p)
   putter_suits f id x p h = grind (arith, continues_same)
 
   done_stays : (f : Facts T E) (id j : ℕ) (x : T) → j ≢ id → f.taker f.served ≡ id → f.place ≡ away id → (s : Stage E) → StageFits lock f j s → StageFits lock (done f x) j s
@@ -32,7 +32,7 @@ module _ {T E O : Type 0} (lock : Lock T E O) where
       → get_elem? views id ≡ some (view_of (p ∷ []) (Holds t log))
       → Owed lock id (view_of (p ∷ []) (Holds t log), (0, Some x) ∷ []) 0 (λ n. (n + 1) % 2 ^ 64) (Releases history origin (view_of (p ∷ []) (Holds t log), (0, Some x) ∷ [])) f views
   gives_back id p t log x es f views added root_is kept at = let v : View E O = view_of (p ∷ []) (Holds t log) in let fits = kept.each_view id v at in let mine = fits.members.0 in let stage = fits.stage in
-      let g : Facts T E = done f x in let q : PassView E O = has_put (history x) (f.served + 1) p in let w : View E O = view_of (q ∷ []) Out in
+      let g : Facts T E = done f x in let q : PassView E O = with_put (history x) (f.served + 1) p in let w : View E O = view_of (q ∷ []) Out in
       let t_is : t ≡ f.served = stage.0 in let below : t < f.next = stage.1 in let limit = kept.limit in let here : f.taker f.served ≡ id = ap f.taker (sym t_is) ∙ stage.2 in
       let more : history x ≡ f.log ++ signed p.pass es = added ∙ ap (λ l. l ++ signed p.pass es) stage.4 in let number = mine.numbered in
       let fresh : (f.served + 1) % 18446744073709551616 ≡ f.served + 1 = omega arith in (

@@ -1,5 +1,5 @@
 -- Loads of the word `served` by a pass that waits.
-use Rattle.rd_lock.proofs.Prelude.{◌≡◌, ℕ, List, [], ◌∷◌, sym, refl, ap, ◌∙◌, subst, arith, length, Option, Allows, Facts, Holds, IsKept, Lock, LockRule, Me, MemberFits, PassView, Polls, Stage, StageFits, View, Waits, ℕ_discrete, after_served, away, dite, get_elem?, home, in_hand, knows_served, only, set_here, some, ticket, view_of}
+use Rattle.rd_lock.proofs.Prelude.{◌≡◌, ℕ, List, [], ◌∷◌, sym, refl, ap, ◌∙◌, subst, arith, length, Option, Allows, Facts, Holds, IsKept, Lock, LockRule, Me, MemberFits, PassView, Polls, Stage, StageFits, View, Waits, ℕ_discrete, after_served, away, dite, get_elem?, home, in_hand, with_served_seen, only, set_here, some, ticket, view_of}
 use Rattle.rd_lock.proofs.Lists.{inside}
 use Rattle.rd_lock.proofs.Keeps.{allowed, moved, Owed, single, still, takes_home, unmoved}
 use Rattle.rd_lock.proofs.Looks.{others_fit, served_suits, newest_served, served_kept}
@@ -24,7 +24,7 @@ module _ {T E O : Type 0} (lock : Lock T E O) where
       let g : Facts T E = taken f id in let mine = fits.stage in let suits = served_suits lock f id p kept.order fits.members.0 in
       takes_home lock id v 0 (λ n. n) (Polls history origin (v, [])) f g views w x there.1 refl refl
       (moved lock f g views id v w kept at kept.order kept.limit kept.names
-      (record { members = (taken_suits f id id (knows_served f.served p) suits, tt); apart = (tt, tt); stage = (refl, mine.1, mine.2, refl, there.2); alone = (knows_served f.served p, refl) }) refl refl
+      (record { members = (taken_suits f id id (with_served_seen f.served p) suits, tt); apart = (tt, tt); stage = (refl, mine.1, mine.2, refl, there.2); alone = (with_served_seen f.served p, refl) }) refl refl
       (λ j u ne here h. others_fit lock f g j u (taken_suits f id j) (taken_stays f id j x there.1) h)
       (λ t low high. still (λ u. ticket u.stage ≡ some t) views id (f.taker t) v w at (λ e. e) (kept.each_ticket t low high))
       (w, set_here views id w (inside views id v at), (λ i. Holds f.served (there.2 i))))

@@ -89,7 +89,7 @@ module _ {T E O : Type 0} {K : Ghosts T E O} where
 
   -- the pass holds and may put this value back: the value has the lock's origin, and its history is
   -- what the pass found, followed by entries of this pass only
-  pub record IsDue (lock : TicketLock T E O) (pass : Pass T E O K) (value : T) : Type 0 where
+  pub record MayPutBack (lock : TicketLock T E O) (pass : Pass T E O K) (value : T) : Type 0 where
     pub rooted : K.origin value ≡ opened_origin K.origin lock
     pub held : (ticket : ℕ) × (found : List (ℕ × E)) × IsHolding pass ticket found × Adds (number pass) found (K.history value)
 

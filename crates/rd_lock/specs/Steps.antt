@@ -21,25 +21,25 @@ use Rattle.rd_lock.specs.Rule.{view_of}
 
 module _ {E O : Type 0} where
   -- what the pass knows after it has seen n in the word `next`
-  abbrev pub knows_next : ℕ → PassView E O → PassView E O
-  knows_next n p = record p { next = n }
+  abbrev pub with_next_seen : ℕ → PassView E O → PassView E O
+  with_next_seen n p = record p { next = n }
 
   -- what the pass knows after it has seen n in the word `served`; `next` is never below that
-  abbrev pub knows_served : ℕ → PassView E O → PassView E O
-  knows_served n p = record p { next = max p.next n; served = n }
+  abbrev pub with_served_seen : ℕ → PassView E O → PassView E O
+  with_served_seen n p = record p { next = max p.next n; served = n }
 
   -- what the pass knows after it has put a value with this history back, and the word `served`
   -- became n
-  abbrev pub has_put : List (ℕ × E) → ℕ → PassView E O → PassView E O
-  has_put log n p = record p { seen = log; served = n }
+  abbrev pub with_put : List (ℕ × E) → ℕ → PassView E O → PassView E O
+  with_put log n p = record p { seen = log; served = n }
 
   -- the view after its members have seen n in the word `next` and its seat has gone to this stage
   abbrev pub after_next : ℕ → Stage E → View E O → View E O
-  after_next n stage v = view_of (map (knows_next n) v.members) stage
+  after_next n stage v = view_of (map (with_next_seen n) v.members) stage
 
   -- the view after its members have seen n in the word `served` and its seat has gone to this stage
   abbrev pub after_served : ℕ → Stage E → View E O → View E O
-  after_served n stage v = view_of (map (knows_served n) v.members) stage
+  after_served n stage v = view_of (map (with_served_seen n) v.members) stage
 
   -- n is at most 2^63, and no member knows of a greater value of `next`
   abbrev pub IsNewestNext : ℕ → View E O → Type 0
@@ -98,4 +98,4 @@ module _ {T E O : Type 0} where
     pub record Releases (m : Me (Option T) (View E O)) (n : ℕ) (m' : Me (Option T) (View E O)) : Type 0 where
       pub newest : IsNewestServed n m.0
       pub found : (t : ℕ) × (log : List (ℕ × E)) × (m.0.stage ≡ Holds t log) × AllByRecursion (λ (p : PassView E O). Continues p.pass p.seen log) m.0.members
-      pub after : (x : T) × (m.1 ≡ (0, Some x) ∷ []) × (m' ≡ (view_of (map (has_put (history x) (n + 1)) m.0.members) Out, []))
+      pub after : (x : T) × (m.1 ≡ (0, Some x) ∷ []) × (m' ≡ (view_of (map (with_put (history x) (n + 1)) m.0.members) Out, []))

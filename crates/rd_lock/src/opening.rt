@@ -80,8 +80,8 @@ impl<T: Recorded> TicketLock<T> {
         Ok((TicketLock { table }, passes))
     }
 
-    /// Ends the lock and the given passes, and returns the value. The passes have to be this lock's,
-    /// and none of them may hold the value.
+    /// Ends the lock and the given passes, and returns the value. The passes have to be this
+    /// lock's, and none of them may hold the value.
     ///
     /// # Errors
     ///

@@ -1,6 +1,6 @@
 //! Tickets: drawing one, waiting for it, holding the value by it, and releasing it.
 ghost use Rattle.std.specs.Prelude.{◌≡◌, ◌^◌, ◌<◌, IfOk, IfErr, OnOk, OnErr};
-ghost use Rattle.rd_lock.specs.Locks.{next_seen, seats, IsOut, IsWaiting, IsPassOf, IsSamePass, IsTaken, IsMissed, IsDue, HasPut};
+ghost use Rattle.rd_lock.specs.Locks.{next_seen, seats, IsOut, IsWaiting, IsPassOf, IsSamePass, IsTaken, IsMissed, MayPutBack, HasPut};
 
 use super::locks::TicketLock;
 use super::passes::Pass;
@@ -137,7 +137,7 @@ impl<T: Recorded> TicketLock<T> {
     #[tactic(auto, using(crate::proofs::Lists::own_signed))]
     pub fn put_back(&self, pass: &mut Pass<T>, value: T)
         requires own { IsPassOf self.now pass.old }
-        requires value { IsDue self.now pass.old value }
+        requires value { MayPutBack self.now pass.old value }
         ensures pass { IsPassOf self.now pass.new }
         ensures out { IsOut pass.new }
         ensures ok { HasPut pass.old pass.new value }

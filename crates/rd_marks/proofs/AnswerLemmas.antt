@@ -1,5 +1,5 @@
 -- The answers to undos, redos and events, from the results of the calls.
-use Rattle.rd_marks.proofs.Prelude.{◌≡◌, ◌⊎◌, ℕ, inl, inr, refl, sym, ap, ◌∙◌, subst, List, length, Option, Result, Ok, Err, OnOk, IfErr, Refusal, OpReply, World, Event, Entry, Begins, Session, state, track, Journal, State, MayLackMemory, state_of, apply, reply_to, lists_in, here_in, AreRuns, events, Mark, BookState, with_session, Answered, answer_with, move_answer, Happened, length-map, result_map, AnswersAs, GoesAlong, step_counts, as_reply, Reply, Applied, Book, IsErrAnd}
+use Rattle.rd_marks.proofs.Prelude.{◌≡◌, ◌⊎◌, ℕ, inl, inr, refl, sym, ap, ◌∙◌, subst, List, length, Option, Result, Ok, Err, OnOk, IfErr, Refusal, OpReply, World, Event, Entry, Begins, Session, state, track, Journal, State, MayLackMemory, state_of, apply, reply_to, lists_in, here_in, AreRuns, events, Mark, BookState, with_session, Answered, answer_with, move_answer, IsEventAnswer, length-map, result_map, AnswersAs, GoesAlong, step_counts, as_reply, Reply, Applied, Book, IsErrAnd}
 use Rattle.rd_marks.specs.declared.replies.EventReply.{EventReply}
 use Rattle.rd_marks.proofs.Starts.{answers_start}
 use Rattle.rd_cell.specs.declared.refusal.Refusal.TheVariants as refusal
@@ -43,11 +43,11 @@ pub move_refused : {R : ℕ} (old new : Session R) (marks : List Mark) (refusal 
     → record { answer = answer; state = record { session = state new; marks = marks } } ≡ move_answer (record { session = state old; marks = marks }) moved
 move_refused old new marks refusal answer moved answers is = move_answered old new marks marks answer (Err refusal) moved answers refl tt (passed_up refusal answer is)
 
--- passing up the refusal of an event keeps what `Happened` states of it
+-- passing up the refusal of an event keeps what `IsEventAnswer` states of it
 pub event_passed_up : (b after : BookState) (e : Event) (refusal : Refusal) (answer : Result Reply Refusal) → IsErrAnd answer (λ x. x ≡ refusal)
-    → Happened b e (record { answer = Err refusal; state = after }) → Happened b e (record { answer = answer; state = after })
+    → IsEventAnswer b e (record { answer = Err refusal; state = after }) → IsEventAnswer b e (record { answer = answer; state = after })
 event_passed_up b after e refusal answer is happened =
-    subst (λ (a : Result Reply Refusal). Happened b e (record { answer = a; state = after })) (sym (passed_up refusal answer is)) happened
+    subst (λ (a : Result Reply Refusal). IsEventAnswer b e (record { answer = a; state = after })) (sym (passed_up refusal answer is)) happened
 
 module _ (old new : Journal) (marks : List Mark) (e : Event) where
   abbrev pub before : BookState
@@ -56,18 +56,18 @@ module _ (old new : Journal) (marks : List Mark) (e : Event) where
   abbrev of_step : Result State Refusal → Answered
   of_step r = answer_with before (λ s. Applied (length s.live) (reply_to (state_of old) e)) (with_session before) r
 
-  -- an event that made a step is answered as `Happened` allows
+  -- an event that made a step is answered as `IsEventAnswer` allows
   pub event_made : (after : List Mark) (n : ℕ) (reply : Option OpReply) → apply (state_of old) e ≡ Ok (state_of new) → n ≡ length new.live
       → reply_to (state_of old) e ≡ reply → after ≡ marks
-      → Happened before e (record { answer = Ok (Applied n reply); state = record { session = state_of new; marks = after } })
+      → IsEventAnswer before e (record { answer = Ok (Applied n reply); state = record { session = state_of new; marks = after } })
   event_made after n reply made number its kept =
       let count : n ≡ length (state_of new).live = number ∙ sym (length-map new.live (λ (x : Entry). x.event)) in
       inl ((λ i. record { answer = Ok (Applied (count i) (sym its i)); state = record { session = state_of new; marks = kept i } }) ∙ sym (ap of_step made))
 
-  -- an event that was refused is answered as `Happened` allows
+  -- an event that was refused is answered as `IsEventAnswer` allows
   pub event_refused : (answer : Result EventReply Refusal) (cause : Refusal) → new ≡ old → IsErrAnd answer (λ e. e ≡ cause)
       → (apply (state_of old) e ≡ Err cause) ⊎ ((cause ≡ refusal.NoMemory) × MayLackMemory (state_of old) e)
-      → Happened before e (record { answer = result_map as_reply answer; state = record { session = state_of new; marks = marks } })
+      → IsEventAnswer before e (record { answer = result_map as_reply answer; state = record { session = state_of new; marks = marks } })
   event_refused answer cause same is (inl h) =
       inl ((λ i. record { answer = result_map as_reply (passed_up cause answer is i); state = record { session = state_of (same i); marks = marks } }) ∙ sym (ap of_step h))
   event_refused answer cause same is (inr h) =

@@ -1,6 +1,6 @@
 -- The number of entries in the stretches is the number of different lists, except the empty one,
 -- that begin the events of some bookmark.
-use Rattle.rd_marks.proofs.Prelude.{◌≡◌, ℕ, zero, suc, ◌+◌, ◌-◌, ◌<◌, ◌≤◌, inl, inr, refl, sym, ap, ◌∙◌, subst, List, [], ◌∷◌, ◌++◌, length, take, map, sum_by, Contains, length-append, length-take, arith, range_with_len, take-length, cases_lt, cases_eq, nat_tests, get_or-map, length-map, length-take-le, take-map, take-take, sum_by-cons, Contains-append_left, Contains-append_right, Contains-append_cases, Event, Entry, Begins, MarkName, Stretch, Node, marks_of, named_lists, stretch_list, shared_at, entries_at, AreNested, AreFresh, entries_in_stretch, greatest_in, AreNeeded, IsAlong, IsDeepest, count_of, events}
+use Rattle.rd_marks.proofs.Prelude.{◌≡◌, ℕ, zero, suc, ◌+◌, ◌-◌, ◌<◌, ◌≤◌, inl, inr, refl, sym, ap, ◌∙◌, subst, List, [], ◌∷◌, ◌++◌, length, take, map, sum_by, Contains, length-append, length-take, arith, range_with_len, take-length, cases_lt, cases_eq, nat_tests, get_or-map, length-map, length-take-le, take-map, take-take, sum_by-cons, Contains-append_left, Contains-append_right, Contains-append_cases, Event, Entry, Begins, MarkName, Stretch, Node, marks_of, named_lists, stretch_list, shared_at, entries_at, AreNested, AreFresh, entries_in_stretch, greatest_in, AreNeeded, IsAlong, IsDeepest, entry_count, events}
 use Rattle.std.proofs.lemmas.List.FromFn.{length-map-range_with_len, get_or-map-range_with_len}
 use Rattle.rd_marks.specs.Beginnings.{IsBeginning, AreDistinct, CountsBeginnings, NeedsNoEntry}
 use Rattle.rd_marks.proofs.MarkLemmas.{mark_of}
@@ -64,7 +64,7 @@ lists_more : (s : Stretch) (ss : List Stretch) (n : ℕ) → length (lists_to (s
 lists_more s ss zero = omega (arith, lists_length (s ∷ ss) 0)
 lists_more s ss (suc n) = omega (arith, lists_more s ss n, lists_length (s ∷ ss) (suc n), lists_length ss n)
 
-lists_counted : (ss : List Stretch) → length (lists_to ss (length ss)) ≡ count_of ss
+lists_counted : (ss : List Stretch) → length (lists_to ss (length ss)) ≡ entry_count ss
 lists_counted [] = refl
 lists_counted (s ∷ ss) = omega (arith, lists_more s ss (length ss), lists_counted ss)
 
@@ -185,7 +185,7 @@ module _ (ss : List Stretch) (rule : AreNested ss) where
     pub begins_one : (i n : ℕ) → i < length ss → n ≤ length (stretch_list ss i) → (m : MarkName × Node) × Contains ms m × (take n (entries_at ss m.1) ≡ take n (stretch_list ss i))
     begins_one i n inside h = reached (length ss) i n (omega arith) inside h
 
-    pub counts : AreFresh ss → CountsBeginnings (marks_of (named_lists ss ms)) (count_of ss)
+    pub counts : AreFresh ss → CountsBeginnings (marks_of (named_lists ss ms)) (entry_count ss)
     counts fresh = record {
       lists = lists_to ss (length ss);
       distinct = distinct_to fresh (length ss) (omega arith);
@@ -235,6 +235,6 @@ module _ (ss : List Stretch) (rule : AreNested ss) (nodes : List Node) (needed :
   count_bound zero h = omega arith
   count_bound (suc n) h = omega (arith, count_bound n (omega (arith, h)), total ss rule n, lists_length ss n, needed n (omega (arith, h)))
 
-  pub count_bounded : count_of ss ≤ sum_by (λ (p : Node). p.number) nodes
+  pub count_bounded : entry_count ss ≤ sum_by (λ (p : Node). p.number) nodes
   count_bounded =
       omega (arith, count_bound (length ss) (omega arith), shared_past ss (length ss) (omega arith), lists_counted ss, greatest_bound nodes (length ss))

@@ -1,5 +1,5 @@
 -- No command changes the start, and a refused one changes nothing.
-use Rattle.rd_marks.proofs.Prelude.{◌≡◌, ℕ, sym, subst, List, [], ◌∷◌, ◌++◌, length, Some, None, Result, Ok, Err, OnErr, IfErr, ◌∙◌, arith, same_Some, MayRefuse, Refusal, Event, Session, State, apply, reply_to, undo_at, roll, back, forward, Command, BookState, MarkName, with_session, goto_mark, Answered, answer_with, Happened, IsAsDefined, IsObeyed, AreObeyed, Reply, Applied, step_counts, as_event}
+use Rattle.rd_marks.proofs.Prelude.{◌≡◌, ℕ, sym, subst, List, [], ◌∷◌, ◌++◌, length, Some, None, Result, Ok, Err, OnErr, IfErr, ◌∙◌, arith, same_Some, MayRefuse, Refusal, Event, Session, State, apply, reply_to, undo_at, roll, back, forward, Command, BookState, MarkName, with_session, goto_mark, Answered, answer_with, IsEventAnswer, IsAsDefined, IsObeyed, AreObeyed, Reply, Applied, step_counts, as_event}
 use Rattle.rd_marks.specs.declared.commands.Command.TheVariants as command
 use Rattle.rd_actor.specs.declared.actors.Act.TheVariants as act
 use Rattle.rd_marks.proofs.Starts.{apply_start, undo_at_start, roll_start, back_start, forward_start}
@@ -22,7 +22,7 @@ query_leaves b a same = grind arith
 as_this : (b : BookState) (a c : Answered) → LeavesStart b c → a ≡ c → LeavesStart b a
 as_this b a c leaves h = subst (λ (x : Answered). LeavesStart b x) (sym h) leaves
 
-pub happened_leaves : (b : BookState) (e : Event) (a : Answered) → Happened b e a → LeavesStart b a
+pub happened_leaves : (b : BookState) (e : Event) (a : Answered) → IsEventAnswer b e a → LeavesStart b a
 happened_leaves b e a k = grind (arith, as_this, state_leaves b (λ s. Applied (length s.live) (reply_to b.session e)) (apply b.session e) (apply_start b.session e))
 
 made_leaves : (b : BookState) (reply : BookState → Reply) (r : Result BookState Refusal) (P : Type 0) (a : Answered)
@@ -48,13 +48,13 @@ obeyed_leaves b (command.GotoMark name) a h = made_leaves b _ (goto_mark b name)
 obeyed_leaves b _ a h = grind (arith, query_leaves)
 
 -- a command that is an event may be answered as the event may
-pub event_obeyed : (b : BookState) (c : Command) (e : Event) (a : Answered) → as_event c ≡ Some e → Happened b e a → IsObeyed b c a
-event_obeyed b (command.Enq actor value) e a is h = subst (λ (x : Event). Happened b x a) (sym (same_Some _ e is)) h
-event_obeyed b (command.Deq actor) e a is h = subst (λ (x : Event). Happened b x a) (sym (same_Some _ e is)) h
-event_obeyed b (command.ArrayEnq actor value) e a is h = subst (λ (x : Event). Happened b x a) (sym (same_Some _ e is)) h
-event_obeyed b (command.ArrayDeq actor) e a is h = subst (λ (x : Event). Happened b x a) (sym (same_Some _ e is)) h
-event_obeyed b (command.Go actor) e a is h = subst (λ (x : Event). Happened b x a) (sym (same_Some _ e is)) h
-event_obeyed b (command.Starve actor choice) e a is h = subst (λ (x : Event). Happened b x a) (sym (same_Some _ e is)) h
+pub event_obeyed : (b : BookState) (c : Command) (e : Event) (a : Answered) → as_event c ≡ Some e → IsEventAnswer b e a → IsObeyed b c a
+event_obeyed b (command.Enq actor value) e a is h = subst (λ (x : Event). IsEventAnswer b x a) (sym (same_Some _ e is)) h
+event_obeyed b (command.Deq actor) e a is h = subst (λ (x : Event). IsEventAnswer b x a) (sym (same_Some _ e is)) h
+event_obeyed b (command.ArrayEnq actor value) e a is h = subst (λ (x : Event). IsEventAnswer b x a) (sym (same_Some _ e is)) h
+event_obeyed b (command.ArrayDeq actor) e a is h = subst (λ (x : Event). IsEventAnswer b x a) (sym (same_Some _ e is)) h
+event_obeyed b (command.Go actor) e a is h = subst (λ (x : Event). IsEventAnswer b x a) (sym (same_Some _ e is)) h
+event_obeyed b (command.Starve actor choice) e a is h = subst (λ (x : Event). IsEventAnswer b x a) (sym (same_Some _ e is)) h
 event_obeyed b _ e a is h = cc
 
 -- One more command of a list is done

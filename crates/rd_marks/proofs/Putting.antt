@@ -1,5 +1,5 @@
 -- The bookmarks after one was added, and after stretches were cut.
-use Rattle.rd_marks.proofs.Prelude.{◌≡◌, ℕ, zero, suc, ◌^◌, ◌<◌, ◌≤◌, inl, inr, refl, sym, ap, ◌∙◌, subst, List, [], ◌∷◌, ◌++◌, map, length, take, drop, length-append, option_map, Option, None, All, arith, cases_lt, sum_by-le, length-map, map-append, take-append-drop, All-push, All-contains, All-head, All-map, All-nil, All-tail, World, MOST_STEPS, Event, Entry, Begins, MarkName, Node, Stretch, Shift, shifted, Stays, IsGrown, IsShrunk, KeepsItsSteps, MOST_MARKS, AreEntriesOfRun, AreRuns, IsKept, IsPruned, named_lists, nodes_of, count_of, stretch_list, entries_at, greatest_in, needed_at, IsWithin, IsAlong, AreNested, AreNeeded, AreNeededFrom, nat_tests, events, IsRunFrom, run}
+use Rattle.rd_marks.proofs.Prelude.{◌≡◌, ℕ, zero, suc, ◌^◌, ◌<◌, ◌≤◌, inl, inr, refl, sym, ap, ◌∙◌, subst, List, [], ◌∷◌, ◌++◌, map, length, take, drop, length-append, option_map, Option, None, All, arith, cases_lt, sum_by-le, length-map, map-append, take-append-drop, All-push, All-contains, All-head, All-map, All-nil, All-tail, World, MOST_STEPS, Event, Entry, Begins, MarkName, Node, Stretch, Shift, shifted, Stays, IsGrown, IsShrunk, KeepsItsSteps, MOST_MARKS, AreEntriesOfRun, AreRuns, IsKept, IsPruned, named_lists, nodes_of, entry_count, stretch_list, entries_at, greatest_in, needed_at, IsWithin, IsAlong, AreNested, AreNeeded, AreNeededFrom, nat_tests, events, IsRunFrom, run}
 use Rattle.rd_marks.specs.declared.stretches.changes.Grown.{Grown}
 use Rattle.rd_marks.proofs.Counting.{begins_one, contains_mapped, count_bounded}
 use Rattle.rd_marks.proofs.EntryLemmas.{begin_alike}
@@ -140,7 +140,7 @@ number_few ss rule p within = grind (arith, stretch_within)
 
 -- the number of all entries is below 2^64
 pub count_fits : (ss : List Stretch) → AreNested ss → (ms : List (MarkName × Node)) → AreNeeded ss (nodes_of ms) → All (λ (m : MarkName × Node). IsWithin ss m.1) ms
-    → length ms ≤ MOST_MARKS → count_of ss < 2 ^ 64
+    → length ms ≤ MOST_MARKS → entry_count ss < 2 ^ 64
 count_fits ss rule ms needed within few =
     let all = All-map (λ (p : Node). p.number ≤ MOST_STEPS) (λ (m : MarkName × Node). m.1) ms (λ k d inside. number_few ss rule _ (within k d inside)) in
     omega (arith, count_bounded ss rule (nodes_of ms) needed, sum_by-le (λ (p : Node). p.number) MOST_STEPS (nodes_of ms) all, length-map ms (λ (m : MarkName × Node). m.1), few)

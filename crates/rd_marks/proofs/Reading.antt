@@ -1,5 +1,5 @@
 -- Reading the entries of a node, and comparing the stretches with other entries.
-use Rattle.rd_marks.proofs.Prelude.{◌≡◌, ◌⊎◌, ℕ, zero, suc, ◌+◌, ◌-◌, ◌<◌, ◌≤◌, length-drop, refl, sym, ap, ◌∙◌, List, [], ◌∷◌, ◌++◌, length, take, drop, get_or, reverse, slice_get, option_map, Some, arith, drop-cons, take-add, cases_lt, append_assoc, drop-map, drop-take, length-map, reverse-append, take-take, slice_get-map, slice_get_read, Event, Entry, Node, Stretch, count_of, stretch_list, list_before, shared_at, entries_at, IsWithin, IsOwn, IsAlong, AreNested, AreFresh, events, numbered}
+use Rattle.rd_marks.proofs.Prelude.{◌≡◌, ◌⊎◌, ℕ, zero, suc, ◌+◌, ◌-◌, ◌<◌, ◌≤◌, length-drop, refl, sym, ap, ◌∙◌, List, [], ◌∷◌, ◌++◌, length, take, drop, get_or, reverse, slice_get, option_map, Some, arith, drop-cons, take-add, cases_lt, append_assoc, drop-map, drop-take, length-map, reverse-append, take-take, slice_get-map, slice_get_read, Event, Entry, Node, Stretch, entry_count, stretch_list, list_before, shared_at, entries_at, IsWithin, IsOwn, IsAlong, AreNested, AreFresh, events, numbered}
 use Rattle.rd_marks.proofs.StretchLists.{own_at, stretch_there, total, shared_within, begins_shared, behind_shared, list_past}
 use Rattle.rd_marks.proofs.Fresh.{Follows, follows_compared, follows_skipped, along_itself, along_within, between}
 use Rattle.rd_marks.proofs.Starting.{first_events, stretch_within}
@@ -54,7 +54,7 @@ pub stretch_at : (ss xs : List Stretch) (i : ℕ) (s : Stretch) → xs ≡ ss �
 stretch_at ss xs i s same inside its = grind (arith, stretch_there)
 
 -- counting the entries of one more stretch
-pub count_on : (ss : List Stretch) (i : ℕ) (s : Stretch) → i < length ss → s ≡ get_or ss i s → count_of (drop i ss) ≡ length s.entries.items + count_of (drop (suc i) ss)
+pub count_on : (ss : List Stretch) (i : ℕ) (s : Stretch) → i < length ss → s ≡ get_or ss i s → entry_count (drop i ss) ≡ length s.entries.items + entry_count (drop (suc i) ss)
 count_on ss i s inside its = grind (arith, drop-cons)
 
 module _ (ss : List Stretch) (rule : AreNested ss) where

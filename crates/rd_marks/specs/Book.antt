@@ -11,7 +11,7 @@ use Rattle.rd_marks.specs.declared.commands.Command.TheVariants.{GotoMark}
 use Rattle.rd_marks.specs.declared.names.MarkName.{MarkName}
 use Rattle.rd_marks.specs.declared.stretches.Node.{Node}
 use Rattle.rd_marks.specs.BookState.{BookState, marked_events, goto_mark}
-use Rattle.rd_marks.specs.Bookmarks.{lists_in, marks_of, entries_in, entries_kept, IsInPieces}
+use Rattle.rd_marks.specs.Bookmarks.{lists_in, marks_of, entries_in, kept_entry_count, IsInPieces}
 use Rattle.rd_cell.specs.declared.refusal.Refusal.TheVariants as refusal
 
 -- the state of a book: its session's state, and its marks with their events
@@ -27,8 +27,8 @@ abbrev pub name_room : {R : ℕ} → Book R → ℕ
 name_room b = spare b.bookmarks.names
 
 -- the number of entries that a book keeps for its bookmarks
-abbrev pub mark_entries : {R : ℕ} → Book R → ℕ
-mark_entries b = entries_kept b.bookmarks
+abbrev pub mark_entry_count : {R : ℕ} → Book R → ℕ
+mark_entry_count b = kept_entry_count b.bookmarks
 
 -- the events of the mark of this name are those of a node (`its`), and going there may need memory
 -- (`lacks`): the session lacks room for the steps, or the node's entries lie in more than one

@@ -80,10 +80,10 @@ mark_event b i n = option_and_then (λ es. numbered es n) (mark_events b i)
 
 -- the request for a mark's events may answer this: NoMark if there is no such mark, otherwise its
 -- events or, if it has any, NoMemory
-abbrev pub AnswersEvents : Option (List Event) → Result (Vec Event Global) Refusal → Type 0
-AnswersEvents None said = said ≡ Err refusal.NoMark
-AnswersEvents (Some es) (Ok list) = list.items ≡ es
-AnswersEvents (Some es) (Err cause) = (cause ≡ refusal.NoMemory) × (es ≡ [] → ⊥)
+abbrev pub AnswersMarkEvents : Option (List Event) → Result (Vec Event Global) Refusal → Type 0
+AnswersMarkEvents None said = said ≡ Err refusal.NoMark
+AnswersMarkEvents (Some es) (Ok list) = list.items ≡ es
+AnswersMarkEvents (Some es) (Err cause) = (cause ≡ refusal.NoMemory) × (es ≡ [] → ⊥)
 
 -- the book at its start: no event is live, and none is undone
 abbrev pub to_start : BookState → BookState

@@ -8,7 +8,7 @@ use Rattle.rd_marks.specs.declared.names.MarkName.{MarkName}
 use Rattle.rd_marks.specs.declared.stretches.Node.{Node}
 use Rattle.rd_marks.specs.declared.bookmarks.Bookmarks.{Bookmarks}
 use Rattle.rd_marks.specs.BookmarksFields.{named_lists}
-use Rattle.rd_marks.specs.Stretches.{entries_at, count_of, IsWithin, AreInPieces}
+use Rattle.rd_marks.specs.Stretches.{entries_at, entry_count, IsWithin, AreInPieces}
 
 -- each bookmark's name with its entries, in the order in which they were set
 abbrev pub lists_in : Bookmarks → List (MarkName × List Entry)
@@ -31,8 +31,8 @@ abbrev pub here_in : Bookmarks → List Entry
 here_in b = entries_in b b.here
 
 -- the number of entries that are kept for all bookmarks together
-abbrev pub entries_kept : Bookmarks → ℕ
-entries_kept b = count_of b.stretches.list.items
+abbrev pub kept_entry_count : Bookmarks → ℕ
+kept_entry_count b = entry_count b.stretches.list.items
 
 -- the entries of a node lie in more than one stretch
 abbrev pub IsInPieces : Bookmarks → Node → Type 0

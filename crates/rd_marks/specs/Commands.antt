@@ -51,8 +51,8 @@ IsAsDefined b defined MayAskForMemory answered = (answered ≡ defined) ⊎ (May
 -- the event may be answered so. Either it happens after the live events: the reply has the number
 -- of its step, and the result of the call that it ends, if it ends one. Or it is refused, with
 -- NoMemory only where the session may lack memory
-abbrev pub Happened : BookState → Event → Answered → Type 0
-Happened b e answered =
+abbrev pub IsEventAnswer : BookState → Event → Answered → Type 0
+IsEventAnswer b e answered =
     IsAsDefined b (answer_with b (λ s. reply.Applied (length s.live) (reply_to b.session e)) (with_session b) (apply b.session e)) (MayLackMemory b.session e) answered
 
 -- the command sets a mark and needs no memory: the mark is not refused, there is room for its name
@@ -77,12 +77,12 @@ AnswersQuery b _ answer = ⊥
 
 -- the command may be answered so and leave this state; a query leaves the state as it was
 abbrev pub IsObeyed : BookState → Command → Answered → Type 0
-IsObeyed b (command.Enq actor value) answered = Happened b (record { actor = actor; act = act.Enq value }) answered
-IsObeyed b (command.Deq actor) answered = Happened b (record { actor = actor; act = act.Deq }) answered
-IsObeyed b (command.ArrayEnq actor value) answered = Happened b (record { actor = actor; act = act.AEnq value }) answered
-IsObeyed b (command.ArrayDeq actor) answered = Happened b (record { actor = actor; act = act.ADeq }) answered
-IsObeyed b (command.Go actor) answered = Happened b (record { actor = actor; act = act.Go }) answered
-IsObeyed b (command.Starve actor choice) answered = Happened b (record { actor = actor; act = act.Starve choice }) answered
+IsObeyed b (command.Enq actor value) answered = IsEventAnswer b (record { actor = actor; act = act.Enq value }) answered
+IsObeyed b (command.Deq actor) answered = IsEventAnswer b (record { actor = actor; act = act.Deq }) answered
+IsObeyed b (command.ArrayEnq actor value) answered = IsEventAnswer b (record { actor = actor; act = act.AEnq value }) answered
+IsObeyed b (command.ArrayDeq actor) answered = IsEventAnswer b (record { actor = actor; act = act.ADeq }) answered
+IsObeyed b (command.Go actor) answered = IsEventAnswer b (record { actor = actor; act = act.Go }) answered
+IsObeyed b (command.Starve actor choice) answered = IsEventAnswer b (record { actor = actor; act = act.Starve choice }) answered
 IsObeyed b command.Undo answered = answered ≡ move_answer b (back b.session 1)
 IsObeyed b (command.UndoAt k) answered = answered ≡ move_answer b (undo_at b.session k)
 IsObeyed b (command.Roll k) answered = answered ≡ move_answer b (roll b.session k)

@@ -107,9 +107,9 @@ abbrev pub after_removal : ℕ → Node → Node
 after_removal j p = if nat_le j p.stretch then record { stretch = p.stretch - 1; number = p.number } else p
 
 -- the number of entries that the stretches keep, all together
-abbrev pub count_of : List Stretch → ℕ
-count_of [] = 0
-count_of (s ∷ ss) = length s.entries.items + count_of ss
+abbrev pub entry_count : List Stretch → ℕ
+entry_count [] = 0
+entry_count (s ∷ ss) = length s.entries.items + entry_count ss
 
 -- the entries of a node lie in more than one stretch: the same entries up to a node (`at`) whose
 -- last one is its stretch's own, where that stretch shares some of them

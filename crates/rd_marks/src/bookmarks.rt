@@ -41,7 +41,7 @@ pub(crate) struct Bookmarks {
 
 impl Bookmarks {
     ghost use Rattle.rd_marks.specs.Beginnings.{CountsBeginnings, NeedsNoEntry};
-    ghost use Rattle.rd_marks.specs.Bookmarks.{lists_in, marks_of, entries_in, entries_kept, here_in, IsNodeIn};
+    ghost use Rattle.rd_marks.specs.Bookmarks.{lists_in, marks_of, entries_in, kept_entry_count, here_in, IsNodeIn};
     ghost use Rattle.rd_marks.specs.BookmarksFields.{AreRuns};
     ghost use Rattle.rd_marks.specs.Names.{mark_name_eq};
 
@@ -71,7 +71,7 @@ impl Bookmarks {
     #[tactic(auto, using(crate::proofs::Counting::counts, crate::proofs::Putting::count_fits))]
     pub(crate) fn nodes(&self) -> usize
         ensures counts { CountsBeginnings (marks_of (lists_in self.now)) result }
-        ensures entries { result ≡ entries_kept self.now }
+        ensures entries { result ≡ kept_entry_count self.now }
     {
         self.stretches.entries()
     }
@@ -190,7 +190,12 @@ impl Bookmarks {
     ///
     /// `AllocError` if memory for the comparison was refused, which never happens if one list
     /// begins the other.
-    pub(crate) fn are_same(&self, alloc: Global, one: Node, other: Node) -> Result<bool, AllocError>
+    pub(crate) fn are_nodes_equivalent(
+        &self,
+        alloc: Global,
+        one: Node,
+        other: Node,
+    ) -> Result<bool, AllocError>
         requires one { IsNodeIn self.now one }
         requires other { IsNodeIn self.now other }
         ensures answer { IfOk result (DecidesEquivalence (entries_in self.now one)

@@ -56,9 +56,9 @@ impl<const R: usize> Drop for Book<R> {
 
 impl<const R: usize> Book<R> {
     ghost use Rattle.rd_marks.specs.Beginnings.{CountsBeginnings, NeedsNoEntry};
-    ghost use Rattle.rd_marks.specs.Book.{book_state, session_of, name_room, mark_entries, MayRefuseToGo};
+    ghost use Rattle.rd_marks.specs.Book.{book_state, session_of, name_room, mark_entry_count, MayRefuseToGo};
     ghost use Rattle.rd_marks.specs.Rules.{KeepsRules};
-    ghost use Rattle.rd_marks.specs.Commands.{Happened};
+    ghost use Rattle.rd_marks.specs.Commands.{IsEventAnswer};
     ghost use Rattle.rd_marks.specs.Events.{as_reply};
     ghost use Rattle.rd_marks.specs.BookState.{marked_events, mark, drop_mark, goto_mark, mark_at, MakesSteps, AnswersSame};
 
@@ -90,7 +90,7 @@ impl<const R: usize> Book<R> {
     ///
     /// The refusal of `Session::apply`. A refused event changes nothing.
     pub fn apply(&mut self, event: Event) -> Result<EventReply, Refusal>
-        ensures answer { Happened (book_state self.old) event
+        ensures answer { IsEventAnswer (book_state self.old) event
             (record { answer = result_map as_reply result; state = book_state self.new }) }
         ensures memory { IfErr result (MayRefuse (session_of self.old) event) }
         ensures start { (book_state self.new).session.start ≡ (book_state self.old).session.start }
@@ -194,7 +194,7 @@ impl<const R: usize> Book<R> {
         let Some(other) = self.bookmarks.find(&other) else {
             return Err(Refusal::NoMark);
         };
-        match self.bookmarks.are_same(self.alloc, one, other) {
+        match self.bookmarks.are_nodes_equivalent(self.alloc, one, other) {
             Err(_) => Err(Refusal::NoMemory),
             Ok(same) => Ok(same),
         }
@@ -213,7 +213,7 @@ impl<const R: usize> Book<R> {
     /// bookmark. The book keeps this many entries for its bookmarks. It takes no memory.
     pub fn nodes(&self) -> u64
         ensures counts { CountsBeginnings (book_state self.now).marks result }
-        ensures entries { result ≡ mark_entries self.now }
+        ensures entries { result ≡ mark_entry_count self.now }
     {
         self.bookmarks.nodes() as u64
     }

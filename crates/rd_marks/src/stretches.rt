@@ -67,7 +67,7 @@ pub(crate) struct Stretches {
 }
 
 impl Stretches {
-    ghost use Rattle.rd_marks.specs.Stretches.{shared_at, entries_at, count_of, IsWithin, IsOwn};
+    ghost use Rattle.rd_marks.specs.Stretches.{shared_at, entries_at, entry_count, IsWithin, IsOwn};
 
     /// Returns an empty list of stretches. It takes no memory.
     pub(crate) fn new(alloc: Global) -> Stretches
@@ -88,8 +88,8 @@ impl Stretches {
     /// Returns the number of entries that the stretches keep, all together.
     #[tactic(auto, using(crate::proofs::Reading::count_on))]
     pub(crate) fn entries(&self) -> usize
-        requires { count_of self.now.list.items < 2 ^ 64 }
-        ensures { result ≡ count_of self.now.list.items }
+        requires { entry_count self.now.list.items < 2 ^ 64 }
+        ensures { result ≡ entry_count self.now.list.items }
     {
         let mut count = 0;
         for i in 0..self.list.len() {

@@ -6,7 +6,7 @@ ghost use Rattle.rd_script.specs.Streams.{sink_stream};
 ghost use Rattle.rd_program.specs.Endings.{EndsAs, Takes, error_line};
 
 use super::faults::ProgramFault;
-use rd_script::{AnyRefusal, Sink, Text, WriteFault, set_text, write_all};
+use rd_script::{AnyRefusal, Sink, Text, WriteFault, set_answer, write_all};
 use std::process::ExitCode;
 
 /// Writes the line of the fault, if there is one, to standard error, and returns the exit status:
@@ -32,7 +32,7 @@ fn write_line<K: Sink>(stream: &mut K, refusal: AnyRefusal) -> Result<(), WriteF
     ensures { Takes (sink_stream K.Sink stream.old stream.new) (error_line refusal) }
 {
     let mut text = Text::new();
-    set_text(&mut text, &Err(refusal));
+    set_answer(&mut text, &Err(refusal));
     write_all(stream, b"lcrqdb: ")?;
     write_all(stream, text.as_slice())
 }

@@ -59,13 +59,13 @@ fn play_over<S: Source, K: Sink>(
         (devices S.Source K.Sink reader.old reader.new writer.old writer.new) result }
 {
     let lines = book.run(reader, writer)?;
-    write_if(alloc, writer, book, trace)?;
+    write_trace_if_asked(alloc, writer, book, trace)?;
     Ok(lines)
 }
 
 /// Writes the trace of a book if the trace is asked for, else nothing. Fails as `write_any_trace`
 /// does. The writer must not have failed before.
-fn write_if<K: Sink>(
+fn write_trace_if_asked<K: Sink>(
     alloc: Global,
     writer: &mut K,
     book: &AnyBook,

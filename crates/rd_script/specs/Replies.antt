@@ -11,12 +11,12 @@ use Rattle.rd_script.specs.declared.answers.AnyRefusal.{AnyRefusal}
 use Rattle.rd_script.specs.Texts.{spaced_number, yes_or_no}
 use Rattle.rd_script.specs.Contents.{content_words}
 use Rattle.rd_script.specs.Actors.{actor_words}
-use Rattle.rd_script.specs.Steps.{reply_word, step_words}
+use Rattle.rd_script.specs.Steps.{result_words, step_words}
 use Rattle.rd_script.specs.Refusals.{any_words}
 
 -- a space and the words of the result of the call that an event ended, or nothing if it ended none
-abbrev pub event_reply : Option OpReply → List ℕ
-event_reply o = option_map_or (λ r. codes " " ++ reply_word r) o []
+abbrev pub ended_call_words : Option OpReply → List ℕ
+ended_call_words o = option_map_or (λ r. codes " " ++ result_words r) o []
 
 -- the words of a step's number, or a hyphen if there is no such step
 abbrev pub step_number : Option ℕ → List ℕ
@@ -34,7 +34,7 @@ number_or_none word (Some n) = word ++ spaced_number n
 
 -- the words of a reply
 abbrev pub reply_words : Reply → List ℕ
-reply_words (reply.Applied step ended) = codes "ok" ++ spaced_number step ++ event_reply ended
+reply_words (reply.Applied step ended) = codes "ok" ++ spaced_number step ++ ended_call_words ended
 reply_words (reply.At live undone) = codes "at" ++ spaced_number live ++ spaced_number undone
 reply_words (reply.Marked len) = codes "marked" ++ spaced_number len
 reply_words reply.Dropped = codes "dropped"

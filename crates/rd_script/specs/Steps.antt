@@ -36,14 +36,14 @@ access_answer answer.Lost = codes "lost"
 access_answer (answer.Made s) = codes "made " ++ name_words s
 
 -- the words of the result of a call
-abbrev pub reply_word : OpReply → List ℕ
-reply_word op_reply.Enqueued = codes "enqueued"
-reply_word (op_reply.Value x) = codes "value" ++ spaced_number x
-reply_word op_reply.Empty = codes "empty"
+abbrev pub result_words : OpReply → List ℕ
+result_words op_reply.Enqueued = codes "enqueued"
+result_words (op_reply.Value x) = codes "value" ++ spaced_number x
+result_words op_reply.Empty = codes "empty"
 
 -- the words of the result of the call that a step ended, or a hyphen if it ended none
 abbrev pub step_reply : Option OpReply → List ℕ
-step_reply o = option_map_or reply_word o (codes "-")
+step_reply o = option_map_or result_words o (codes "-")
 
 -- the words of a step's place, access and answer
 abbrev pub done_words : Entry → List ℕ

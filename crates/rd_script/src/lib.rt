@@ -29,5 +29,5 @@ pub use reading::whole_texts::lines;
 pub use rings::Ring;
 pub use script::{run, write_answer};
 pub use writing::headings::{Heading, set_heading};
-pub use writing::lines::set_text;
+pub use writing::lines::set_answer;
 pub use writing::texts::Text;

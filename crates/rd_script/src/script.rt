@@ -8,7 +8,7 @@ ghost use Rattle.rd_journal.specs.Sessions.{journal, MayRefuse};
 ghost use Rattle.rd_marks.specs.declared.commands.Command.{Command as SomeCommand};
 ghost use Rattle.rd_marks.specs.declared.replies.Reply.{Reply};
 ghost use Rattle.rd_marks.specs.Book.{book_state, session_of, MayRefuseAsGoing};
-ghost use Rattle.rd_marks.specs.Commands.{Happened, IsObeyed};
+ghost use Rattle.rd_marks.specs.Commands.{IsEventAnswer, IsObeyed};
 ghost use Rattle.rd_script.specs.Device.{TakesBeginning};
 ghost use Rattle.rd_script.specs.Streams.{devices};
 ghost use Rattle.rd_script.specs.Lines.{Holds};
@@ -23,7 +23,7 @@ use super::devices::sinks::{Sink, WriteFault, write_all};
 use super::devices::sources::Source;
 use super::faults::ScriptFault;
 use super::reading::lines::{Line, Reading, next_line};
-use super::writing::lines::{set_event_reply, set_refused, set_reply, set_text};
+use super::writing::lines::{set_answer, set_event_reply, set_refused, set_reply};
 use super::writing::texts::Text;
 use rd_marks::{Book, Command};
 use rd_step::Event;
@@ -110,7 +110,7 @@ fn answer_line<const R: usize>(book: &mut Book<R>, line: &Line, text: &mut Text)
 /// Makes an event happen, and replaces the text by the line of its answer.
 fn answer_event<const R: usize>(book: &mut Book<R>, event: Event, text: &mut Text)
     ensures answers { (answer : Result Reply Refusal)
-        × Happened (book_state book.old) event
+        × IsEventAnswer (book_state book.old) event
         (record { answer = answer; state = book_state book.new })
         × IfErr answer (MayRefuse (session_of book.old) event)
         × (text.new.items ≡ text_of (line_answer answer)) }
@@ -153,6 +153,6 @@ pub fn write_answer<K: Sink>(writer: &mut K, answer: &LineAnswer) -> Result<(), 
     ensures fails { OnErr result (K.has_failed writer.new ≡ true) }
 {
     let mut text = Text::new();
-    set_text(&mut text, answer);
+    set_answer(&mut text, answer);
     write_all(writer, text.as_slice())
 }

@@ -23,7 +23,7 @@ mod undoing;
 use rd_actor::{Actor, Op, OpReply, Pc};
 use rd_cell::{ArrSlot, Cell, Content, SegName};
 use rd_marks::{MarkName, Reply};
-use rd_script::{LineAnswer, Text, set_text};
+use rd_script::{LineAnswer, Text, set_answer};
 use std::process::Abort;
 use std::test::Fail;
 
@@ -36,7 +36,7 @@ const LONGEST: SegName = SegName {
 /// Compares the line of an answer with its text.
 fn line_is(rt: &impl Abort, answer: &LineAnswer, line: &str) {
     let mut text = Text::new();
-    set_text(&mut text, answer);
+    set_answer(&mut text, answer);
     assert!(rt; text.as_slice() == line.as_bytes(), "line {line}");
 }
 

@@ -136,12 +136,12 @@ pub fn unmake_in<const R: usize>(makers: &mut Vec<Vec<Segment<R>>>, maker: u8)
     ensures room { ReturnsMakersRoom (room_used true maker) (makers_room makers.old.items)
         (makers_room makers.new.items) }
 {
-    take_last(&mut makers[usize::from(maker)]);
+    remove_last(&mut makers[usize::from(maker)]);
 }
 
 /// Removes the last segment of one maker's list, which must not be empty, and so gives its room
 /// back.
-fn take_last<const R: usize>(list: &mut Vec<Segment<R>>)
+fn remove_last<const R: usize>(list: &mut Vec<Segment<R>>)
     requires small { R ≤ MOST_CELLS }
     requires has_one { 0 < length list.old.items }
     ensures items { list.new.items ≡ take (length list.old.items - 1) list.old.items }

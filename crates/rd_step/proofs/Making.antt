@@ -1,6 +1,6 @@
 -- A making keeps a world well-formed: the new segment is its maker's next one, and just the places
 -- that belong to it are added.
-use Rattle.rd_step.proofs.Prelude.{◌≡◌, ℕ, zero, suc, ◌+◌, ◌<◌, ◌≤◌, Bool, true, false, not, ◌==◌, nat_lt, inl, inr, sym, ◌∙◌, ap, subst, arith, Some, is_some, eqb-true, cases_Bool, cond-true, cond-false, and_parts, MOST_SEGMENTS, SegName, Place, root, name_eq, Contents, is_there, after_write, holding, number_made_from, name_eq-true, belongs, place_fits, maker_fits, AreMade, number_made}
+use Rattle.rd_step.proofs.Prelude.{◌≡◌, ℕ, zero, suc, ◌+◌, ◌<◌, ◌≤◌, Bool, true, false, not, ◌==◌, nat_lt, inl, inr, sym, ◌∙◌, ap, subst, arith, Some, is_some, eqb-true, cases_Bool, cond-true, cond-false, and_parts, MOST_SEGMENTS, SegName, Place, root, name_eq, Contents, is_there, after_write, holding, number_made_from, name_eq-true, belongs, place_fits, may_be_there, AreMade, number_made}
 use Rattle.rd_step.proofs.Fits.{Grows}
 use Rattle.rd_cell.specs.declared.places.Place.TheVariants as place
 use Rattle.rd_cell.specs.declared.contents.Content.TheVariants as content
@@ -36,19 +36,19 @@ laid_grows R s x at t h = grind arith
 
 -- an actor may be the maker of a segment whose number is below 65,535
 pub maker_is : (is_actor : ℕ → Bool) (m n : ℕ) → not (is_actor 0) ≡ true → is_actor m ≡ true → nat_lt n MOST_SEGMENTS ≡ true
-    → maker_fits is_actor m n ≡ true
+    → may_be_there is_actor m n ≡ true
 maker_is is_actor m n h k l = grind arith
 
 -- after a making, actors made all segments but the root, and no maker's numbers have a gap
-pub laid_made : (R : ℕ) (s : SegName) (x : ℕ) (at : Contents) (is_actor : ℕ → Bool) → maker_fits is_actor s.maker s.n ≡ true
+pub laid_made : (R : ℕ) (s : SegName) (x : ℕ) (at : Contents) (is_actor : ℕ → Bool) → may_be_there is_actor s.maker s.n ≡ true
     → ((k : ℕ) → k < s.n → is_there at (record { maker = s.maker; n = k }) ≡ true) → AreMade is_actor (is_there at)
     → AreMade is_actor (is_there (laid R s x at))
 laid_made R s x at is_actor fits below were = record { rooted = laid_grows R s x at root were.rooted; makers = each; no_gap = gap }
   where
-    each : (t : SegName) → is_there (laid R s x at) t ≡ true → maker_fits is_actor t.maker t.n ≡ true
+    each : (t : SegName) → is_there (laid R s x at) t ≡ true → may_be_there is_actor t.maker t.n ≡ true
     each t h =
         elim (cases_Bool (name_eq s t)) [
-          | inl e ↦ subst (λ (u : SegName). maker_fits is_actor u.maker u.n ≡ true) (name_eq-true s t e) fits
+          | inl e ↦ subst (λ (u : SegName). may_be_there is_actor u.maker u.n ≡ true) (name_eq-true s t e) fits
           | inr e ↦ were.makers t (sym (laid_other R s x at t e) ∙ h)
         ]
 

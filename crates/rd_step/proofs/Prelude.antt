@@ -23,13 +23,13 @@ pub use Rattle.rd_step.specs.Equivalence.{IsEquivalent, IsIndependentOf, Reaches
 pub use Rattle.rd_step.specs.Laws.{ChangesOnly, CommutingSquare, IsRemovable, IsStepRefusal, IsTakenOut, KeepsOldWords, MovesOn, SuitsContent, WasStepped}
 pub use Rattle.rd_step.specs.Lists.{numbered, without}
 pub use Rattle.rd_step.specs.Parts.{array_fits, first_flaw, has, indexes_fit, world_of_parts}
-pub use Rattle.rd_step.specs.Prelude.{Act, IsFree, MOST_STEPS, OpReply, Ran, Refusal, Stepped, World, and_then, closure, closure_of, depends, depends_on_one, first_dependant, interfere, items_where_false, model, overlaps, result_map, run, some_overlap, step, without_closure, written}
+pub use Rattle.rd_step.specs.Prelude.{Act, IsFree, MOST_STEPS, OpReply, Ran, Refusal, Stepped, World, and_then, closure, closure_of, depends, depends_on_any, first_dependant, interfere, items_where_false, model, overlaps, result_map, run, some_overlap, step, without_closure, written}
 pub use Rattle.rd_step.specs.Room.{IsRefused, makes, makes_segment, room_returned}
 pub use Rattle.rd_step.specs.Run.{IsRunFrom, events, preceded_by, run_entries}
 pub use Rattle.rd_step.specs.Starts.{actors_by, fresh_world, poised_world}
 pub use Rattle.rd_step.specs.Step.{CanPutBack, IsLast, step_outcome, unstep, with_actor}
-pub use Rattle.rd_step.specs.Touched.{made, made_at}
-pub use Rattle.rd_step.specs.WellFormed.{AreMade, IsNumbered, IsWellFormed, Presence, actor_fits, belongs, content_fits, index_end, index_within, is_actor, maker_fits, names_fit, next_fits, numbers_within, place_fits, record_fits, segments_named_fit}
+pub use Rattle.rd_step.specs.Made.{made, made_at}
+pub use Rattle.rd_step.specs.WellFormed.{AreMade, IsNumbered, IsWellFormed, Presence, actor_fits, belongs, content_fits, index_end, index_within, is_actor, may_be_there, names_fit, next_fits, numbers_within, place_fits, record_fits, segments_named_fit}
 pub use Rattle.rd_step.specs.declared.entries.Entry.{Entry}
 pub use Rattle.rd_step.specs.declared.entries.Event.{Event}
 pub use Rattle.rd_step.specs.declared.flaws.Flaw.{Flaw}

@@ -1,5 +1,5 @@
 -- The code's world and its step, as the model's.
-use Rattle.rd_step.proofs.Prelude.{◌≡◌, ℕ, zero, suc, ◌-◌, ◌<◌, ◌≤◌, true, false, nat_lt, inl, inr, sym, ◌∙◌, ap, subst, arith, List, length, set, slice_get, Option, Some, None, is_some, IsSome, IsTrue, is_ok, IsOk, IfOk, OnErr, Result, Ok, Err, lt-ltb, le-ltb, leb-true, holding, cases_lt, cond-true, cond-false, COUNTER_END, MOST_SEGMENTS, MOST_CELLS, MOST_ACTORS, SegName, Place, Access, Make, Done, Refusal, Contents, is_there, perform, restore, everywhere, HasEffect, Space, contents, room, lists, Actor, OpReply, need, after, World, Event, Entry, with_actor, step, world_of_fields, numbered, makes, makes_segment, IsRefused, Presence, actor_fits, record_fits, maker_fits, is_actor, IsWellFormed, IfOk-at_ok, number_made, Makes, RefusesMaking, making_count, counts, there_below, absent_from, in_list, IsRepresentable, IsLast, access_suits, made_at}
+use Rattle.rd_step.proofs.Prelude.{◌≡◌, ℕ, zero, suc, ◌-◌, ◌<◌, ◌≤◌, true, false, nat_lt, inl, inr, sym, ◌∙◌, ap, subst, arith, List, length, set, slice_get, Option, Some, None, is_some, IsSome, IsTrue, is_ok, IsOk, IfOk, OnErr, Result, Ok, Err, lt-ltb, le-ltb, leb-true, holding, cases_lt, cond-true, cond-false, COUNTER_END, MOST_SEGMENTS, MOST_CELLS, MOST_ACTORS, SegName, Place, Access, Make, Done, Refusal, Contents, is_there, perform, restore, everywhere, HasEffect, Space, contents, room, lists, Actor, OpReply, need, after, World, Event, Entry, with_actor, step, world_of_fields, numbered, makes, makes_segment, IsRefused, Presence, actor_fits, record_fits, may_be_there, is_actor, IsWellFormed, IfOk-at_ok, number_made, Makes, RefusesMaking, making_count, counts, there_below, absent_from, in_list, IsRepresentable, IsLast, access_suits, made_at}
 use Rattle.rd_actor.proofs.Representable.{representable}
 use Rattle.rd_step.specs.declared.worlds.World.{World as CodeWorld}
 use Rattle.rd_step.proofs.Actors.{numbered-set, numbered-within}
@@ -87,7 +87,7 @@ few_actors R space xs formed = grind (arith, too_many)
 pub some_maker : {R : ℕ} (space : Space R) (xs : List Actor) (n : ℕ) → lists space ≡ suc (length xs) → IsSome (numbered xs n) → n < lists space
 some_maker space xs n lists_are h = grind (arith, numbered-within)
 
-no_such : {R : ℕ} (space : Space R) (xs : List Actor) (n : ℕ) → maker_fits (is_actor (numbered xs)) n MOST_SEGMENTS ≡ true → ⊥
+no_such : {R : ℕ} (space : Space R) (xs : List Actor) (n : ℕ) → may_be_there (is_actor (numbered xs)) n MOST_SEGMENTS ≡ true → ⊥
 no_such space xs n h = grind arith
 
 few_made : {R : ℕ} (space : Space R) (xs : List Actor) (n : ℕ) → IsWellFormed (world_of_fields space xs) → making_count space n ≤ MOST_SEGMENTS

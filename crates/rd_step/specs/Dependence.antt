@@ -28,14 +28,14 @@ pub data IsInClosure (entries : List Entry) (k : ℕ) : ℕ → Type 0 where
       → depends x y ≡ true → IsInClosure entries k j
 
 -- whether y depends on at least one of these entries
-abbrev pub depends_on_one : List Entry → Entry → Bool
-depends_on_one xs y = list_any (λ x. depends x y) xs
+abbrev pub depends_on_any : List Entry → Entry → Bool
+depends_on_any xs y = list_any (λ x. depends x y) xs
 
 -- a mark for each entry of the second list: whether it depends on an entry of the first list, or on
 -- an earlier entry of the second that is marked
 abbrev pub closure_from : List Entry → List Entry → List Bool
 closure_from xs [] = []
-closure_from xs (y ∷ ys) = depends_on_one xs y ∷ closure_from (if depends_on_one xs y then xs ++ y ∷ [] else xs) ys
+closure_from xs (y ∷ ys) = depends_on_any xs y ∷ closure_from (if depends_on_any xs y then xs ++ y ∷ [] else xs) ys
 
 -- a mark for each position: whether it is in the causal closure of position k. If no entry has
 -- position k, no position is marked

@@ -7,7 +7,7 @@ pub mod WellFormed
 pub mod Starts
 pub mod CodeWorldFields
 pub mod Room
-pub mod Touched
+pub mod Made
 pub mod CodeWorld
 pub mod Parts
 pub mod Laws

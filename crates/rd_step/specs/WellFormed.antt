@@ -83,15 +83,15 @@ pub record IsNumbered (is_actor : ℕ → Bool) : Type 0 where
 
 -- whether a segment with this maker and number may be there: number 0 of maker 0, which is the
 -- root, or one of the first 65,535 of an actor
-abbrev pub maker_fits : (ℕ → Bool) → ℕ → ℕ → Bool
-maker_fits is_actor zero n = n == 0
-maker_fits is_actor (suc m) n = is_actor (suc m) && nat_lt n MOST_SEGMENTS
+abbrev pub may_be_there : (ℕ → Bool) → ℕ → ℕ → Bool
+may_be_there is_actor zero n = n == 0
+may_be_there is_actor (suc m) n = is_actor (suc m) && nat_lt n MOST_SEGMENTS
 
 -- the root is there, an actor made each other segment, and a maker's segments are numbered without
 -- a gap
 pub record AreMade (is_actor : ℕ → Bool) (there : Presence) : Type 0 where
   pub rooted : IsTrue (there root)
-  pub makers : (s : SegName) → IsTrue (there s) → IsTrue (maker_fits is_actor s.maker s.n)
+  pub makers : (s : SegName) → IsTrue (there s) → IsTrue (may_be_there is_actor s.maker s.n)
   pub no_gap : (m n : ℕ) → IsTrue (there (record { maker = m; n = suc n })) → IsTrue (there (record { maker = m; n = n }))
 
 -- whether there is an actor of this number

@@ -3,7 +3,7 @@
 
 ghost use Rattle.std.specs.Prelude.{◌≡◌};
 ghost use Rattle.rd_cell.specs.Places.{written};
-ghost use Rattle.rd_step.specs.Touched.{made, made_at};
+ghost use Rattle.rd_step.specs.Made.{made, made_at};
 
 use rd_actor::{Act, Actor, OpReply};
 use rd_cell::{Answer, Content, Place, SegName, Wrote, written};

@@ -49,7 +49,7 @@ impl EventList for &[Entry] {
 /// that differs or to the end of the shorter list. This takes no memory, and time in proportion to
 /// the result.
 #[tactic(auto, using(std::proofs::lemmas::Option::slice_get_cases, std::proofs::lemmas::Grind::common_steps))]
-pub fn common_beginning<A: EventList, B: EventList>(a: &A, b: &B) -> usize
+pub fn common_beginning_len<A: EventList, B: EventList>(a: &A, b: &B) -> usize
     ensures in_first { result ≤ length (A.listed a.now) }
     ensures in_second { result ≤ length (B.listed b.now) }
     ensures same { take result (A.listed a.now) ≡ take result (B.listed b.now) }

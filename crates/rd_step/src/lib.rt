@@ -14,7 +14,7 @@ mod parts;
 mod worlds;
 
 pub use entries::{Entry, Event};
-pub use event_lists::{EventList, common_beginning};
+pub use event_lists::{EventList, common_beginning_len};
 pub use flaws::{Flaw, Unassembled};
 pub use parts::Parts;
 pub use rd_ring::SegmentParts;

@@ -6,7 +6,7 @@ pub use Rattle.rd_ring.proofs.Prelude.{ArrSlot, COUNTER_END, Cell, MOST_ACTORS, 
 pub use Rattle.rd_segments.proofs.Prelude.{array_part, by_name, by_number, contents_by, count, count_in, part_of_parts, segments_by}
 pub use Rattle.rd_step.proofs.Prelude.{Act, Actor, ArrayParts, MOST_STEPS, Pc, Ran, Refusal, SegmentParts, Stepped, World, array_fits, events, first_flaw, fresh_world, indexes_fit, model, names_fit, next_fits, numbered, numbers_within, result_map, run, run_entries, step, words_fit, world_of_parts}
 pub use Rattle.rd_journal.proofs.Prelude.{IsRun, Journal, State, apply, back, journal, state, state_of, step_after, with_event}
-pub use Rattle.rd_marks.proofs.Prelude.{Answered, AnswersEvents, BookState, GoThrough, Happened, HaveDifferentNames, KeepsRules, MOST_MARKS, Mark, MarksGoThrough, answer_with, at_events, book_state, bytes_of, is_mark_name, is_name_byte, mark, mark_at, mark_events, mark_name_eq, marked_events, opened_ring, session_of, with_session}
+pub use Rattle.rd_marks.proofs.Prelude.{Answered, AnswersMarkEvents, BookState, GoThrough, IsEventAnswer, HaveDifferentNames, KeepsRules, MOST_MARKS, Mark, MarksGoThrough, answer_with, at_events, book_state, bytes_of, is_mark_name, is_name_byte, mark, mark_at, mark_events, mark_name_eq, marked_events, opened_ring, session_of, with_session}
 pub use Rattle.rd_script.proofs.Prelude.{Book, Reply}
 pub use Rattle.rd_script.specs.AnyBook.{IsBookIn, any_state}
 pub use Rattle.rd_script.specs.declared.any_book.AnyBook.{AnyBook}
@@ -37,7 +37,7 @@ pub use Rattle.rd_trace.specs.Loading.{IsSameAnswer, LoadsAgain, LoadsTrace, Rep
 pub use Rattle.rd_trace.specs.Names.{name_data, name_of, name_of_items, next_data, next_of}
 pub use Rattle.rd_trace.specs.Numbers.{byte_number, items_at, member_count, number_at}
 pub use Rattle.rd_trace.specs.Saved.{HasValue, IsEitherVersion, IsSameBook, IsTraceText, IsVersion1, IsVersion2, Trace, book_data, book_object, loaded_state, saved_trace, seen_mark}
-pub use Rattle.rd_trace.specs.Segments.{IsSegment, IsSegmentList, cell_data, cell_of, cell_of_items, list_data, segment_data}
+pub use Rattle.rd_trace.specs.Segments.{IsSegment, IsSegmentList, cell_data, cell_of, cell_of_items, segment_list_data, segment_data}
 pub use Rattle.rd_trace.specs.Spelled.{AreSpelled, Gives, Reads, SpellEach, SpellEachAt, elements, items_by, itself}
 pub use Rattle.rd_trace.specs.Starts.{HasActorsInRange, IsFreshStart, IsParts, IsStart, IsStartData, IsStartValue, SpellsWorld, fresh_data, parts_data, start_flaw, start_world}
 pub use Rattle.rd_trace.specs.Steps.{GoesTo, LoadsValue, MakesLive, RefusesOne, SetsMarks, mark_fault, step_fault}

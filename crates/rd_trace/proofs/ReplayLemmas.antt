@@ -1,5 +1,5 @@
 -- Replaying events: which ones happen, and which one is refused.
-use Rattle.rd_trace.proofs.Prelude.{common_steps, AllByRecursion, cond-false, IsDistinct-head, IsDistinct-tail, take-append_seam, drop-append_seam, append-nil, length-map, map-append, map_more, take_all, take-append-drop, length-take-le, length-drop, World, Refusal, Stepped, step, Ran, run, MOST_STEPS, result_map, Event, State, step_after, with_event, apply, back, MarkName, MOST_MARKS, bytes_of, mark_name_eq, Mark, BookState, with_session, marked_events, mark, GoThrough, MarksGoThrough, HaveDifferentNames, SavedMark, LoadTraceFault, Flawed, TraceMark, TraceStep, saved_mark, start_world, start_flaw, Trace, loaded_state, session_at, first_refused, first_refused_mark, trace_fault, Replays, RefusesOne, GoesTo, MakesLive, SetsMarks, mark_fault, step_fault, le-ltb, ◌≡◌, ◌⊎◌, inl, inr, ℕ, suc, ◌+◌, ◌-◌, ◌<◌, ◌≤◌, if◌then◌else◌, Bool, false, List, [], ◌∷◌, ◌++◌, length, take, drop, get_or, map, Some, None, is_some, Option, option_map, Result, Ok, Err, IsOk, refl, sym, ap, ap₂, ◌∙◌, subst, arith, append_assoc, length-append, ne_eqb, option_or, result_err, at_events, with_marks, NoMemory, Reply, Answered, answer_with, Happened}
+use Rattle.rd_trace.proofs.Prelude.{common_steps, AllByRecursion, cond-false, IsDistinct-head, IsDistinct-tail, take-append_seam, drop-append_seam, append-nil, length-map, map-append, map_more, take_all, take-append-drop, length-take-le, length-drop, World, Refusal, Stepped, step, Ran, run, MOST_STEPS, result_map, Event, State, step_after, with_event, apply, back, MarkName, MOST_MARKS, bytes_of, mark_name_eq, Mark, BookState, with_session, marked_events, mark, GoThrough, MarksGoThrough, HaveDifferentNames, SavedMark, LoadTraceFault, Flawed, TraceMark, TraceStep, saved_mark, start_world, start_flaw, Trace, loaded_state, session_at, first_refused, first_refused_mark, trace_fault, Replays, RefusesOne, GoesTo, MakesLive, SetsMarks, mark_fault, step_fault, le-ltb, ◌≡◌, ◌⊎◌, inl, inr, ℕ, suc, ◌+◌, ◌-◌, ◌<◌, ◌≤◌, if◌then◌else◌, Bool, false, List, [], ◌∷◌, ◌++◌, length, take, drop, get_or, map, Some, None, is_some, Option, option_map, Result, Ok, Err, IsOk, refl, sym, ap, ap₂, ◌∙◌, subst, arith, append_assoc, length-append, ne_eqb, option_or, result_err, at_events, with_marks, NoMemory, Reply, Answered, answer_with, IsEventAnswer}
 use Rattle.std.proofs.lemmas.Cmp.{nat_list_eq_equiv}
 use Rattle.rd_step.proofs.Equivalence.{ran_through}
 use Rattle.rd_trace.proofs.SpellLemmas.{split_at, take_item}
@@ -125,11 +125,11 @@ event_not_made : (b after : BookState) (cause : Refusal) (reply : State → Repl
 event_not_made b after cause reply o h = grind arith
 
 -- the session of an event that happened is the answer of `apply`, and the bookmarks are the same
-pub happened : (b after : BookState) (e : Event) (reply : Reply) → Happened b e (record { answer = Ok reply; state = after })
+pub happened : (b after : BookState) (e : Event) (reply : Reply) → IsEventAnswer b e (record { answer = Ok reply; state = after })
     → (apply b.session e ≡ Ok after.session) × (after.marks ≡ b.marks)
 happened b after e reply k = grind (arith, common_steps)
 
-pub not_happened : (b after : BookState) (e : Event) (cause : Refusal) → Happened b e (record { answer = Err cause; state = after })
+pub not_happened : (b after : BookState) (e : Event) (cause : Refusal) → IsEventAnswer b e (record { answer = Err cause; state = after })
     → (cause ≡ refusal.NoMemory) ⊎ (apply b.session e ≡ Err cause)
 not_happened b after e cause (inl h) = inr (event_not_made b after cause _ (apply b.session e) h)
 not_happened b after e cause (inr h) = inl (cc (ap (λ (a : Answered). a.answer) h.1))

@@ -1,5 +1,5 @@
 -- The start of a session as a JSON value, in a fresh world or in any other.
-use Rattle.rd_trace.proofs.Prelude.{◌≡◌, ℕ, ◌≤◌, Some, None, Result, inl, inr, refl, sym, ap, ◌∙◌, subst, arith, IfOk, OnOk, Data, MOST_ACTORS, World, fresh_world, world_of_parts, first_flaw, Parts, SpellEach, items_by, name_of, name_data, IsActor, actor_data, array_data, IsSegmentList, list_data, IsFreshStart, IsParts, IsStartValue, fresh_data, parts_data}
+use Rattle.rd_trace.proofs.Prelude.{◌≡◌, ℕ, ◌≤◌, Some, None, Result, inl, inr, refl, sym, ap, ◌∙◌, subst, arith, IfOk, OnOk, Data, MOST_ACTORS, World, fresh_world, world_of_parts, first_flaw, Parts, SpellEach, items_by, name_of, name_data, IsActor, actor_data, array_data, IsSegmentList, segment_list_data, IsFreshStart, IsParts, IsStartValue, fresh_data, parts_data}
 use Rattle.rd_trace.proofs.ArrayLemmas.{array_spelled}
 use Rattle.rd_trace.specs.declared.starts.Start.TheVariants as start
 
@@ -15,14 +15,14 @@ both_ok P W r p q f = grind arith
 
 -- the JSON value as which parts are written spells them, if the values of their members spell these
 pub parts_spelled : {R : ℕ} (p : Parts R) → SpellEach IsActor (items_by actor_data p.actors.items) p.actors.items → name_of (name_data p.qhead) ≡ Some p.qhead
-    → name_of (name_data p.qtail) ≡ Some p.qtail → SpellEach IsSegmentList (items_by list_data p.segments.items) p.segments.items → IsParts (parts_data p) p
+    → name_of (name_data p.qtail) ≡ Some p.qtail → SpellEach IsSegmentList (items_by segment_list_data p.segments.items) p.segments.items → IsParts (parts_data p) p
 parts_spelled p actors qhead qtail segments = record {
   members = refl;
   actors = (items_by actor_data p.actors.items, refl, actors);
   array = (array_data p.array, refl, array_spelled p.array);
   qhead = qhead;
   qtail = qtail;
-  segments = (items_by list_data p.segments.items, refl, segments);
+  segments = (items_by segment_list_data p.segments.items, refl, segments);
 }
 
 -- the JSON value of a fresh start with 1 to 16 actors spells it

@@ -1,5 +1,5 @@
 -- The JSON value of a book has no float, and is not deeper than what is read.
-use Rattle.rd_trace.proofs.Prelude.{◌≡◌, ℕ, suc, ◌≤◌, false, ◌||◌, List, [], ◌∷◌, Vec, Global, inl, inr, refl, sym, ap₂, subst, arith, Data, Items, depth, items_depth, max_depth, has_float, items_have_float, Cell, ArrSlot, SegmentParts, ArrayParts, Actor, World, Event, Parts, Mark, BookState, items_by, event_data, actor_data, cell_data, segment_data, list_data, filled_slots, slot_data, array_data, IsStartData, parts_data, mark_data, book_data}
+use Rattle.rd_trace.proofs.Prelude.{◌≡◌, ℕ, suc, ◌≤◌, false, ◌||◌, List, [], ◌∷◌, Vec, Global, inl, inr, refl, sym, ap₂, subst, arith, Data, Items, depth, items_depth, max_depth, has_float, items_have_float, Cell, ArrSlot, SegmentParts, ArrayParts, Actor, World, Event, Parts, Mark, BookState, items_by, event_data, actor_data, cell_data, segment_data, segment_list_data, filled_slots, slot_data, array_data, IsStartData, parts_data, mark_data, book_data}
 
 -- a JSON value has no float, and its depth is at most n
 record IsPlain (n : ℕ) (d : Data) : Type 0 where
@@ -36,7 +36,7 @@ cell_plain c = grind arith
 segment_plain : {R : ℕ} (s : SegmentParts R) → IsPlain 3 (segment_data s)
 segment_plain s = grind (arith, each_plain 1 cell_data cell_plain s.cells)
 
-list_plain : {R : ℕ} (list : Vec (SegmentParts R) Global) → IsPlain 4 (list_data list)
+list_plain : {R : ℕ} (list : Vec (SegmentParts R) Global) → IsPlain 4 (segment_list_data list)
 list_plain list = grind (arith, each_plain 3 segment_data segment_plain list.items)
 
 slot_plain : (s : ℕ × ArrSlot) → IsPlain 1 (slot_data s)
@@ -46,7 +46,7 @@ slots_plain : (a : ArrayParts) → IsPlain 4 (array_data a)
 slots_plain a = grind (arith, each_plain 1 slot_data slot_plain (filled_slots 0 a.cells))
 
 parts_plain : {R : ℕ} (p : Parts R) → IsPlain 6 (parts_data p)
-parts_plain p = grind (arith, each_plain 4 actor_data actor_plain p.actors.items, each_plain 4 list_data list_plain p.segments.items, slots_plain p.array)
+parts_plain p = grind (arith, each_plain 4 actor_data actor_plain p.actors.items, each_plain 4 segment_list_data list_plain p.segments.items, slots_plain p.array)
 
 start_plain : (w : World) (d : Data) → IsStartData w d → IsPlain 6 d
 start_plain w d (inl (count, is_fresh, some, few, same)) = subst (IsPlain 6) (sym same) (record { whole = refl; shallow = omega arith })

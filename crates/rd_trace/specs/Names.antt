@@ -5,12 +5,12 @@ use Rattle.std.specs.Prelude.{ℕ, List, Option, Some, None, option_map, option_
 use Rattle.serde_json.specs.Data.{Data, null, number, array, unsigned, Items, no_items, item}
 use Rattle.serde_json.specs.Find.{get, as_array}
 use Rattle.rd_cell.specs.declared.places.SegName.{SegName}
-use Rattle.rd_trace.specs.Numbers.{byte_number, word_number}
+use Rattle.rd_trace.specs.Numbers.{byte_number, u32_number}
 
 -- the name of a segment that the items of a list spell: a maker and a number; none if they spell
 -- none
 abbrev pub name_of_items : Items → Option SegName
-name_of_items (item m (item n no_items)) = option_and_then (λ maker. option_map (λ k. record { maker = maker; n = k }) (word_number n)) (byte_number m)
+name_of_items (item m (item n no_items)) = option_and_then (λ maker. option_map (λ k. record { maker = maker; n = k }) (u32_number n)) (byte_number m)
 name_of_items _ = None
 
 -- the name of a segment that a JSON value spells; none if it spells none

@@ -13,8 +13,8 @@ abbrev pub byte_number : Data → Option ℕ
 byte_number d = option_and_then (λ n. if nat_le n 255 then Some n else None) (whole_number d)
 
 -- the whole number from 0 to 2^32 - 1 that a JSON value is; none for any other value
-abbrev pub word_number : Data → Option ℕ
-word_number d = option_and_then (λ n. if nat_le n 4294967295 then Some n else None) (whole_number d)
+abbrev pub u32_number : Data → Option ℕ
+u32_number d = option_and_then (λ n. if nat_le n 4294967295 then Some n else None) (whole_number d)
 
 -- the number of members of a JSON object; none for any other value
 abbrev pub member_count : Data → Option ℕ

@@ -50,5 +50,5 @@ segment_data s = object (
     (member (codes "tail") (number (unsigned s.tail)) no_members)))))
 
 -- the JSON value as which the list of a maker's segments is written
-abbrev pub list_data : {R : ℕ} → Vec (SegmentParts R) Global → Data
-list_data list = array (items_by segment_data list.items)
+abbrev pub segment_list_data : {R : ℕ} → Vec (SegmentParts R) Global → Data
+segment_list_data list = array (items_by segment_data list.items)

@@ -13,7 +13,7 @@ use Rattle.rd_trace.specs.Numbers.{member_count, number_at}
 use Rattle.rd_trace.specs.Spelled.{SpellEachAt, items_by}
 use Rattle.rd_trace.specs.Names.{name_at, name_data}
 use Rattle.rd_trace.specs.Actors.{IsActor, actor_data}
-use Rattle.rd_trace.specs.Segments.{IsSegmentList, list_data}
+use Rattle.rd_trace.specs.Segments.{IsSegmentList, segment_list_data}
 use Rattle.rd_trace.specs.Arrays.{IsArray, array_data}
 use Rattle.rd_trace.specs.declared.starts.Start.{Start}
 use Rattle.rd_trace.specs.declared.starts.Start.TheVariants as start
@@ -84,7 +84,7 @@ parts_object actors slots qhead qtail segments = object (
 
 -- the JSON value as which parts of a world are written
 abbrev pub parts_data : {R : ℕ} → Parts R → Data
-parts_data p = parts_object (items_by actor_data p.actors.items) (array_data p.array) (name_data p.qhead) (name_data p.qtail) (items_by list_data p.segments.items)
+parts_data p = parts_object (items_by actor_data p.actors.items) (array_data p.array) (name_data p.qhead) (name_data p.qtail) (items_by segment_list_data p.segments.items)
 
 -- the start in this world may be written as this JSON value: as a fresh start if the world is
 -- fresh, and only then; else as parts of the world that have no flaw

@@ -81,14 +81,14 @@ pub fn put_events(text: &mut String, events: &[Event]) -> Result<(), AllocError>
         (string_bytes text.old) (string_bytes text.new)) }
 {
     for i in 0..events.len() {
-        put_next(text, i, events[i])?;
+        put_next_event(text, i, events[i])?;
     }
     Ok(())
 }
 
 /// Appends the text of an event to a list of which the text has this many events already, with a
 /// comma before it unless it is the first. Fails only if memory is refused.
-pub fn put_next(text: &mut String, count: usize, event: Event) -> Result<(), AllocError>
+pub fn put_next_event(text: &mut String, count: usize, event: Event) -> Result<(), AllocError>
     ensures ok { OnOk result (string_bytes text.new
         ≡ string_bytes text.old ++ (comma_if (nat_lt 0 count) ++ compact_text (event_data event))) }
     ensures kept { OnOk result (IsSpelledBack (Gives event_of) (event_data event) event) }

@@ -5,7 +5,7 @@ ghost use Rattle.std.specs.Prelude.{◌≡◌, Some, IfOk};
 ghost use Rattle.serde_json.specs.View.{view};
 ghost use Rattle.rd_trace.specs.Names.{name_of, next_of, name_data, next_data};
 
-use super::numbers::{byte_in, word_in};
+use super::numbers::{byte_in, u32_in};
 use rd_cell::SegName;
 use serde_json::{Value, json};
 use std::alloc::{AllocError, Global};
@@ -19,7 +19,7 @@ pub fn name_in(value: &Value) -> Option<SegName>
     match items.as_slice() {
         [maker, n] => Some(SegName {
             maker: byte_in(maker)?,
-            n: word_in(n)?,
+            n: u32_in(n)?,
         }),
         _ => None,
     }

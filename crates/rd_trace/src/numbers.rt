@@ -2,7 +2,7 @@
 
 ghost use Rattle.std.specs.Prelude.{◌≡◌};
 ghost use Rattle.serde_json.specs.View.{view};
-ghost use Rattle.rd_trace.specs.Numbers.{byte_number, word_number};
+ghost use Rattle.rd_trace.specs.Numbers.{byte_number, u32_number};
 
 use serde_json::Value;
 
@@ -19,8 +19,8 @@ pub fn byte_in(value: &Value) -> Option<u8>
 }
 
 /// Returns the whole number from 0 to 2^32 - 1 that a JSON value is; none for any other value.
-pub fn word_in(value: &Value) -> Option<u32>
-    ensures { result ≡ word_number (view value.now) }
+pub fn u32_in(value: &Value) -> Option<u32>
+    ensures { result ≡ u32_number (view value.now) }
 {
     let number = value.as_u64()?;
     if number <= u32::MAX as u64 {

@@ -19,7 +19,7 @@ use super::starts::Start;
 use rd_cell::Refusal;
 use rd_journal::Session;
 use rd_marks::Book;
-use rd_step::{Event, Unassembled, World, common_beginning};
+use rd_step::{Event, Unassembled, World, common_beginning_len};
 use std::alloc::Global;
 
 /// Returns the book of a session that was read, by making its events happen. A fresh start must
@@ -117,7 +117,7 @@ fn make_live<const R: usize>(
 fn go_to<const R: usize>(book: &mut Book<R>, events: &[Event]) -> Result<(), LoadTraceFault>
     ensures { GoesTo (book_state book.old) events.now (book_state book.new) result }
 {
-    let kept = common_beginning(&book.session().live(), &events);
+    let kept = common_beginning_len(&book.session().live(), &events);
     book.keep_first(kept as u64);
     step_all(book, &events[kept..])
 }

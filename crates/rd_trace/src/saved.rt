@@ -18,7 +18,7 @@ ghost use Rattle.rd_trace.specs.Texts.{AreAppended, IsStartAppended};
 ghost use Rattle.rd_trace.specs.Writing.{IsTextOf};
 
 use super::bookmarks::{SavedMark, marks_in, put_marks};
-use super::events::put_next;
+use super::events::put_next_event;
 use super::faults::LoadTraceFault;
 use super::members::{items_at, member_count, number_at};
 use super::spelled::list_at;
@@ -218,7 +218,7 @@ fn put_live<const R: usize>(text: &mut String, session: &Session<R>) -> Result<(
 {
     let live = session.live();
     for k in 0..live.len() {
-        put_next(text, k, live.at(k).event)?;
+        put_next_event(text, k, live.at(k).event)?;
     }
     Ok(())
 }
@@ -233,7 +233,7 @@ fn put_undone<const R: usize>(text: &mut String, session: &Session<R>) -> Result
         let Some(event) = session.undone_event(k + 1) else {
             unreachable!();
         };
-        put_next(text, k as usize, event)?;
+        put_next_event(text, k as usize, event)?;
     }
     Ok(())
 }

@@ -7,7 +7,7 @@ ghost use Rattle.rd_step.specs.Prelude.{MOST_CELLS};
 ghost use Rattle.rd_cell.specs.declared.cells.Cell.{Cell};
 ghost use Rattle.rd_ring.specs.declared.parts.SegmentParts.{SegmentParts};
 ghost use Rattle.rd_trace.specs.Spelled.{Gives, SpellEach};
-ghost use Rattle.rd_trace.specs.Segments.{cell_of, cell_data, IsSegment, IsSegmentList, segment_data, list_data};
+ghost use Rattle.rd_trace.specs.Segments.{cell_of, cell_data, IsSegment, IsSegmentList, segment_data, segment_list_data};
 
 use super::actors::value_in;
 use super::faults::LoadTraceFault;
@@ -48,7 +48,7 @@ impl<const R: usize> Spelled for Vec<SegmentParts<R>> {
 }
 
 impl<const R: usize> Written for Vec<SegmentParts<R>> {
-    ghost datum = { list_data };
+    ghost datum = { segment_list_data };
 
     /// Returns the JSON value of the list of segments. Fails only if memory is refused.
     fn to_value(&self, alloc: Global) -> Result<Value, AllocError> {

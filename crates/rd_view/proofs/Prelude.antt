@@ -5,7 +5,7 @@ pub use Rattle.rd_cell.proofs.Prelude.{AllByRecursion, AllZip, AllZip-long, Appe
 pub use Rattle.rd_marks.proofs.Prelude.{BookState, book_state}
 pub use Rattle.rd_script.proofs.Prelude.{Book, Command, Says, TakesBeginning, commands_of, lines_of, text_of}
 pub use Rattle.rd_lock.proofs.Prelude.{Continues, NamesUpTo, next_seen, number, numbers, put_by, seen}
-pub use Rattle.rd_desk.proofs.Prelude.{Answer, Ghosts, IsChain, IsDone, IsLegal, IsNewViewer, IsNotBusy, IsViewerOf, KnowsAfterCall, KnowsWords, Pass, SeesAfter, entries, opened_state, own_same}
+pub use Rattle.rd_desk.proofs.Prelude.{Answer, Ghosts, IsChain, IsDone, IsLegal, IsNewViewer, IsNotBusy, IsViewerOf, KnowsAfterAsk, KnowsWords, Pass, SeesAfter, entries, opened_state, own_same}
 pub use Rattle.rd_desk.proofs.OwnCalls.{own_answered, own_refused}
 pub use Rattle.rd_desk.proofs.Sends.{book_with_history_send, desk_sync, seat_send}
 pub use Rattle.rd_desk.specs.declared.desks.Desk.{Desk}
@@ -17,5 +17,5 @@ pub use Rattle.rd_script.specs.Headings.{heading_text}
 pub use Rattle.rd_script.specs.declared.faults.LineFault.{LineFault}
 pub use Rattle.rd_script.specs.declared.writing.headings.Heading.TheVariants.{Viewer}
 pub use Rattle.rd_view.specs.Reports.{replies_text, report_text, view_text, viewer_text}
-pub use Rattle.rd_view.specs.Viewing.{AreAnswered, AreRead, IsUnviewed, IsViewed, StaysEnded, Views, ViewsScripts, WasAnswered, calls_of, text_of_views}
+pub use Rattle.rd_view.specs.Viewing.{AreAnswered, AreRead, IsUnviewed, IsViewed, StaysEnded, Views, ViewsScripts, AskedAll, calls_of, viewed_text}
 pub use Rattle.rd_view.specs.declared.faults.ViewFault.{ViewFault}

@@ -1,5 +1,5 @@
 -- What passes know after a chain of calls, and how the history that leaves the desk agrees with it.
-use Rattle.rd_view.proofs.Prelude.{◌≡◌, ◌∙◌, ◌^◌, ℕ, zero, suc, List, [], ◌∷◌, ◌++◌, Result, Ok, Err, IfErr, Option, Some, None, Vec, map, length, refl, sym, ap, subst, append_assoc, AllByRecursion, AllZip, Answer, AreAnswered, Book, BookState, BookWithHistory, Call, Command, Continues, Desk, Ghosts, Global, History, IsChain, IsNewViewer, IsNotBusy, IsDone, SeesAfter, IsViewerOf, KnowsAfterCall, KnowsWords, LineFault, Pass, StaysEnded, TicketsEnded, WasAnswered, append-nil, calls_of, commands_of, entries, map-append, put_by, next_seen, number, numbers, opened_state, own_answered, own_refused, own_same, seen}
+use Rattle.rd_view.proofs.Prelude.{◌≡◌, ◌∙◌, ◌^◌, ℕ, zero, suc, List, [], ◌∷◌, ◌++◌, Result, Ok, Err, IfErr, Option, Some, None, Vec, map, length, refl, sym, ap, subst, append_assoc, AllByRecursion, AllZip, Answer, AreAnswered, Book, BookState, BookWithHistory, Call, Command, Continues, Desk, Ghosts, Global, History, IsChain, IsNewViewer, IsNotBusy, IsDone, SeesAfter, IsViewerOf, KnowsAfterAsk, KnowsWords, LineFault, Pass, StaysEnded, TicketsEnded, AskedAll, append-nil, calls_of, commands_of, entries, map-append, put_by, next_seen, number, numbers, opened_state, own_answered, own_refused, own_same, seen}
 
 module _ (opened : BookState) where
   -- after a chain of calls, the viewer's own calls have grown by those that were recorded
@@ -24,7 +24,7 @@ module _ (R : ℕ) (K : Ghosts (BookWithHistory R) Call (Book R)) (desk : Desk R
   takes pass = IsViewerOf desk pass
 
   abbrev told : ViewPass → Command → Answer → ViewPass → Type 0
-  told pass command answer after = KnowsAfterCall (opened_state desk) pass after command answer
+  told pass command answer after = KnowsAfterAsk (opened_state desk) pass after command answer
 
   -- a viewer that has seen all tickets drawn gets the answer `TicketsEnded` to each command
   all_ended : (commands : List Command) (answers : List Answer) (p q : ViewPass) → next_seen p ≡ 2 ^ 63 → IsChain told p commands answers q → AllByRecursion (λ answer. answer ≡ Err TicketsEnded) answers
@@ -64,10 +64,10 @@ module _ (R : ℕ) (K : Ghosts (BookWithHistory R) Call (Book R)) (desk : Desk R
   new_may_ask [] new = tt
   new_may_ask (viewer ∷ work) new = ((new.0.is_pass, new.0.is_out), new_may_ask work new.1)
 
-  -- a new viewer whose pass went through a chain of calls was answered as `WasAnswered` says
+  -- a new viewer whose pass went through a chain of calls was answered as `AskedAll` says
   was_answered : (history : History) (n : ℕ) (first last : ViewPass) (commands : List Command) (answers : List Answer)
       → IsNewViewer desk first → number first ≡ n → IsChain told first commands answers last → Continues (number last) (seen last) (entries history)
-      → WasAnswered (opened_state desk) (entries history) n commands answers
+      → AskedAll (opened_state desk) (entries history) n commands answers
   was_answered history n first last commands answers new is chain on =
       let all = of_chain n commands answers first last is chain in
       let histories : IsChain (SeesAfter (opened_state desk) n) [] commands answers (seen last) = subst (λ before. IsChain (SeesAfter (opened_state desk) n) before commands answers (seen last)) new.has_seen all.1 in
@@ -96,7 +96,7 @@ module _ (R : ℕ) (K : Ghosts (BookWithHistory R) Call (Book R)) (desk : Desk R
   all_answered history n (viewer ∷ work) (done ∷ dones) [] pairs new is read knows = cc
   all_answered history n (viewer ∷ work) ((pass, Some answers) ∷ dones) (lines ∷ said) pairs new is read knows =
       let same : viewer.1.items ≡ commands_of lines.items = cc in (
-        subst (λ commands. WasAnswered (opened_state desk) (entries history) n commands answers.items) same (was_answered history n viewer.0 pass viewer.1.items answers.items new.0 (cc) pairs.0.1 knows.0),
+        subst (λ commands. AskedAll (opened_state desk) (entries history) n commands answers.items) same (was_answered history n viewer.0 pass viewer.1.items answers.items new.0 (cc) pairs.0.1 knows.0),
         all_answered history (suc n) work dones said pairs.1 new.1 (cc) (cc) knows.1,
       )
   all_answered history n (viewer ∷ work) ((pass, None) ∷ dones) (lines ∷ said) pairs new is read knows =

@@ -52,7 +52,7 @@ module _ (opened : BookState) (history : List (ℕ × Call)) where
   -- `seen` is the history that it has seen at the end; only calls of other viewers come after it.
   -- The viewer's calls in the history are just those that were recorded, in order. No answer is
   -- `Busy`, and after `TicketsEnded` there is no other answer
-  pub record WasAnswered (viewer : ℕ) (commands : List Command) (answers : List Answer) : Type 0 where
+  pub record AskedAll (viewer : ℕ) (commands : List Command) (answers : List Answer) : Type 0 where
     pub seen : List (ℕ × Call)
     pub chain : IsChain (SeesAfter opened viewer) [] commands answers seen
     pub continues : Continues viewer seen history
@@ -63,7 +63,7 @@ module _ (opened : BookState) (history : List (ℕ × Call)) where
   -- the viewer of this number got these answers to its commands, or its thread was not started, and
   -- it has no call in the history
   abbrev pub IsAnswered : ℕ → List Command → Option (Vec Answer Global) → Type 0
-  IsAnswered viewer commands (Some answers) = WasAnswered viewer commands answers.items
+  IsAnswered viewer commands (Some answers) = AskedAll viewer commands answers.items
   IsAnswered viewer commands None = put_by viewer 1 history ≡ []
 
   -- the viewers from this number on got these answers to the commands of their lines, with one list
@@ -89,13 +89,13 @@ module _ (opened : BookState) where
     pub is_viewed : IsViewed said answered history
 
   -- the text of a view: the answers to its viewers, and the number of calls in its history
-  abbrev pub text_of_views : {scripts : List (Vec ℕ Global)} {history : List (ℕ × Call)} → Views scripts history → List ℕ
-  text_of_views {history = history} views = view_text 1 views.said views.answered (length history)
+  abbrev pub viewed_text : {scripts : List (Vec ℕ Global)} {history : List (ℕ × Call)} → Views scripts history → List ℕ
+  viewed_text {history = history} views = view_text 1 views.said views.answered (length history)
 
   -- what became of a view of these scripts, by its result: its text was written whole; or the
   -- writer failed, and took a beginning of it; or nothing was written
   abbrev pub ViewsScripts : List (Vec ℕ Global) → Stream → Result History ViewFault → Type 0
-  ViewsScripts scripts s (Ok history) = (views : Views scripts (entries history)) × Appends s.before s.after (text_of_views views) × (s.failed ≡ false)
+  ViewsScripts scripts s (Ok history) = (views : Views scripts (entries history)) × Appends s.before s.after (viewed_text views) × (s.failed ≡ false)
   ViewsScripts scripts s (Err view.Write) =
-      (history : List (ℕ × Call)) × (views : Views scripts history) × TakesBeginning s.before s.after (text_of_views views) × (s.failed ≡ true)
+      (history : List (ℕ × Call)) × (views : Views scripts history) × TakesBeginning s.before s.after (viewed_text views) × (s.failed ≡ true)
   ViewsScripts scripts s (Err fault) = IsUnviewed fault × GetsNothing false s

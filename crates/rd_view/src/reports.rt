@@ -11,7 +11,7 @@ ghost use Rattle.rd_view.specs.Reports.{desk_answer, report_text, viewer_text, v
 use rd_cell::Refusal;
 use rd_desk::{Answer, DeskRefusal};
 use rd_marks::Command;
-use rd_script::{AnyRefusal, Heading, LineAnswer, LineFault, Text, set_heading, set_text};
+use rd_script::{AnyRefusal, Heading, LineAnswer, LineFault, Text, set_answer, set_heading};
 use std::alloc::{AllocError, Global};
 
 /// What a line of a script spells: a command, or the line's fault.
@@ -98,7 +98,7 @@ fn put_report(
 fn put_answer(text: &mut Vec<u8>, line: &mut Text, answer: &LineAnswer) -> Result<(), AllocError>
     ensures { OnOk result (text.new.items ≡ text.old.items ++ text_of answer.now) }
 {
-    set_text(line, answer);
+    set_answer(line, answer);
     text.extend_from_slice(line.as_slice())
 }
 

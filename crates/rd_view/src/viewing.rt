@@ -45,7 +45,7 @@ pub fn view_scripts<R: Threads + Wait + Sync, K: Sink, const N: usize>(
     ensures views { ViewsScripts (book_state book.entry) scripts.now
         (sink_stream K.Sink writer.old writer.new) result }
 {
-    let said = lines_of_all(alloc, scripts)?;
+    let said = parse_scripts(alloc, scripts)?;
     let (answered, history) = run_over_desk(rt, alloc, said.as_slice(), book)?;
     let text = text_of_view(alloc, said.as_slice(), answered.as_slice(), history.len())?;
     write_all(writer, text.as_slice())?;
@@ -54,7 +54,7 @@ pub fn view_scripts<R: Threads + Wait + Sync, K: Sink, const N: usize>(
 
 /// Returns for each script what its lines spell, commands and faults, in order. Fails only if
 /// memory is refused.
-fn lines_of_all(alloc: Global, scripts: &[Vec<u8>]) -> Result<Vec<Vec<ParsedLine>>, AllocError>
+fn parse_scripts(alloc: Global, scripts: &[Vec<u8>]) -> Result<Vec<Vec<ParsedLine>>, AllocError>
     ensures { IfOk result (λ said. AreRead scripts.now said.items) }
 {
     let mut said = Vec::new(alloc);

@@ -1,6 +1,6 @@
 //! How the program ends where its words give no options.
 
-use rd_command_line::{OptionsFault, not_text, perform};
+use rd_command_line::{OptionsFault, not_utf8_fault, perform};
 use rd_script::{ReadSource, WriteSink};
 use std::alloc::Global;
 use std::fs::Files;
@@ -88,7 +88,7 @@ fn a_mistake_goes_to_standard_error_with_status_2(rt: HostRuntime) -> Result<(),
 
 #[test]
 fn a_word_that_is_no_text_is_a_mistake(rt: HostRuntime) -> Result<(), Fail> {
-    let left = left_after(&rt, rt.alloc(), Err(not_text(rt.alloc())))?;
+    let left = left_after(&rt, rt.alloc(), Err(not_utf8_fault(rt.alloc())))?;
     let text = "error: invalid UTF-8 was detected in one or more arguments\n";
     assert_eq!(rt; left.status, ExitCode::from(2));
     assert!(rt; left.output.is_empty());

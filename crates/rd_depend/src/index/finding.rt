@@ -5,7 +5,7 @@
 ghost use Rattle.std.specs.Prelude.{◌≡◌, ◌+◌, ◌<◌, ◌≤◌, ◌^◌, List, Some, IsSome, length, drop, nat_lt};
 ghost use Rattle.rd_cell.specs.Places.{interfere};
 ghost use Rattle.rd_step.specs.declared.entries.Entry.{Entry as SomeEntry};
-ghost use Rattle.rd_step.specs.Prelude.{depends, depends_on_one};
+ghost use Rattle.rd_step.specs.Prelude.{depends, depends_on_any};
 ghost use Rattle.std.specs.List.{find, position_from};
 ghost use Rattle.rd_depend.specs.Lists.{earlier, IsAscending};
 ghost use Rattle.rd_depend.specs.Tables.{is_writes, list_at};
@@ -48,7 +48,7 @@ impl DependIndex {
     pub fn depends_after(&self, n: u64, entry: &Entry) -> bool
         requires { n ≤ position_count self.now }
         ensures { (es : List SomeEntry) → IsIndexOf self.now es
-            → result ≡ depends_on_one (drop n es) entry.now }
+            → result ≡ depends_on_any (drop n es) entry.now }
     {
         let mut probes = Probes::new();
         if self

@@ -80,13 +80,13 @@ fn reserve(list: &mut Vec<u32>) -> Result<(), AllocError>
     if list.len() < list.capacity() {
         return Ok(());
     }
-    lengthen(list)
+    reserve_several(list)
 }
 
 /// Makes room for several more positions, since most lists stay short, and asking for memory takes
 /// longer than all else that is done to them. Fails only if memory is refused.
 #[inline(never)]
-fn lengthen(list: &mut Vec<u32>) -> Result<(), AllocError>
+fn reserve_several(list: &mut Vec<u32>) -> Result<(), AllocError>
     ensures items { list.new.items ≡ list.old.items }
     ensures ok { OnOk result (0 < spare_of list.new) }
 {

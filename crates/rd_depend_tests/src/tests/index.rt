@@ -97,7 +97,7 @@ impl Both {
             let found = self.index.depends_after(n as u64, entry);
             assert_eq!(rt;
                 found,
-                depends_on_one(&self.entries[n..], entry),
+                depends_on_any(&self.entries[n..], entry),
                 "after {n}"
             );
         }
@@ -191,7 +191,7 @@ fn move_entry(entries: &mut [Entry], k: usize, n: usize)
 }
 
 /// Whether an entry depends on one of these, by a scan.
-fn depends_on_one(entries: &[Entry], entry: &Entry) -> bool {
+fn depends_on_any(entries: &[Entry], entry: &Entry) -> bool {
     for other in entries {
         if depends(other, entry) {
             return true;

@@ -6,11 +6,11 @@ ghost use Rattle.rd_step.specs.Prelude.{model, room as world_room};
 ghost use Rattle.rd_journal.specs.Journal.{events, IsRunFrom};
 ghost use Rattle.rd_journal.specs.Moves.{IsSwitched};
 ghost use Rattle.rd_journal.specs.Entries.{ahead_entries};
-ghost use Rattle.rd_journal.specs.Room.{room_returned_by, room_without, HasRoomForAll, LacksRoom, LacksRoomForMakings, LacksIndexRoom};
+ghost use Rattle.rd_journal.specs.Room.{room_returned_by, room_after_undoing, HasRoomForActors, LacksRoom, LacksRoomForMakings, LacksIndexRoom};
 ghost use Rattle.rd_journal.specs.State.{switch};
 
 use super::super::entry_list::EntryList;
-use super::super::indexing::index_instead;
+use super::super::indexing::replace_in_index;
 use super::Session;
 use super::stepping::{step_all_again, undo_after};
 use rd_cell::Refusal;
@@ -35,8 +35,8 @@ impl<const R: usize> Session<R> {
         requires within { kept ≤ length (journal self.old).live }
         requires few { kept + length given.now ≤ MOST_STEPS }
         ensures ok { OnOk result (kept + length given.now ≤ capacity self.new) }
-        ensures makings { OnOk result (HasRoomForAll (journal self.new).world given.now
-            (room_without (drop kept (journal self.new).live) (room self.new))) }
+        ensures makings { OnOk result (HasRoomForActors (journal self.new).world given.now
+            (room_after_undoing (drop kept (journal self.new).live) (room self.new))) }
         ensures err { IfErr result (λ refusal. (refusal ≡ Refusal.NoMemory)
             × LacksRoom kept (journal self.old) given.now (capacity self.old) (room self.old)
             (index self.old)) }
@@ -68,8 +68,8 @@ impl<const R: usize> Session<R> {
         requires run { IsRunFrom (journal self.old).start
             (take n (journal self.old).live ++ given.now) }
         requires capacity { n + length given.now ≤ capacity self.old }
-        requires makings { HasRoomForAll (journal self.old).world given.now
-            (room_without (drop n (journal self.old).live) (room self.old)) }
+        requires makings { HasRoomForActors (journal self.old).world given.now
+            (room_after_undoing (drop n (journal self.old).live) (room self.old)) }
         ensures entries { OnOk result (IsSwitched n given.now (journal self.old)
             (journal self.new)) }
         ensures state { OnOk result (state self.new
@@ -80,7 +80,7 @@ impl<const R: usize> Session<R> {
         ensures unchanged { OnErr result (KeepsItsSteps self.old self.new) }
         ensures capacity { capacity self.new ≡ capacity self.old }
     {
-        index_instead(&mut self.index, &self.entries, n, given)?;
+        replace_in_index(&mut self.index, &self.entries, n, given)?;
         undo_after(&mut self.world, &self.entries.live(), n);
         self.entries.exchange(n, given);
         step_all_again(&mut self.world, &self.entries.live().after(n));
@@ -113,10 +113,10 @@ fn make_room_for_makings<const R: usize>(
     dropped: &EntryList,
     given: &[Entry],
 ) -> Result<(), Refusal>
-    ensures ok { OnOk result (HasRoomForAll (model world.new) given.now
-        (room_without dropped.now (world_room world.new))) }
+    ensures ok { OnOk result (HasRoomForActors (model world.new) given.now
+        (room_after_undoing dropped.now (world_room world.new))) }
     ensures err { IfErr result (λ refusal. (refusal ≡ Refusal.NoMemory)
-        × LacksRoomForMakings given.now (room_without dropped.now (world_room world.old))) }
+        × LacksRoomForMakings given.now (room_after_undoing dropped.now (world_room world.old))) }
     ensures succeeds { given.now ≡ [] → IsOk result }
     ensures unchanged { model world.new ≡ model world.old }
     ensures room { (m : ℕ) → world_room world.old m ≤ world_room world.new m }

@@ -17,7 +17,7 @@ use std::alloc::Global;
 
 impl<const R: usize> Book<R> {
     ghost use Rattle.rd_marks.specs.Book.{book_state, session_of, name_room, MayRefuseAsGoing};
-    ghost use Rattle.rd_marks.specs.Commands.{IsObeyed, Happened, NeedsNoMemory};
+    ghost use Rattle.rd_marks.specs.Commands.{IsObeyed, IsEventAnswer, NeedsNoMemory};
     ghost use Rattle.rd_marks.specs.Headline.{Headline};
     ghost use Rattle.rd_marks.specs.Events.{as_event};
 
@@ -111,7 +111,7 @@ impl<const R: usize> Book<R> {
     /// the call that the step ends, if it ends one. Fails as `apply` does.
     #[tactic(auto, using(rd_step::proofs::PassedUp::error_passed_up, rd_step::proofs::PassedUp::fact_passed_up, crate::proofs::AnswerLemmas::event_passed_up))]
     fn answer_event(&mut self, actor: u8, act: Act) -> Result<Reply, Refusal>
-        ensures happens { Happened (book_state self.old) (record { actor = actor; act = act })
+        ensures happens { IsEventAnswer (book_state self.old) (record { actor = actor; act = act })
             (record { answer = result; state = book_state self.new }) }
         ensures memory { IfErr result (MayRefuse (session_of self.old)
             (record { actor = actor; act = act })) }

@@ -10,7 +10,7 @@ use std::alloc::Global;
 
 impl<const R: usize> Book<R> {
     ghost use Rattle.rd_marks.specs.Book.{book_state};
-    ghost use Rattle.rd_marks.specs.BookState.{mark_events, mark_event, at_events, to_start, AnswersEvents};
+    ghost use Rattle.rd_marks.specs.BookState.{mark_events, mark_event, at_events, to_start, AnswersMarkEvents};
 
     /// Returns event `n` of bookmark `i`, both counted from 1, or `None` if there is no such
     /// bookmark or event. It takes no memory, and looks at each stretch at most once. To read all
@@ -35,7 +35,7 @@ impl<const R: usize> Book<R> {
     /// In this order: `NoMark` if `i` is not from 1 to the number of bookmarks; `NoMemory` if
     /// memory was refused for the events, which never happens if there are none.
     pub fn mark_events(&self, alloc: Global, i: u64) -> Result<Vec<Event>, Refusal>
-        ensures { AnswersEvents (mark_events (book_state self.now) i) result }
+        ensures { AnswersMarkEvents (mark_events (book_state self.now) i) result }
     {
         if i == 0 {
             return Err(Refusal::NoMark);

@@ -177,7 +177,7 @@ impl Stretches {
             (λ grown. IsGrown self.old.list.items self.new.list.items at live.now grown) }
         ensures err { OnErr result (KeepsItsSteps self.old.list.items self.new.list.items) }
     {
-        let i = self.next_off(at);
+        let i = self.insertion_number(at);
         self.list.reserve(1)?;
         let mut entries = Vec::new(alloc);
         append(&mut entries, &live.after(at.number))?;
@@ -200,7 +200,7 @@ impl Stretches {
     /// Returns the number with which a stretch that shares the entries of node `at` can be
     /// inserted. It is the number of the first later stretch that shares at most as many entries as
     /// `at` has. If there is none, it is the count of all stretches.
-    fn next_off(&self, at: Node) -> usize
+    fn insertion_number(&self, at: Node) -> usize
         requires { IsWithin self.now.list.items at }
         ensures there { result ≤ length self.now.list.items }
         ensures first { 0 < length self.now.list.items → 0 < result }

@@ -5,7 +5,7 @@ ghost use Rattle.rd_step.specs.Run.{events};
 
 use super::{Node, Stretches};
 use rd_journal::EntryList;
-use rd_step::{Entry, common_beginning};
+use rd_step::{Entry, common_beginning_len};
 
 impl Stretches {
     ghost use Rattle.rd_marks.specs.Stretches.{shared_at, IsWithin, IsAlong, IsDeepest};
@@ -45,7 +45,7 @@ impl Stretches {
         ensures most { IsAlong self.now.list.items i (suc result) (events live.now) → ⊥ }
     {
         let stretch = &self.list[i];
-        n + common_beginning(
+        n + common_beginning_len(
             &own_after(&stretch.entries, n - stretch.shared),
             &live.after(n),
         )

@@ -18,7 +18,7 @@ pub fn number_in(word: &[u8]) -> Option<u64>
     ensures spelled { IfSome result (λ n. word.now ≡ decimal n) }
     ensures unspelled { IfNone result ((n : ℕ) → n < 2 ^ 64 → word.now ≢ decimal n) }
 {
-    if begins_otherwise(word) {
+    if has_plus_or_leading_zero(word) {
         return None;
     }
     let Ok(digits) = str::from_utf8(word) else {
@@ -29,7 +29,7 @@ pub fn number_in(word: &[u8]) -> Option<u64>
 
 /// Whether a word begins with a plus sign, or with a zero before another byte. No number is spelled
 /// so, though std may read one there.
-fn begins_otherwise(word: &[u8]) -> bool
+fn has_plus_or_leading_zero(word: &[u8]) -> bool
     ensures yes { result ≡ true → (get_or word.now 0 0 ≡ 43)
         ⊎ ((get_or word.now 0 0 ≡ 48) × (1 < length word.now)) }
     ensures no { result ≡ false → (get_or word.now 0 0 ≢ 43)
@@ -58,7 +58,7 @@ pub fn byte_in(word: &[u8]) -> Option<u8>
 /// Returns the segment's name that a word spells: its maker, a full stop and its number. `None` if
 /// the word spells none.
 #[tactic(auto, using(crate::proofs::NumeralLemmas::name_from_parts, crate::proofs::NumeralLemmas::no_name_from_parts, crate::proofs::NumeralLemmas::no_name_of_many))]
-pub fn segment_in(word: &[u8]) -> Option<SegName>
+pub fn segment_name_in(word: &[u8]) -> Option<SegName>
     ensures spelled { IfSome result (λ s. word.now ≡ name_words s) }
     ensures unspelled { IfNone result ((s : Segment) → IsSegmentInRange s
         → word.now ≢ name_words s) }

@@ -19,7 +19,7 @@ use rd_cell::Refusal;
 use rd_marks::{EventReply, Reply};
 
 /// Replaces the text by the line of an answer, with its line feed.
-pub fn set_text(text: &mut Text, answer: &LineAnswer)
+pub fn set_answer(text: &mut Text, answer: &LineAnswer)
     ensures { text.new.items ≡ text_of answer.now }
 {
     match answer {

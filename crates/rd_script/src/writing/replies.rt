@@ -4,7 +4,7 @@ ghost use Rattle.std.specs.Prelude.{◌≤◌, ◌+◌, length};
 ghost use Rattle.rd_marks.specs.Names.{bytes_of};
 ghost use Rattle.rd_marks.specs.Events.{as_reply};
 ghost use Rattle.rd_script.specs.Puts.{Puts, PutsUpTo};
-ghost use Rattle.rd_script.specs.Replies.{event_reply, step_number, origin_words, number_or_none, reply_words};
+ghost use Rattle.rd_script.specs.Replies.{ended_call_words, step_number, origin_words, number_or_none, reply_words};
 
 use super::actors::put_actor;
 use super::contents::put_content;
@@ -59,7 +59,7 @@ pub fn put_event_reply(text: &mut Text, done: EventReply)
 /// Appends to the text a space and the result of the call that an event ended, or nothing if it
 /// ended none.
 fn put_ended_call(text: &mut Text, reply: Option<OpReply>)
-    ensures { PutsUpTo 27 text.old.items text.new.items (event_reply reply) }
+    ensures { PutsUpTo 27 text.old.items text.new.items (ended_call_words reply) }
 {
     match reply {
         None => {}

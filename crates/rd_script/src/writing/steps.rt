@@ -2,7 +2,7 @@
 
 ghost use Rattle.std.specs.Prelude.{◌≡◌, ◌≤◌, length};
 ghost use Rattle.rd_script.specs.Puts.{PutsUpTo};
-ghost use Rattle.rd_script.specs.Steps.{step_place, access_word, access_answer, reply_word, step_reply, done_words, step_words};
+ghost use Rattle.rd_script.specs.Steps.{step_place, access_word, access_answer, result_words, step_reply, done_words, step_words};
 
 use super::contents::{put_content, put_index, put_name, put_value, tail_word};
 use super::events::put_event;
@@ -28,7 +28,7 @@ pub fn put_step(text: &mut Text, number: u64, entry: &Entry)
 
 /// Appends to the text the result of a call.
 pub fn put_call_reply(text: &mut Text, reply: OpReply)
-    ensures { PutsUpTo 26 text.old.items text.new.items (reply_word reply) }
+    ensures { PutsUpTo 26 text.old.items text.new.items (result_words reply) }
 {
     match reply {
         OpReply::Enqueued => put(text, b"enqueued"),

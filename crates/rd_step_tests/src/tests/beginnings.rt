@@ -2,7 +2,7 @@
 
 use super::GO;
 use rd_actor::Act;
-use rd_step::{Event, common_beginning};
+use rd_step::{Event, common_beginning_len};
 
 /// The step of another actor.
 const OTHER: Event = Event {
@@ -28,6 +28,6 @@ const PAIRS: [(&[Event], &[Event], usize); 5] = [
 #[test]
 fn a_common_beginning_ends_at_the_first_other_event(rt: HostRuntime) {
     for (a, b, common) in &PAIRS {
-        assert_eq!(rt; common_beginning(a, b), *common, "{a:?} and {b:?}");
+        assert_eq!(rt; common_beginning_len(a, b), *common, "{a:?} and {b:?}");
     }
 }

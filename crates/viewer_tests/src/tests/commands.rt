@@ -6,7 +6,7 @@ ghost use Rattle.rd_desk.specs.Desks.{IsViewerOf};
 use super::calls::{fresh, last_pass};
 use rd_desk::{Answer, Desk, DeskPass};
 use rd_marks::Command;
-use rd_script::{AnyRefusal, Text, command_in, set_text};
+use rd_script::{AnyRefusal, Text, command_in, set_answer};
 use std::process::Abort;
 use std::sync::Wait;
 
@@ -57,7 +57,7 @@ fn is_spelled(answer: &Answer, reply: &str) -> bool {
         Err(_) => return false,
     };
     let mut text = Text::new();
-    set_text(&mut text, &said);
+    set_answer(&mut text, &said);
     text.as_slice() == reply.as_bytes()
 }
 

@@ -4,8 +4,8 @@ use Rattle.clap.proofs.TakesLemmas.{passed_up}
 use Rattle.clap.specs.Words.{subcommand_rows_of}
 use Rattle.rd_command_line.specs.declared.requests.Options.{Options}
 use Rattle.rd_command_line.specs.Options.{options_fault}
-use Rattle.rd_command_line.specs.CommandLine.{EndsFor, GivesSubcommand, is_request}
-use Rattle.rd_command_line.proofs.OptionLemmas.{EndsFor-error, Reads-matches, GivesNothing-matches}
+use Rattle.rd_command_line.specs.CommandLine.{GivesFault, GivesSubcommand, is_request}
+use Rattle.rd_command_line.proofs.OptionLemmas.{GivesFault-error, Reads-matches, GivesNoOptions-matches}
 use Rattle.rd_command_line.proofs.command_line.options.Goals as goal
 
 pub returns-in_err-matches-clause-err : goal.returns-in_err-matches-clause-err
@@ -13,8 +13,8 @@ returns-in_err-matches-clause-err g c =
     let app = c.in_ok-command.ensures in
     let words = map g.S.AsStr.text c.args.words.now in
     let error = c.in_err-matches.field-0.0 in
-    passed_up c.from_residual-in_err-matches.result (options_fault error) (EndsFor words) c.from_residual-in_err-matches.ensures.1
-    (EndsFor-error words _ app.0 error app.1 app.2 c.in_err-matches.ensures.kinds)
+    passed_up c.from_residual-in_err-matches.result (options_fault error) (GivesFault words) c.from_residual-in_err-matches.ensures.1
+    (GivesFault-error words _ app.0 error app.1 app.2 c.in_err-matches.ensures.kinds)
 
 pub returns-in_default-clause-err : goal.returns-in_default-clause-err
 returns-in_default-clause-err g c =
@@ -22,17 +22,17 @@ returns-in_default-clause-err g c =
     let words = map g.S.AsStr.text c.args.words.now in
     let nothing = subst (λ asked. IsNone asked → (o : Options) → GivesSubcommand (subcommand_rows_of c.in_ok-matches.matches) o → ⊥) c.in_default.is c.in_ok-options.ensures.none refl in (
       ap is_request c.in_ok-error.ensures.kind,
-      inr (GivesNothing-matches words _ app.0 c.in_ok-matches.matches app.1 app.2 c.in_ok-matches.ensures.kinds c.in_ok-matches.ensures.ok.2 nothing),
+      inr (GivesNoOptions-matches words _ app.0 c.in_ok-matches.matches app.1 app.2 c.in_ok-matches.ensures.kinds c.in_ok-matches.ensures.ok.2 nothing),
     )
 
-pub returns-then-has_many_files-clause-err : goal.returns-then-has_many_files-clause-err
-returns-then-has_many_files-clause-err g c =
+pub returns-then-has_too_many_files-clause-err : goal.returns-then-has_too_many_files-clause-err
+returns-then-has_too_many_files-clause-err g c =
     let app = c.in_ok-command.ensures in
     let words = map g.S.AsStr.text c.args.words.now in
     let tells = subst (λ asked. IfSome asked (GivesSubcommand (subcommand_rows_of c.in_ok-matches.matches))) c.in-Some.is c.in_ok-options.ensures.some in (
       c.in-Some.options,
       Reads-matches words _ app.0 c.in_ok-matches.matches _ app.1 app.2 c.in_ok-matches.ensures.kinds c.in_ok-matches.ensures.ok.2 tells,
-      c.has_many_files.ensures.many c.if-has_many_files.true,
+      c.has_too_many_files.ensures.many c.if-has_too_many_files.true,
     )
 
 pub returns-clause-ok : goal.returns-clause-ok

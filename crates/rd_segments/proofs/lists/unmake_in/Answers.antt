@@ -4,15 +4,15 @@ use Rattle.rd_segments.proofs.lists.unmake_in.Goals as goal
 
 pub returns-clause-gone : goal.returns-clause-gone
 returns-clause-gone g c =
-    unmakes_in c.args.makers.now.items c.args.maker c.from.result c.index_mut.result.now c.take_last.new.list
+    unmakes_in c.args.makers.now.items c.args.maker c.from.result c.index_mut.result.now c.remove_last.new.list
     (record {
       maker_is = c.from.ensures;
       within = count_within c.args.makers.now.items c.args.maker c.requires.has_one;
       list_is = c.index_mut.ensures.value;
     })
-    c.take_last.ensures.items
+    c.remove_last.ensures.items
 
 pub returns-clause-room : goal.returns-clause-room
 returns-clause-room g c =
-    given_returns c.args.makers.now.items c.args.maker c.from.result c.index_mut.result.now c.take_last.new.list c.from.ensures
-    (count_within c.args.makers.now.items c.args.maker c.requires.has_one) c.index_mut.ensures.value c.take_last.ensures.room
+    given_returns c.args.makers.now.items c.args.maker c.from.result c.index_mut.result.now c.remove_last.new.list c.from.ensures
+    (count_within c.args.makers.now.items c.args.maker c.requires.has_one) c.index_mut.ensures.value c.remove_last.ensures.room

@@ -1,10 +1,10 @@
-use Rattle.rd_trace.proofs.Prelude.{List, codes, Option, Ok, IfSome, Vec, string_bytes, ap, ◌∙◌, ◌++◌, subst, arith, Event, book_state, mark_events, AnswersEvents, Gives, event_of, event_data, AreAppended, IsMarkAppended, Global}
+use Rattle.rd_trace.proofs.Prelude.{List, codes, Option, Ok, IfSome, Vec, string_bytes, ap, ◌∙◌, ◌++◌, subst, arith, Event, book_state, mark_events, AnswersMarkEvents, Gives, event_of, event_data, AreAppended, IsMarkAppended, Global}
 use Rattle.rd_trace.proofs.MarkLemmas.{mark_appended}
 use Rattle.rd_trace.proofs.TextLemmas.{last_appended}
 use Rattle.rd_trace.proofs.bookmarks.put_mark.Goals as goal
 
 -- what holds of the events that were answered holds of the bookmark's
-of_answered : (o : Option (List Event)) (list : Vec Event Global) (P : List Event → Type 0) → AnswersEvents o (Ok list) → P list.items → IfSome o P
+of_answered : (o : Option (List Event)) (list : Vec Event Global) (P : List Event → Type 0) → AnswersMarkEvents o (Ok list) → P list.items → IfSome o P
 of_answered o list P said k = grind arith
 
 pub returns : goal.returns

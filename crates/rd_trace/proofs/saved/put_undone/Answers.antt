@@ -15,9 +15,9 @@ pub loop-k-preserved : goal.loop-k-preserved
 loop-k-preserved g c =
     let k = c.loop-k.k in
     let es = (state c.args.session.now).undone in
-    one_more_appended (Gives event_of) event_data es k c.in-Some.event (string_bytes c.args.text.now) (string_bytes c.loop-k.text) (string_bytes c.put_next.new.text)
+    one_more_appended (Gives event_of) event_data es k c.in-Some.event (string_bytes c.args.text.now) (string_bytes c.loop-k.text) (string_bytes c.put_next_event.new.text)
     (omega (arith, c.undone_len-k-end.ensures.count)) (undone_next es k (k + 1) (omega arith) c.in-Some.event (sym c.undone_event.ensures ∙ c.in-Some.is)) c.loop-k.invariant
-    c.in_ok-put_next.ensures.ok c.in_ok-put_next.ensures.kept
+    c.in_ok-put_next_event.ensures.ok c.in_ok-put_next_event.ensures.kept
 
 pub returns : goal.returns
 returns g c = grind (arith, string_bytes, take_all)

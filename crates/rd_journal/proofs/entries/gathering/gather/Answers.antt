@@ -1,4 +1,4 @@
-use Rattle.rd_journal.proofs.Prelude.{put_mid, vec_capacity, append-nil, drop-drop, drop_at, length-take-le, depends_on_one, Entry, HasRoomFor, at_numbers, ◌≡◌, ◌∙◌, ◌+◌, ◌-◌, ◌<◌, ◌≤◌, ℕ, List, [], ◌∷◌, ◌++◌, length, take, drop, set, Bool, refl, sym, ap, subst, arith, rules, length-append, length-drop}
+use Rattle.rd_journal.proofs.Prelude.{put_mid, vec_capacity, append-nil, drop-drop, drop_at, length-take-le, depends_on_any, Entry, HasRoomFor, at_numbers, ◌≡◌, ◌∙◌, ◌+◌, ◌-◌, ◌<◌, ◌≤◌, ℕ, List, [], ◌∷◌, ◌++◌, length, take, drop, set, Bool, refl, sym, ap, subst, arith, rules, length-append, length-drop}
 use Rattle.rd_journal.proofs.GatheringLoop.{live_of, live-length, UnderWay, next_one, first_gathered, before_next, joined, stayed, ended, carried}
 use Rattle.rd_journal.proofs.RoomLemmas.{fits_one, fits_between}
 use Rattle.rd_journal.proofs.ListLemmas.{overwritten}
@@ -7,8 +7,8 @@ use Rattle.rd_journal.proofs.entries.gathering.gather.Goals as goal
 use Rattle.rd_journal.proofs.entries.gathering.gather.Goals.{then-depends_after, else-depends_after}
 
 -- what is told of the index is told of what is gathered
-told : (before block : List Entry) (x : Entry) (b : Bool) (n : ℕ) → length before ≡ n → b ≡ depends_on_one (drop n (before ++ block)) x → depends_on_one block x ≡ b
-told before block x b n len h = ap (λ (xs : List Entry). depends_on_one xs x) (sym (drop_at before block n len)) ∙ sym h
+told : (before block : List Entry) (x : Entry) (b : Bool) (n : ℕ) → length before ≡ n → b ≡ depends_on_any (drop n (before ++ block)) x → depends_on_any block x ≡ b
+told before block x b n len h = ap (λ (xs : List Entry). depends_on_any xs x) (sym (drop_at before block n len)) ∙ sym h
 
 -- what the order is when the gathered numbers were put after those that stay
 written : (n f live : ℕ) (now dm copied gathered : List ℕ) → n ≡ length now → dm ≡ now → copied ≡ gathered → f + length gathered ≡ live → live ≤ length now

@@ -64,7 +64,7 @@ invariant_of-self-then-is_err g c =
     record {
       kept = is.kept;
       within = is.within;
-      indexed = err_then c.index_instead.result (sym c.is_err.ensures.value ∙ c.if-is_err.true) c.index_instead.ensures.err;
+      indexed = err_then c.replace_in_index.result (sym c.is_err.ensures.value ∙ c.if-is_err.true) c.replace_in_index.ensures.err;
     }
 
 pub returns-then-is_err-clause-memory : goal.returns-then-is_err-clause-memory
@@ -73,7 +73,7 @@ returns-then-is_err-clause-memory g c =
     let old = journal self in
     let less : length old.live < MOST_STEPS = omega (arith, c.live_len.ensures, self.kept.few) in
     let gone : drop c.live_len-live.result (kept_entries c.make_room_for.new.self) ≡ ahead_entries self.entries = grind (arith, drop-append_seam) in
-    let had = err_then c.index_instead.result (sym c.is_err.ensures.value ∙ c.if-is_err.true) c.index_instead.ensures.lacks in
+    let had = err_then c.replace_in_index.result (sym c.is_err.ensures.value ∙ c.if-is_err.true) c.replace_in_index.ensures.lacks in
     let lacks = subst (λ (es : List Entry). HasRoomInstead self.index es c.from_ref.result.now → ⊥) gone had in
     inr (
       refl,

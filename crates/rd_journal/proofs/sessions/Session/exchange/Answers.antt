@@ -10,14 +10,14 @@ use Rattle.rd_cell.specs.declared.refusal.Refusal.TheVariants as refusal
 given_again : (l given again after now : List Entry) (n : ℕ) → n ≤ length l → again ≡ drop n after → after ≡ now → now ≡ take n l ++ given → again ≡ given
 given_again l given again after now n within its same put = its ∙ ap (drop n) (same ∙ put) ∙ drop_at (take n l) given n (length-take-le n l within)
 
-pub returns-in_err-index_instead-clause-err : goal.returns-in_err-index_instead-clause-err
-returns-in_err-index_instead-clause-err g c =
+pub returns-in_err-replace_in_index-clause-err : goal.returns-in_err-replace_in_index-clause-err
+returns-in_err-replace_in_index-clause-err g c =
     let self = c.args.self.now in
     let n = c.args.n in
     let live = live_entries self.entries in
     let ahead = ahead_entries self.entries in
     let gone : drop n (live ++ ahead) ≡ drop n live ++ ahead = drop-append-le n live ahead (omega (arith, c.requires.within)) in
-    let lacks = subst (λ (es : List Entry). HasRoomInstead self.index es c.args.given.now → ⊥) gone c.in_err-index_instead.ensures.lacks in
+    let lacks = subst (λ (es : List Entry). HasRoomInstead self.index es c.args.given.now → ⊥) gone c.in_err-replace_in_index.ensures.lacks in
     error_passed_up _ refusal.NoMemory c.from_residual.result c.from_residual.ensures.1 (refl, lacks_fewer self.index self.undone (drop n live) ahead c.args.given.now lacks)
 
 pub undo_after-requires : goal.undo_after-requires
@@ -56,7 +56,7 @@ invariant_of-self-2 g c =
           (given_again j.live given _ _ _ n c.requires.within c.after.ensures c.live-2.ensures c.exchange.ensures.live) c.step_all_again.ensures.ran
           (record { live = c.exchange.ensures.live; undone = c.exchange.ensures.ahead })).session;
       within = omega arith;
-      indexed = subst (λ (xs : List Entry). IsIndexOf c.index_instead.new.index xs) all c.in_ok-index_instead.ensures.ok;
+      indexed = subst (λ (xs : List Entry). IsIndexOf c.replace_in_index.new.index xs) all c.in_ok-replace_in_index.ensures.ok;
     }
 
 pub returns-clause-state : goal.returns-clause-state

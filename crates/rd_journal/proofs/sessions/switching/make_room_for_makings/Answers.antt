@@ -1,4 +1,4 @@
-use Rattle.rd_journal.proofs.Prelude.{◌≡◌, ℕ, zero, suc, ◌+◌, ◌-◌, ◌<◌, ◌∙◌, IsSome, List, get_or, subst, sym, ap, arith, rules, World, model, room, Entry, error_passed_up, room_returned_by, room_without}
+use Rattle.rd_journal.proofs.Prelude.{◌≡◌, ℕ, zero, suc, ◌+◌, ◌-◌, ◌<◌, ◌∙◌, IsSome, List, get_or, subst, sym, ap, arith, rules, World, model, room, Entry, error_passed_up, room_returned_by, room_after_undoing}
 use Rattle.rd_journal.proofs.Switching.{room_for_one_more, room_for_actors}
 use Rattle.rd_journal.proofs.sessions.switching.make_room_for_makings.Goals as goal
 
@@ -24,7 +24,7 @@ pub loop-number-preserved : goal.loop-number-preserved
 loop-number-preserved g c = record {
   same = c.make_room.ensures.unchanged ∙ c.loop-number.invariant.same;
   made =
-      room_for_one_more c.args.given.now c.loop-number.number (room_without c.args.dropped.now (room c.loop-number.world)) (room_without c.args.dropped.now (room c.make_room.new.self))
+      room_for_one_more c.args.given.now c.loop-number.number (room_after_undoing c.args.dropped.now (room c.loop-number.world)) (room_after_undoing c.args.dropped.now (room c.make_room.new.self))
       c.loop-number.invariant.made (λ m. let b = c.make_room.ensures.room.kept m in omega arith) (let h = c.in_ok-make_room.ensures.room.ok in let its = asked c.args.dropped.now c.args.given.now c.makings_of.result c.makings_missing-counts.result c.loop-number.number c.from.result c.makings_of.ensures
       c.makings_missing-counts.ensures c.from.ensures (omega (arith, c.loop-number-test.true, c.actors-number-end.ensures.within)) in omega arith);
   more = λ m. let a = c.loop-number.invariant.more m in let b = c.make_room.ensures.room.kept m in omega arith;
@@ -32,7 +32,7 @@ loop-number-preserved g c = record {
 
 pub returns-clause-ok : goal.returns-clause-ok
 returns-clause-ok g c =
-    room_for_actors (model c.args.world.now) (model c.loop-number.world) c.args.given.now c.loop-number.number (room_without c.args.dropped.now (room c.loop-number.world))
+    room_for_actors (model c.args.world.now) (model c.loop-number.world) c.args.given.now c.loop-number.number (room_after_undoing c.args.dropped.now (room c.loop-number.world))
     c.loop-number.invariant.same c.loop-number.invariant.made
     (λ (h : IsSome ((model c.args.world.now).actor zero)). cc)
     (λ n h. let low = (c.actors-number-end.ensures.count n).0 h in omega arith)

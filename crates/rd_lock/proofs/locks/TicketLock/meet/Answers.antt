@@ -1,4 +1,4 @@
-use Rattle.rd_lock.proofs.Prelude.{rules, map, ap, ◌∙◌, subst, AreComparable, Pairwise, in_hand, knows_served, lock_of}
+use Rattle.rd_lock.proofs.Prelude.{rules, map, ap, ◌∙◌, subst, AreComparable, Pairwise, in_hand, with_served_seen, lock_of}
 use Rattle.rd_lock.proofs.Looks.{looks_served}
 use Rattle.rd_lock.proofs.PassLists.{splits_it}
 use Rattle.rd_lock.proofs.Seats.{joins}
@@ -23,7 +23,7 @@ split_seat-second-requires g c = (
   search rules,
   splits_it (lock_of g.T.Recorded.history g.T.Recorded.origin _ _) _ c.load-served.new.seat.me.0 _ _ (ap (λ m. m.0.stage) c.load-served.ensures.2.after ∙ ap (λ m. m.0.stage) c.join_seat.ensures.2)
       (both_look c.args.one.seat.me.0.members c.args.other.seat.me.0.members c.args.one.alone c.args.other.alone c.load-served.new.seat.me.0.members c.load-served.result
-      (ap (λ m. m.0.members) c.load-served.ensures.2.after ∙ ap (λ m. map (knows_served c.load-served.result) m.0.members) c.join_seat.ensures.2)),
+      (ap (λ m. m.0.members) c.load-served.ensures.2.after ∙ ap (λ m. map (with_served_seen c.load-served.result) m.0.members) c.join_seat.ensures.2)),
 )
 
 pub returns-clause-order : goal.returns-clause-order

@@ -2,9 +2,9 @@ use Rattle.rd_script.proofs.Prelude.{◌≡◌, ◌⊎◌, ◌<◌, List, ℕ, s
 use Rattle.rd_script.proofs.NumeralLemmas.{IsUtf8-decimal, begins_as_number, read_as_spelled, none_spelled}
 use Rattle.rd_script.proofs.reading.numbers.number_in.Goals as goal
 
-pub returns-then-begins_otherwise-clause-unspelled : goal.returns-then-begins_otherwise-clause-unspelled
-returns-then-begins_otherwise-clause-unspelled c n small e =
-    begins_as_number n small (subst (λ (word : List ℕ). (get_or word 0 0 ≡ 43) ⊎ ((get_or word 0 0 ≡ 48) × (1 < length word))) e (c.begins_otherwise.ensures.yes c.if-begins_otherwise.true))
+pub returns-then-has_plus_or_leading_zero-clause-unspelled : goal.returns-then-has_plus_or_leading_zero-clause-unspelled
+returns-then-has_plus_or_leading_zero-clause-unspelled c n small e =
+    begins_as_number n small (subst (λ (word : List ℕ). (get_or word 0 0 ≡ 43) ⊎ ((get_or word 0 0 ≡ 48) × (1 < length word))) e (c.has_plus_or_leading_zero.ensures.yes c.if-has_plus_or_leading_zero.true))
 
 pub returns-in_default-clause-unspelled : goal.returns-in_default-clause-unspelled
 returns-in_default-clause-unspelled c n small e =
@@ -12,7 +12,7 @@ returns-in_default-clause-unspelled c n small e =
 
 pub returns-clause-spelled : goal.returns-clause-spelled
 returns-clause-spelled c =
-    let no = c.begins_otherwise.ensures.no c.if-begins_otherwise.false in
+    let no = c.has_plus_or_leading_zero.ensures.no c.if-has_plus_or_leading_zero.false in
     read_as_spelled c.args.word.now c.in-Ok.digits.now c.parse.result c.ok.result c.in-Ok.ensures.cases.0 c.parse.ensures.value.0 c.ok.ensures.value no.0 no.1
 
 pub returns-clause-unspelled : goal.returns-clause-unspelled

@@ -1,5 +1,5 @@
 use Rattle.rd_view.proofs.Prelude.{take, AreRead}
-use Rattle.rd_view.proofs.viewing.lines_of_all.Given as goal
+use Rattle.rd_view.proofs.viewing.parse_scripts.Given as goal
 
 -- the scripts before this one were read
 abbrev pub invariant-loop-script : goal.invariant-loop-script

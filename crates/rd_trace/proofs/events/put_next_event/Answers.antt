@@ -1,7 +1,7 @@
 use Rattle.std.proofs.Common.{string_bytes, arith}
 use Rattle.rd_trace.proofs.StartLemmas.{on_ok}
 use Rattle.rd_trace.proofs.TextLemmas.{both_appended}
-use Rattle.rd_trace.proofs.events.put_next.Goals as goal
+use Rattle.rd_trace.proofs.events.put_next_event.Goals as goal
 
 pub returns-clause-ok : goal.returns-clause-ok
 returns-clause-ok c = grind (arith, string_bytes, both_appended)

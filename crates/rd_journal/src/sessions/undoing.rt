@@ -40,7 +40,7 @@ impl<const R: usize> Session<R> {
     {
         match self.first_dependant(k) {
             None => self.undo_alone(k),
-            Some(_) => self.undo_block(k),
+            Some(_) => self.undo_closure(k),
         }
     }
 
@@ -50,7 +50,7 @@ impl<const R: usize> Session<R> {
     /// the index is that of the entries before the `k`-th and of those gathered so far, so it shows
     /// whether the next one depends on one of these. Then all entries from the `k`-th position on
     /// are put into the index again, in their new order.
-    fn undo_block(&mut self, k: u64)
+    fn undo_closure(&mut self, k: u64)
         requires some { 1 ≤ k }
         requires position { k ≤ length (journal self.old).live }
         ensures entries { IsRolledBack k (journal self.old) (journal self.new) }

@@ -1,8 +1,8 @@
 use Rattle.rd_marks.proofs.Prelude.{◌≡◌, ◌∙◌, ℕ, ◌≤◌, take, arith, fact_passed_up, NeitherBegins, DecidesEquivalence, Bookmarks, Node, entries_in, IsNodeIn, events, IfOk-weaker}
 use Rattle.rd_marks.proofs.Starting.{entries_length}
 use Rattle.rd_marks.proofs.SameLemmas.{decided_by_length, decided_behind, not_begun}
-use Rattle.rd_marks.proofs.bookmarks.Bookmarks.are_same.Goals.{then-shared-one-via-then-shared-one, then-shared-one-via-else-shared-one+then-shared-other}
-use Rattle.rd_marks.proofs.bookmarks.Bookmarks.are_same.Goals as goal
+use Rattle.rd_marks.proofs.bookmarks.Bookmarks.are_nodes_equivalent.Goals.{then-shared-one-via-then-shared-one, then-shared-one-via-else-shared-one+then-shared-other}
+use Rattle.rd_marks.proofs.bookmarks.Bookmarks.are_nodes_equivalent.Goals as goal
 
 -- where what two lists have in common is neither of them, neither begins the other
 apart : (b : Bookmarks) (one other : Node) (c : ℕ) → IsNodeIn b one → IsNodeIn b other → c ≤ one.number → c ≤ other.number

@@ -3,7 +3,7 @@ use Rattle.rd_journal.proofs.Calls.{back_start}
 use Rattle.rd_journal.proofs.Finding.{cut_before}
 use Rattle.rd_journal.proofs.RoomLemmas.{fits_none, fits_back, fits_turned}
 use Rattle.rd_journal.proofs.RolledBack.{IsGatheredLast, gathered_session}
-use Rattle.rd_journal.proofs.sessions.Session.undo_block.Goals as goal
+use Rattle.rd_journal.proofs.sessions.Session.undo_closure.Goals as goal
 
 pub gather_closure-count-requires-clause-before : goal.gather_closure-count-requires-clause-before
 gather_closure-count-requires-clause-before g c = grind (arith, take-append-le)

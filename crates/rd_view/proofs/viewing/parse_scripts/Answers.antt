@@ -1,6 +1,6 @@
 use Rattle.rd_view.proofs.Prelude.{arith, subst, AllZip, Says, lines_of}
 use Rattle.rd_desk.proofs.ChainLemmas.{next_pair}
-use Rattle.rd_view.proofs.viewing.lines_of_all.Goals as goal
+use Rattle.rd_view.proofs.viewing.parse_scripts.Goals as goal
 
 pub loop-script-preserved : goal.loop-script-preserved
 loop-script-preserved c =

@@ -1,6 +1,6 @@
 use Rattle.rd_journal.proofs.Prelude.{arith, length-take-le, not_refused}
 use Rattle.rd_journal.proofs.RoomLemmas.{err_then, in_error}
-use Rattle.rd_journal.proofs.indexing.index_instead.Goals as goal
+use Rattle.rd_journal.proofs.indexing.replace_in_index.Goals as goal
 
 pub fill_index-requires-clause-room : goal.fill_index-requires-clause-room
 fill_index-requires-clause-room c = grind (arith, err_then, length-take-le)

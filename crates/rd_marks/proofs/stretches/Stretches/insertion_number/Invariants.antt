@@ -1,6 +1,6 @@
 use Rattle.std.proofs.Common.{◌<◌, ◌≤◌}
 use Rattle.rd_marks.proofs.Reading.{Reaches}
-use Rattle.rd_marks.proofs.stretches.Stretches.next_off.Given as goal
+use Rattle.rd_marks.proofs.stretches.Stretches.insertion_number.Given as goal
 
 abbrev pub invariant-loop-i : goal.invariant-loop-i
 invariant-loop-i l = record {

@@ -1,8 +1,8 @@
 use Rattle.rd_marks.proofs.Prelude.{◌≡◌, ◌⊎◌, ◌+◌, ◌<◌, suc, arith, shared_at}
 use Rattle.rd_marks.proofs.StretchLists.{shared_past}
 use Rattle.rd_marks.proofs.Reading.{reaches_on, reaches_end}
-use Rattle.rd_marks.proofs.stretches.Stretches.next_off.Goals.{else-shared-at-via-then-shared-at+else-i-at, else-shared-at-via-else-shared-at}
-use Rattle.rd_marks.proofs.stretches.Stretches.next_off.Goals as goal
+use Rattle.rd_marks.proofs.stretches.Stretches.insertion_number.Goals.{else-shared-at-via-then-shared-at+else-i-at, else-shared-at-via-else-shared-at}
+use Rattle.rd_marks.proofs.stretches.Stretches.insertion_number.Goals as goal
 
 pub loop-i-preserved : goal.loop-i-preserved
 loop-i-preserved c =

@@ -3,7 +3,7 @@ use Rattle.std.specs.Process.{exit_status}
 use Rattle.rd_script.specs.Streams.{sink_stream}
 use Rattle.rd_program.specs.Endings.{Takes}
 use Rattle.rd_command_line.specs.Outcomes.{Ends}
-use Rattle.rd_command_line.proofs.outcomes.end_unasked.Goals as goal
+use Rattle.rd_command_line.proofs.outcomes.show_options_fault.Goals as goal
 
 pub returns-in-Ok : goal.returns-in-Ok
 returns-in-Ok g c =
