@@ -1,5 +1,5 @@
 -- Accesses that do not interfere commute.
-use Rattle.rd_cell.proofs.Prelude.{◌≡◌, ℕ, zero, suc, ◌+◌, Bool, true, false, if◌then◌else◌, inl, inr, refl, sym, ◌∙◌, ap, ap₂, subst, Option, Some, None, is_some, IfSome, Result, Ok, Err, IfOk, arith, cases_Bool, both_ways, or_parts, IfOk-at_ok, fun_ext, SegName, Cell, Content, Operation, Refusal, covers, some_covers, some_overlap, written, interfere, Contents, cell_of_halves, share, after_write_at, operand, holding, Effect, effect, wrote_by, Performed, contents_after, number_made_from, number_made, effect_at, operate, make, perform, result_map}
+use Rattle.rd_cell.proofs.Prelude.{◌≡◌, ℕ, zero, suc, ◌+◌, Bool, true, false, if◌then◌else◌, inl, inr, refl, sym, ◌∙◌, ap, ap₂, subst, Option, Some, None, is_some, IfSome, Result, Ok, Err, IfOk, arith, cases_Bool, both_ways, or_parts, IfOk-at_ok, fun_ext, SegName, Cell, Content, Operation, Refusal, covers, some_covers, some_overlap, written, interfere, Contents, cell_of_halves, share, after_write_at, operand, Effect, effect, wrote_by, Performed, contents_after, number_made_from, number_made, effect_at, operate, make, perform, result_map}
 use Rattle.rd_cell.specs.declared.limits.TheConstants.{MOST_SEGMENTS}
 use Rattle.rd_cell.specs.declared.places.Place.{Place}
 use Rattle.rd_cell.specs.declared.places.Place.TheVariants as place
@@ -69,16 +69,7 @@ stays d e at r h k =
 -- two accesses that don't interfere leave the same content at each place in either order
 after_swap-at : (d e : Performed) (at : Contents) (r : Place) → interferes d e ≡ false
     → contents_after e (contents_after d at) r ≡ contents_after d (contents_after e at) r
-after_swap-at d e at r h =
-    let place : Option Place = written e.place e.wrote in
-    elim (cases_Bool (some_covers place r)) [
-      | inl m ↦
-          let within = written-covers e.place e.wrote r m in
-          after_write-same place e.given (contents_after d at) at r (stays d e at r h within) ∙ sym (stays d e (contents_after e at) r h within)
-      | inr m ↦
-          after_write-outside place e.given (contents_after d at) r m
-          ∙ sym (after_write-same (written d.place d.wrote) d.given (contents_after e at) at r (after_write-outside place e.given at r m))
-    ]
+after_swap-at d e at r h = grind (arith, stays, written-covers, after_write-same, after_write-outside)
 
 -- two accesses that don't interfere leave the same contents in either order
 pub after_swap : (d e : Performed) (at : Contents) → interferes d e ≡ false
@@ -102,24 +93,29 @@ number_made-same : (at at' : Contents) (maker : ℕ)
 unfolding number_made
 number_made-same at at' maker same = number_made_from-same MOST_SEGMENTS at at' maker 0 same
 
+-- P holds of a place's content after an operation, if it held before, and holds of the place's share
+-- of what the operation writes, of which K holds
+pub each_left : (P : Option Content → Type 0) (K : Content → Type 0) (p : Place) (c : Content) (e : Effect) (at : Contents) (q : Place) → P (at q)
+    → IfSome e.writes K → ((d : Content) → K d → covers p q ≡ true → P (share p (Some d) q)) → P (contents_after (effect_at p c e) at q)
+each_left P K p c e at q was writes new = by e.writes writes
+  where
+    by : (o : Option Content) → IfSome o K → P (after_write_at (written (Some p) (wrote_by c o)) (share p o) at q)
+    by None k = was
+    by (Some d) k =
+        let place : Option Place = written (Some p) (wrote_by c (Some d)) in
+        elim (cases_Bool (some_covers place q)) [
+          | inl m ↦ subst P (sym (after_write-inside place (share p (Some d)) at q m)) (new d k (written-covers (Some p) (wrote_by c (Some d)) q m))
+          | inr m ↦ subst P (sym (after_write-outside place (share p (Some d)) at q m)) was
+        ]
+
 -- an operation at a place that is there adds and removes no place, if what it writes is of the kind
 -- that was there
 pub after-is_some : (p : Place) (c : Content) (e : Effect) (at : Contents) (q : Place) → operand at p ≡ Some c → (is_cell_at q ≡ true → at q ≡ None)
     → IfSome e.writes (λ d. is_some (share p (Some d) q) ≡ is_some (share p (Some c) q))
     → is_some (contents_after (effect_at p c e) at q) ≡ is_some (at q)
-after-is_some p c e at q h bare kind = by e.writes kind
-  where
-    by : (o : Option Content) → IfSome o (λ d. is_some (share p (Some d) q) ≡ is_some (share p (Some c) q))
-        → is_some (after_write_at (written (Some p) (wrote_by c o)) (share p o) at q) ≡ is_some (at q)
-    by None k = refl
-    by (Some d) k =
-        let place : Option Place = written (Some p) (wrote_by c (Some d)) in
-        elim (cases_Bool (some_covers place q)) [
-          | inl m ↦
-              let within : covers p q ≡ true = written-covers (Some p) (wrote_by c (Some d)) q m in
-              ap is_some (after_write-inside place (share p (Some d)) at q m) ∙ k ∙ sym (ap is_some (operand-covered p at c q h bare within))
-          | inr m ↦ ap is_some (after_write-outside place (share p (Some d)) at q m)
-        ]
+after-is_some p c e at q h bare kind =
+    each_left (λ o. is_some o ≡ is_some (at q)) (λ d. is_some (share p (Some d) q) ≡ is_some (share p (Some c) q)) p c e at q refl kind
+    (λ d k within. k ∙ sym (ap is_some (operand-covered p at c q h bare within)))
 
 -- an effect at p writes nothing, or a content that gives place q a share exactly if the old one did
 abbrev KeepsKind : Place → Content → Place → Effect → Type 0
@@ -152,9 +148,7 @@ keeps-make actor n given at maker k ne = grind arith
 -- an access by one actor adds and removes no segment of another maker
 pub keeps-perform : (R actor : ℕ) (at : Contents) (x : Access) (maker k : ℕ) → (actor ≡ maker → ⊥)
     → IfOk (perform R actor at x) (λ did. is_some (contents_after did at (place.Head (record { maker = maker; n = k }))) ≡ is_some (at (place.Head (record { maker = maker; n = k }))))
-keeps-perform R actor at NoPlace maker k ne = refl
-keeps-perform R actor at (At p op) maker k ne = keeps-operate p op (operand at p) at (place.Head (record { maker = maker; n = k })) refl (λ e. cc)
-keeps-perform R actor at (Make x) maker k ne = keeps-make actor (number_made at actor) (holding R x) at maker k ne
+keeps-perform R actor at x maker k ne = grind (arith, keeps-operate, keeps-make)
 
 -- an access by one actor leaves the number of segments that another maker has made
 pub number_made-after : (R actor : ℕ) (at : Contents) (x : Access) (did : Performed) (maker : ℕ) → (actor ≡ maker → ⊥)

@@ -1,5 +1,5 @@
 -- An effect that is known at some of the places, as an effect on all places.
-use Rattle.rd_cell.proofs.Prelude.{common_steps, ◌≡◌, true, false, Bool, inl, inr, sym, ◌∙◌, ap, Option, Some, None, Result, Ok, Err, IfOk, arith, cases_Bool, false_from_ne_true, both_ways, IfOk-at_ok, SegName, Wrote, Content, Operation, Refusal, is_of, place_eq, is_of_same_segment, covers, segment_of, some_covers, written, Contents, restore, operand, effect, Performed, operate, HasEffect, everywhere, Operates, OperatesOn, Restores}
+use Rattle.rd_cell.proofs.Prelude.{common_steps, ◌≡◌, true, false, Bool, inl, inr, sym, ◌∙◌, ap, Option, Some, None, Result, Ok, Err, IfOk, arith, cases_Bool, false_from_ne_true, both_ways, IfOk-at_ok, SegName, Wrote, Content, Operation, Refusal, is_of, place_eq, is_of_same_segment, covers, segment_of, some_covers, written, Contents, restore, operand, effect, Performed, operate, HasEffect, everywhere, Operates, OperatesOn, Restores, subst}
 use Rattle.rd_cell.specs.declared.places.Place.{Place}
 use Rattle.rd_cell.specs.declared.places.Wrote.TheVariants as wrote
 use Rattle.rd_cell.specs.declared.operations.Answer.{Answer}
@@ -80,14 +80,15 @@ pub agrees_at : (p : Place) (was now : Content) (old new : Contents) → ((q : P
     → ((q : Place) → place_eq p q ≡ false → new q ≡ old q) → Agrees (place_eq p) p (λ q. Some was) (λ q. Some now) old new
 agrees_at p was now old new plain found left others = grind (arith, common_steps, place_eq-true)
 
--- an operation on the content of a place is done at that place, if every other place stays as it
--- was
-pub place_operates : (p : Place) (op : Operation) (was now : Content) (old new : Contents) → ((q : Place) → covers p q ≡ place_eq p q)
-    → operand old p ≡ Some was → old p ≡ Some was → new p ≡ Some now → ((q : Place) → place_eq p q ≡ false → new q ≡ old q)
+-- an operation on the content of the place x is done at that place, if every other place stays as
+-- it was
+pub place_operates : (x p : Place) (op : Operation) (was now : Content) (old new : Contents) → p ≡ x → ((q : Place) → covers x q ≡ place_eq x q)
+    → operand old x ≡ Some was → old x ≡ Some was → new x ≡ Some now → ((q : Place) → place_eq x q ≡ false → new q ≡ old q)
     → (r : Result Done Refusal) → IfOk r (λ done. OperatesOn p op done was now) → IfOk r (λ done. Operates everywhere p op done old new)
-place_operates p op was now old new plain works found left others (Err e) h = tt
-place_operates p op was now old new plain works found left others (Ok done) h =
-    lift_operation (place_eq p) p op (Some was) done (λ q. Some was) (λ q. Some now) old new works (agrees_at p was now old new plain found left others) h
+place_operates x p op was now old new at plain works found left others (Err e) h = tt
+place_operates x p op was now old new at plain works found left others (Ok done) h =
+    subst (λ (y : Place). OperatesOn y op done was now → Operates everywhere y op done old new) (sym at)
+    (λ does. lift_operation (place_eq x) x op (Some was) done (λ q. Some was) (λ q. Some now) old new works (agrees_at x was now old new plain found left others) does) h
 
 -- The places of one segment
 

@@ -41,16 +41,7 @@ pub data Covering (p q : Place) : Type 0 where
 pub covers_cases : (p q : Place) → covers p q ≡ true → Covering p q
 covers_cases (place.Whole s) q h = as_whole s refl h
 covers_cases (place.Cell s i) q h = as_cell s i refl h
-covers_cases place.QHead q h = itself (place_eq-true place.QHead q h)
-covers_cases place.QTail q h = itself (place_eq-true place.QTail q h)
-covers_cases (place.Head s) q h = itself (place_eq-true (place.Head s) q h)
-covers_cases (place.Tail s) q h = itself (place_eq-true (place.Tail s) q h)
-covers_cases (place.Next s) q h = itself (place_eq-true (place.Next s) q h)
-covers_cases (place.Val s i) q h = itself (place_eq-true (place.Val s i) q h)
-covers_cases (place.Idx s i) q h = itself (place_eq-true (place.Idx s i) q h)
-covers_cases place.ArrHead q h = itself (place_eq-true place.ArrHead q h)
-covers_cases place.ArrTail q h = itself (place_eq-true place.ArrTail q h)
-covers_cases (place.ArrCell i) q h = itself (place_eq-true (place.ArrCell i) q h)
+covers_cases p q h = itself (place_eq-true p q h)
 
 -- a place covers itself
 pub covers-refl : (p : Place) → covers p p ≡ true

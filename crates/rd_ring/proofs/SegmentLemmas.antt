@@ -1,7 +1,9 @@
 -- What an operation leaves at each place of a segment.
-use Rattle.rd_ring.proofs.Prelude.{◌≡◌, ℕ, ◌<◌, Bool, true, refl, sym, ap, ap₂, arith, Option, Some, None, List, [], ◌∷◌, zero, suc, ◌↔◌, ◌∙◌, ◌==◌, ◌&&◌, length, set, eq-eqb, ne_eqb, option_map, slice_get, if◌then◌else◌, Ok, true≢false, false_from_ne_true, cond-true, cond-false, cond_both, and_from, and_right, effect_at, result_map, slice_get-set_same, slice_get-set_other, part, swap_answer, swap_wrote, OperatesAt, RefusesAt, RestoresAt}
+use Rattle.rd_ring.proofs.Prelude.{◌≡◌, ℕ, ◌<◌, Bool, true, refl, sym, ap, arith, Some, None, List, ◌↔◌, ◌∙◌, length, set, slice_get, Ok, true≢false, false_from_ne_true, effect_at, result_map, slice_get-set_same, slice_get-set_other, part, swap_answer, swap_wrote, OperatesAt, RefusesAt, RestoresAt}
 use Rattle.std.specs.Bool.{OnTrue, OnFalse}
-use Rattle.rd_ring.specs.Prelude.{COUNTER_END, Cell, SegName, Place, Content, Operation, Add, Cas2, Answer, root, name_eq, is_of, is_of_cell, half, effect, wrote_cell, operate, operand}
+use Rattle.std.proofs.lemmas.List.{set-get_or}
+use Rattle.std.proofs.lemmas.Option.{get_or_from_slice_get}
+use Rattle.rd_ring.specs.Prelude.{COUNTER_END, Cell, SegName, Place, Content, Operation, Add, Cas2, Answer, root, effect, wrote_cell, operate, operand}
 use Rattle.rd_cell.proofs.CellLemmas.{cell_eq-true}
 use Rattle.rd_ring.specs.declared.segments.Segment.{Segment}
 use Rattle.rd_cell.specs.declared.places.Place.TheVariants as place
@@ -10,35 +12,10 @@ use Rattle.rd_cell.specs.declared.contents.Content.TheVariants as content
 use Rattle.rd_cell.specs.declared.operations.Answer.TheVariants as answer
 use Rattle.rd_cell.specs.declared.refusal.Refusal.TheVariants as refusal
 
--- a cell's value half, and below it the index half, as contents
-abbrev value_of : Cell → Content
-value_of c = content.Val c.val
-
-abbrev index_of : Cell → Content
-index_of c = content.Idx c.safe c.idx
-
--- after one cell is written, its half is the new cell's, and the halves of all others stay
-part_written : (f : Cell → Content) (cells : List Cell) (i : ℕ) (cell : Cell) (b : Bool) → i < length cells → (j : ℕ) → b ≡ true
-    → option_map f (slice_get (set cells i cell) j) ≡ (if b && (i == j) then Some (f cell) else option_map f (slice_get cells j))
-part_written f cells i cell b within j h = grind (arith, option_map, slice_get, slice_get-set_same, cond-true, and_from, eq-eqb, slice_get-set_other, cond-false, and_right, ne_eqb)
-
 -- if two segments differ in one cell alone, the new one is the old one with this cell put back
 pub cell_put : {R : ℕ} (old new : Segment R) (i : ℕ) (cell : Cell) → i < length old.cells → new.head ≡ old.head → new.next ≡ old.next
     → new.cells ≡ set old.cells i cell → new.closed ≡ old.closed → new.tail ≡ old.tail → RestoresAt (λ s. place.Cell s i) (content.Cell cell) old new
-cell_put old new i cell within head next cells bit tail = record { named = at }
-  where
-    at : (s : SegName) (q : Place) → is_of s q ≡ true
-        → part new q ≡ (if is_of_cell s i q then half cell q else part old q)
-    at s (place.Head t) h = ap (λ (n : ℕ). Some (content.Number n)) head
-    at s (place.Tail t) h = ap₂ (λ (b : Bool) (n : ℕ). Some (content.Tail b n)) bit tail
-    at s (place.Next t) h = ap (λ m. Some (content.Next m)) next
-    at s (place.Val t j) h =
-        ap (λ (cs : List Cell). option_map value_of (slice_get cs j)) cells ∙ part_written value_of old.cells i cell (name_eq s t) within j h
-    at s (place.Idx t j) h =
-        ap (λ (cs : List Cell). option_map index_of (slice_get cs j)) cells ∙ part_written index_of old.cells i cell (name_eq s t) within j h
-    at s (place.Cell t j) h = cond_both (name_eq s t && (i == j)) None None (λ (o : Option Content). None ≡ o) (λ e. refl) (λ e. refl)
-    at s (place.Whole t) h = refl
-    at s _ h = cc
+cell_put old new i cell within head next cells bit tail = record { named = λ s q h. grind (arith, slice_get-set_same, slice_get-set_other) }
 
 -- Operations at a place
 
@@ -74,9 +51,7 @@ parts_same old new head next cells bit tail q = grind arith
 
 -- writing an element where it already is leaves the list
 set_read : (xs : List Cell) (i : ℕ) (x : Cell) → slice_get xs i ≡ Some x → set xs i x ≡ xs
-set_read [] i x h = refl
-set_read (y ∷ xs) zero x h = let e : y ≡ x = cc in ap (λ (z : Cell). z ∷ xs) (sym e)
-set_read (y ∷ xs) (suc i) x h = ap (λ (zs : List Cell). y ∷ zs) (set_read xs i x h)
+set_read xs i x h = ap (set xs i) (sym (get_or_from_slice_get xs i x x h)) ∙ set-get_or xs i x
 
 -- the operand of an operation at a cell is the cell in the segment's list
 pub cell_found : {R : ℕ} (seg : Segment R) (s : SegName) (i : ℕ) (x : Cell) → slice_get seg.cells i ≡ Some x → operand (part seg) (place.Cell s i) ≡ Some (content.Cell x)

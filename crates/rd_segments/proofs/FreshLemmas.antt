@@ -1,47 +1,20 @@
 -- A space is fresh exactly if its ends, its array and its makers' lists are.
-use Rattle.rd_segments.proofs.Prelude.{◌≡◌, ℕ, zero, suc, ◌-◌, ◌<◌, ◌≤◌, ◌&&◌, ◌==◌, if◌then◌else◌, nat_lt, All, List, [], ◌∷◌, length, get_or, take, drop, slice_get, Option, Some, None, option_map, inl, inr, refl, sym, ap, ◌∙◌, arith, lt-ltb, le-ltb, ne_eqb, common_steps, cases_Bool, cases_lt, cond-true, cond-false, and_left, and_right, slice_get-get_or, slice_get_past, fun_ext, name_eq-true, SLOTS, SegName, Place, Content, root, name_eq, Contents, fresh_segment, Segment, part, ListOf, by_number, by_name, part_of, IsFresh, IsFreshAlone, ArrayParts, array_part, fresh_array, contents_of, fresh_space, take_rest, All-head, All-tail}
+use Rattle.rd_segments.proofs.Prelude.{◌≡◌, ℕ, suc, ◌-◌, ◌≤◌, if◌then◌else◌, All, List, [], ◌∷◌, length, get_or, take, drop, slice_get, Option, Some, None, refl, sym, ap, ◌∙◌, arith, lt-ltb, common_steps, cond-true, slice_get-get_or, fun_ext, name_eq-true, SegName, Place, Content, root, name_eq, Contents, fresh_segment, Segment, part, ListOf, by_number, by_name, part_of, IsFresh, IsFreshAlone, ArrayParts, array_part, fresh_array, contents_of, fresh_space, take_rest, slice_get_cases}
 use Rattle.rd_cell.specs.declared.places.Place.TheVariants as place
 use Rattle.rd_cell.specs.declared.contents.ArrSlot.TheVariants as slot
 use Rattle.rd_cell.specs.declared.contents.Content.TheVariants as content
 
 -- ---- the array
 
--- an array with counters 0 and empty slots is fresh
-pub array_fresh : (a : ArrayParts) → a.head ≡ 0 → a.tail ≡ 0 → All (λ x. x ≡ slot.Empty) a.cells → array_part a ≡ fresh_array
-array_fresh a head tail all = fun_ext each
-  where
-    slot_at : (i : ℕ) → option_map content.Slot (slice_get a.cells i) ≡ (if nat_lt i SLOTS then Some (content.Slot slot.Empty) else None)
-    slot_at i =
-        elim (cases_lt i SLOTS) [
-          | inl h ↦
-              let within : i < length a.cells = omega (arith, a.sized) in
-              ap (option_map content.Slot) (slice_get-get_or a.cells i slot.Empty within ∙ ap Some (all i slot.Empty within))
-              ∙ sym (cond-true (nat_lt i SLOTS) (Some (content.Slot slot.Empty)) None (lt-ltb i SLOTS h))
-          | inr h ↦
-              ap (option_map content.Slot) (slice_get_past a.cells i (omega (arith, a.sized)))
-              ∙ sym (cond-false (nat_lt i SLOTS) (Some (content.Slot slot.Empty)) None (le-ltb i SLOTS h))
-        ]
-
-    each : (q : Place) → array_part a q ≡ fresh_array q
-    each place.ArrHead = ap (λ n. Some (content.Number n)) head
-    each place.ArrTail = ap (λ n. Some (content.Number n)) tail
-    each (place.ArrCell i) = slot_at i
-    each _ = refl
-
--- conversely, an array with fresh contents has fresh counters and slots
+-- an array with fresh contents has fresh counters and slots
 module _ (a : ArrayParts) (e : array_part a ≡ fresh_array) where
   pub array_counters : (a.head ≡ 0) × (a.tail ≡ 0)
-  array_counters =
-      let h : Some (content.Number a.head) ≡ Some (content.Number 0) = ap (λ (f : Contents). f place.ArrHead) e in
-      let t : Some (content.Number a.tail) ≡ Some (content.Number 0) = ap (λ (f : Contents). f place.ArrTail) e in
-      ((cc), (cc))
+  array_counters = (grind (arith, ap (λ (f : Contents). f place.ArrHead) e), grind (arith, ap (λ (f : Contents). f place.ArrTail) e))
 
   pub array_slots : All (λ x. x ≡ slot.Empty) a.cells
   array_slots k d within =
-      let h : Some (content.Slot (get_or a.cells k d)) ≡ Some (content.Slot slot.Empty) =
-      sym (ap (option_map content.Slot) (slice_get-get_or a.cells k d within)) ∙ ap (λ (f : Contents). f (place.ArrCell k)) e
-      ∙ cond-true (nat_lt k SLOTS) (Some (content.Slot slot.Empty)) None (lt-ltb k SLOTS (omega (arith, a.sized))) in
-      cc
+      let at : array_part a (place.ArrCell k) ≡ fresh_array (place.ArrCell k) = ap (λ (f : Contents). f (place.ArrCell k)) e in
+      grind (arith, a.sized, slice_get-get_or, cond-true, lt-ltb)
 
 -- ---- the makers' lists
 
@@ -64,19 +37,14 @@ module _ {R : ℕ} where
   first_and_others makers first some is = grind (arith, common_steps, take_rest)
 
   none_in : (lists : List (ListOf (Segment R))) (m n : ℕ) → All (λ list. list.items ≡ []) lists → by_number (slice_get lists m) n ≡ None
-  none_in [] m n h = refl
-  none_in (list ∷ lists) zero n h = ap (λ ss. slice_get ss n) (All-head (λ l. l.items ≡ []) list lists h)
-  none_in (list ∷ lists) (suc m) n h = none_in lists m n (All-tail (λ l. l.items ≡ []) list lists h)
-
-  later_segment : (n : ℕ) (s : Segment R) → (if name_eq root (record { maker = 0; n = suc n }) then Some s else None) ≡ None
-  later_segment n s = cond-false ((0 == 0) && (0 == suc n)) (Some s) None (and_right (0 == 0) (0 == suc n) (ne_eqb 0 (suc n) (λ e. absurd (omega arith))))
+  none_in lists m n h = grind (arith, slice_get_cases)
 
   other_maker : (m n : ℕ) (s : Segment R) → (if name_eq root (record { maker = suc m; n = n }) then Some s else None) ≡ None
-  other_maker m n s = cond-false ((0 == suc m) && (0 == n)) (Some s) None (and_left (0 == suc m) (0 == n) (ne_eqb 0 (suc m) (λ e. absurd (omega arith))))
+  other_maker m n s = grind arith
 
   root_alone : (first : ListOf (Segment R)) (lists : List (ListOf (Segment R))) (s : Segment R) → first.items ≡ s ∷ [] → All (λ list. list.items ≡ []) lists → (m n : ℕ)
       → by_number (slice_get (first ∷ lists) m) n ≡ (if name_eq root (record { maker = m; n = n }) then Some s else None)
-  root_alone first lists s one none m n = grind (arith, slice_get, later_segment, none_in, other_maker)
+  root_alone first lists s one none m n = grind (arith, none_in)
 
   -- lists are fresh if the first has just a fresh segment and all others are empty
   pub fresh_lists : (first : ListOf (Segment R)) (lists : List (ListOf (Segment R))) → IsFreshAlone first.items → All (λ list. list.items ≡ []) lists → IsFresh (first ∷ lists)
@@ -88,8 +56,7 @@ module _ {R : ℕ} where
 
   -- conversely, the lists of a fresh space are not empty, since they have the root
   pub no_lists : (makers : List (ListOf (Segment R))) → makers ≡ [] → IsFresh makers → ⊥
-  no_lists [] e h = let no : None ≡ Some h.segment = h.at root in cc
-  no_lists (first ∷ lists) e h = cc
+  no_lists makers e h = grind (arith, h.at root)
 
   only_first : (ss : List (Segment R)) (s : Segment R) → slice_get ss 0 ≡ Some s → slice_get ss 1 ≡ None → ss ≡ s ∷ []
   only_first [] s one two = absurd (cc)
@@ -126,10 +93,7 @@ module _ {R : ℕ} (makers : List (ListOf (Segment R))) (qhead qtail : SegName) 
   at q = ap (λ (f : Contents). f q) e
 
   pub fresh_ends : (qhead ≡ root) × (qtail ≡ root)
-  fresh_ends =
-      let h : Some (content.Name qhead) ≡ Some (content.Name root) = at place.QHead in
-      let t : Some (content.Name qtail) ≡ Some (content.Name root) = at place.QTail in
-      ((cc), (cc))
+  fresh_ends = (grind (arith, at place.QHead), grind (arith, at place.QTail))
 
   array_at : (q : Place) → array_part array q ≡ fresh_array q
   array_at place.ArrHead = at place.ArrHead
@@ -146,13 +110,7 @@ module _ {R : ℕ} (makers : List (ListOf (Segment R))) (qhead qtail : SegName) 
   root_parts s is _ = refl
 
   by_names : (s : Segment R) → by_name makers root ≡ Some s → (t : SegName) → by_name makers t ≡ (if name_eq root t then Some s else None)
-  by_names s is t =
-      elim (cases_Bool (name_eq root t)) [
-        | inl b ↦ ap (by_name makers) (sym (name_eq-true root t b)) ∙ is ∙ sym (cond-true (name_eq root t) (Some s) None b)
-        | inr b ↦
-            no_segment (by_name makers t) t (at (place.Head t) ∙ cond-false (name_eq root t) (Some (content.Number 0)) None b)
-            ∙ sym (cond-false (name_eq root t) (Some s) None b)
-      ]
+  by_names s is t = grind (arith, name_eq-true, no_segment, at (place.Head t))
 
   pub fresh_inside : (array_part array ≡ fresh_array) × IsFresh makers
   fresh_inside =

@@ -1,5 +1,5 @@
 -- The makers' lists after a change of one segment.
-use Rattle.rd_segments.proofs.Prelude.{◌≡◌, ◌≢◌, ℕ, ◌+◌, ◌-◌, ◌<◌, ◌≤◌, Bool, true, ◌==◌, ◌&&◌, if◌then◌else◌, ◌⊎◌, sym, ◌∙◌, ap, subst, arith, List, [], ◌∷◌, take, length, set, get_or, Option, Some, None, is_some, slice_get, eq-eqb, ne_eqb, Result, OnErr, OnOk, with_item, cond-true, cond-false, and_left, and_right, slice_get_past, slice_get-get_or, SegName, Place, root, name_eq, operand, slice_get-set_same, slice_get-set_other, Segment, ListOf, by_number, by_name, part_of, count_in, count, Changes, IsLengthened, spare_in, spare, and_from, slice_get_cases, slice_get_within, slice_get-push_same, slice_get-push_other, slice_get-take_same, slice_get-take_other, room_used, refl, Ok, Err, Refusal, KeepsMakersRoom, UsesMakersRoom, ReturnsMakersRoom, AddsMakersRoom, makers_room}
+use Rattle.rd_segments.proofs.Prelude.{◌≡◌, ◌≢◌, ℕ, ◌+◌, ◌-◌, ◌<◌, ◌≤◌, true, ◌==◌, ◌&&◌, if◌then◌else◌, ◌⊎◌, sym, ◌∙◌, ap, arith, List, [], ◌∷◌, take, length, set, get_or, Option, Some, None, is_some, slice_get, eq-eqb, ne_eqb, Result, OnErr, OnOk, with_item, cond-true, cond-false, and_left, and_right, slice_get_past, slice_get-get_or, SegName, Place, root, name_eq, operand, slice_get-set_same, slice_get-set_other, Segment, ListOf, by_number, by_name, part_of, count, Changes, IsLengthened, spare_in, spare, and_from, slice_get_cases, slice_get_within, slice_get-push_same, slice_get-push_other, slice_get-take_same, slice_get-take_other, room_used, Err, Refusal, KeepsMakersRoom, UsesMakersRoom, ReturnsMakersRoom, AddsMakersRoom, makers_room}
 use Rattle.std.specs.declared.alloc.AllocError.{AllocError}
 use Rattle.std.specs.Result.{is_ok}
 use Rattle.std.proofs.lemmas.List.{length-set}
@@ -31,11 +31,11 @@ pub segment_written : {R : ℕ} (makers : List (ListOf (Segment R))) (name : Seg
     → is_some (by_name makers name) ≡ true → list ≡ get_or makers m list
     → Changes name (Some segment) makers (set makers m (with_item list name.n segment))
 segment_written {R} makers name m list segment is there read =
-    subst (λ (k : ℕ). Changes name (Some segment) makers (set makers k (with_item list name.n segment))) (sym is)
-    (let found = maker_list makers name.maker name.n list there (read ∙ ap (λ (k : ℕ). get_or makers k list) is) in
+    let found = maker_list makers name.maker name.n list there (read ∙ ap (λ (k : ℕ). get_or makers k list) is) in
     let within : name.n < length list.items = number_within makers name list found there in
-    list_changed makers name.maker name.n list (with_item list name.n segment) (Some segment) found
-    (λ k ne. slice_get-set_other list.items name.n k segment ne) (slice_get-set_same list.items name.n segment within))
+    let changed = list_changed makers name.maker name.n list (with_item list name.n segment) (Some segment) found
+    (λ k ne. slice_get-set_other list.items name.n k segment ne) (slice_get-set_same list.items name.n segment within) in
+    grind arith
 
 -- writing a segment in a list leaves the room of every maker
 spare_written : {R : ℕ} (makers : List (ListOf (Segment R))) (m n : ℕ) (list : ListOf (Segment R)) (segment : Segment R) → m < length makers → list ≡ get_or makers m list
@@ -45,10 +45,7 @@ spare_written makers m n list segment within read k = grind (arith, slice_get, s
 -- writing a segment in a list leaves the room of every maker, and the number of lists
 pub written_keeps : {R : ℕ} (makers : List (ListOf (Segment R))) (m n : ℕ) (list : ListOf (Segment R)) (segment : Segment R) → m < length makers → list ≡ get_or makers m list
     → KeepsMakersRoom (makers_room makers) (makers_room (set makers m (with_item list n segment)))
-written_keeps makers m n list segment within read = record {
-  makers = length-set makers m (with_item list n segment);
-  same = spare_written makers m n list segment within read;
-}
+written_keeps makers m n list segment within read = grind (arith, length-set, spare_written)
 
 -- the maker of a segment that is there has a list
 pub maker_within : {R : ℕ} (makers : List (ListOf (Segment R))) (name : SegName) → is_some (by_name makers name) ≡ true → name.maker < length makers
@@ -73,26 +70,15 @@ spare_replaced : {R : ℕ} (makers : List (ListOf (Segment R))) (m : ℕ) (list 
     ⊎ ((k ≡ m → ⊥) × (spare (set makers m left) k ≡ spare makers k))
 spare_replaced makers m list left within read k = grind (arith, slice_get, slice_get-set_same, list_read, slice_get-set_other)
 
--- a making uses 1 of its own maker's room, or none if it failed
-room_used-same : (made : Bool) (maker k : ℕ) → k ≡ maker → room_used made maker k ≡ (if made then 1 else 0)
-room_used-same made maker k e = grind arith
-
--- a making uses no room of another maker
-room_used-other : (made : Bool) (maker k : ℕ) → (k ≡ maker → ⊥) → room_used made maker k ≡ 0
-room_used-other made maker k ne = grind arith
-
 -- lengthening a maker's list adds the new segment under its name, and changes no other
 pub list_lengthened : {R : ℕ} (makers : List (ListOf (Segment R))) (maker m value : ℕ) (name : SegName) (list left : ListOf (Segment R)) → m ≡ maker → maker < length makers
     → list ≡ get_or makers m list → (h : IsLengthened maker value name list left) → Changes name (Some h.segment) makers (set makers m left)
 list_lengthened {R} makers maker m value name list left is within read h =
-    let found : slice_get makers maker ≡ Some list = list_read makers maker list within (read ∙ ap (λ (k : ℕ). get_or makers k list) is) in
-    let new_name : SegName = record { maker = maker; n = length list.items } in
-    let changed : Changes new_name (Some h.segment) makers (set makers maker left) =
-    list_changed makers maker (length list.items) list left (Some h.segment) found
+    let changed = list_changed makers maker (length list.items) list left (Some h.segment)
+    (list_read makers maker list within (read ∙ ap (λ (k : ℕ). get_or makers k list) is))
     (λ k ne. ap (λ xs. slice_get xs k) h.pushed ∙ slice_get-push_other list.items h.segment k ne)
     (ap (λ xs. slice_get xs (length list.items)) h.pushed ∙ slice_get-push_same list.items h.segment) in
-    subst (λ (k : ℕ). Changes name (Some h.segment) makers (set makers k left)) (sym is)
-    (subst (λ (s : SegName). Changes s (Some h.segment) makers (set makers maker left)) (sym h.name_is) changed)
+    grind arith
 
 -- replacing a list by one with the same segments changes no segment
 pub list_same : {R : ℕ} (makers : List (ListOf (Segment R))) (maker m : ℕ) (list left : ListOf (Segment R)) → m ≡ maker → maker < length makers
@@ -106,58 +92,24 @@ list_same makers maker m list left is within read same t = grind (arith, slice_g
 pub made_uses : {R : ℕ} {T : Type 0} (makers : List (ListOf (Segment R))) (maker m : ℕ) (list left : ListOf (Segment R)) (r : Result T Refusal) → m ≡ maker
     → maker < length makers → list ≡ get_or makers m list → spare_in (Some list) ≤ spare_in (Some left) + (if is_ok r then 1 else 0)
     → (r ≡ Err refusal.SegmentsEnd → spare_in (Some left) ≡ spare_in (Some list)) → UsesMakersRoom r true maker (makers_room makers) (makers_room (set makers m left))
-made_uses {T = T} makers maker m list left r is within read room ended = record {
-  makers = length-set makers m left;
-  used = used r room;
-  others = λ k ne. ap spare_in (slice_get-set_other makers m k left (λ e. ne refl (e ∙ is)));
-  ended = λ e k. let same = ended e in grind (arith, spare_replaced);
-}
-  where
-    used : (q : Result T Refusal) → spare_in (Some list) ≤ spare_in (Some left) + (if is_ok q then 1 else 0)
-        → (k : ℕ) → spare makers k ≤ spare (set makers m left) k + room_used (is_ok q && true) maker k
-    used (Ok x) h k = grind (arith, spare_replaced, room_used-same)
-    used (Err x) h k = grind (arith, spare_replaced)
+made_uses makers maker m list left r is within read room ended = grind (arith, length-set, spare_replaced)
 
 -- a list that got 1 more room gives its maker 1 more, and leaves the room of all others
 pub given_returns : {R : ℕ} (makers : List (ListOf (Segment R))) (maker m : ℕ) (list left : ListOf (Segment R)) → m ≡ maker → maker < length makers
     → list ≡ get_or makers m list → spare_in (Some left) ≡ spare_in (Some list) + 1
     → ReturnsMakersRoom (room_used true maker) (makers_room makers) (makers_room (set makers m left))
-given_returns makers maker m list left is within read room = record {
-  makers = length-set makers m left;
-  returns = λ k. grind (arith, spare_replaced, room_used-same, room_used-other);
-}
+given_returns makers maker m list left is within read room = grind (arith, length-set, spare_replaced)
 
 -- after a maker's list is replaced, the maker has the new list's room
 spare_here : {R : ℕ} (makers : List (ListOf (Segment R))) (maker m : ℕ) (left : ListOf (Segment R)) → m ≡ maker → maker < length makers
     → spare (set makers m left) maker ≡ spare_in (Some left)
 spare_here makers maker m left is within = grind (arith, slice_get, slice_get-set_same)
 
--- a maker has the room of the list that is read at its number
-spare_read : {R : ℕ} (makers : List (ListOf (Segment R))) (maker m : ℕ) (list : ListOf (Segment R)) → m ≡ maker → maker < length makers
-    → list ≡ get_or makers m list → spare makers maker ≡ spare_in (Some list)
-spare_read makers maker m list is within read = ap spare_in (list_read makers maker list within (read ∙ ap (λ (k : ℕ). get_or makers k list) is))
-
--- if a reservation succeeds, its maker has the room asked for
-room_made : {R : ℕ} (makers : List (ListOf (Segment R))) (maker m : ℕ) (left : ListOf (Segment R)) (more : ℕ) → m ≡ maker → maker < length makers
-    → (r : Result (Unit {0}) AllocError) → OnOk r (more ≤ spare_in (Some left)) → OnOk r (more ≤ spare (set makers m left) maker)
-room_made makers maker m left more is within r h = grind (arith, spare_here)
-
--- if a reservation is refused, its maker had less room than was asked for
-room_refused : {R : ℕ} (makers : List (ListOf (Segment R))) (maker m : ℕ) (list : ListOf (Segment R)) (more : ℕ) → m ≡ maker → maker < length makers
-    → list ≡ get_or makers m list → (r : Result (Unit {0}) AllocError) → OnErr r (spare_in (Some list) < more) → OnErr r (spare makers maker < more)
-room_refused makers maker m list more is within read r h = grind (arith, spare_read)
-
 -- a reservation in one maker's list adds room for that maker alone
 pub reserved_adds : {R : ℕ} (makers : List (ListOf (Segment R))) (maker m more : ℕ) (list left : ListOf (Segment R)) (r : Result (Unit {0}) AllocError) → m ≡ maker
     → maker < length makers → list ≡ get_or makers m list → OnOk r (more ≤ spare_in (Some left)) → OnErr r (spare_in (Some list) < more)
     → spare_in (Some list) ≤ spare_in (Some left) → AddsMakersRoom r maker more (makers_room makers) (makers_room (set makers m left))
-reserved_adds makers maker m more list left r is within read ok err room = record {
-  makers = length-set makers m left;
-  ok = room_made makers maker m left more is within r ok;
-  err = room_refused makers maker m list more is within read r err;
-  kept = λ k. grind (arith, spare_replaced);
-  others = λ k ne. ap spare_in (slice_get-set_other makers m k left (λ e. ne (e ∙ is)));
-}
+reserved_adds makers maker m more list left r is within read ok err room = grind (arith, length-set, spare_here, list_read, spare_replaced)
 
 -- a maker whose count is above 0 has a list
 pub count_within : {R : ℕ} (makers : List (ListOf (Segment R))) (m : ℕ) → 0 < count makers m → m < length makers
@@ -169,12 +121,8 @@ pub last_taken : {R : ℕ} (makers : List (ListOf (Segment R))) (maker m : ℕ) 
     → Changes (record { maker = maker; n = count makers maker - 1 }) None makers (set makers m left)
 last_taken {R} makers maker m list left is within read items =
     let found : slice_get makers maker ≡ Some list = list_read makers maker list within (read ∙ ap (λ (k : ℕ). get_or makers k list) is) in
-    let counted : count makers maker ≡ length list.items = ap count_in found in
-    subst (λ (k : ℕ). Changes (record { maker = maker; n = k - 1 }) None makers (set makers m left)) (sym counted)
-    (subst (λ (k : ℕ). Changes (record { maker = maker; n = length list.items - 1 }) None makers (set makers k left)) (sym is)
-    (list_changed makers maker (length list.items - 1) list left None found
-    (λ k ne. ap (λ xs. slice_get xs k) items ∙ slice_get-take_other list.items (length list.items - 1) k (omega arith) ne)
-    (ap (λ xs. slice_get xs (length list.items - 1)) items ∙ slice_get-take_same list.items (length list.items - 1))))
+    let changed = list_changed makers maker (length list.items - 1) list left None found in
+    grind (arith, slice_get-take_other, slice_get-take_same)
 
 -- The lists of a fresh space
 

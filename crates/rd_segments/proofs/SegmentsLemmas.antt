@@ -1,9 +1,7 @@
 -- The segments' places after a change of one segment.
-use Rattle.rd_segments.proofs.Prelude.{◌≡◌, ℕ, ◌-◌, ◌<◌, true, false, nat_lt, if◌then◌else◌, inl, inr, refl, sym, ◌∙◌, ap, arith, List, take, length, set, get_or, Option, Some, None, is_some, slice_get, Result, Ok, Err, IfOk, IfErr, OnErr, lt-ltb, vec_len, vec_capacity, common_steps, with_item, cases_Bool, cond-true, cond-false, fun_ext, MOST_SEGMENTS, SegName, Place, Content, Operation, Done, Refusal, name_eq, is_of, segment_of, Contents, operand, operate, everywhere, Operates, Makes, Restores, name_eq-refl, Agrees, operand_agrees, lift_operates, lift_restore, Segment, part, ListOf, by_name, segments_of, count, Changes, IsLengthened, spare, is_of_same_segment, holding, RefusesMaking, beside_is_of, not_covered_outside}
+use Rattle.rd_segments.proofs.Prelude.{◌≡◌, ℕ, ◌-◌, ◌<◌, true, false, if◌then◌else◌, ◌∙◌, ap, arith, List, take, length, set, get_or, Option, Some, None, is_some, slice_get, Result, Ok, Err, IfOk, IfErr, OnErr, lt-ltb, vec_len, vec_capacity, common_steps, with_item, cases_Bool, cond-true, cond-false, SegName, Place, Content, Operation, Done, Refusal, name_eq, is_of, segment_of, Contents, operand, operate, everywhere, Operates, Makes, Restores, name_eq-refl, Agrees, operand_agrees, lift_operates, lift_restore, Segment, part, ListOf, by_name, segments_of, count, Changes, IsLengthened, spare, is_of_same_segment, holding, RefusesMaking, beside_is_of, not_covered_outside}
 use Rattle.rd_segments.proofs.ListsLemmas.{named_is, segment_written, list_read, list_lengthened, list_same, last_taken}
 use Rattle.rd_cell.specs.declared.places.Place.TheVariants as place
-use Rattle.rd_cell.specs.declared.places.Wrote.TheVariants as wrote
-use Rattle.rd_cell.specs.declared.operations.Answer.TheVariants as answer
 
 -- a segment's own places have the contents that the map has under its name
 pub segments_part : {R : ℕ} (makers : List (ListOf (Segment R))) (name : SegName) (segment : Segment R) (q : Place) → by_name makers name ≡ Some segment
@@ -47,33 +45,22 @@ reads_agree makers name m list before left p h = grind (arith, common_steps, seg
 pub operates_in : {R : ℕ} (makers : List (ListOf (Segment R))) (name : SegName) (m : ℕ) (list : ListOf (Segment R)) (before left : Segment R) (p : Place) (op : Operation)
     → Reads makers name m list before p → (r : Result Done Refusal) → IfOk r (λ done. Operates (is_of_same_segment p) p op done (part before) (part left))
     → IfOk r (λ done. Operates everywhere p op done (segments_of makers) (segments_of (set makers m (with_item list name.n left))))
-operates_in makers name m list before left p op reads (Err e) h = tt
-operates_in makers name m list before left p op reads (Ok done) h =
-    lift_operates (is_of_same_segment p) p op done (part before) (part left) (segments_of makers) (segments_of (set makers m (with_item list name.n left)))
-    (reads_agree makers name m list before left p reads) h
+operates_in makers name m list before left p op reads r h =
+    let agrees = reads_agree makers name m list before left p reads in grind (arith, lift_operates)
 
 -- an operation that the segment that was read refuses is refused for the same cause on all segments
 pub refuses_in : {R : ℕ} (makers : List (ListOf (Segment R))) (name : SegName) (m : ℕ) (list : ListOf (Segment R)) (before left : Segment R) (p : Place) (op : Operation)
     → Reads makers name m list before p → (r : Result Done Refusal) → IfErr r (λ e. operate p op (operand (part before) p) ≡ Err e)
     → IfErr r (λ e. operate p op (operand (segments_of makers) p) ≡ Err e)
-refuses_in makers name m list before left p op reads (Ok done) h = tt
-refuses_in makers name m list before left p op reads (Err e) h =
-    ap (operate p op)
-    (operand_agrees (is_of_same_segment p) p (part before) (part left) (segments_of makers) (segments_of (set makers m (with_item list name.n left)))
-    (reads_agree makers name m list before left p reads)) ∙ h
+refuses_in makers name m list before left p op reads r h =
+    let agrees = reads_agree makers name m list before left p reads in grind (arith, operand_agrees)
 
 -- if an error leaves the segment that was read, it leaves all segments
 pub unchanged_in : {R : ℕ} (makers : List (ListOf (Segment R))) (name : SegName) (m : ℕ) (list : ListOf (Segment R)) (before left : Segment R) (p : Place)
     → Reads makers name m list before p → (r : Result Done Refusal) → OnErr r (left ≡ before)
     → OnErr r (segments_of (set makers m (with_item list name.n left)) ≡ segments_of makers)
-unchanged_in makers name m list before left p reads (Ok done) same = tt
-unchanged_in {R} makers name m list before left p reads (Err e) same = fun_ext each
-  where
-    each : (q : Place) → segments_of (set makers m (with_item list name.n left)) q ≡ segments_of makers q
-    each q =
-        let agrees = reads_agree makers name m list before left p reads in
-        elim (cases_Bool (is_of_same_segment p q))
-        [ inl h ↦ sym (agrees.new_inside q h) ∙ ap (λ (s : Segment R). part s q) same ∙ agrees.old_inside q h | inr h ↦ agrees.outside q h ]
+unchanged_in makers name m list before left p reads r same =
+    let agrees = reads_agree makers name m list before left p reads in grind arith
 
 -- a content put back in the segment that was read is put back in the map of all segments
 pub restores_in : {R : ℕ} (makers : List (ListOf (Segment R))) (name : SegName) (m : ℕ) (list : ListOf (Segment R)) (before left : Segment R) (p : Place) (c : Content)
@@ -89,14 +76,7 @@ restores_in makers name m list before left p c reads h = λ q _.
 made_at : {R : ℕ} (old new : List (ListOf (Segment R))) (name : SegName) (o : Option (Segment R)) (news : Contents) (q : Place) → Changes name o old new
     → ((s : Segment R) (x : Place) → o ≡ Some s → part s x ≡ news x) → (o ≡ None → (x : Place) → news x ≡ None)
     → segments_of new q ≡ (if is_of name q then news q else segments_of old q)
-made_at old new name (Some s) news q changes holds none =
-    elim (cases_Bool (is_of name q)) [
-      | inl h ↦
-          sym (segments_part new name s q (changed_here old new name (Some s) changes) h) ∙ holds s q refl
-          ∙ sym (cond-true (is_of name q) (news q) (segments_of old q) h)
-      | inr h ↦ segments_other old new name (Some s) q changes h ∙ sym (cond-false (is_of name q) (news q) (segments_of old q) h)
-    ]
-made_at old new name None news q changes holds none = grind arith
+made_at old new name o news q changes holds none = grind (arith, cases_Bool, segments_part, changed_here, cond-true, segments_other, cond-false)
 
 -- the code reads `list` at the number m of a maker that has a list
 pub record ReadsList {R : ℕ} (makers : List (ListOf (Segment R))) (maker m : ℕ) (list : ListOf (Segment R)) : Type 0 where
@@ -115,15 +95,7 @@ pub makes_in : {R : ℕ} (makers : List (ListOf (Segment R))) (maker m value : �
 makes_in makers maker m value list left reads (Err e) h = tt
 makes_in {R} makers maker m value list left reads (Ok name) h =
     let changes = list_lengthened makers maker m value name list left reads.maker_is reads.within reads.list_is h in
-    let below : name.n < MOST_SEGMENTS = let e = ap (λ (s : SegName). s.n) h.name_is in let b = h.below in omega arith in
-    record {
-      performed = record { place = Some (place.Whole name); old = None; answer = answer.Made name; wrote = wrote.Place; given = holding R value };
-      performs = cond-true (nat_lt name.n MOST_SEGMENTS) _ _ (lt-ltb name.n MOST_SEGMENTS below);
-      keeps = refl;
-      leaves = λ q _.
-          made_at makers (set makers m left) name (Some h.segment) (holding R value) q changes
-          (λ s x e. let same : h.segment ≡ s = cc in ap (λ (y : Segment R). part y x) (sym same) ∙ h.holds x) (λ e. cc);
-    }
+    grind (arith, cond-true, lt-ltb)
 
 -- the new segment's number is its maker's old count
 pub named_in : {R : ℕ} (makers : List (ListOf (Segment R))) (maker m value : ℕ) (list left : ListOf (Segment R)) → ReadsList makers maker m list
@@ -135,8 +107,7 @@ named_in makers maker m value list left reads r h = grind (arith, list_found)
 pub refuses_making : {R : ℕ} (makers : List (ListOf (Segment R))) (maker m : ℕ) (list : ListOf (Segment R)) → ReadsList makers maker m list
     → (r : Result SegName Refusal) → IfErr r (λ e. RefusesMaking (length list.items) (vec_capacity list - vec_len list) e)
     → IfErr r (λ e. RefusesMaking (count makers maker) (spare makers maker) e)
-refuses_making makers maker m list reads (Ok name) h = tt
-refuses_making {R} makers maker m list reads (Err e) h = grind (arith, list_found)
+refuses_making makers maker m list reads r h = grind (arith, list_found)
 
 -- a making that is refused changes no place
 pub making_same : {R : ℕ} (makers : List (ListOf (Segment R))) (maker m : ℕ) (list left : ListOf (Segment R)) → ReadsList makers maker m list
@@ -147,6 +118,5 @@ making_same makers maker m list left reads r same = grind (arith, segments_same,
 pub unmakes_in : {R : ℕ} (makers : List (ListOf (Segment R))) (maker m : ℕ) (list left : ListOf (Segment R)) → ReadsList makers maker m list
     → left.items ≡ take (length list.items - 1) list.items
     → Restores everywhere (place.Whole (record { maker = maker; n = count makers maker - 1 })) None (segments_of makers) (segments_of (set makers m left))
-unmakes_in makers maker m list left reads items = λ q _.
-    made_at makers (set makers m left) (record { maker = maker; n = count makers maker - 1 }) None (λ x. None) q
-    (last_taken makers maker m list left reads.maker_is reads.within reads.list_is items) (λ s x e. cc) (λ e x. refl)
+unmakes_in makers maker m list left reads items q own =
+    let changes = last_taken makers maker m list left reads.maker_is reads.within reads.list_is items in grind (arith, made_at)

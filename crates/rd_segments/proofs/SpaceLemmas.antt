@@ -1,7 +1,6 @@
 -- The space's map after a change of its segments, of one of the queue's ends, or of the array.
-use Rattle.rd_segments.proofs.Prelude.{◌≡◌, ℕ, true, false, Bool, if◌then◌else◌, refl, sym, ap, subst, List, Some, None, Result, Ok, Err, IfOk, OnErr, arith, fun_ext, SegName, Place, Content, Operation, Done, Refusal, root, name_eq, is_of, place_eq, segment_of, Contents, fresh_segment, operand, operate, everywhere, Operates, OperatesOn, Agrees, lift_operates, lift_restore, place_operates, Segment, ListOf, by_name, part_of, segments_of, IsFresh, ArrayParts, array_part, fresh_array, contents_of, fresh_space, is_array, restore, narrow, contents_by}
+use Rattle.rd_segments.proofs.Prelude.{◌≡◌, ℕ, true, false, Bool, if◌then◌else◌, ap, List, Some, None, Result, Ok, Err, IfOk, OnErr, arith, fun_ext, SegName, Place, Content, Operation, Done, Refusal, root, name_eq, is_of, place_eq, segment_of, Contents, fresh_segment, operand, operate, everywhere, Operates, Agrees, lift_operates, lift_restore, Segment, ListOf, by_name, part_of, segments_of, IsFresh, ArrayParts, array_part, fresh_array, contents_of, fresh_space, is_array, restore, narrow, contents_by}
 use Rattle.rd_cell.specs.declared.places.Place.TheVariants as place
-use Rattle.rd_cell.specs.declared.contents.Content.TheVariants as content
 
 -- Which places are the segments'
 
@@ -46,33 +45,15 @@ same_fields old new qhead qtail array h = ap (λ (at : Contents). contents_by at
 
 -- An operation on one of the queue's ends
 
-head_others : {R : ℕ} (makers : List (ListOf (Segment R))) (old new qtail : SegName) (array : ArrayParts) (q : Place) → place_eq place.QHead q ≡ false
+-- another name at the queue's head changes no other place
+pub head_others : {R : ℕ} (makers : List (ListOf (Segment R))) (old new qtail : SegName) (array : ArrayParts) (q : Place) → place_eq place.QHead q ≡ false
     → contents_of makers new qtail array q ≡ contents_of makers old qtail array q
 head_others makers old new qtail array q h = grind arith
 
-tail_others : {R : ℕ} (makers : List (ListOf (Segment R))) (qhead old new : SegName) (array : ArrayParts) (q : Place) → place_eq place.QTail q ≡ false
+-- another name at the queue's tail changes no other place
+pub tail_others : {R : ℕ} (makers : List (ListOf (Segment R))) (qhead old new : SegName) (array : ArrayParts) (q : Place) → place_eq place.QTail q ≡ false
     → contents_of makers qhead new array q ≡ contents_of makers qhead old array q
 tail_others makers qhead old new array q h = grind arith
-
--- an operation on the name at the queue's head is done on the space
-pub head_operates : {R : ℕ} (makers : List (ListOf (Segment R))) (old new qtail : SegName) (array : ArrayParts) (p : Place) (op : Operation) → p ≡ place.QHead
-    → (r : Result Done Refusal) → IfOk r (λ done. OperatesOn p op done (content.Name old) (content.Name new))
-    → IfOk r (λ done. Operates everywhere p op done (contents_of makers old qtail array) (contents_of makers new qtail array))
-head_operates makers old new qtail array p op at r =
-    subst (λ (x : Place). IfOk r (λ done. OperatesOn x op done (content.Name old) (content.Name new))
-    → IfOk r (λ done. Operates everywhere x op done (contents_of makers old qtail array) (contents_of makers new qtail array))) (sym at)
-    (place_operates place.QHead op (content.Name old) (content.Name new) (contents_of makers old qtail array) (contents_of makers new qtail array) (λ q. refl) refl refl refl
-    (λ q h. head_others makers old new qtail array q h) r)
-
--- an operation on the name at the queue's tail is done on the space
-pub tail_operates : {R : ℕ} (makers : List (ListOf (Segment R))) (qhead old new : SegName) (array : ArrayParts) (p : Place) (op : Operation) → p ≡ place.QTail
-    → (r : Result Done Refusal) → IfOk r (λ done. OperatesOn p op done (content.Name old) (content.Name new))
-    → IfOk r (λ done. Operates everywhere p op done (contents_of makers qhead old array) (contents_of makers qhead new array))
-tail_operates makers qhead old new array p op at r =
-    subst (λ (x : Place). IfOk r (λ done. OperatesOn x op done (content.Name old) (content.Name new))
-    → IfOk r (λ done. Operates everywhere x op done (contents_of makers qhead old array) (contents_of makers qhead new array))) (sym at)
-    (place_operates place.QTail op (content.Name old) (content.Name new) (contents_of makers qhead old array) (contents_of makers qhead new array) (λ q. refl) refl refl refl
-    (λ q h. tail_others makers qhead old new array q h) r)
 
 -- An operation on the array, or a content put back there
 
@@ -85,16 +66,13 @@ array_agrees makers qhead qtail old new p own = grind arith
 pub array_operates : {R : ℕ} (makers : List (ListOf (Segment R))) (qhead qtail : SegName) (old new : ArrayParts) (p : Place) (op : Operation) → is_array p ≡ true
     → (r : Result Done Refusal) → IfOk r (λ done. Operates everywhere p op done (array_part old) (array_part new))
     → IfOk r (λ done. Operates everywhere p op done (contents_of makers qhead qtail old) (contents_of makers qhead qtail new))
-array_operates makers qhead qtail old new p op own (Err e) h = tt
-array_operates makers qhead qtail old new p op own (Ok done) h =
-    lift_operates is_array p op done (array_part old) (array_part new) (contents_of makers qhead qtail old) (contents_of makers qhead qtail new)
-    (array_agrees makers qhead qtail old new p own) (narrow is_array (operate p op (operand (array_part old) p)) done (array_part old) (array_part new) h)
+array_operates makers qhead qtail old new p op own r h =
+    let agrees = array_agrees makers qhead qtail old new p own in grind (arith, lift_operates, narrow)
 
 -- if an error leaves the array, it leaves the space
 pub array_unchanged : {R : ℕ} (makers : List (ListOf (Segment R))) (qhead qtail : SegName) (old new : ArrayParts) {T : Type 0} → (r : Result T Refusal)
     → OnErr r (array_part new ≡ array_part old) → OnErr r (contents_of makers qhead qtail new ≡ contents_of makers qhead qtail old)
-array_unchanged makers qhead qtail old new (Ok done) h = tt
-array_unchanged makers qhead qtail old new (Err e) h = ap (λ (at : Contents). contents_by (segments_of makers) qhead qtail at) h
+array_unchanged makers qhead qtail old new r h = grind arith
 
 -- a content put back in the array is put back in the space
 pub array_restored : {R : ℕ} (makers : List (ListOf (Segment R))) (qhead qtail : SegName) (old new : ArrayParts) (p : Place) (c : Content) → is_array p ≡ true

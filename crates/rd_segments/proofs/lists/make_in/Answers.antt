@@ -20,6 +20,4 @@ pub returns-clause-unchanged : goal.returns-clause-unchanged
 returns-clause-unchanged g c = grind (arith, making_same)
 
 pub returns-clause-room : goal.returns-clause-room
-returns-clause-room g c =
-    made_uses c.args.makers.now.items c.args.maker c.from.result c.index_mut.result.now c.make_next.new.list c.make_next.result c.from.ensures
-    c.requires.maker_there c.index_mut.ensures.value c.make_next.ensures.room c.make_next.ensures.ended
+returns-clause-room g c = grind (arith, made_uses)

@@ -19,5 +19,4 @@ returns-clause-unchanged g c =
     (grind (arith, found_there, list_read)) c.operate.result c.operate.ensures.unchanged
 
 pub returns-clause-room : goal.returns-clause-room
-returns-clause-room g c =
-    written_keeps c.args.makers.now.items c.from-maker.result c.args.name.n c.index_mut.result.now c.operate.new.self (omega arith) c.index_mut.ensures.value
+returns-clause-room g c = grind (arith, written_keeps)

@@ -1,3 +1,4 @@
+use Rattle.std.proofs.Common.{arith}
 use Rattle.rd_segments.proofs.ListsLemmas.{given_returns, count_within}
 use Rattle.rd_segments.proofs.SegmentsLemmas.{unmakes_in}
 use Rattle.rd_segments.proofs.lists.unmake_in.Goals as goal
@@ -13,6 +14,4 @@ returns-clause-gone g c =
     c.remove_last.ensures.items
 
 pub returns-clause-room : goal.returns-clause-room
-returns-clause-room g c =
-    given_returns c.args.makers.now.items c.args.maker c.from.result c.index_mut.result.now c.remove_last.new.list c.from.ensures
-    (count_within c.args.makers.now.items c.args.maker c.requires.has_one) c.index_mut.ensures.value c.remove_last.ensures.room
+returns-clause-room g c = grind (arith, given_returns, count_within)

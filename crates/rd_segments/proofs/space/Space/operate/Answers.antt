@@ -1,5 +1,8 @@
-use Rattle.std.proofs.Common.{sym}
-use Rattle.rd_segments.proofs.SpaceLemmas.{space_operates, unchanged_fields, head_operates, tail_operates, array_operates, array_unchanged}
+use Rattle.std.proofs.Common.{refl, sym}
+use Rattle.rd_segments.proofs.Prelude.{contents_of, place_operates}
+use Rattle.rd_cell.specs.declared.places.Place.TheVariants as place
+use Rattle.rd_cell.specs.declared.contents.Content.TheVariants as content
+use Rattle.rd_segments.proofs.SpaceLemmas.{space_operates, unchanged_fields, head_others, tail_others, array_operates, array_unchanged}
 use Rattle.rd_segments.proofs.space.Space.operate.Goals as goal
 
 pub returns-in-Some-clause-ok : goal.returns-in-Some-clause-ok
@@ -9,13 +12,19 @@ returns-in-Some-clause-ok g c =
 
 pub returns-in-QHead-clause-ok : goal.returns-in-QHead-clause-ok
 returns-in-QHead-clause-ok g c =
-    head_operates c.args.self.now.makers.items c.args.self.now.qhead c.operate_on_name.new.name c.args.self.now.qtail c.args.self.now.array
-    c.args.place c.args.operation c.in-QHead.is c.operate_on_name.result c.operate_on_name.ensures.ok
+    let s = c.args.self.now in
+    let name = c.operate_on_name.new.name in
+    place_operates place.QHead c.args.place c.args.operation (content.Name s.qhead) (content.Name name)
+    (contents_of s.makers.items s.qhead s.qtail s.array) (contents_of s.makers.items name s.qtail s.array)
+    c.in-QHead.is (λ q. refl) refl refl refl (head_others s.makers.items s.qhead name s.qtail s.array) c.operate_on_name.result c.operate_on_name.ensures.ok
 
 pub returns-in-QTail-clause-ok : goal.returns-in-QTail-clause-ok
 returns-in-QTail-clause-ok g c =
-    tail_operates c.args.self.now.makers.items c.args.self.now.qhead c.args.self.now.qtail c.operate_on_name-in-QTail.new.name c.args.self.now.array
-    c.args.place c.args.operation c.in-QTail.is c.operate_on_name-in-QTail.result c.operate_on_name-in-QTail.ensures.ok
+    let s = c.args.self.now in
+    let name = c.operate_on_name-in-QTail.new.name in
+    place_operates place.QTail c.args.place c.args.operation (content.Name s.qtail) (content.Name name)
+    (contents_of s.makers.items s.qhead s.qtail s.array) (contents_of s.makers.items s.qhead name s.array)
+    c.in-QTail.is (λ q. refl) refl refl refl (tail_others s.makers.items s.qhead s.qtail name s.array) c.operate_on_name-in-QTail.result c.operate_on_name-in-QTail.ensures.ok
 
 pub returns-in-None-clause-ok : goal.returns-in-None-clause-ok
 returns-in-None-clause-ok g c =
