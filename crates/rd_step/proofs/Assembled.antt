@@ -1,5 +1,5 @@
 -- Parts without a flaw are a well-formed world.
-use Rattle.rd_step.proofs.Prelude.{◌≡◌, ℕ, zero, suc, ◌<◌, ◌≤◌, Bool, true, false, not, ◌==◌, ◌&&◌, nat_lt, nat_le, if◌then◌else◌, inl, inr, refl, sym, ◌∙◌, ap, subst, arith, List, [], ◌∷◌, length, slice_get, Option, Some, None, is_some, option_map, lt-ltb, le-ltb, leb-true, eqb-true, eq-eqb, list_all, cases_lt, and_parts, and_from, both_ways, slice_get_past, fun_ext, MOST_ACTORS, SLOTS, MOST_SEGMENTS, Cell, SegName, Place, ArrSlot, is_there, SegmentParts, counters_fit, by_number, by_name, count_in, count, Space, contents, ListOf, part_of_parts, contents_of_parts, each_segment, in_list, numbered_there, Actor, words_fit, Parts, Flaw, world_of_fields, numbered, Presence, belongs, place_fits, next_fits, names_fit, numbers_within, actor_fits, is_actor, IsNumbered, AreMade, IsWellFormed, world_of_parts, has, indexes_fit, first_flaw, index_end, part_from, numbered_absent}
+use Rattle.rd_step.proofs.Prelude.{◌≡◌, ℕ, zero, suc, ◌<◌, ◌≤◌, Bool, true, false, not, ◌==◌, ◌&&◌, nat_lt, nat_le, if◌then◌else◌, inl, inr, refl, sym, ◌∙◌, ap, subst, arith, List, [], ◌∷◌, length, slice_get, Option, Some, None, is_some, option_map, lt-ltb, leb-true, eqb-true, eq-eqb, list_all, cases_lt, and_parts, and_from, both_ways, slice_get_past, fun_ext, MOST_ACTORS, SLOTS, MOST_SEGMENTS, Cell, SegName, Place, ArrSlot, is_there, SegmentParts, counters_fit, by_number, by_name, count_in, count, Space, contents, ListOf, part_of_parts, contents_of_parts, each_segment, in_list, numbered_there, Actor, words_fit, Parts, Flaw, world_of_fields, numbered, Presence, belongs, place_fits, next_fits, names_fit, numbers_within, actor_fits, is_actor, IsNumbered, AreMade, IsWellFormed, world_of_parts, has, indexes_fit, first_flaw, index_end, part_from, numbered_absent, slice_get_cases}
 use Rattle.rd_cell.specs.declared.places.Place.TheVariants as place
 use Rattle.rd_cell.specs.declared.contents.Content.TheVariants as content
 
@@ -79,14 +79,7 @@ segments_made p f = grind (arith, numbered_there, slice_get, eqb-true, numbered_
 -- Which places are there
 
 some_in : {X Y : Type 0} (f : X → Y) (xs : List X) (i n : ℕ) → length xs ≡ n → is_some (option_map f (slice_get xs i)) ≡ nat_lt i n
-some_in f xs i n len =
-    elim (cases_lt i n) [
-      | inl lt ↦ mapped (slice_get xs i) ∙ in_list xs i (omega arith) ∙ sym (lt-ltb i n lt)
-      | inr past ↦ mapped (slice_get xs i) ∙ ap is_some (slice_get_past xs i (omega arith)) ∙ sym (le-ltb i n past)
-    ]
-  where
-    mapped : (o : Option _) → is_some (option_map f o) ≡ is_some o
-    mapped o = grind arith
+some_in f xs i n len = grind (arith, slice_get_cases)
 
 and_false : (b : Bool) → false ≡ (b && false)
 and_false b = grind arith
@@ -101,8 +94,7 @@ index_there : (R : ℕ) (o : Option (SegmentParts R)) (s : SegName) (i : ℕ) �
 index_there R o s i = grind (arith, and_false, nat_lt, some_in, and_true)
 
 no_place : {R : ℕ} (o : Option (SegmentParts R)) (q : Place) → ((x : SegmentParts R) → part_from x q ≡ None) → is_some (part_of_parts o q) ≡ false
-no_place None q none = refl
-no_place (Some x) q none = ap is_some (none x)
+no_place o q none = grind arith
 
 places_belong : {R : ℕ} (p : Parts R) (q : Place) → is_some ((world_of_parts p).at q) ≡ belongs R (has p) q
 places_belong p q = grind (arith, there_if, value_there, index_there, no_place, some_in)

@@ -4,21 +4,15 @@ use Rattle.rd_step.proofs.Prelude.{◌≡◌, false, refl, sym, ◌∙◌, ap, s
 use Rattle.rd_step.proofs.Steps.{took}
 use Rattle.rd_step.proofs.Commute.{commutes}
 use Rattle.rd_step.proofs.Symmetry.{symmetric}
-use Rattle.rd_step.proofs.Inverse.{ran_on, run-cons}
+use Rattle.rd_step.proofs.Inverse.{ran_on, run_on, run-cons}
 use Rattle.rd_step.proofs.RunParts.{free_parts}
 
 -- equal successes have equal values
 
-abbrev as_ran : Ran → Result Ran Refusal
-as_ran r = Ok r
-
-pub as_ran-same : (r q : Ran) → as_ran r ≡ Ok q → r ≡ q
+pub as_ran-same : (r q : Ran) → ◌≡◌ {A = Result Ran Refusal} (Ok r) (Ok q) → r ≡ q
 as_ran-same r q h = cc
 
-abbrev as_stepped : Stepped → Result Stepped Refusal
-as_stepped s = Ok s
-
-pub as_stepped-same : (s u : Stepped) → as_stepped s ≡ Ok u → s ≡ u
+pub as_stepped-same : (s u : Stepped) → ◌≡◌ {A = Result Stepped Refusal} (Ok s) (Ok u) → s ≡ u
 as_stepped-same s u h = cc
 
 -- The step of e after the run of `earlier`, and a run on from there, with e moved to the front
@@ -35,32 +29,31 @@ pub goes_first : (w : World) (e : Event) (earlier later : List Event) (r : Ran) 
     → GoesFirst w e s.entry (earlier ++ later) (record { world = q.world; entries = r.entries ++ q.entries })
 goes_first w e [] later r s q h k free l = grind arith
 goes_first w e (f ∷ fs) later r s q h k free l =
-    let ran = ran_on w f fs r h in
-    let goes : step ran.rest.world e ≡ Ok s = ap (λ (y : Ran). step y.world e) ran.joins ∙ k in
-    let parts = free_parts s.entry ran.one.entry ran.rest.entries (subst (λ (y : Ran). IsFree s.entry y.entries) (sym ran.joins) free) in
-    let first = goes_first ran.one.world e fs later ran.rest s q ran.goes_on goes parts.1 l in
-    let independent : depends ran.one.entry s.entry ≡ false = symmetric ran.one.entry s.entry ∙ parts.0 in
-    let sw = commutes w f e ran.one (record { world = first.after; entry = s.entry }) ran.goes first.goes independent in
-    let rest : Ran = record { world = q.world; entries = ran.rest.entries ++ q.entries } in
-    let runs : run sw.second.world (fs ++ later) ≡ Ok rest = ap (λ (v : World). run v (fs ++ later)) sw.same_world ∙ first.runs in
+    run_on w f fs (λ x. step x.world e ≡ Ok s → IsFree s.entry x.entries → GoesFirst w e s.entry (f ∷ (fs ++ later)) (record { world = q.world; entries = x.entries ++ q.entries }))
+    (λ one rest goes goes_on steps alone.
+    let parts = free_parts s.entry one.entry rest.entries alone in
+    let first = goes_first one.world e fs later rest s q goes_on steps parts.1 l in
+    let independent : depends one.entry s.entry ≡ false = symmetric one.entry s.entry ∙ parts.0 in
+    let sw = commutes w f e one (record { world = first.after; entry = s.entry }) goes first.goes independent in
+    let all : Ran = record { world = q.world; entries = rest.entries ++ q.entries } in
     record {
       after = sw.first.world;
       goes = sw.goes_first ∙ (λ i. Ok (record { world = sw.first.world; entry = sw.same_entry i }));
       runs =
-          run-cons sw.first.world f (fs ++ later) sw.second rest sw.goes_second runs
-          ∙ (λ i. Ok (record { world = q.world; entries = sw.entry_unchanged i ∷ (ran.rest.entries ++ q.entries) }))
-          ∙ ap (λ (y : Ran). Ok (record { world = q.world; entries = y.entries ++ q.entries })) ran.joins;
-    }
+          run-cons sw.first.world f (fs ++ later) sw.second all sw.goes_second (ap (λ (v : World). run v (fs ++ later)) sw.same_world ∙ first.runs)
+          ∙ (λ i. Ok (record { world = q.world; entries = sw.entry_unchanged i ∷ (rest.entries ++ q.entries) }));
+    })
+    r h k free
 
 -- the events of a run's entries are the events that were run
 pub run_events : (w : World) (es : List Event) (r : Ran) → run w es ≡ Ok r → events r.entries ≡ es
 run_events w [] r h = let p : record { world = w; entries = [] } ≡ r = cc in ap (λ (y : Ran). events y.entries) (sym p)
 run_events w (e ∷ es) r h =
-    let ran = ran_on w e es r h in
-    let t = took w e ran.one ran.goes in
-    let first : ran.one.entry.event ≡ e = ap (λ (s : Stepped). s.entry.event) (sym t.ends) in
-    let rest = run_events ran.one.world es ran.rest ran.goes_on in
-    ap (λ (y : Ran). events y.entries) (sym ran.joins) ∙ (λ i. first i ∷ rest i)
+    run_on w e es (λ x. events x.entries ≡ e ∷ es)
+    (λ s rest goes goes_on.
+    let first : s.entry.event ≡ e = ap (λ (x : Stepped). x.entry.event) (sym (took w e s goes).ends) in
+    let others = run_events s.world es rest goes_on in λ i. first i ∷ others i)
+    r h
 
 -- A run taken apart at one of its steps
 
@@ -79,28 +72,23 @@ pub record RanThrough (w : World) (earlier : List Event) (e : Event) (later : Li
 pub ran_through : (w : World) (earlier : List Event) (e : Event) (later : List Event) (q : Ran) → run w (earlier ++ e ∷ later) ≡ Ok q
     → RanThrough w earlier e later q
 ran_through w [] e later q h =
-    let ran = ran_on w e later q h in
-    record {
-      before = record { world = w; entries = [] };
-      runs = refl;
-      one = ran.one;
-      goes = ran.goes;
-      rest = ran.rest;
-      goes_on = ran.goes_on;
-      joins = ran.joins;
-    }
+    run_on w e later (RanThrough w [] e later)
+    (λ s rest goes goes_on. record { before = record { world = w; entries = [] }; runs = refl; one = s; goes = goes; rest = rest; goes_on = goes_on; joins = refl })
+    q h
 ran_through w (f ∷ fs) e later q h =
-    let ran = ran_on w f (fs ++ e ∷ later) q h in
-    let t = ran_through ran.one.world fs e later ran.rest ran.goes_on in
+    run_on w f (fs ++ e ∷ later) (RanThrough w (f ∷ fs) e later)
+    (λ s rest goes goes_on.
+    let t = ran_through s.world fs e later rest goes_on in
     record {
-      before = record { world = t.before.world; entries = ran.one.entry ∷ t.before.entries };
-      runs = run-cons w f fs ran.one t.before ran.goes t.runs;
+      before = record { world = t.before.world; entries = s.entry ∷ t.before.entries };
+      runs = run-cons w f fs s t.before goes t.runs;
       one = t.one;
       goes = t.goes;
       rest = t.rest;
       goes_on = t.goes_on;
-      joins = ap (λ (y : Ran). record { world = y.world; entries = ran.one.entry ∷ y.entries }) t.joins ∙ ran.joins;
-    }
+      joins = ap (λ (y : Ran). record { world = y.world; entries = s.entry ∷ y.entries }) t.joins;
+    })
+    q h
 
 -- The first list's first event in the run of the second
 
@@ -125,13 +113,7 @@ stands_through w e earlier later q t free = grind (arith, took, goes_first, run_
 pub stands_in : (w : World) (e : Event) (earlier later : List Event) (q : Ran) → run w (earlier ++ e ∷ later) ≡ Ok q
     → IsIndependentOf w e earlier → StandsIn w e earlier later q
 stands_in w e earlier later q h alone =
-    let t = ran_through w earlier e later q h in
-    let same : alone.ran ≡ t.before = as_ran-same _ _ (sym alone.runs ∙ t.runs) in
-    let goes : step t.before.world e ≡ Ok alone.stepped = ap (λ (y : Ran). step y.world e) (sym same) ∙ alone.goes in
-    let one : alone.stepped ≡ t.one = as_stepped-same _ _ (sym goes ∙ t.goes) in
-    stands_through w e earlier later q t
-    (subst (λ (s : Stepped). IsFree s.entry t.before.entries) one
-    (subst (λ (y : Ran). IsFree alone.stepped.entry y.entries) same alone.free))
+    let t = ran_through w earlier e later q h in grind (arith, as_ran-same, as_stepped-same, stands_through)
 
 -- Equivalent lists
 
@@ -143,25 +125,25 @@ pub reach_the_same : (w : World) (es fs : List Event) (r q : Ran) → run w es �
     → IsEquivalent w es fs → ReachesTheSame r q
 reach_the_same w [] fs r q h k same = both_empty w r q h (ap (run w) (sym same) ∙ k)
 reach_the_same w (e ∷ es) fs r q h k same =
-    let ran = ran_on w e es r h in
+    run_on w e es (λ x. ReachesTheSame x q)
+    (λ one ran goes goes_on.
     let s = stands_in w e same.earlier same.later q (ap (run w) (sym same.stands) ∙ k) same.independent in
-    let one : record { world = s.first.after; entry = s.x } ≡ ran.one = as_stepped-same _ _ (sym s.first.goes ∙ ran.goes) in
-    let its : same.stepped ≡ ran.one = as_stepped-same _ _ (sym same.goes ∙ ran.goes) in
+    let its : record { world = s.first.after; entry = s.x } ≡ one = as_stepped-same _ _ (sym s.first.goes ∙ goes) in
+    let stepped : same.stepped ≡ one = as_stepped-same _ _ (sym same.goes ∙ goes) in
     let others : Ran = record { world = q.world; entries = s.before ++ s.behind } in
-    let runs : run ran.one.world (same.earlier ++ same.later) ≡ Ok others = grind arith in
-    let rest = reach_the_same ran.one.world es (same.earlier ++ same.later) ran.rest others ran.goes_on runs
-    (subst (λ (y : Stepped). IsEquivalent y.world es (same.earlier ++ same.later)) its same.rest) in
+    let rest = reach_the_same one.world es (same.earlier ++ same.later) ran others goes_on
+    (subst (λ (y : Stepped). run y.world (same.earlier ++ same.later) ≡ Ok others) its s.first.runs)
+    (subst (λ (y : Stepped). IsEquivalent y.world es (same.earlier ++ same.later)) stepped same.rest) in
     let moved : IsPermutation (s.x ∷ (s.before ++ s.behind)) (s.before ++ s.x ∷ s.behind) =
     IsPermutation-sym _ _ (IsPermutation-middle s.before s.x s.behind) in
-    let entries : ran.one.entry ∷ ran.rest.entries ≡ r.entries = ap (λ (y : Ran). y.entries) ran.joins in
     record {
-      same_world = rest.same_world ∙ ap (λ (y : Ran). y.world) ran.joins;
+      same_world = rest.same_world;
       same_entries =
-          subst (λ (l : List Entry). IsPermutation l q.entries) entries
-          (subst (λ (l : List Entry). IsPermutation (ran.one.entry ∷ ran.rest.entries) l) (sym s.entries)
-          (IsPermutation-trans _ _ _ (IsPermutation-cons ran.one.entry _ _ rest.same_entries)
-          (subst (λ (y : Stepped). IsPermutation (y.entry ∷ (s.before ++ s.behind)) (s.before ++ s.x ∷ s.behind)) one moved)));
-    }
+          subst (λ (l : List Entry). IsPermutation (one.entry ∷ ran.entries) l) (sym s.entries)
+          (IsPermutation-trans _ _ _ (IsPermutation-cons one.entry _ _ rest.same_entries)
+          (subst (λ (y : Stepped). IsPermutation (y.entry ∷ (s.before ++ s.behind)) (s.before ++ s.x ∷ s.behind)) its moved));
+    })
+    r h
 
 -- equivalent lists stay equivalent if the same event is put in front of both
 after_one : (w : World) (e : Event) (es fs : List Event) (s : Stepped) → step w e ≡ Ok s → IsEquivalent s.world es fs → IsEquivalent w (e ∷ es) (e ∷ fs)
@@ -210,9 +192,7 @@ neighbours_swapped w e f es s u r h k free l =
 pub swapped_within : (w : World) (before : List Event) (e f : Event) (later : List Event) (b : Ran) (s u : Stepped) (r : Ran) → run w before ≡ Ok b
     → step b.world e ≡ Ok s → step s.world f ≡ Ok u → depends s.entry u.entry ≡ false → run u.world later ≡ Ok r
     → IsEquivalent w (before ++ e ∷ f ∷ later) (before ++ f ∷ e ∷ later)
-swapped_within w [] e f later b s u r g h k free l =
-    let here : record { world = w; entries = [] } ≡ b = as_ran-same _ _ g in
-    neighbours_swapped w e f later s u r (ap (λ (y : Ran). step y.world e) here ∙ h) k free l
+swapped_within w [] e f later b s u r g h k free l = grind (arith, as_ran-same, neighbours_swapped)
 swapped_within w (d ∷ ds) e f later b s u r g h k free l =
     let ran = ran_on w d ds b g in
     after_one w d (ds ++ e ∷ f ∷ later) (ds ++ f ∷ e ∷ later) ran.one ran.goes

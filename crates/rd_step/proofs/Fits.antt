@@ -1,5 +1,5 @@
 -- Which accesses and answers fit. An actor whose record fits asks for an access that fits.
-use Rattle.rd_step.proofs.Prelude.{nat_lt, ◌≡◌, ℕ, Bool, true, not, ◌&&◌, nat_le, arith, Option, Some, IfOk, and_parts, SLOTS, COUNTER_END, SegName, Place, Access, NoPlace, At, Make, Answer, Operation, Add, AddArray, CasName, CasNext, CasTail, Cas2, is_array, Act, Actor, Pc, need, need_at, words_fit, Presence, names_fit, numbers_within, record_fits, actor_fits, index_end}
+use Rattle.rd_step.proofs.Prelude.{nat_lt, ◌≡◌, ℕ, Bool, true, not, ◌&&◌, nat_le, arith, Option, Some, IfOk, and_parts, SLOTS, COUNTER_END, SegName, Place, Access, NoPlace, At, Make, Answer, Operation, Add, AddArray, CasName, CasNext, CasTail, Cas2, is_array, Act, Actor, Pc, need, need_at, words_fit, Presence, names_fit, numbers_within, record_fits, actor_fits, index_end, subst, World, IsWellFormed, is_there}
 use Rattle.rd_cell.specs.declared.contents.Content.TheVariants as content
 use Rattle.rd_cell.specs.declared.operations.Answer.TheVariants as answer
 
@@ -25,6 +25,10 @@ words_of R there a fits = (and_parts (names_fit there a && numbers_within (index
 -- conversely, these parts and words that fit make a record that fits
 pub together : (R : ℕ) (there : Presence) (a : Actor) → PartsFit R there a → words_fit a ≡ true → record_fits R there a ≡ true
 together R there a f words = grind arith
+
+-- the record of an actor of a well-formed world fits
+pub fits_here : (w : World) (n : ℕ) (a : Actor) → IsWellFormed w → w.actor n ≡ Some a → record_fits w.ring (is_there w.at) a ≡ true
+fits_here w n a formed has = subst (λ (o : Option Actor). actor_fits w.ring (is_there w.at) o ≡ true) has (formed.actors n)
 
 -- What fits goes on to fit if more segments are there
 

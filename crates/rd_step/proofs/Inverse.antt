@@ -1,8 +1,8 @@
 -- Putting back the words that an entry keeps gives the world before its step, and a step on which
 -- no later one depends may be taken out of a run.
-use Rattle.rd_step.proofs.Prelude.{◌≡◌, ℕ, zero, suc, ◌+◌, ◌<◌, true, false, nat_lt, refl, sym, ◌∙◌, subst, arith, List, ◌∷◌, Option, Some, None, Result, Ok, Err, IfOk, ltb-true, cond-false, cond_both, IfOk-at_ok, fun_ext, MOST_SEGMENTS, SegName, Place, Content, Access, NoPlace, At, Make, Operation, Refusal, is_of, Contents, after_write, operand, restore, is_there, holding, Effect, Performed, contents_after, operate, make, perform, effect_at, number_made_from, result_map, is_cell_at, after_write-outside, Actor, after, World, Event, Stepped, with_actor, step, unstep, Ran, run, Presence, belongs, IsWellFormed, number_made, operand-covered, not_written}
+use Rattle.rd_step.proofs.Prelude.{◌≡◌, ℕ, zero, suc, ◌+◌, ◌<◌, true, false, nat_lt, refl, sym, ◌∙◌, subst, arith, List, ◌∷◌, Option, Some, None, Ok, ltb-true, cond-false, cond_both, IfOk-at_ok, fun_ext, MOST_SEGMENTS, SegName, Place, Content, is_of, Contents, after_write, operand, restore, is_there, holding, Effect, Performed, contents_after, effect_at, number_made_from, is_cell_at, after_write-outside, Actor, after, World, Event, Stepped, with_actor, step, unstep, Ran, run, Presence, belongs, IsWellFormed, number_made, operand-covered, not_written}
 use Rattle.rd_step.proofs.Halves.{nothing_there, bare_cell}
-use Rattle.rd_step.proofs.Steps.{took}
+use Rattle.rd_step.proofs.Steps.{took, each_access, making}
 use Rattle.rd_cell.specs.declared.places.Place.TheVariants as place
 
 -- putting back the old content of an access's place gives the contents before the access
@@ -15,13 +15,6 @@ Bare at = (q : Place) → is_cell_at q ≡ true → at q ≡ None
 
 back-effect : (p : Place) (c : Content) (e : Effect) (at : Contents) → Bare at → operand at p ≡ Some c → PutsBack at (effect_at p c e)
 back-effect p c e at bare h q = grind (arith, cond_both, operand-covered, after_write-outside, not_written)
-
-back-result : (p : Place) (c : Content) (r : Result Effect Refusal) (at : Contents) → Bare at → operand at p ≡ Some c → IfOk (result_map (effect_at p c) r) (PutsBack at)
-back-result p c (Err x) at bare h = tt
-back-result p c (Ok e) at bare h = back-effect p c e at bare h
-
-back-operate : (p : Place) (op : Operation) (o : Option Content) (at : Contents) → Bare at → operand at p ≡ o → IfOk (operate p op o) (PutsBack at)
-back-operate p op o at bare h = grind (arith, back-result)
 
 -- if counting ends before its bound, the number at which it ends names no segment that is there
 number_made_from-absent : (more : ℕ) (at : Contents) (m n : ℕ) → number_made_from more at m n < n + more
@@ -39,21 +32,12 @@ number_made-absent at m h = number_made_from-absent MOST_SEGMENTS at m 0 h
 pub absent_place : (R : ℕ) (there : Presence) (s : SegName) (q : Place) → there s ≡ false → is_of s q ≡ true → belongs R there q ≡ false
 absent_place R there s q h e = grind arith
 
-back-make : (actor n x : ℕ) (w : World) → IsWellFormed w → (n < MOST_SEGMENTS → is_there w.at (record { maker = actor; n = n }) ≡ false)
-    → IfOk (make (record { maker = actor; n = n }) (holding w.ring x)) (PutsBack w.at)
-back-make actor n x w formed absent =
-    let s : SegName = record { maker = actor; n = n } in
-    cond_both (nat_lt n MOST_SEGMENTS) _ _ (λ (r : Result Performed Refusal). IfOk r (PutsBack w.at))
-    (λ below q.
+back-make : (n x : ℕ) (w : World) → IsWellFormed w → nat_lt (number_made w.at n) MOST_SEGMENTS ≡ true → PutsBack w.at (making w.ring n w.at x)
+back-make n x w formed below q =
+    let s : SegName = record { maker = n; n = number_made w.at n } in
     cond_both (is_of s q) None (after_write (place.Whole s) (holding w.ring x) w.at q) (λ (o : Option Content). o ≡ w.at q)
-    (λ e. sym (nothing_there (w.at q) (formed.places q ∙ absent_place w.ring (is_there w.at) s q (absent (ltb-true n MOST_SEGMENTS below)) e)))
-    (λ e. cond-false (is_of s q) (holding w.ring x q) (w.at q) e))
-    (λ e. tt)
-
-back-perform : (actor : ℕ) (w : World) (x : Access) → IsWellFormed w → IfOk (perform w.ring actor w.at x) (PutsBack w.at)
-back-perform actor w NoPlace formed = λ q. refl
-back-perform actor w (At p op) formed = back-operate p op (operand w.at p) w.at (bare_cell w formed) refl
-back-perform actor w (Make x) formed = back-make actor (number_made w.at actor) x w formed (number_made-absent w.at actor)
+    (λ e. sym (nothing_there (w.at q) (formed.places q ∙ absent_place w.ring (is_there w.at) s q (number_made-absent w.at n (ltb-true s.n MOST_SEGMENTS below)) e)))
+    (λ e. cond-false (is_of s q) (holding w.ring x q) (w.at q) e)
 
 -- giving one actor its old record back gives the actors before
 actor_back : (n : ℕ) (a b : Actor) (actors : ℕ → Option Actor) → actors n ≡ Some a → with_actor n a (with_actor n b actors) ≡ actors
@@ -63,7 +47,10 @@ actor_back n a b actors has = grind arith
 pub undoes : (w : World) (e : Event) (s : Stepped) → IsWellFormed w → step w e ≡ Ok s → unstep s.world s.entry ≡ w
 undoes w e s formed h =
     let t = took w e s h in
-    let contents : PutsBack w.at t.did = IfOk-at_ok (PutsBack w.at) t.does (back-perform e.actor w t.access formed) in
+    let contents : PutsBack w.at t.did =
+    IfOk-at_ok (PutsBack w.at) t.does
+    (each_access w.ring e.actor w.at (λ x did. PutsBack w.at did) (λ q. refl) (λ p op c f found does. back-effect p c f w.at (bare_cell w formed) found)
+    (λ x below. back-make e.actor x w formed below) t.access) in
     let next = after w.ring t.a e.act t.did.answer in
     let all = fun_ext contents in
     let actors = actor_back e.actor t.a next.0 w.actor t.has in
@@ -80,6 +67,12 @@ pub record RanOn (w : World) (e : Event) (es : List Event) (r : Ran) : Type 0 wh
 -- every run of at least one event can be taken apart so
 pub ran_on : (w : World) (e : Event) (es : List Event) (r : Ran) → run w (e ∷ es) ≡ Ok r → RanOn w e es r
 ran_on w e es r h = grind arith
+
+-- P holds of a run of at least one event, if it holds of each first step with a run of the others
+pub run_on : (w : World) (e : Event) (es : List Event) (P : Ran → Type 0)
+    → ((s : Stepped) (rest : Ran) → step w e ≡ Ok s → run s.world es ≡ Ok rest → P (record { world = rest.world; entries = s.entry ∷ rest.entries }))
+    → (r : Ran) → run w (e ∷ es) ≡ Ok r → P r
+run_on w e es P each r h = let ran = ran_on w e es r h in subst P ran.joins (each ran.one ran.rest ran.goes ran.goes_on)
 
 -- a step, followed by a run from the world after it, is a run
 pub run-cons : (w : World) (e : Event) (es : List Event) (s : Stepped) (r : Ran) → step w e ≡ Ok s → run s.world es ≡ Ok r

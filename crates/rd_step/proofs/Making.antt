@@ -1,6 +1,6 @@
 -- A making keeps a world well-formed: the new segment is its maker's next one, and just the places
 -- that belong to it are added.
-use Rattle.rd_step.proofs.Prelude.{◌≡◌, ℕ, zero, suc, ◌+◌, ◌<◌, ◌≤◌, Bool, true, false, not, ◌==◌, nat_lt, inl, inr, sym, ◌∙◌, ap, subst, arith, Some, is_some, eqb-true, cases_Bool, cond-true, cond-false, and_parts, MOST_SEGMENTS, SegName, Place, root, name_eq, Contents, is_there, after_write, holding, number_made_from, name_eq-true, belongs, place_fits, may_be_there, AreMade, number_made}
+use Rattle.rd_step.proofs.Prelude.{◌≡◌, ℕ, zero, suc, ◌+◌, ◌<◌, ◌≤◌, Bool, true, false, not, nat_lt, inl, inr, ap, subst, arith, Some, is_some, cond-true, cond-false, MOST_SEGMENTS, SegName, Place, root, name_eq, Contents, is_there, after_write, holding, number_made_from, name_eq-true, belongs, place_fits, may_be_there, AreMade, number_made, ◌⊎◌}
 use Rattle.rd_step.proofs.Fits.{Grows}
 use Rattle.rd_cell.specs.declared.places.Place.TheVariants as place
 use Rattle.rd_cell.specs.declared.contents.Content.TheVariants as content
@@ -39,32 +39,22 @@ pub maker_is : (is_actor : ℕ → Bool) (m n : ℕ) → not (is_actor 0) ≡ tr
     → may_be_there is_actor m n ≡ true
 maker_is is_actor m n h k l = grind arith
 
+-- a segment that is there after a making is the new one, or was there before
+laid_cases : (R : ℕ) (s : SegName) (x : ℕ) (at : Contents) (t : SegName) → is_there (laid R s x at) t ≡ true → (s ≡ t) ⊎ (is_there at t ≡ true)
+laid_cases R s x at t h = grind (arith, name_eq-true)
+
 -- after a making, actors made all segments but the root, and no maker's numbers have a gap
 pub laid_made : (R : ℕ) (s : SegName) (x : ℕ) (at : Contents) (is_actor : ℕ → Bool) → may_be_there is_actor s.maker s.n ≡ true
     → ((k : ℕ) → k < s.n → is_there at (record { maker = s.maker; n = k }) ≡ true) → AreMade is_actor (is_there at)
     → AreMade is_actor (is_there (laid R s x at))
-laid_made R s x at is_actor fits below were = record { rooted = laid_grows R s x at root were.rooted; makers = each; no_gap = gap }
-  where
-    each : (t : SegName) → is_there (laid R s x at) t ≡ true → may_be_there is_actor t.maker t.n ≡ true
-    each t h =
-        elim (cases_Bool (name_eq s t)) [
-          | inl e ↦ subst (λ (u : SegName). may_be_there is_actor u.maker u.n ≡ true) (name_eq-true s t e) fits
-          | inr e ↦ were.makers t (sym (laid_other R s x at t e) ∙ h)
-        ]
-
-    gap : (m n : ℕ) → is_there (laid R s x at) (record { maker = m; n = suc n }) ≡ true
-        → is_there (laid R s x at) (record { maker = m; n = n }) ≡ true
-    gap m n h =
-        elim (cases_Bool (name_eq s (record { maker = m; n = suc n }))) [
-          | inl e ↦
-              let both = and_parts (s.maker == m) (s.n == suc n) e in
-              let same : s.n ≡ suc n = eqb-true s.n (suc n) both.1 in
-              laid_grows R s x at (record { maker = m; n = n })
-              (subst (λ (j : ℕ). is_there at (record { maker = j; n = n }) ≡ true) (eqb-true s.maker m both.0) (below n (omega arith)))
-          | inr e ↦
-              laid_grows R s x at (record { maker = m; n = n })
-              (were.no_gap m n (sym (laid_other R s x at (record { maker = m; n = suc n }) e) ∙ h))
-        ]
+laid_made R s x at is_actor fits below were = record {
+  rooted = laid_grows R s x at root were.rooted;
+  makers = λ t h.
+      elim (laid_cases R s x at t h) [ inl e ↦ subst (λ (u : SegName). may_be_there is_actor u.maker u.n ≡ true) e fits | inr k ↦ were.makers t k ];
+  no_gap = λ m n h.
+      laid_grows R s x at (record { maker = m; n = n })
+      (elim (laid_cases R s x at (record { maker = m; n = suc n }) h) [ inl e ↦ grind (arith, below n) | inr k ↦ were.no_gap m n k ]);
+}
 
 -- after a making, exactly the places that belong to the world are there
 pub laid_places : (R : ℕ) (s : SegName) (x : ℕ) (at : Contents) → ((p : Place) → is_some (at p) ≡ belongs R (is_there at) p) → (p : Place)

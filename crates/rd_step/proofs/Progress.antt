@@ -1,8 +1,8 @@
 -- Progress: the access for which an actor of a well-formed world asks suits its place, and the
 -- answer leads the actor to another control point.
-use Rattle.rd_step.proofs.Prelude.{◌≡◌, ◌≢◌, ℕ, ◌≤◌, Bool, true, false, if◌then◌else◌, nat_lt, nat_le, refl, sym, ◌∙◌, ap, subst, arith, Option, Some, is_some, is_none, ok_or, Result, Ok, Err, IfOk, holding, common_steps, cond_both, and_parts, IfOk-at_ok, fun_ext, MOST_SEGMENTS, Cell, SegName, Place, Wrote, ArrSlot, Content, Operation, Access, NoPlace, At, Make, Refusal, some_covers, is_nothing, written, Contents, is_there, operand, Effect, effect, Performed, operate, make, perform, swaps, adds, effect_at, result_map, after_write-outside, written-covers, ok_or_ok, Act, Actor, Pc, Idle, E4, E11, Q5, A2, B2, need, need_at, need_for_call, need_for_choice, after_take, after_at, after, words_fit_at, World, Event, Stepped, step, Presence, content_fits, record_fits, actor_fits, IsWellFormed, number_made, and_then_err, IsStepRefusal, SuitsContent, MovesOn, ChangesOnly}
+use Rattle.rd_step.proofs.Prelude.{◌≡◌, ◌≢◌, ℕ, ◌≤◌, Bool, true, false, if◌then◌else◌, nat_lt, nat_le, sym, ◌∙◌, ap, subst, arith, Option, Some, is_some, is_none, ok_or, Result, Ok, Err, IfOk, holding, common_steps, cond_both, and_parts, IfOk-at_ok, MOST_SEGMENTS, Cell, SegName, Place, Wrote, ArrSlot, Content, Operation, Access, NoPlace, At, Make, Refusal, some_covers, is_nothing, written, is_there, operand, Effect, effect, Performed, operate, make, perform, swaps, adds, effect_at, result_map, after_write-outside, written-covers, ok_or_ok, Act, Actor, Pc, Q5, A2, B2, need, need_at, after_take, after_at, after, words_fit_at, World, Event, Stepped, step, Presence, content_fits, record_fits, IsWellFormed, number_made, and_then_err, IsStepRefusal, SuitsContent, MovesOn, ChangesOnly, ◌⊎◌, inl, inr, with_actor}
 use Rattle.rd_step.proofs.Halves.{has_place, has_operand}
-use Rattle.rd_step.proofs.Fits.{PartsFit, parts_of, words_of}
+use Rattle.rd_step.proofs.Fits.{PartsFit, parts_of, words_of, fits_here}
 use Rattle.rd_step.proofs.Steps.{took, with_actor-same, with_actor-other}
 use Rattle.rd_cell.specs.declared.places.Place.TheVariants as place
 use Rattle.rd_cell.specs.declared.contents.Content.TheVariants as content
@@ -83,20 +83,22 @@ row_place R there pc a some f w = grind arith
 
 -- A step
 
--- the operation of the row at pc finds a content at p, and its effect leads the actor on
-pub record WorksOn (w : World) (pc : Pc) (a : Actor) (p : Place) (op : Operation) : Type 0 where
+-- the operation of the actor's row finds a content at p, and its effect leads the actor on
+record WorksOn (w : World) (a : Actor) (p : Place) (op : Operation) : Type 0 where
   pub content : Content
   pub found : operand w.at p ≡ Some content
-  pub goes : Goes w.ring pc a (effect op content)
+  pub goes : Goes w.ring a.pc a (effect op content)
 
-works_on : (w : World) (pc : Pc) (a : Actor) (p : Place) (op : Operation) → 1 ≤ w.ring → IsWellFormed w
-    → PartsFit w.ring (is_there w.at) a → words_fit_at pc a ≡ true → need_at w.ring pc a ≡ Ok (At p op) → WorksOn w pc a p op
-works_on w pc a p op some formed parts words needs =
+works_on : (w : World) (a : Actor) (p : Place) (op : Operation) → 1 ≤ w.ring → IsWellFormed w → record_fits w.ring (is_there w.at) a ≡ true
+    → need_at w.ring a.pc a ≡ Ok (At p op) → WorksOn w a p op
+works_on w a p op some formed fits needs =
     let there = is_there w.at in
-    let place : IsAtPlace w.ring there (At p op) = IfOk-at_ok (IsAtPlace w.ring there) needs (row_place w.ring there pc a some parts words) in
-    let leads : Leads w.ring pc a (At p op) = IfOk-at_ok (Leads w.ring pc a) needs (row_leads w.ring pc a words) in
+    let words = words_of w.ring there a fits in
+    let place : IsAtPlace w.ring there (At p op) =
+    IfOk-at_ok (IsAtPlace w.ring there) needs (row_place w.ring there a.pc a some (parts_of w.ring there a fits) words) in
+    let leads : Leads w.ring a.pc a (At p op) = IfOk-at_ok (Leads w.ring a.pc a) needs (row_leads w.ring a.pc a words) in
     let on = has_operand w p formed place in
-    record { content = on.content; found = on.found; goes = at_kind w.ring there p (λ c. Goes w.ring pc a (effect op c)) leads on.content on.fits }
+    record { content = on.content; found = on.found; goes = at_kind w.ring there p (λ c. Goes w.ring a.pc a (effect op c)) leads on.content on.fits }
 
 -- an access ends well: its actor goes on to another control point, or the refusal is one of a step
 abbrev Ends : ℕ → Actor → Act → Result Performed Refusal → Type 0
@@ -109,43 +111,26 @@ goes_ends R a p c r h = grind arith
 make_ends : (R : ℕ) (a : Actor) (s : SegName) (x : ℕ) → Leads R a.pc a (Make x) → Ends R a act.Go (make s (holding R x))
 make_ends R a s x h = cond_both (nat_lt s.n MOST_SEGMENTS) _ _ (λ (r : Result Performed Refusal). Ends R a act.Go r) (λ e. h s) (λ e. tt)
 
--- a call moves its actor on from Idle, and a choice from E10
-call_ends : (pc x : Pc) (y : Access) → need_for_call pc ≡ Ok y → (Idle ≡ x → ⊥) → x ≢ pc
-call_ends pc x y h ne = grind arith
-
-choice_ends : (pc : Pc) (b : Bool) (y : Access) → need_for_choice pc ≡ Ok y → (if b then E11 else E4) ≢ pc
-choice_ends pc b y h = grind arith
-
-call_place : (pc : Pc) (y : Access) → need_for_call pc ≡ Ok y → y ≡ NoPlace
-call_place pc y h = grind arith
-
-choice_place : (pc : Pc) (y : Access) → need_for_choice pc ≡ Ok y → y ≡ NoPlace
-choice_place pc y h = grind arith
-
--- a call or a choice, which has no access, ends well if it moves its actor on
-ends_there : (R actor : ℕ) (at : Contents) (a : Actor) (act : Act) (y : Access) → y ≡ NoPlace → (after R a act answer.Nothing).0.pc ≢ a.pc
-    → Ends R a act (perform R actor at y)
-ends_there R actor at a act y e h = subst (λ (x : Access). Ends R a act (perform R actor at x)) (sym e) h
+-- every act but `Go` has no access, and moves its actor to another control point
+other_acts : (R : ℕ) (a : Actor) (x : Act) (y : Access) → need R a x ≡ Ok y
+    → (x ≡ act.Go) ⊎ ((y ≡ NoPlace) × ((after R a x answer.Nothing).0.pc ≢ a.pc))
+other_acts R a x y h = grind arith
 
 go_ends : (actor : ℕ) (w : World) (a : Actor) (y : Access) → 1 ≤ w.ring → IsWellFormed w → record_fits w.ring (is_there w.at) a ≡ true
     → need_at w.ring a.pc a ≡ Ok y → Ends w.ring a act.Go (perform w.ring actor w.at y)
 go_ends actor w a NoPlace some formed fits needs = grind arith
 go_ends actor w a (At p op) some formed fits needs =
-    let there = is_there w.at in
-    let on = works_on w a.pc a p op some formed (parts_of w.ring there a fits) (words_of w.ring there a fits) needs in
+    let on = works_on w a p op some formed fits needs in
     subst (λ (o : Option Content). Ends w.ring a act.Go (operate p op o)) (sym on.found) (goes_ends w.ring a p on.content (effect op on.content) on.goes)
 go_ends actor w a (Make x) some formed fits needs =
     make_ends w.ring a (record { maker = actor; n = number_made w.at actor }) x
     (IfOk-at_ok (Leads w.ring a.pc a) needs (row_leads w.ring a.pc a (words_of w.ring (is_there w.at) a fits)))
 
-access_ends : (actor : ℕ) (w : World) (a : Actor) (act : Act) (y : Access) → 1 ≤ w.ring → IsWellFormed w → record_fits w.ring (is_there w.at) a ≡ true
-    → need w.ring a act ≡ Ok y → Ends w.ring a act (perform w.ring actor w.at y)
-access_ends actor w a act y some formed fits needs = grind (arith, ends_there, call_place, call_ends, go_ends, choice_place, choice_ends)
+access_ends : (actor : ℕ) (w : World) (a : Actor) (x : Act) (y : Access) → 1 ≤ w.ring → IsWellFormed w → record_fits w.ring (is_there w.at) a ≡ true
+    → need w.ring a x ≡ Ok y → Ends w.ring a x (perform w.ring actor w.at y)
+access_ends actor w a x y some formed fits needs = grind (arith, other_acts, go_ends)
 
 -- The laws
-
-fits_here : (w : World) (n : ℕ) (a : Actor) → IsWellFormed w → w.actor n ≡ Some a → record_fits w.ring (is_there w.at) a ≡ true
-fits_here w n a formed has = subst (λ (o : Option Actor). actor_fits w.ring (is_there w.at) o ≡ true) has (formed.actors n)
 
 need_refused : (R : ℕ) (a : Actor) (act : Act) (refusal : Refusal) → need R a act ≡ Err refusal → IsStepRefusal refusal
 need_refused R a act refusal h = grind arith
@@ -166,43 +151,29 @@ refused_in_cases w e cause some formed h =
 -- the operation for which an actor of a well-formed world asks suits the content of its place
 pub suits_content : (w : World) (n : ℕ) (a : Actor) (x : Act) (p : Place) (op : Operation) → 1 ≤ w.ring → IsWellFormed w
     → w.actor n ≡ Some a → need w.ring a x ≡ Ok (At p op) → SuitsContent w.at p op
-suits_content w n a x p op some formed has needs = by_act x needs
+suits_content w n a x p op some formed has needs =
+    elim (other_acts w.ring a x (At p op) needs) [
+      | inl go ↦
+          let on = works_on w a p op some formed (fits_here w n a formed has) (ap (need w.ring a) (sym go) ∙ needs) in
+          record { content = on.content; found = on.found; suits = suit (effect op on.content) on.goes }
+      | inr other ↦ absurd (cc (other.0))
+    ]
   where
-    there : Presence
-    there = is_there w.at
-
     suit : (r : Result Effect Refusal) → Goes w.ring a.pc a r → r ≡ Err refusal.NoSuchPlace → ⊥
     suit r h k = grind arith
 
-    no_call : (pc : Pc) → need_for_call pc ≡ Ok (At p op) → SuitsContent w.at p op
-    no_call pc h = grind arith
-
-    no_choice : (pc : Pc) → need_for_choice pc ≡ Ok (At p op) → SuitsContent w.at p op
-    no_choice pc h = grind arith
-
-    by_act : (x : Act) → need w.ring a x ≡ Ok (At p op) → SuitsContent w.at p op
-    by_act (act.Starve b) h = no_choice a.pc h
-    by_act act.Go h =
-        let fits = fits_here w n a formed has in
-        let on = works_on w a.pc a p op some formed (parts_of w.ring (is_there w.at) a fits) (words_of w.ring (is_there w.at) a fits) h in
-        record { content = on.content; found = on.found; suits = λ k. suit (effect op on.content) on.goes k }
-    by_act x h = no_call a.pc h
+moved_on : (n : ℕ) (a next b c : Actor) (actors : ℕ → Option Actor) → actors n ≡ Some a → next.pc ≢ a.pc → actors n ≡ Some b
+    → with_actor n next actors n ≡ Some c → b.pc ≡ c.pc → ⊥
+moved_on n a next b c actors has ne old new same = grind (arith, with_actor-same)
 
 -- a step leaves its actor at another control point
 pub moves_on : (w : World) (e : Event) (s : Stepped) → 1 ≤ w.ring → IsWellFormed w → step w e ≡ Ok s → MovesOn e w s.world
 moves_on w e s some formed h =
     let t = took w e s h in
     let ends : Ends w.ring t.a e.act (Ok t.did) =
-    subst (λ (r : Result Performed Refusal). Ends w.ring t.a e.act r) t.does
-    (access_ends e.actor w t.a e.act t.access some formed (fits_here w e.actor t.a formed t.has) t.needs) in
+    subst (Ends w.ring t.a e.act) t.does (access_ends e.actor w t.a e.act t.access some formed (fits_here w e.actor t.a formed t.has) t.needs) in
     subst (λ (x : Stepped). MovesOn e w x.world) t.ends
-    (λ a b old new same.
-    let next = after w.ring t.a e.act t.did.answer in
-    let was : Some t.a ≡ Some a = sym t.has ∙ old in
-    let is : Some next.0 ≡ Some b = sym (with_actor-same e.actor next.0 w.actor) ∙ new in
-    let was_pc : t.a.pc ≡ a.pc = ap (λ (x : Actor). x.pc) (let k : t.a ≡ a = cc in k) in
-    let is_pc : next.0.pc ≡ b.pc = ap (λ (x : Actor). x.pc) (let k : next.0 ≡ b = cc in k) in
-    ends (is_pc ∙ sym same ∙ sym was_pc))
+    (λ b c old new same. moved_on e.actor t.a (after w.ring t.a e.act t.did.answer).0 b c w.actor t.has ends old new same)
 
 nothing_written : (p : Option Place) (w : Wrote) (q : Place) → is_nothing w ≡ true → some_covers (written p w) q ≡ false
 nothing_written p w q h = grind arith
@@ -210,12 +181,4 @@ nothing_written p w q h = grind arith
 -- a step changes only places that its entry's place covers, and one actor
 pub changes_only : (w : World) (e : Event) (s : Stepped) → step w e ≡ Ok s → ChangesOnly e s.entry w s.world
 changes_only w e s h =
-    let t = took w e s h in
-    subst (λ (x : Stepped). ChangesOnly e x.entry w x.world) t.ends
-    (record {
-      ring = refl;
-      outside = λ q k. after_write-outside (written t.did.place t.did.wrote) t.did.given w.at q k;
-      inside = λ q k. written-covers t.did.place t.did.wrote q k;
-      reading = λ k. fun_ext (λ q. after_write-outside (written t.did.place t.did.wrote) t.did.given w.at q (nothing_written t.did.place t.did.wrote q k));
-      others = λ n ne. with_actor-other e.actor (after w.ring t.a e.act t.did.answer).0 w.actor n ne;
-    })
+    let t = took w e s h in grind (arith, after_write-outside, written-covers, nothing_written, with_actor-other)

@@ -1,8 +1,8 @@
 -- A step removes no place and makes no segment of another actor, and the words that its entry keeps
 -- may be put back after it.
-use Rattle.rd_step.proofs.Prelude.{◌≡◌, ◌≢◌, ℕ, suc, ◌+◌, ◌<◌, ◌≤◌, Bool, true, false, not, ◌==◌, nat_lt, refl, ◌∙◌, ap, subst, arith, Option, Some, None, is_some, Result, Ok, IfOk, ltb-true, holding, cond_both, and_right, both_ways, IfOk-at_ok, MOST_SEGMENTS, operand, SegName, Place, Content, Access, NoPlace, At, Make, Operation, Refusal, is_of, Contents, is_there, Effect, effect, Performed, contents_after, operate, make, perform, effect_at, result_map, name_eq-refl, is_cell_at, Actor, World, Event, Stepped, step, CanPutBack, content_fits, place_fits, IsWellFormed, ne_eqb, false_from_ne_true, number_made, keeps-operate}
+use Rattle.rd_step.proofs.Prelude.{◌≡◌, ◌≢◌, ℕ, suc, ◌+◌, ◌<◌, ◌≤◌, Bool, true, false, not, ◌==◌, nat_lt, ◌∙◌, ap, subst, arith, Some, None, is_some, Ok, IfOk, ltb-true, holding, and_right, both_ways, IfOk-at_ok, MOST_SEGMENTS, operand, SegName, Place, Content, Access, is_of, Contents, is_there, Effect, Performed, contents_after, make, perform, effect_at, result_map, name_eq-refl, is_cell_at, Actor, World, Event, Stepped, step, CanPutBack, content_fits, place_fits, IsWellFormed, ne_eqb, false_from_ne_true, number_made, keeps-operate}
 use Rattle.rd_step.proofs.Halves.{bare_cell, operand_fits}
-use Rattle.rd_step.proofs.Steps.{took}
+use Rattle.rd_step.proofs.Steps.{took, each_step, making}
 use Rattle.rd_step.proofs.Making.{laid_new, laid_other}
 use Rattle.rd_step.proofs.Inverse.{number_made-absent, absent_place}
 use Rattle.rd_cell.specs.declared.places.Place.TheVariants as place
@@ -51,33 +51,23 @@ record GoesOn (R n : ℕ) (after at : Contents) : Type 0 where
   pub stays : (q : Place) → is_some (after q) ≡ true → is_some (at q) ≡ true
   pub made : (k : ℕ) → is_there at (record { maker = n; n = k }) ≡ is_there after (record { maker = n; n = k })
 
--- the old content of an access's place may be put back after the world went on
-abbrev CanGoBack : ℕ → ℕ → Contents → Contents → Performed → Type 0
-CanGoBack R n before at did = GoesOn R n (contents_after did before) at → CanPutBack at did.place did.old
-
-can-effect : (n : ℕ) (w : World) (at : Contents) (p : Place) (c : Content) (r : Result Effect Refusal) → operand w.at p ≡ Some c
-    → content_fits w.ring (is_there w.at) p c ≡ true → ((q : Place) → IfOk (result_map (effect_at p c) r) (StaysAt w.at q)) → IfOk (result_map (effect_at p c) r) (CanGoBack w.ring n w.at at)
-can-effect n w at p c r found fits stays = grind arith
-
-can-operate : (n : ℕ) (w : World) (at : Contents) (p : Place) (op : Operation) (o : Option Content) → IsWellFormed w → operand w.at p ≡ o
-    → IfOk (operate p op o) (CanGoBack w.ring n w.at at)
-can-operate n w at p op None formed found = tt
-can-operate n w at p op (Some c) formed found =
-    can-effect n w at p c (effect op c) found (operand_fits w.ring (is_there w.at) w.at p c formed.contents found)
-    (λ q. keeps-operate p op (Some c) w.at q found (bare_cell w formed q))
+-- the old content of an operation's place may be put back after the world went on
+can-effect : (R n : ℕ) (w : World) (at : Contents) (p : Place) (c : Content) (f : Effect) → operand w.at p ≡ Some c
+    → content_fits w.ring (is_there w.at) p c ≡ true → ((q : Place) → StaysAt w.at q (effect_at p c f))
+    → GoesOn R n (contents_after (effect_at p c f) w.at) at → CanPutBack at (Some p) (Some c)
+can-effect R n w at p c f found fits stays on = grind arith
 
 -- an actor's number is not 0
 numbered : (is_actor : ℕ → Bool) (n : ℕ) → not (is_actor 0) ≡ true → is_actor n ≡ true → 1 ≤ n
 numbered is_actor n h k = grind arith
 
-can-make : (w : World) (n : ℕ) (a : Actor) (at : Contents) (x : ℕ) → IsWellFormed w → w.actor n ≡ Some a
-    → IfOk (make (record { maker = n; n = number_made w.at n }) (holding w.ring x)) (CanGoBack w.ring n w.at at)
-can-make w n a at x formed has =
+-- a segment that an actor made may be removed after the world went on
+can-make : (w : World) (R n x : ℕ) (a : Actor) (at : Contents) → IsWellFormed w → w.actor n ≡ Some a → nat_lt (number_made w.at n) MOST_SEGMENTS ≡ true
+    → GoesOn R n (contents_after (making w.ring n w.at x) w.at) at → CanPutBack at (making w.ring n w.at x).place None
+can-make w R n x a at formed has below on =
     let m : ℕ = number_made w.at n in
     let s : SegName = record { maker = n; n = m } in
     let next : SegName = record { maker = n; n = m + 1 } in
-    cond_both (nat_lt m MOST_SEGMENTS) _ _ (λ (r : Result Performed Refusal). IfOk r (CanGoBack w.ring n w.at at))
-    (λ below on.
     let absent : is_there w.at s ≡ false = number_made-absent w.at n (ltb-true m MOST_SEGMENTS below) in
     let not_next : is_there w.at next ≡ false = false_from_ne_true (is_there w.at next) (λ there.
     let more : m + 1 ≡ suc m = omega arith in
@@ -88,23 +78,19 @@ can-make w n a at x formed has =
       here = on.stays (place.Head s) (laid_new w.ring s x w.at s (name_eq-refl s));
       made = numbered (λ k. is_some (w.actor k)) n formed.numbered.from_one (ap is_some has);
       last = on.made (m + 1) ∙ laid_other w.ring s x w.at next (and_right (n == n) (m == m + 1) (ne_eqb m (m + 1) other)) ∙ not_next;
-    })
-    (λ e. tt)
-
-can-perform : (w : World) (n : ℕ) (a : Actor) (at : Contents) (x : Access) → IsWellFormed w → w.actor n ≡ Some a
-    → IfOk (perform w.ring n w.at x) (CanGoBack w.ring n w.at at)
-can-perform w n a at NoPlace formed has = λ on. tt
-can-perform w n a at (At p op) formed has = can-operate n w at p op (operand w.at p) formed refl
-can-perform w n a at (Make x) formed has = can-make w n a at x formed has
+    }
 
 -- the words that a step's entry keeps may be put back where every place is there that was there
 -- after the step, and the actor has made no further segment
-pub entry_can : (w : World) (e : Event) (s : Stepped) (at : Contents) → IsWellFormed w → step w e ≡ Ok s
+pub entry_can : (w : World) (e : Event) (s : Stepped) (R : ℕ) (at : Contents) → IsWellFormed w → step w e ≡ Ok s
     → ((q : Place) → is_some (s.world.at q) ≡ true → is_some (at q) ≡ true)
     → ((k : ℕ) → is_there at (record { maker = s.entry.event.actor; n = k }) ≡ is_there s.world.at (record { maker = s.entry.event.actor; n = k }))
-    → ((q : Place) → place_fits w.ring (is_there at) q (at q) ≡ true) → CanPutBack at s.entry.place s.entry.old_content
-entry_can w e s at formed h stays same fits =
-    let t = took w e s h in
-    subst (λ (x : Stepped). GoesOn w.ring x.entry.event.actor x.world.at at → CanPutBack at x.entry.place x.entry.old_content) t.ends
-    (IfOk-at_ok (CanGoBack w.ring e.actor w.at at) t.does (can-perform w e.actor t.a at t.access formed t.has))
-    (record { fits = fits; stays = stays; made = same })
+    → ((q : Place) → place_fits R (is_there at) q (at q) ≡ true) → CanPutBack at s.entry.place s.entry.old_content
+entry_can w e s R at formed h stays same fits =
+    each_step w e (λ x. GoesOn R x.entry.event.actor x.world.at at → CanPutBack at x.entry.place x.entry.old_content)
+    (λ a has needs on. tt)
+    (λ a p op c f has needs found does on.
+    can-effect R e.actor w at p c f found (operand_fits w.ring (is_there w.at) w.at p c formed.contents found)
+    (λ q. IfOk-at_ok (StaysAt w.at q) (ap (result_map (effect_at p c)) does) (keeps-operate p op (Some c) w.at q found (bare_cell w formed q))) on)
+    (λ a x has needs below on. can-make w R e.actor x a at formed has below on)
+    s h (record { fits = fits; stays = stays; made = same })

@@ -1,9 +1,9 @@
 -- A step on which no later one depends may be taken out of a run, and go last.
-use Rattle.rd_step.proofs.Prelude.{◌≡◌, ℕ, true, ◌==◌, refl, sym, ◌∙◌, ap, subst, List, [], ◌∷◌, is_some, Ok, arith, or_parts, Place, is_there, interfere, World, Event, Entry, Stepped, step, unstep, CanPutBack, Ran, run, IsFree, CommutingSquare, place_fits, IsWellFormed, IsRemovable, WasStepped, IsTakenOut}
+use Rattle.rd_step.proofs.Prelude.{◌≡◌, ℕ, true, ◌==◌, refl, sym, ◌∙◌, ap, subst, List, [], ◌∷◌, is_some, Ok, arith, or_parts, Place, is_there, interfere, World, Event, Entry, Stepped, step, unstep, CanPutBack, Ran, run, IsFree, CommutingSquare, IsWellFormed, IsRemovable, WasStepped, IsTakenOut, subst₂}
 use Rattle.rd_step.proofs.Steps.{took, with_actor-same}
 use Rattle.rd_step.proofs.Commute.{commutes}
 use Rattle.rd_step.proofs.Keeps.{keeps}
-use Rattle.rd_step.proofs.Inverse.{undoes, ran_on}
+use Rattle.rd_step.proofs.Inverse.{undoes, run_on}
 use Rattle.rd_step.proofs.RunParts.{free_parts}
 use Rattle.rd_step.proofs.PutBack.{stays_at, others_stay, entry_can}
 
@@ -26,14 +26,14 @@ removes w e s [] r formed h k free =
     let p : record { world = s.world; entries = [] } ≡ r = cc in
     subst (λ (x : Ran). IsRemovable w e s [] x) p (last_removed w e s formed h)
 removes w e s (f ∷ fs) r formed h k free =
-    let ran = ran_on s.world f fs r k in
-    let parts = free_parts s.entry ran.one.entry ran.rest.entries (subst (λ (x : Ran). IsFree s.entry x.entries) (sym ran.joins) free) in
-    let sw = commutes w e f s ran.one h ran.goes parts.0 in
-    let goes_on : run sw.second.world fs ≡ Ok ran.rest = ap (λ (v : World). run v fs) sw.same_world ∙ ran.goes_on in
-    let free_on : IsFree sw.second.entry ran.rest.entries = subst (λ (x : Entry). IsFree x ran.rest.entries) (sym sw.entry_unchanged) parts.1 in
-    subst (λ (x : Ran). IsRemovable w e s (f ∷ fs) x) ran.joins
-    (removed_before w e f s ran.one fs ran.rest sw
-    (removes sw.first.world e sw.second fs ran.rest (keeps w f sw.first formed sw.goes_first) sw.goes_second goes_on free_on))
+    run_on s.world f fs (λ x. IsFree s.entry x.entries → IsRemovable w e s (f ∷ fs) x)
+    (λ one rest goes goes_on alone.
+    let parts = free_parts s.entry one.entry rest.entries alone in
+    let sw = commutes w e f s one h goes parts.0 in
+    removed_before w e f s one fs rest sw
+    (removes sw.first.world e sw.second fs rest (keeps w f sw.first formed sw.goes_first) sw.goes_second
+    (ap (λ (v : World). run v fs) sw.same_world ∙ goes_on) (subst (λ (x : Entry). IsFree x rest.entries) (sym sw.entry_unchanged) parts.1)))
+    r k free
 
 -- Runs keep the size of the rings, well-formedness, and the places and actors that are there
 
@@ -42,16 +42,11 @@ run_invariant : (P : World → Type 0) → ((v : World) (e : Event) (s : Stepped
     → P w → run w es ≡ Ok r → P r.world
 run_invariant P stays w [] r p h = let same : w ≡ r.world = cc in subst P same p
 run_invariant P stays w (e ∷ es) r p h =
-    let ran = ran_on w e es r h in
-    let same : ran.rest.world ≡ r.world = ap (λ (x : Ran). x.world) ran.joins in
-    subst P same (run_invariant P stays ran.one.world es ran.rest (stays w e ran.one p ran.goes) ran.goes_on)
-
-step_ring : (w : World) (e : Event) (s : Stepped) → step w e ≡ Ok s → s.world.ring ≡ w.ring
-step_ring w e s h = ap (λ (x : Stepped). x.world.ring) (sym (took w e s h).ends)
+    run_on w e es (λ x. P x.world) (λ s rest goes goes_on. run_invariant P stays s.world es rest (stays w e s p goes) goes_on) r h
 
 -- a run keeps the size of the rings
 pub run_ring : (w : World) (es : List Event) (r : Ran) → run w es ≡ Ok r → r.world.ring ≡ w.ring
-run_ring w es r h = run_invariant (λ v. v.ring ≡ w.ring) (λ v e s same goes. step_ring v e s goes ∙ same) w es r refl h
+run_ring w es r h = run_invariant (λ v. v.ring ≡ w.ring) (λ v e s same goes. ap (λ (x : Stepped). x.world.ring) (sym (took v e s goes).ends) ∙ same) w es r refl h
 
 -- a run keeps a world well-formed
 pub run_keeps : (w : World) (es : List Event) (r : Ran) → IsWellFormed w → run w es ≡ Ok r → IsWellFormed r.world
@@ -77,13 +72,12 @@ run_others : (w : World) (es : List Event) (r : Ran) (x : Entry) (k : ℕ) → r
     → is_there r.world.at (record { maker = x.event.actor; n = k }) ≡ is_there w.at (record { maker = x.event.actor; n = k })
 run_others w [] r x k h free = grind arith
 run_others w (e ∷ es) r x k h free =
-    let ran = ran_on w e es r h in
-    let p : ran.rest.world ≡ r.world = ap (λ (y : Ran). y.world) ran.joins in
-    let parts = free_parts x ran.one.entry ran.rest.entries (subst (λ (y : Ran). IsFree x y.entries) (sym ran.joins) free) in
-    let other = or_parts (x.event.actor == ran.one.entry.event.actor) (interfere x.place x.wrote ran.one.entry.place ran.one.entry.wrote) parts.0 in
-    ap (λ (v : World). is_there v.at (record { maker = x.event.actor; n = k })) (sym p)
-    ∙ run_others ran.one.world es ran.rest x k ran.goes_on parts.1
-    ∙ others_stay w e ran.one x.event.actor k ran.goes other.0
+    run_on w e es (λ y. IsFree x y.entries → is_there y.world.at (record { maker = x.event.actor; n = k }) ≡ is_there w.at (record { maker = x.event.actor; n = k }))
+    (λ one rest goes goes_on alone.
+    let parts = free_parts x one.entry rest.entries alone in
+    let other = or_parts (x.event.actor == one.entry.event.actor) (interfere x.place x.wrote one.entry.place one.entry.wrote) parts.0 in
+    run_others one.world es rest x k goes_on parts.1 ∙ others_stay w e one x.event.actor k goes other.0)
+    r h free
 
 -- Undoing
 
@@ -105,10 +99,8 @@ can_undo_ran w e s es r formed h k free =
     record {
       actor_there = run_stays_actor s.world es r s.entry.event.actor k (entry_actor w e s h);
       place_there =
-          entry_can w e s r.world.at formed h (λ q there. run_stays_at s.world es r q formed' k there)
-          (λ n. run_others s.world es r s.entry n k free)
-          (subst (λ (n : ℕ). (q : Place) → place_fits n (is_there r.world.at) q (r.world.at q) ≡ true)
-          (run_ring s.world es r k ∙ step_ring w e s h) (run_keeps s.world es r formed' k).contents);
+          entry_can w e s r.world.ring r.world.at formed h (λ q there. run_stays_at s.world es r q formed' k there)
+          (λ n. run_others s.world es r s.entry n k free) (run_keeps s.world es r formed' k).contents;
       formed = (removes w e s es r formed h k free).well_formed;
     }
 
@@ -116,19 +108,12 @@ can_undo_ran w e s es r formed h k free =
 pub can_undo : (now : World) (x : Entry) → WasStepped now x → CanUndo now x
 can_undo now x was =
     let free : IsFree was.stepped.entry was.ran.entries = subst (λ (y : Entry). IsFree y was.ran.entries) (sym was.its_entry) was.free in
-    subst (λ (v : World). CanUndo v x) was.here
-    (subst (λ (y : Entry). CanUndo was.ran.world y) was.its_entry
-    (can_undo_ran was.start was.event was.stepped was.later was.ran was.well_formed was.goes was.went_on free))
+    subst₂ CanUndo was.here was.its_entry
+    (can_undo_ran was.start was.event was.stepped was.later was.ran was.well_formed was.goes was.went_on free)
 
 -- undoing such a step takes it out of its run
 pub taken_out : (now : World) (x : Entry) (was : WasStepped now x) → IsTakenOut now (unstep now x) x was
 taken_out now x was =
     let free : IsFree was.stepped.entry was.ran.entries = subst (λ (y : Entry). IsFree y was.ran.entries) (sym was.its_entry) was.free in
     let r = removes was.start was.event was.stepped was.later was.ran was.well_formed was.goes was.went_on free in
-    let same : unstep was.ran.world was.stepped.entry ≡ unstep now x = λ i. unstep (was.here i) (was.its_entry i) in
-    record {
-      rest = r.rest ∙ ap (λ (v : World). Ok (record { world = v; entries = was.ran.entries })) same;
-      again =
-          sym (ap (λ (v : World). step v was.event) same) ∙ r.again
-          ∙ (λ i. Ok (record { world = was.here i; entry = was.its_entry i }));
-    }
+    grind arith

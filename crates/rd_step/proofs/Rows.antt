@@ -1,6 +1,5 @@
 -- An actor whose record fits goes on from an answer that fits to a record that fits, row by row.
-use Rattle.rd_step.proofs.Prelude.{◌≡◌, ℕ, Bool, true, nat_lt, refl, arith, Option, None, Ok, le-leb, SLOTS, ArrSlot, Access, Answer, root, Act, Actor, Pc, E1, E2, E3, E4, E8, E11, E12, E13, E14, Q1, Q4, Q5, Q11, Q13, A1, B1, B2, B3, idle, need, need_at, after_take, after_at, after, words_fit_at, Presence, record_fits, index_end, calling, Op}
-use Rattle.rd_actor.specs.declared.actors.Op.TheVariants as op
+use Rattle.rd_step.proofs.Prelude.{◌≡◌, ℕ, Bool, true, nat_lt, refl, arith, Option, None, Ok, le-leb, SLOTS, ArrSlot, Access, Answer, root, Act, Actor, Pc, E1, E2, E3, E4, E8, E11, E12, E13, E14, Q4, Q5, Q11, Q13, A1, B1, B2, B3, idle, need, need_at, after_take, after_at, after, words_fit_at, Presence, record_fits, index_end, calling, Op}
 use Rattle.rd_step.proofs.Fits.{PartsFit, parts_of, words_of, together, answer_fits, drew_slot}
 use Rattle.rd_cell.specs.declared.contents.Content.TheVariants as content
 use Rattle.rd_cell.specs.declared.operations.Answer.TheVariants as answer
@@ -66,10 +65,6 @@ after_at_fits R there a pc answer r h whole f w d = grind arith
 pub after_fits : (R : ℕ) (there : Presence) (a : Actor) (act : Act) (x : Access) (answer : Answer) → there root ≡ true
     → need R a act ≡ Ok x → answer_fits R there answer ≡ true → drew_slot x answer ≡ true → record_fits R there a ≡ true
     → record_fits R there (after R a act answer).0 ≡ true
-after_fits R there a (act.Enq v) x answer r n h d whole = calling_fits R there E1 (op.Enq v) r refl
-after_fits R there a act.Deq x answer r n h d whole = calling_fits R there Q1 op.Deq r refl
-after_fits R there a (act.AEnq v) x answer r n h d whole = calling_fits R there A1 (op.AEnq v) r refl
-after_fits R there a act.ADeq x answer r n h d whole = calling_fits R there B1 op.ADeq r refl
 after_fits R there a act.Go x answer r n h d whole =
     after_at_fits R there a a.pc answer r h whole (parts_of R there a whole) (words_of R there a whole) (drew_row R a a.pc x answer n d)
-after_fits R there a (act.Starve b) x answer r n h d whole = grind arith
+after_fits R there a act x answer r n h d whole = grind (arith, calling_fits)

@@ -53,16 +53,8 @@ pub record Middle (s : World) (xs : List Entry) (x : Entry) (ys : List Entry) (w
 -- every run can be taken apart at one of its steps
 pub middle : (s : World) (xs : List Entry) (x : Entry) (ys : List Entry) (w : World)
     → run s (events (xs ++ x ∷ ys)) ≡ Ok (record { world = w; entries = xs ++ x ∷ ys }) → Middle s xs x ys w
-middle s [] x ys w h =
-    let first = beginning s x ys w h in
-    record { before = s; ran = refl; after = first.after; goes = first.goes; rest = first.rest }
+middle s [] x ys w h = grind (arith, beginning)
 middle s (y ∷ xs) x ys w h =
     let first = beginning s y (xs ++ x ∷ ys) w h in
     let m = middle first.after xs x ys w first.rest in
-    record {
-      before = m.before;
-      ran = run-cons s y.event (events xs) (record { world = first.after; entry = y }) (record { world = m.before; entries = xs }) first.goes m.ran;
-      after = m.after;
-      goes = m.goes;
-      rest = m.rest;
-    }
+    grind (arith, run-cons)

@@ -1,5 +1,5 @@
 -- The worlds with which a session may begin are well-formed.
-use Rattle.rd_step.proofs.Prelude.{◌≡◌, ◌↔◌, ℕ, suc, ◌<◌, ◌≤◌, Bool, true, false, if◌then◌else◌, nat_lt, inl, inr, refl, sym, ◌∙◌, ap, arith, List, length, get_or, slice_get, All, IsSome, Option, Some, None, is_some, le-leb, lt-ltb, le-ltb, common_steps, cases_lt, cond-true, cond-false, and_from, both_ways, slice_get_past, MOST_ACTORS, Place, is_there, Space, contents, Actor, idle, poised, World, world_of_fields, numbered, Presence, belongs, place_fits, record_fits, actor_fits, is_actor, IsNumbered, AreMade, IsWellFormed, index_end, slice_get-get_or, fresh_space, actors_by, fresh_world, poised_world}
+use Rattle.rd_step.proofs.Prelude.{◌≡◌, ◌↔◌, ℕ, suc, ◌<◌, ◌≤◌, Bool, true, if◌then◌else◌, nat_lt, inl, inr, refl, sym, ◌∙◌, ap, arith, List, length, get_or, slice_get, All, IsSome, Option, Some, None, is_some, le-leb, lt-ltb, le-ltb, common_steps, cases_lt, cond-true, cond-false, and_from, slice_get_past, MOST_ACTORS, Place, is_there, Space, contents, Actor, idle, poised, World, world_of_fields, numbered, Presence, belongs, place_fits, record_fits, actor_fits, is_actor, IsNumbered, AreMade, IsWellFormed, index_end, slice_get-get_or, fresh_space, actors_by, fresh_world, poised_world}
 use Rattle.rd_step.proofs.Rows.{idle_record}
 
 -- a list of `count` actors, each with the record that its number gives
@@ -68,15 +68,6 @@ all_idle xs count e k d within =
 pub one_count : (R count n : ℕ) (w : World) → w ≡ fresh_world R count → ((k : ℕ) → IsSome (w.actor (suc k)) ↔ (k < n)) → count ≡ n
 one_count R count n w e there =
     elim (cases_lt n count) [
-      | inl h ↦
-          let some : IsSome (w.actor (suc n)) = ap (λ (x : World). is_some (x.actor (suc n))) e ∙ ap is_some (cond-true (nat_lt n count) (Some idle) None (lt-ltb n count h)) in
-          let no : n < n = (there n).0 some in
-          absurd (omega arith)
-      | inr h ↦
-          elim (cases_lt count n) [
-            | inl k ↦
-                let none : is_some (w.actor (suc count)) ≡ false = grind (arith, is_some, nat_lt, cond-false, le-ltb) in
-                absurd (both_ways (is_some (w.actor (suc count))) none ((there count).1 k))
-            | inr k ↦ omega arith
-          ]
+      | inl h ↦ grind (arith, there n)
+      | inr h ↦ elim (cases_lt count n) [ inl k ↦ grind (arith, there count) | inr k ↦ omega arith ]
     ]

@@ -1,10 +1,9 @@
 -- The code's world and its step, as the model's.
-use Rattle.rd_step.proofs.Prelude.{◌≡◌, ℕ, zero, suc, ◌-◌, ◌<◌, ◌≤◌, true, false, nat_lt, inl, inr, sym, ◌∙◌, ap, subst, arith, List, length, set, slice_get, Option, Some, None, is_some, IsSome, IsTrue, is_ok, IsOk, IfOk, OnErr, Result, Ok, Err, lt-ltb, le-ltb, leb-true, holding, cases_lt, cond-true, cond-false, COUNTER_END, MOST_SEGMENTS, MOST_CELLS, MOST_ACTORS, SegName, Place, Access, Make, Done, Refusal, Contents, is_there, perform, restore, everywhere, HasEffect, Space, contents, room, lists, Actor, OpReply, need, after, World, Event, Entry, with_actor, step, world_of_fields, numbered, makes, makes_segment, IsRefused, Presence, actor_fits, record_fits, may_be_there, is_actor, IsWellFormed, IfOk-at_ok, number_made, Makes, RefusesMaking, making_count, counts, there_below, absent_from, in_list, IsRepresentable, IsLast, access_suits, made_at}
+use Rattle.rd_step.proofs.Prelude.{◌≡◌, ℕ, zero, suc, ◌-◌, ◌<◌, ◌≤◌, true, false, nat_lt, inl, inr, sym, ◌∙◌, ap, arith, List, length, set, slice_get, Option, Some, None, is_some, IsSome, IsTrue, is_ok, IsOk, Result, Ok, lt-ltb, le-ltb, leb-true, holding, cases_lt, cond-true, cond-false, COUNTER_END, MOST_SEGMENTS, MOST_CELLS, MOST_ACTORS, SegName, Place, Access, Make, Done, Refusal, Contents, is_there, perform, restore, everywhere, HasEffect, Space, contents, room, lists, Actor, OpReply, need, after, World, Event, with_actor, step, world_of_fields, numbered, makes, makes_segment, IsRefused, Presence, may_be_there, is_actor, IsWellFormed, IfOk-at_ok, number_made, Makes, RefusesMaking, making_count, counts, there_below, absent_from, in_list, IsRepresentable, IsLast, access_suits, made_at}
 use Rattle.rd_actor.proofs.Representable.{representable}
 use Rattle.rd_step.specs.declared.worlds.World.{World as CodeWorld}
 use Rattle.rd_step.proofs.Actors.{numbered-set, numbered-within}
-use Rattle.rd_step.proofs.Fits.{parts_of, words_of, access_fits, need_fits}
-use Rattle.rd_step.proofs.Keeps.{keeps}
+use Rattle.rd_step.proofs.Fits.{parts_of, words_of, access_fits, need_fits, fits_here}
 use Rattle.rd_cell.specs.declared.places.Place.TheVariants as place
 use Rattle.rd_cell.specs.declared.places.Wrote.TheVariants as wrote
 use Rattle.rd_cell.specs.declared.operations.Answer.TheVariants as answer
@@ -19,7 +18,7 @@ pub makes_access : {R : ℕ} (old : Space R) (new : Contents) (actor x : ℕ) (n
     → name ≡ record { maker = actor; n = making_count old actor } → Makes name (holding R x) (contents old) new
     → done ≡ record { place = Some (place.Whole name); old = None; answer = answer.Made name; wrote = wrote.Place }
     → HasEffect everywhere (perform R actor (contents old) (Make x)) done (contents old) new
-makes_access {R} old new actor x name done few is m notes = grind (arith, made_in, keeps)
+makes_access {R} old new actor x name done few is m notes = grind (arith, made_in)
 
 -- a making by an actor below its limit is not refused by the model
 may_make : {R : ℕ} (space : Space R) (actor x : ℕ) → making_count space actor ≤ MOST_SEGMENTS → making_count space actor < MOST_SEGMENTS
@@ -106,7 +105,7 @@ need_suits : (R : ℕ) (space : Space R) (xs : List Actor) (e : Event) (a : Acto
     → numbered xs e.actor ≡ Some a → need R a e.act ≡ Ok x → access_suits x ≡ true
 need_suits R space xs e a x formed has needs =
     let there = is_there (contents space) in
-    let fits : record_fits R there a ≡ true = subst (λ (o : Option Actor). actor_fits R there o ≡ true) has (formed.actors e.actor) in
+    let fits = fits_here (world_of_fields space xs) e.actor a formed has in
     access_suited R there x (IfOk-at_ok (λ (y : Access). access_fits R there y ≡ true) needs (need_fits R there a e.act fits))
 
 -- the numbers in the access for which an actor of a well-formed world asks fit the program's words:
@@ -115,7 +114,7 @@ representable_here : (R : ℕ) (space : Space R) (xs : List Actor) (e : Event) (
     → numbered xs e.actor ≡ Some a → IsRepresentable R a e.act
 representable_here R space xs e a formed small has =
     let there = is_there (contents space) in
-    let fits : record_fits R there a ≡ true = subst (λ (o : Option Actor). actor_fits R there o ≡ true) has (formed.actors e.actor) in
+    let fits = fits_here (world_of_fields space xs) e.actor a formed has in
     let h = leb-true a.h COUNTER_END (parts_of R there a fits).h in
     representable R a e.act (omega arith) (words_of R there a fits)
 
@@ -156,15 +155,6 @@ pub step_goes : (R : ℕ) (old new : Space R) (xs ys : List Actor) (e : Event) (
       entry = record { event = e; place = done.place; wrote = done.wrote; answer = done.answer; reply = next.1; old_actor = a; old_content = done.old };
     })
 step_goes R old new xs ys e a x done next has needs accesses goes actors = grind arith
-
--- the world after a step, refused or not, is well-formed
-pub still_well_formed : (R : ℕ) (old new : Space R) (xs ys : List Actor) (e : Event) (r : Result Entry Refusal)
-    → IsWellFormed (world_of_fields old xs)
-    → IfOk r (λ entry. step (world_of_fields old xs) e ≡ Ok (record { world = world_of_fields new ys; entry = entry }))
-    → OnErr r ((contents new ≡ contents old) × (ys ≡ xs)) → IsWellFormed (world_of_fields new ys)
-still_well_formed R old new xs ys e (Ok entry) formed ok same = keeps (world_of_fields old xs) e _ formed ok
-still_well_formed R old new xs ys e (Err refusal) formed ok same =
-    subst (λ (w : World). IsWellFormed w) (λ i. record { ring = R; at = sym same.0 i; actor = numbered (sym same.1 i) }) formed
 
 -- spaces with the same contents make the same world
 pub same_world : {R : ℕ} (old new : Space R) (xs : List Actor) → contents new ≡ contents old → world_of_fields new xs ≡ world_of_fields old xs

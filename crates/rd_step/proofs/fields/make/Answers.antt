@@ -1,4 +1,5 @@
-use Rattle.rd_step.proofs.Prelude.{true, refl, contents, uses_passed_up, uses_too}
+use Rattle.std.proofs.Common.{arith}
+use Rattle.rd_step.proofs.Prelude.{refl, contents, uses_passed_up, uses_too}
 use Rattle.rd_step.proofs.PassedUp.{error_passed_up}
 use Rattle.rd_step.proofs.WorldLemmas.{makes_access, refuses_access}
 use Rattle.rd_step.proofs.fields.make.Goals as goal
@@ -13,8 +14,7 @@ returns-clause-ok g c =
     makes_access c.args.space.now (contents c.make.new.self) c.args.actor c.args.value c.in_ok-name.name _ c.requires.counted c.in_ok-name.ensures.name c.in_ok-name.ensures.ok refl
 
 pub returns-in_err-name-clause-room : goal.returns-in_err-name-clause-room
-returns-in_err-name-clause-room g c =
-    uses_passed_up c.in_err-name.field-0.0 c.from_residual.result true true c.args.actor _ _ refl c.from_residual.ensures.1 c.in_err-name.ensures.room
+returns-in_err-name-clause-room g c = grind (arith, uses_passed_up)
 
 pub returns-clause-room : goal.returns-clause-room
-returns-clause-room g c = uses_too c.in_ok-name.name _ true true c.args.actor _ _ refl c.in_ok-name.ensures.room
+returns-clause-room g c = grind (arith, uses_too)

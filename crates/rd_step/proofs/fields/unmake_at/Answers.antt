@@ -1,5 +1,4 @@
-use Rattle.rd_step.proofs.Prelude.{sym, ◌∙◌, subst, arith, Some, None, Place, restore, CanPutBack, contents, room_returned, ReturnsMakersRoom}
-use Rattle.rd_segments.specs.Space.{makers_room}
+use Rattle.rd_step.proofs.Prelude.{sym, ◌∙◌, subst, arith, Some, None, Place, restore, CanPutBack, contents}
 use Rattle.rd_step.proofs.WorldLemmas.{made_whole, last_some, last_taken}
 use Rattle.rd_step.proofs.fields.unmake_at.Goals as goal
 
@@ -14,6 +13,4 @@ returns-in-Some-clause-done g c =
     ∙ (λ i. restore (Some (sym whole i)) None (contents c.args.space.now))
 
 pub returns-in-Some-clause-room : goal.returns-in-Some-clause-room
-returns-in-Some-clause-room g c =
-    let whole = made_whole c.args.place c.in-Some.name (sym c.made_at.ensures ∙ c.in-Some.is) in
-    subst (λ (p : Place). ReturnsMakersRoom (room_returned (Some p) None) (makers_room c.args.space.now) (makers_room c.unmake.new.self)) (sym whole) c.unmake.ensures.room
+returns-in-Some-clause-room g c = grind (arith, made_whole)

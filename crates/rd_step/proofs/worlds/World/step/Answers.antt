@@ -1,7 +1,8 @@
-use Rattle.rd_step.proofs.Prelude.{suc, ◌∙◌, refl, sym, ap, inl, arith, Ok, Err, makes, model, world_of_fields, uses_passed_up, uses_too}
+use Rattle.rd_step.proofs.Prelude.{◌∙◌, sym, subst, inl, arith, makes, model, world_of_fields, IsWellFormed, uses_passed_up, uses_too}
 use Rattle.rd_step.proofs.PassedUp.{error_passed_up, fact_passed_up}
 use Rattle.rd_step.proofs.Steps.{step_not_needed}
-use Rattle.rd_step.proofs.WorldLemmas.{needs_by, may_perform, step_refuses, step_goes, makes_by, still_well_formed, same_world}
+use Rattle.rd_step.proofs.Keeps.{keeps}
+use Rattle.rd_step.proofs.WorldLemmas.{needs_by, may_perform, step_refuses, step_goes, makes_by, same_world}
 use Rattle.rd_step.proofs.worlds.World.step.Goals as goal
 
 pub returns-in_err-access-clause-err : goal.returns-in_err-access-clause-err
@@ -25,9 +26,7 @@ invariant_of-self g c =
       positive = self.positive;
       small = self.small;
       makers = c.in_err-done.ensures.room.makers ∙ self.makers;
-      well_formed =
-          still_well_formed _ self.space c.perform.new.space self.actors.items self.actors.items c.args.event (Err c.in_err-done.field-0.0)
-          self.well_formed tt (c.in_err-done.ensures.unchanged, refl);
+      well_formed = subst IsWellFormed (sym (same_world self.space c.perform.new.space self.actors.items c.in_err-done.ensures.unchanged)) self.well_formed;
     }
 
 pub returns-in_err-done-clause-err : goal.returns-in_err-done-clause-err
@@ -50,20 +49,14 @@ returns-in_err-done-clause-room g c =
     (makes_by (model c.args.self.now) c.args.event c.in-Some.actor c.in_ok-access.access has (needs_by c.args.self.now c.args.event c.in-Some.actor _ has c.in_ok-access.ensures))
     c.from_residual-in_err-done.ensures.1 c.in_err-done.ensures.room
 
-pub invariant_of-self-2 : goal.invariant_of-self-2
-invariant_of-self-2 g c =
+pub invariant_of-self-2-clause-well_formed : goal.invariant_of-self-2-clause-well_formed
+invariant_of-self-2-clause-well_formed g c =
     let self = c.args.self.now in
     let needs = needs_by self c.args.event c.in-Some.actor _ (sym c.in-Some.ensures) c.in_ok-access.ensures in
-    record {
-      positive = self.positive;
-      small = self.small;
-      makers = c.in_ok-done.ensures.room.makers ∙ self.makers ∙ ap suc (sym c.set_actor.ensures.number);
-      well_formed =
-          still_well_formed _ self.space c.perform.new.space self.actors.items c.set_actor.new.actors.items c.args.event (Ok _)
-          self.well_formed (step_goes _ self.space c.perform.new.space self.actors.items c.set_actor.new.actors.items c.args.event c.in-Some.actor
-          c.in_ok-access.access c.in_ok-done.done c.after-reply.result
-          (sym c.in-Some.ensures) needs c.in_ok-done.ensures.ok c.after-reply.ensures c.set_actor.ensures.done) tt;
-    }
+    keeps (model self) c.args.event _ self.well_formed
+    (step_goes _ self.space c.perform.new.space self.actors.items c.set_actor.new.actors.items c.args.event c.in-Some.actor
+    c.in_ok-access.access c.in_ok-done.done c.after-reply.result
+    (sym c.in-Some.ensures) needs c.in_ok-done.ensures.ok c.after-reply.ensures c.set_actor.ensures.done)
 
 pub returns-clause-ok : goal.returns-clause-ok
 returns-clause-ok g c =
