@@ -1,6 +1,5 @@
 -- What the code keeps while it compares two runs is right after one more step.
-use Rattle.rd_depend.proofs.Prelude.{common_steps, slice_get-get_or, slice_get_past, and_from, and_parts, map-append, reverse-append, nil_from_length, option_to_list, set, is_nothing, slice_get-set_same, slice_get-set_other, Entry, Key, NumberedStep, Reached, is_value_written, key_eq, is_that, place_key, value_key, segment_key, key_eq-true, key_eq-sym, is_making, taken_in, taken_in_under, IsInOrder, IsAfter, Numbered, reached_or_nothing, with_first, list_at, items_of, ◌≡◌, ◌↔◌, ℕ, ◌+◌, ◌<◌, ◌≤◌, Bool, true, false, not, ◌&&◌, ◌==◌, if◌then◌else◌, cond, IsTrue, List, [], ◌∷◌, ◌++◌, length, map, get_or, reverse, Vec, Global, Option, Some, IsSome, MatchOption, refl, sym, ap, ◌∙◌, arith}
-use Rattle.rd_depend.proofs.IndexKeys.{place_value, place_segment, value_segment}
+use Rattle.rd_depend.proofs.Prelude.{common_steps, slice_get_past, and_from, and_parts, map-append, reverse-append, option_to_list, set, is_nothing, slice_get-set_same, slice_get-set_other, Entry, Key, NumberedStep, Reached, is_value_written, key_eq, place_key, value_key, segment_key, key_eq-true, key_eq-sym, is_making, taken_in, taken_in_under, IsInOrder, IsAfter, Numbered, reached_or_nothing, with_first, list_at, items_of, ◌≡◌, ◌↔◌, ℕ, ◌+◌, ◌<◌, ◌≤◌, Bool, true, false, not, ◌&&◌, ◌==◌, if◌then◌else◌, cond, IsTrue, List, [], ◌∷◌, ◌++◌, length, map, reverse, Vec, Global, Option, Some, IsSome, MatchOption, refl, sym, ap, ◌∙◌, arith}
 
 -- How far steps reached, under one key and under all
 
@@ -17,18 +16,13 @@ written_down old new key r w i news its = λ j k. (ap (reached_or_nothing k) (ne
     by k true same e = its ∙ ap (λ (q : Key). taken_in (s q) w i) (same refl) ∙ ap (λ (b : Bool). if b then taken_in (s k) w i else s k) (sym e)
     by k false same e = ap (λ (b : Bool). if b then taken_in (s k) w i else s k) (sym e)
 
--- taking a step in under one key leaves its order under another key
-after_other : (s : Key → Reached) (a b : Option Key) (w v : Bool) (i j : ℕ) → ((q : Key) → (is_that q a && is_that q b) ≡ false)
-    → IsAfter (taken_in_under a w i s) b v j ↔ IsAfter s b v j
-after_other s a b w v i j h1 = grind arith
-
 -- a step is in order if it is in order under each of its keys as they are taken in one after
 -- another
 pub all_after : (s : Key → Reached) (x : Entry) (i : ℕ) (p v g : Bool) → IsTrue p ↔ IsAfter s (place_key x.place) (not (is_nothing x.wrote)) i
     → IsTrue v ↔ IsAfter (taken_in_under (place_key x.place) (not (is_nothing x.wrote)) i s) (value_key x.place) (is_value_written x.wrote) i
     → IsTrue g ↔ IsAfter (taken_in_under (value_key x.place) (is_value_written x.wrote) i (taken_in_under (place_key x.place) (not (is_nothing x.wrote)) i s)) (segment_key x.place) (is_making x.place) i
     → IsTrue (p && v && g) ↔ IsInOrder s x i
-all_after s x i p v g by_place by_value by_segment = grind (arith, after_other, place_value, place_segment, value_segment, and_parts, and_from)
+all_after s x i p v g by_place by_value by_segment = grind (arith, and_parts, and_from)
 
 -- The lists by actor, each with its first step last
 
@@ -41,35 +35,21 @@ as_numbered p = (p.at, p.entry.now)
 abbrev pub left_in : Lists → ℕ → List Numbered
 left_in lists n = reverse (map as_numbered (list_at lists n))
 
-last_first : (ps qs : List NumberedStep) (p : NumberedStep) → ps ≡ qs ++ p ∷ [] → reverse (map as_numbered ps) ≡ as_numbered p ∷ reverse (map as_numbered qs)
-last_first ps qs p h = grind (arith, map-append, reverse-append)
-
-left_there : (lists : Lists) (a : ℕ) (list : Vec NumberedStep Global) → a < length lists → left_in (set lists a list) a ≡ reverse (map as_numbered list.items)
-left_there lists a list within = grind (arith, slice_get-set_same)
-
-left_elsewhere : (lists : Lists) (a n : ℕ) (list : Vec NumberedStep Global) → (n == a) ≡ false → left_in (set lists a list) n ≡ left_in lists n
-left_elsewhere lists a n list e = grind (arith, slice_get-set_other)
-
 -- a step that is pushed is in front of those left of its actor
 pub pushed : (lists : Lists) (a : ℕ) (list : Vec NumberedStep Global) (p : NumberedStep) (n : ℕ) → a < length lists → list.items ≡ list_at lists a ++ p ∷ []
     → left_in (set lists a list) n ≡ with_first (left_in lists) a (as_numbered p) n
-pushed lists a list p n within h = grind (arith, left_there, last_first, left_elsewhere)
+pushed lists a list p n within h = grind (arith, slice_get-set_same, slice_get-set_other, map-append, reverse-append)
 
 -- a step that is popped was in front of those left of its actor
 popped : (lists : Lists) (a : ℕ) (list : Vec NumberedStep Global) (p : NumberedStep) (n : ℕ) → a < length lists → list_at lists a ≡ list.items ++ p ∷ []
     → left_in lists n ≡ with_first (left_in (set lists a list)) a (as_numbered p) n
-popped lists a list p n within h = grind (arith, last_first, left_there, left_elsewhere)
+popped lists a list p n within h = grind (arith, slice_get-set_same, slice_get-set_other, map-append, reverse-append)
 
 -- what is popped is in front of those left of the actor, or none is left
 pub popped_or_none : (lists : Lists) (a : ℕ) (list : Vec NumberedStep Global) (o : Option NumberedStep) → a < length lists → list_at lists a ≡ list.items ++ option_to_list o
     → (0 < length (list_at lists a) → IsSome o)
     → MatchOption o (left_in lists a ≡ []) (λ p. (n : ℕ) → left_in lists n ≡ with_first (left_in (set lists a list)) a (as_numbered p) n)
 popped_or_none lists a list o within items some = grind (arith, common_steps, popped)
-
--- no step is left of an actor whose list is empty
-pub none_of_empty : (lists : Lists) (k n : ℕ) (list : Vec NumberedStep Global) → k < length lists → list ≡ get_or lists k list → list.len ≡ 0
-    → ((m : ℕ) → m < k → left_in lists m ≡ []) → n < k + 1 → left_in lists n ≡ []
-none_of_empty lists k n list within there empty before below = grind (arith, slice_get-get_or, nil_from_length)
 
 pub none_behind : (lists : Lists) (n : ℕ) → length lists ≤ n → left_in lists n ≡ []
 none_behind lists n h = ap (λ (o : Option (Vec NumberedStep Global)). reverse (map as_numbered (items_of o))) (slice_get_past lists n h)

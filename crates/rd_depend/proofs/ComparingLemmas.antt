@@ -1,5 +1,5 @@
 -- A comparison of two runs as it goes on over the steps of the first one.
-use Rattle.rd_depend.proofs.Prelude.{common_steps, drop_all, drop-cons, Entry, Key, Reached, DecidesEquivalence, Numbered, all_left, nothing_reached, KeepsOrder, GoesOn, IsOutOfOrder, ◌≡◌, ◌↔◌, ℕ, ◌+◌, ◌<◌, ◌≤◌, Bool, false, IsTrue, List, [], ◌∷◌, length, drop, get_or, refl, sym, ap, subst, arith, length-append}
+use Rattle.rd_depend.proofs.Prelude.{drop_all, drop-cons, Entry, Key, Reached, DecidesEquivalence, Numbered, all_left, nothing_reached, KeepsOrder, IsOutOfOrder, ◌≡◌, ◌↔◌, ℕ, ◌+◌, ◌<◌, ◌≤◌, Bool, false, IsTrue, List, [], ◌∷◌, length, drop, get_or, refl, sym, ap, subst, arith, length-append}
 use Rattle.rd_depend.proofs.KeepingOrder.{kept_taken, taken_kept}
 use Rattle.rd_depend.proofs.RunsAgree.{taken_equivalent, untaken_different}
 
@@ -11,10 +11,6 @@ KeepsOrderOf a b = KeepsOrder nothing_reached a (all_left b)
 -- of what is left
 abbrev pub IsLeftToCompare : List Entry → List Entry → ℕ → (Key → Reached) → (ℕ → List Numbered) → Type 0
 IsLeftToCompare a b k s left = KeepsOrderOf a b ↔ KeepsOrder s (drop k a) left
-
-pub left_over_one : (a b : List Entry) (k : ℕ) (d : Entry) (s t : Key → Reached) (old new : ℕ → List Numbered) → k < length a
-    → IsLeftToCompare a b k s old → GoesOn (get_or a k d) s t old new → IsLeftToCompare a b (k + 1) t new
-left_over_one a b k d s t old new within h g = grind (arith, common_steps)
 
 -- the answers
 

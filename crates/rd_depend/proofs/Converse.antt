@@ -1,5 +1,5 @@
 -- Equivalence is symmetric and transitive, since taking out is.
-use Rattle.rd_depend.proofs.Prelude.{◌≡◌, sym, ◌∙◌, ap, subst, List, Ok, arith, World, Ran, run, Event, Entry, IsEquivalent, events, run_entries, IsRunFrom, run_events}
+use Rattle.rd_depend.proofs.Prelude.{◌≡◌, ◌∙◌, ap, List, Ok, arith, World, Ran, run, Event, Entry, IsEquivalent, events, run_entries, IsRunFrom, run_events}
 use Rattle.rd_depend.proofs.TakingOut.{takes_back}
 use Rattle.rd_depend.proofs.TakingOn.{takes_on}
 use Rattle.rd_depend.proofs.RunsAgree.{equivalent_taken, taken_equivalent}
@@ -22,9 +22,7 @@ pub equivalent_either_way : (w : World) (es fs : List Event) (r q : Ran) → run
 equivalent_either_way w es fs r q h k same =
     let its = run_events w es r h in
     let others = run_events w fs q k in
-    let back = converse w r.entries q.entries (as_run w es r h) (as_run w fs q k) (subst (λ (l : List Event). IsEquivalent w (events r.entries) l) (sym others)
-    (subst (λ (l : List Event). IsEquivalent w l fs) (sym its) same)) in
-    subst (λ (l : List Event). IsEquivalent w fs l) its (subst (λ (l : List Event). IsEquivalent w l (events r.entries)) others back)
+    grind (arith, converse, as_run)
 
 -- equivalent lists of events are equivalent as the events of their entries
 of_entries : (w : World) (es fs : List Event) (xs ys : List Entry) → events xs ≡ es → events ys ≡ fs → IsEquivalent w es fs
@@ -37,6 +35,5 @@ equivalent_through w es fs gs r q p h k l first second =
     let its = run_events w es r h in
     let mid = run_events w fs q k in
     let last = run_events w gs p l in
-    let all = through w r.entries q.entries p.entries (as_run w es r h) (as_run w fs q k) (as_run w gs p l)
-    (of_entries w es fs r.entries q.entries its mid first) (of_entries w fs gs q.entries p.entries mid last second) in
-    subst (λ (m : List Event). IsEquivalent w es m) last (subst (λ (m : List Event). IsEquivalent w m (events p.entries)) its all)
+    let all = through w r.entries q.entries p.entries (as_run w es r h) (as_run w fs q k) (as_run w gs p l) in
+    grind (arith, of_entries)

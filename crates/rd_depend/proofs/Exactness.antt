@@ -1,6 +1,6 @@
 -- If the first entry of one list and an entry of the same event that may come first in the other
 -- are taken out, the rests are equivalent exactly if the lists are.
-use Rattle.rd_depend.proofs.Prelude.{◌≡◌, ◌↔◌, ℕ, zero, suc, ◌-◌, ◌≤◌, Bool, refl, sym, ◌∙◌, ap, subst, arith, List, [], ◌∷◌, ◌++◌, length, take, drop, length-drop, Ok, map-append, take_all, World, Stepped, step, Ran, run, IsFree, Event, Entry, IsEquivalent, events, run_entries, IsRunFrom, runs_to, FirstStep, first_step, middle, as_stepped-same, goes_first, stands_in, DecidesEquivalence}
+use Rattle.rd_depend.proofs.Prelude.{◌≡◌, ◌↔◌, ℕ, suc, ◌-◌, ◌≤◌, Bool, refl, sym, ◌∙◌, ap, subst, arith, List, [], ◌∷◌, ◌++◌, length, take, drop, length-drop, Ok, map-append, take_all, World, Stepped, step, Ran, run, IsFree, Event, Entry, IsEquivalent, events, IsRunFrom, runs_to, FirstStep, first_step, middle, as_stepped-same, goes_first, stands_in, DecidesEquivalence}
 use Rattle.rd_depend.proofs.FirstOfActor.{MayComeFirst, one_place}
 
 -- an entry that depends on no earlier one can be made first, and the others then run on with the
@@ -11,11 +11,7 @@ front w xs x ys h free =
     let m = middle w xs x ys to.last to.runs in
     let first = goes_first w x.event (events xs) (events ys) (record { world = m.before; entries = xs })
     (record { world = m.after; entry = x }) (record { world = to.last; entries = ys }) m.ran m.goes free m.rest in
-    record {
-      after = first.after;
-      goes = first.goes;
-      rest = ap run_entries (ap (run first.after) (map-append (λ (y : Entry). y.event) xs ys) ∙ first.runs);
-    }
+    grind (arith, map-append)
 
 -- Where the first event of the one list may be in the other
 
@@ -54,8 +50,7 @@ stands_first w x u es rest left runs goes m on =
     record {
       earlier = events m.earlier;
       later = events m.later;
-      stands =
-          grind (arith, map-append);
+      stands = grind (arith, map-append);
       independent = record {
         ran = record { world = mid.before; entries = m.earlier };
         runs = mid.ran;
@@ -65,8 +60,7 @@ stands_first w x u es rest left runs goes m on =
       };
       stepped = record { world = u; entry = x };
       goes = goes;
-      rest =
-          grind (arith, map-append);
+      rest = grind (arith, map-append);
     }
 
 -- the entries that are left are the same, however the entry was found
@@ -87,8 +81,7 @@ runs_on w x xs ys left first runs m =
     as_stepped-same _ _ (sym to_front.goes ∙ ap (step w) m.its_event ∙ first.goes) in
     record {
       same = ap (λ (s : Stepped). s.entry) same;
-      runs =
-          grind arith;
+      runs = grind arith;
     }
 
 -- the two runs are equivalent exactly if what is left of them is
@@ -119,9 +112,6 @@ record Behind (w : World) (a b xs ys : List Entry) : Type 0 where
 
 behind : (n : ℕ) (w : World) (a b : List Entry) → IsRunFrom w a → IsRunFrom w b → n ≤ length a → n ≤ length b
     → events (take n a) ≡ events (take n b) → Behind w a b (drop n a) (drop n b)
-behind zero w a b runs_a runs_b in_a in_b h = record { here = w; first_runs = runs_a; second_runs = runs_b; exactly = (λ e. e, λ e. e) }
-behind (suc n) w [] b runs_a runs_b in_a in_b h = absurd (omega arith)
-behind (suc n) w (x ∷ xs) [] runs_a runs_b in_a in_b h = absurd (omega arith)
 behind (suc n) w (x ∷ xs) (y ∷ ys) runs_a runs_b in_a in_b h =
     let e : y.event ≡ x.event = cc in
     let m : MayComeFirst x.event (y ∷ ys) ys =
@@ -129,12 +119,8 @@ behind (suc n) w (x ∷ xs) (y ∷ ys) runs_a runs_b in_a in_b h =
     let first = first_step w x xs runs_a in
     let one = equivalent_first w x xs (y ∷ ys) ys first runs_b m in
     let r = behind n first.after xs ys first.rest (runs_on w x xs (y ∷ ys) ys first runs_b m).runs (omega arith) (omega arith) cc in
-    record {
-      here = r.here;
-      first_runs = r.first_runs;
-      second_runs = r.second_runs;
-      exactly = (λ k. r.exactly.0 (one.0 k), λ k. one.1 (r.exactly.1 k));
-    }
+    grind arith
+behind n w a b runs_a runs_b in_a in_b h = grind arith
 
 all_behind : (a : List Entry) (n : ℕ) → take (length a - n) (drop n a) ≡ drop n a
 all_behind a n = take_all (length a - n) (drop n a) (omega (arith, length-drop n a))
@@ -144,7 +130,6 @@ pub right_behind : (a b : List Entry) (n : ℕ) (same : Bool) → n ≤ length a
     → DecidesEquivalence (take (length a - n) (drop n a)) (take (length b - n) (drop n b)) same → DecidesEquivalence a b same
 right_behind a b n same in_a in_b h right w runs_a runs_b =
     let r = behind n w a b runs_a runs_b in_a in_b h in
-    let rest : DecidesEquivalence (drop n a) (drop n b) same =
-    grind (arith, all_behind) in
+    let rest : DecidesEquivalence (drop n a) (drop n b) same = grind (arith, all_behind) in
     let there = rest r.here r.first_runs r.second_runs in
     (λ k. r.exactly.1 (there.0 k), λ k. there.1 (r.exactly.0 k))

@@ -35,10 +35,8 @@ one_first n [] ys [] us y z h by_y by_z none_x none_z = record { before = refl; 
 one_first n [] ys (z' ∷ zs) us y z h by_y by_z none_x none_z = grind arith
 one_first n (x' ∷ xs) ys [] us y z h by_y by_z none_x none_z = grind arith
 one_first n (x' ∷ xs) ys (z' ∷ zs) us y z h by_y by_z none_x none_z =
-    let e : x' ≡ z' = cc in
     let l : xs ++ y ∷ ys ≡ zs ++ z ∷ us = cc in
-    let one = one_first n xs ys zs us y z l by_y by_z none_x.1 none_z.1 in
-    record { before = (λ i. e i ∷ one.before i); itself = one.itself; behind = one.behind }
+    grind (arith, one_first n xs ys zs us y z l by_y by_z none_x.1 none_z.1)
 
 by_actor : (e : Event) (x : Entry) → x.event ≡ e → e.actor ≡ x.event.actor
 by_actor e x h = ap (λ (f : Event). f.actor) (sym h)

@@ -1,26 +1,7 @@
 -- The calls of an index, put together from their changes of its lists.
-use Rattle.rd_depend.proofs.Prelude.{◌≡◌, ℕ, zero, suc, ◌+◌, ◌-◌, ◌<◌, ◌≤◌, Bool, true, false, ◌&&◌, ◌||◌, ◌==◌, if◌then◌else◌, List, [], ◌∷◌, ◌++◌, length, take, drop, Option, Some, slice_get, refl, sym, ap, subst, ◌∙◌, append_assoc, arith, length-append, eq-eqb, Result, IsOk, OnOk, is_err, rules, Entry, DependIndex, Home, Homes, Key, Table, Lists, list_at, spare_at, one_if, kept_in, spare_in, is_kept_in, AreReady, KeepsLists, Puts, TakesLast, HasLast, Touch, By, Under, touches, kept, spare, number_of, IsIndexOf, HasRoomFor, GivesRoom, UsesRoom, IsLast, homes_of, Adds, Keeps, EndsWith}
-use Rattle.rd_depend.proofs.IndexKeys.{is_home, is_in, under, AreSeparate, separate}
+use Rattle.rd_depend.proofs.Prelude.{◌≡◌, ℕ, suc, ◌+◌, ◌-◌, ◌<◌, ◌≤◌, Bool, true, false, ◌&&◌, ◌||◌, ◌==◌, if◌then◌else◌, List, [], ◌∷◌, ◌++◌, length, take, drop, Option, Some, slice_get, refl, sym, ap, subst, ◌∙◌, append_assoc, arith, length-append, eq-eqb, Result, IsOk, OnOk, is_err, rules, Entry, DependIndex, Home, Homes, Key, Table, Lists, list_at, spare_at, one_if, kept_in, spare_in, is_kept_in, AreReady, KeepsLists, Puts, TakesLast, HasLast, Touch, By, Under, touches, kept, spare, number_of, IsIndexOf, HasRoomFor, GivesRoom, UsesRoom, IsLast, homes_of, Adds, Keeps, EndsWith}
+use Rattle.rd_depend.proofs.IndexKeys.{is_home, is_in, under, separate}
 use Rattle.rd_depend.proofs.IndexPositions.{positions-push, positions-pop, number-append}
-
--- one change after another, where no list is changed by both
-
--- which lists of a table are meant, by whether they have only writes and by their key
-abbrev Where : Type 0
-Where = Bool → Key → Bool
-
--- the lists that are meant lost their last position and have room for one more; the others are as
--- before
-pub record TakesWhere (test : Where) (old new : Table) : Type 0 where
-  pub lists : (w : Bool) (q : Key) → kept_in new w q ≡ (if test w q then take (length (kept_in old w q) - 1) (kept_in old w q) else kept_in old w q)
-  pub room : (w : Bool) (q : Key) → spare_in new w q ≡ spare_in old w q + one_if (test w q)
-
-both_take : (a b : Where) (old mid new : Table) → ((w : Bool) (q : Key) → (a w q && b w q) ≡ false) → TakesWhere a old mid → TakesWhere b mid new
-    → TakesWhere (λ w q. a w q || b w q) old new
-both_take a b old mid new apart first second = grind arith
-
-takes_where : (h : Home) (old new : Table) → TakesLast h.key h.wrote old new → TakesWhere (is_home h) old new
-takes_where h old new took = record { lists = took.lists; room = took.room }
 
 -- what is ready stays ready if no list changes
 pub ready_kept : (t u : Table) (k : Option Key) (wrote : Bool) (slot : Option ℕ) → KeepsLists t u → AreReady t k wrote slot → AreReady u k wrote slot
@@ -37,13 +18,6 @@ pub last_after : (t u : Table) (s : Option Key) (wrote : Bool) (h : Home)
     → ((w : Bool) (q : Key) → s ≡ Some q → is_kept_in w wrote ≡ true → is_home h w q ≡ false)
     → HasLast t s wrote → TakesLast h.key h.wrote t u → HasLast u s wrote
 last_after t u s wrote h apart has took = grind arith
-
-all_taken : (h : Homes) (old one two new : Table) → AreSeparate h → TakesLast h.place.key h.place.wrote old one
-    → TakesLast h.value.key h.value.wrote one two → TakesLast h.segment.key h.segment.wrote two new → TakesWhere (is_in h) old new
-all_taken h old one two new s a b c =
-    both_take (λ w q. is_home h.place w q || is_home h.value w q) (is_home h.segment) old two new s.last
-    (both_take (is_home h.place) (is_home h.value) old one two s.first (takes_where h.place old one a) (takes_where h.value one two b))
-    (takes_where h.segment two new c)
 
 pub adds : (old new : DependIndex) (x : Entry) (h : Homes) (one two : Table) (p actor : ℕ) → h ≡ homes_of x → actor ≡ x.event.actor → p ≡ old.len + 1
     → new.len ≡ old.len + 1
@@ -65,23 +39,15 @@ pub drops : (old new : DependIndex) (x : Entry) (h : Homes) (one two : Table) (a
     → ((i : ℕ) → spare_at new.by_actor.items i ≡ spare_at old.by_actor.items i + one_if (i == actor))
     → TakesLast h.place.key h.place.wrote old.by_key one → TakesLast h.value.key h.value.wrote one two
     → TakesLast h.segment.key h.segment.wrote two new.by_key → Drops x old new
-drops old new x h one two actor homes same len lists_by room_by a b c = record { lists = lists; room = room; len = len }
-  where
-    all : TakesWhere (is_in (homes_of x)) old.by_key new.by_key
-    all = subst (λ (g : Homes). TakesWhere (is_in g) old.by_key new.by_key) homes (all_taken h old.by_key one two new.by_key (separate h x homes) a b c)
-
-    lists : (t : Touch) → kept new t ≡ (if touches t x then take (length (kept old t) - 1) (kept old t) else kept old t)
-    lists t = search (rules, arith)
-
-    room : (t : Touch) → spare new t ≡ spare old t + one_if (touches t x)
-    room t = grind arith
+drops old new x h one two actor homes same len lists_by room_by a b c =
+    let s = separate h x homes in
+    record { lists = λ t. search (rules, arith); room = λ t. grind arith; len = len }
 
 -- where there was room
 
 pub within_spare : (lists : Lists) (i : ℕ) → 0 < spare_at lists i → i < length lists
-within_spare [] i h = absurd (omega arith)
-within_spare (v ∷ vs) zero h = omega arith
 within_spare (v ∷ vs) (suc i) h = let rest : i < length vs = within_spare vs i h in omega arith
+within_spare lists i h = grind arith
 
 pub touched_by : (x : Entry) → touches (By x.event.actor) x ≡ true
 touched_by x = eq-eqb x.event.actor x.event.actor refl
@@ -123,14 +89,12 @@ spare_under old x h homes has w q e = has (Under w q) (touched_in x h homes w q 
 -- several entries
 
 take_more : (es : List Entry) (n : ℕ) (x : Entry) → slice_get es n ≡ Some x → take (suc n) es ≡ take n es ++ x ∷ []
-take_more [] n x h = absurd cc
-take_more (y ∷ ys) zero x h = let same : y ≡ x = cc in ap (λ (z : Entry). z ∷ []) same
 take_more (y ∷ ys) (suc n) x h = ap (λ (l : List Entry). y ∷ l) (take_more ys n x h)
+take_more es n x h = grind arith
 
 pub drop_one : (es : List Entry) (n : ℕ) (x : Entry) → slice_get es n ≡ Some x → drop n es ≡ x ∷ drop (suc n) es
-drop_one [] n x h = absurd cc
-drop_one (y ∷ ys) zero x h = let same : y ≡ x = cc in ap (λ (z : Entry). z ∷ ys) same
 drop_one (y ∷ ys) (suc n) x h = drop_one ys n x h
+drop_one es n x h = grind arith
 
 -- what pushes have done after the first n entries: these are in the index, and have used their room
 -- at most
@@ -151,9 +115,8 @@ one_added start old new entries n x there was more used =
     }
 
 number-among : (test : Entry → Bool) (es : List Entry) (n : ℕ) (x : Entry) → slice_get es n ≡ Some x → number_of test (take n es) + one_if (test x) ≤ number_of test es
-number-among test [] n x h = absurd cc
-number-among test (y ∷ ys) zero x h = let same : y ≡ x = cc in let e = ap (λ (z : Entry). one_if (test z)) same in omega (arith, e)
 number-among test (y ∷ ys) (suc n) x h = omega (arith, number-among test ys n x h)
+number-among test es n x h = grind arith
 
 -- if there was room for all of the entries, there is room for the next one
 pub room_next : (start now : DependIndex) (entries : List Entry) (n : ℕ) (x : Entry) → slice_get entries n ≡ Some x → HasRoomFor start entries
@@ -177,10 +140,7 @@ pub one_dropped : (start old new : DependIndex) (entries : List Entry) (left n :
     → HasDropped start old entries left → ((es : List Entry) → IsIndexOf old (es ++ x ∷ []) → IsIndexOf new es) → GivesRoom old new (x ∷ [])
     → HasDropped start new entries n
 one_dropped start old new entries left n x next there was left_out gives = record {
-  index = λ es is. left_out (es ++ take n entries)
-      (subst (λ (l : List Entry). IsIndexOf old l)
-      (ap (λ (m : ℕ). es ++ take m entries) next ∙ ap (λ (l : List Entry). es ++ l) (take_more entries n x there) ∙ sym (append_assoc es (take n entries) (x ∷ [])))
-      (was.index es is));
+  index = λ es is. left_out (es ++ take n entries) (grind (arith, take_more entries n x there, append_assoc, was.index es is));
   room = grind (arith, drop_one);
 }
 

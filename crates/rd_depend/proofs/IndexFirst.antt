@@ -1,75 +1,56 @@
 -- The first dependant of a step, from the first later positions in the lists of its actor, its
 -- place and its segment.
-use Rattle.rd_depend.proofs.Prelude.{◌≡◌, ℕ, zero, suc, ◌+◌, ◌<◌, ◌≤◌, Bool, true, false, not, ◌||◌, ◌==◌, if◌then◌else◌, nat_lt, List, [], ◌∷◌, length, drop, Option, Some, None, refl, sym, ap, subst, ◌∙◌, arith, nat_tests, is_some, SegName, Place, some_overlap, is_nothing, written, interfere, Entry, Wrote, position_from, depends, depends_on_any, symmetric, DependIndex, At, In, is_under, is_under_some, own_key, value_key_of_place, whole_key, AscendsFrom, IsAscending, find, earlier, Touch, By, touched_or_written, is_value_written, touches, positions_from, positions, kept, IsIndexOf}
-use Rattle.rd_depend.proofs.IndexPositions.{positions-ascend, positions-number, number-within, ascending}
+use Rattle.std.specs.Prelude.{unwrap_or}
+use Rattle.rd_depend.proofs.Prelude.{list_any, ◌≡◌, ℕ, suc, ◌+◌, ◌<◌, ◌≤◌, Bool, true, false, not, ◌||◌, ◌==◌, if◌then◌else◌, nat_lt, List, [], ◌∷◌, length, drop, Option, Some, None, refl, sym, ap, subst, ◌∙◌, arith, nat_tests, is_some, SegName, Place, some_overlap, is_nothing, written, interfere, Entry, Wrote, position_from, depends, depends_on_any, symmetric, DependIndex, At, In, is_under, is_under_some, own_key, value_key_of_place, whole_key, IsAscending, find, earlier, Touch, By, touched_or_written, is_value_written, touches, positions_from, positions, kept, IsIndexOf}
+use Rattle.rd_depend.proofs.IndexPositions.{positions-number, number-within, ascending}
 use Rattle.rd_cell.specs.declared.places.Place.TheVariants as place
 
 -- tests that agree on each entry give the same positions
 pub positions-same : (t u : Entry → Bool) → ((y : Entry) → t y ≡ u y) → (n : ℕ) (es : List Entry) → positions_from t n es ≡ positions_from u n es
 positions-same t u h n es = grind arith
 
--- a position that is found isn't below the first one of the list
-found-from : (k n : ℕ) (ps : List ℕ) (m : ℕ) → AscendsFrom n ps → find (nat_lt k) ps ≡ Some m → n ≤ m
-found-from k n [] m h e = absurd cc
-found-from k n (p ∷ ps) m h e = grind (arith, found-from k (suc p) ps m h.1)
-
-pulled : (k n : ℕ) (b : Bool) (ps : List ℕ) → find (nat_lt k) (if b then n ∷ ps else ps) ≡ (if b then (if nat_lt k n then Some n else find (nat_lt k) ps) else find (nat_lt k) ps)
-pulled k n b ps = grind arith
-
-earlier_here : (n : ℕ) (b c d less : Bool) (o p q : Option ℕ) → d ≡ (b || c) → earlier o p ≡ q
-    → ((m : ℕ) → o ≡ Some m → n ≤ m) → ((m : ℕ) → p ≡ Some m → n ≤ m)
-    → earlier (if b then (if less then Some n else o) else o) (if c then (if less then Some n else p) else p) ≡ (if d then (if less then Some n else q) else q)
-earlier_here n b c d less o p q e rest in_o in_p = grind arith
-
--- the lesser of what two tests find first is what either test finds first
-pub earlier-first : (t u v : Entry → Bool) → ((y : Entry) → v y ≡ (t y || u y)) → (k n : ℕ) (es : List Entry)
-    → earlier (find (nat_lt k) (positions_from t n es)) (find (nat_lt k) (positions_from u n es)) ≡ find (nat_lt k) (positions_from v n es)
-earlier-first t u v h k n [] = refl
-earlier-first t u v h k n (x ∷ xs) =
-    (λ i. earlier (pulled k n (t x) (positions_from t (n + 1) xs) i) (pulled k n (u x) (positions_from u (n + 1) xs) i))
-    ∙ earlier_here n (t x) (u x) (v x) (nat_lt k n) (find (nat_lt k) (positions_from t (n + 1) xs)) (find (nat_lt k) (positions_from u (n + 1) xs))
-    (find (nat_lt k) (positions_from v (n + 1) xs)) (h x) (earlier-first t u v h k (n + 1) xs)
-    (λ m e. let f : n + 1 ≤ m = found-from k (n + 1) (positions_from t (n + 1) xs) m (positions-ascend t (n + 1) xs) e in omega arith)
-    (λ m e. let f : n + 1 ≤ m = found-from k (n + 1) (positions_from u (n + 1) xs) m (positions-ascend u (n + 1) xs) e in omega arith)
-    ∙ sym (pulled k n (v x) (positions_from v (n + 1) xs))
-
 -- a search above k finds the same without the first j entries, if their positions are at most k
 skipped : (test : Entry → Bool) (k n j : ℕ) (es : List Entry) → n + j ≤ k + 1 → find (nat_lt k) (positions_from test n es) ≡ find (nat_lt k) (positions_from test (n + j) (drop j es))
-skipped test k n zero es h = let e : n ≡ n + 0 = omega arith in ap (λ (m : ℕ). find (nat_lt k) (positions_from test m es)) e
-skipped test k n (suc j) [] h = refl
 skipped test k n (suc j) (x ∷ xs) h = grind (arith, nat_tests, skipped test k (n + 1) j xs (omega arith))
+skipped test k n j es h = grind arith
 
-scanned : (x : Entry) (k n : ℕ) (es : List Entry) → k < n → find (nat_lt k) (positions_from (depends x) n es) ≡ position_from (depends x) n es
-scanned x k n [] h = refl
-scanned x k n (y ∷ ys) h = by (depends x y) (scanned x k (n + 1) ys (omega arith))
-  where
-    here : (ps : List ℕ) → find (nat_lt k) (n ∷ ps) ≡ Some n
-    here ps = grind (arith, nat_tests)
+scanned : (test : Entry → Bool) (k n : ℕ) (es : List Entry) → k < n → find (nat_lt k) (positions_from test n es) ≡ position_from test n es
+scanned test k n [] h = refl
+scanned test k n (y ∷ ys) h = grind (arith, nat_tests, scanned test k (n + 1) ys (omega arith))
 
-    by : (b : Bool) → find (nat_lt k) (positions_from (depends x) (n + 1) ys) ≡ position_from (depends x) (n + 1) ys
-        → find (nat_lt k) (if b then n ∷ positions_from (depends x) (n + 1) ys else positions_from (depends x) (n + 1) ys) ≡ (if b then Some n else position_from (depends x) (n + 1) ys)
-    by b g = grind arith
+-- the first position above k that passes is the first one in a scan of the entries after the first k
+pub first-after : (test : Entry → Bool) (k : ℕ) (es : List Entry) → find (nat_lt k) (positions test es) ≡ position_from test (k + 1) (drop k es)
+first-after test k es = grind (arith, skipped test k 1 k es (omega arith), scanned test k (k + 1) (drop k es) (omega arith))
 
--- the first position above k of a step that depends on x is the first one in a scan of the entries
--- after the first k
-pub first-after : (x : Entry) (k : ℕ) (es : List Entry) → find (nat_lt k) (positions (depends x) es) ≡ position_from (depends x) (k + 1) (drop k es)
-first-after x k es =
-    skipped (depends x) k 1 k es (omega arith)
-    ∙ (let e : 1 + k ≡ k + 1 = omega arith in ap (λ (m : ℕ). find (nat_lt k) (positions_from (depends x) m (drop k es))) e)
-    ∙ scanned x k (k + 1) (drop k es) (omega arith)
+-- a position that a scan finds is at least the first one
+scanned-from : (test : Entry → Bool) (n : ℕ) (es : List Entry) → n ≤ unwrap_or (position_from test n es) n
+scanned-from test n [] = omega arith
+scanned-from test n (x ∷ xs) = grind (arith, scanned-from test (n + 1) xs)
+
+earlier-scanned : (t u v : Entry → Bool) → ((y : Entry) → v y ≡ (t y || u y)) → (n : ℕ) (es : List Entry)
+    → earlier (position_from t n es) (position_from u n es) ≡ position_from v n es
+earlier-scanned t u v h n [] = refl
+earlier-scanned t u v h n (x ∷ xs) =
+    grind (arith, h x, scanned-from t (n + 1) xs, scanned-from u (n + 1) xs, earlier-scanned t u v h (n + 1) xs)
+
+-- the lesser of what two tests find first is what either test finds first
+pub earlier-first : (t u v : Entry → Bool) → ((y : Entry) → v y ≡ (t y || u y)) → (k : ℕ) (es : List Entry)
+    → earlier (find (nat_lt k) (positions t es)) (find (nat_lt k) (positions u es)) ≡ find (nat_lt k) (positions v es)
+earlier-first t u v h k es =
+    (λ i. earlier (first-after t k es i) (first-after u k es i)) ∙ earlier-scanned t u v h (k + 1) (drop k es) ∙ sym (first-after v k es)
+
+-- a scan finds an entry exactly if one passes
+scanned-any : (test : Entry → Bool) (n : ℕ) (ys : List Entry) → is_some (position_from test n ys) ≡ list_any test ys
+scanned-any test n [] = refl
+scanned-any test n (y ∷ ys) = grind (arith, scanned-any test (n + 1) ys)
 
 -- a scan finds an entry that depends on x exactly if x depends on one of the entries
 pub found-on : (x : Entry) (n : ℕ) (ys : List Entry) → is_some (position_from (depends x) n ys) ≡ depends_on_any ys x
-found-on x n [] = refl
-found-on x n (y ∷ ys) = by (depends x y) (found-on x (n + 1) ys) ∙ ap (λ (b : Bool). b || depends_on_any ys x) (symmetric x y)
-  where
-    by : (b : Bool) → is_some (position_from (depends x) (n + 1) ys) ≡ depends_on_any ys x
-        → is_some (if b then Some n else position_from (depends x) (n + 1) ys) ≡ (b || depends_on_any ys x)
-    by b h = grind arith
+found-on x n ys = scanned-any (depends x) n ys ∙ (λ i. list_any (λ y. symmetric x y i) ys)
 
 -- a position above k is found exactly if the step depends on one of the entries after the first k
 pub found-after : (x : Entry) (k : ℕ) (es : List Entry) → is_some (find (nat_lt k) (positions (depends x) es)) ≡ depends_on_any (drop k es) x
-found-after x k es = ap is_some (first-after x k es) ∙ found-on x (k + 1) (drop k es)
+found-after x k es = ap is_some (first-after (depends x) k es) ∙ found-on x (k + 1) (drop k es)
 
 -- which places overlap
 
@@ -145,13 +126,13 @@ pub found_at : (p : Place) (v : Wrote) (k : ℕ) (es : List Entry) (value own wh
     → both ≡ earlier own whole → all ≡ earlier value both → all ≡ find (nat_lt k) (positions (meets p v) es)
 found_at p v k es value own whole both all a b c two three =
     let rest = λ (y : Entry). is_under (own_key p) (touched_or_written (is_nothing v) y) || is_under_some (whole_key p) (touched_or_written (is_nothing v) y) in
-    let in_two : both ≡ find (nat_lt k) (positions rest es) = two ∙ (λ i. earlier (b i) (c i)) ∙ earlier-first _ _ rest (λ y. refl) k 1 es in
-    three ∙ (λ i. earlier (a i) (in_two i)) ∙ earlier-first _ rest (meets p v) (λ y. sym (looked p v y)) k 1 es
+    let in_two : both ≡ find (nat_lt k) (positions rest es) = two ∙ (λ i. earlier (b i) (c i)) ∙ earlier-first _ _ rest (λ y. refl) k es in
+    three ∙ (λ i. earlier (a i) (in_two i)) ∙ earlier-first _ rest (meets p v) (λ y. sym (looked p v y)) k es
 
 pub found_either : (x : Entry) (p : Place) → x.place ≡ Some p → (k : ℕ) (es : List Entry)
     → earlier (find (nat_lt k) (positions (touches (By x.event.actor)) es)) (find (nat_lt k) (positions (meets p x.wrote) es))
     ≡ find (nat_lt k) (positions (depends x) es)
-found_either x p h k es = earlier-first (touches (By x.event.actor)) (meets p x.wrote) (depends x) (λ y. depends-some x y p h) k 1 es
+found_either x p h k es = earlier-first (touches (By x.event.actor)) (meets p x.wrote) (depends x) (λ y. depends-some x y p h) k es
 
 pub found_by : (x : Entry) → x.place ≡ None → (k : ℕ) (es : List Entry)
     → find (nat_lt k) (positions (touches (By x.event.actor)) es) ≡ find (nat_lt k) (positions (depends x) es)
@@ -161,7 +142,7 @@ found_by x h k es = ap (find (nat_lt k)) (positions-same (touches (By x.event.ac
 pub found_of_actor : (x : Entry) (k : ℕ) (es : List Entry) → is_some (find (nat_lt k) (positions (touches (By x.event.actor)) es)) ≡ true
     → is_some (find (nat_lt k) (positions (depends x) es)) ≡ true
 found_of_actor x k es h =
-    sym (ap is_some (earlier-first (touches (By x.event.actor)) (depends x) (depends x) (λ y. again (x.event.actor == y.event.actor) _) k 1 es))
+    sym (ap is_some (earlier-first (touches (By x.event.actor)) (depends x) (depends x) (λ y. again (x.event.actor == y.event.actor) _) k es))
     ∙ there (find (nat_lt k) (positions (touches (By x.event.actor)) es)) (find (nat_lt k) (positions (depends x) es)) h
   where
     again : (a b : Bool) → (a || b) ≡ (a || (a || b))

@@ -1,6 +1,6 @@
 -- What is kept under a key, and the three keys of an entry: of its place, of a cell's value half,
 -- and of its segment.
-use Rattle.rd_depend.proofs.Prelude.{◌≡◌, Bool, true, false, ◌&&◌, ◌||◌, Option, Some, ap, ◌∙◌, arith, and_from, or_right, Place, Entry, Home, Homes, Key, is_that, is_under, place_key, value_key, segment_key, is_kept_in, touched_or_written, homes_of, key_eq-refl}
+use Rattle.rd_depend.proofs.Prelude.{◌≡◌, Bool, true, false, ◌&&◌, ◌||◌, Some, ap, ◌∙◌, arith, and_from, or_right, Entry, Home, Homes, Key, is_that, is_under, is_kept_in, touched_or_written, homes_of, key_eq-refl}
 
 -- whether a key's list of all positions or of writes is to keep an entry by this one of the entry's
 -- keys
@@ -17,15 +17,6 @@ under w q x = grind arith
 
 -- The keys differ
 
-pub place_value : (q : Key) (o : Option Place) → (is_that q (place_key o) && is_that q (value_key o)) ≡ false
-place_value q o = grind arith
-
-pub place_segment : (q : Key) (o : Option Place) → (is_that q (place_key o) && is_that q (segment_key o)) ≡ false
-place_segment q o = grind arith
-
-pub value_segment : (q : Key) (o : Option Place) → (is_that q (value_key o) && is_that q (segment_key o)) ≡ false
-value_segment q o = grind arith
-
 apart : (a b x y : Bool) → (x && y) ≡ false → ((a && x) && (b && y)) ≡ false
 apart a b x y h = grind arith
 
@@ -38,7 +29,7 @@ pub record AreSeparate (h : Homes) : Type 0 where
   pub last : (w : Bool) (q : Key) → ((is_home h.place w q || is_home h.value w q) && is_home h.segment w q) ≡ false
 
 pub separate : (h : Homes) (x : Entry) → h ≡ homes_of x → AreSeparate h
-separate h x is = grind (arith, apart, either_apart, place_value, place_segment, value_segment)
+separate h x is = grind (arith, apart, either_apart)
 
 pub home_own : (h : Home) (w : Bool) (q : Key) → h.key ≡ Some q → is_kept_in w h.wrote ≡ true → is_home h w q ≡ true
 home_own h w q e c = and_from (is_kept_in w h.wrote) (is_that q h.key) c (ap (is_that q) e ∙ key_eq-refl q)

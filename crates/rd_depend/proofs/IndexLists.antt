@@ -1,6 +1,6 @@
 -- Ascending positions: the search for the first that is above a number, and what they become when
 -- one is moved.
-use Rattle.rd_depend.proofs.Prelude.{◌≡◌, ℕ, zero, suc, ◌+◌, ◌-◌, ◌*◌, ◌/◌, ◌^◌, ◌<◌, ◌≤◌, ◌==◌, Bool, true, false, not, nat_lt, List, [], ◌∷◌, ◌++◌, length, get_or, map, drop, take, cond, if◌then◌else◌, ◌||◌, ◌≢◌, refl, sym, ap, ◌∙◌, arith, append_assoc, eqb-true, length-drop, subst, nat_tests, eqb-false, take_all, take-append-drop, AscendsFrom, IsAscending, before_first, contains, moved_position, position_or_len, turned, AreMoved, IsMoved, prefix_len_is, list_any-append, leb}
+use Rattle.rd_depend.proofs.Prelude.{◌≡◌, ℕ, suc, ◌+◌, ◌-◌, ◌*◌, ◌/◌, ◌^◌, ◌<◌, ◌≤◌, ◌==◌, Bool, true, false, not, nat_lt, List, [], ◌∷◌, ◌++◌, length, get_or, map, drop, take, cond, if◌then◌else◌, ◌||◌, ◌≢◌, refl, sym, ap, ◌∙◌, arith, append_assoc, eqb-true, length-drop, subst, nat_tests, eqb-false, take_all, take-append-drop, AscendsFrom, IsAscending, before_first, contains, moved_position, position_or_len, turned, AreMoved, IsMoved, prefix_len_is, list_any-append, leb}
 use Rattle.std.specs.List.Sorted.{IsNonDecreasingBy, IsPartitionPoint}
 use Rattle.std.proofs.Math.Nat.{pow-succ'}
 
@@ -11,31 +11,25 @@ ascends_lower m n (p ∷ ps) le h = (omega arith, h.1)
 
 -- each position is at least the start
 pub ascends-at : (n : ℕ) (ps : List ℕ) (i d : ℕ) → AscendsFrom n ps → i < length ps → n ≤ get_or ps i d
-ascends-at n [] i d h within = omega arith
-ascends-at n (p ∷ ps) zero d h within = h.0
 ascends-at n (p ∷ ps) (suc i) d h within = let rest = ascends-at (suc p) ps i d h.1 (omega arith) in omega arith
+ascends-at n ps i d h within = grind arith
 
 -- no position is less than the one before it
 pub non_decreasing : (n : ℕ) (ps : List ℕ) → AscendsFrom n ps → IsNonDecreasingBy (λ p. p) ps
-non_decreasing n [] h i j d le within = absurd (omega arith)
-non_decreasing n (p ∷ ps) h zero zero d le within = omega arith
-non_decreasing n (p ∷ ps) h zero (suc j) d le within = omega (arith, ascends-at (suc p) ps j d h.1 (omega arith))
-non_decreasing n (p ∷ ps) h (suc i) zero d le within = absurd (omega arith)
 non_decreasing n (p ∷ ps) h (suc i) (suc j) d le within = non_decreasing (suc p) ps h.1 i j d (omega arith) (omega arith)
+non_decreasing n ps h i j d le within = grind (arith, ascends-at)
 
 -- the number of those before the first that is greater
 
 -- a position that is at most k is before the first that is greater
 pub number-above : (n k : ℕ) (ps : List ℕ) (i d : ℕ) → AscendsFrom n ps → i < length ps → get_or ps i d ≤ k → i < position_or_len (nat_lt k) ps
-number-above n k [] i d h within le = omega arith
-number-above n k (p ∷ ps) zero d h within le = grind (arith, nat_tests)
 number-above n k (p ∷ ps) (suc i) d h within le = grind (arith, nat_tests, ascends-at, number-above (suc p) k ps i d h.1 (omega arith) le)
+number-above n k ps i d h within le = grind arith
 
 -- a position above k is not before the first that is greater
 pub number-below : (k : ℕ) (ps : List ℕ) (i d : ℕ) → i < length ps → k < get_or ps i d → position_or_len (nat_lt k) ps ≤ i
-number-below k [] i d within gt = omega arith
-number-below k (p ∷ ps) zero d within gt = grind (arith, nat_tests)
 number-below k (p ∷ ps) (suc i) d within gt = grind (arith, nat_tests, number-below k ps i d (omega arith) gt)
+number-below k ps i d within gt = grind arith
 
 -- there are no more positions before the first that is greater than there are
 number-within : (k : ℕ) (ps : List ℕ) → position_or_len (nat_lt k) ps ≤ length ps
@@ -73,8 +67,7 @@ Within m n (p ∷ ps) = (m ≤ p) × (p ≤ n) × Within (suc p) n ps
 -- what is before the first that fails the test, and what is from it on
 parted : (b : Bool) (m p : ℕ) (ps : List ℕ)
     → (take (cond (not b) (1 + m) 0) (p ∷ ps) ≡ (if b then [] else p ∷ take m ps)) × (drop (cond (not b) (1 + m) 0) (p ∷ ps) ≡ (if b then p ∷ ps else drop m ps))
-parted true m p ps = (refl, refl)
-parted false m p ps = let e : 1 + m ≡ suc m = omega arith in (ap (λ (i : ℕ). take i (p ∷ ps)) e, ap (λ (i : ℕ). drop i (p ∷ ps)) e)
+parted b m p ps = grind arith
 
 pub front-cons : (n p : ℕ) (ps : List ℕ) → before_first (nat_lt n) (p ∷ ps) ≡ (if nat_lt n p then [] else p ∷ before_first (nat_lt n) ps)
 front-cons n p ps = (parted (nat_lt n p) (position_or_len (nat_lt n) ps) p ps).0
@@ -127,46 +120,29 @@ pub moved : (k n start size : ℕ) (ps turns new : List ℕ) → 1 ≤ k → k �
     → (IsAscending (take (length ps - start) (drop start ps)) → size ≡ position_or_len (nat_lt n) (take (length ps - start) (drop start ps)))
     → turns ≡ turned k n (take (start + size - start) (drop start ps)) → new ≡ take start ps ++ (turns ++ drop (start + size - start) (drop start ps)) → IsMoved k n ps new
 unfolding IsMoved
-moved k n start size ps turns new some order at until turn is up = subst (AreMoved k n ps) (sym (is ∙ (λ i. low ++ parts i))) (record {
-  ascends = within-append 0 (k - 1) low _ (omega arith) is_low (ascends_lower (suc (k - 1)) k _ (omega arith) (turned-ascends k n mid high some order is_mid is_high));
-  places = λ p.
-      list_any-append _ low (turned k n mid ++ high)
-      ∙ (λ i. low-has 0 k n p low is_low some order i || (list_any-append (λ q. q == moved_position k n p) (turned k n mid) high ∙ (λ j. turned-has k n p mid is_mid j || high-has (suc n) k n p high is_high (omega arith) order j)) i)
-      ∙ sym (list_any-append _ low (mid ++ high) ∙ ap (λ (b : Bool). contains low p || b) (list_any-append _ mid high))
-      ∙ ap (λ (l : List ℕ). contains l p) (ap (λ (l : List ℕ). low ++ l) (take-append-drop size rest) ∙ take-append-drop start ps);
-})
-  where
-    low : List ℕ
-    low = take start ps
-
-    rest : List ℕ
-    rest = drop start ps
-
-    mid : List ℕ
-    mid = take size rest
-
-    high : List ℕ
-    high = drop size rest
-
-    is_low : Within 0 (k - 1) low
-    is_low = subst (λ (i : ℕ). Within 0 (k - 1) (take i ps)) (sym (at up)) (front-within 0 (k - 1) ps up)
-
-    from_k : AscendsFrom k rest
-    from_k = subst (λ (i : ℕ). AscendsFrom k (drop i ps)) (sym (at up)) (ascends_lower k (suc (k - 1)) _ (omega arith) (rest-ascends 0 (k - 1) ps up (omega arith)))
-
-    ends : size ≡ position_or_len (nat_lt n) rest
-    ends =
-        let all : take (length ps - start) rest ≡ rest = take_all (length ps - start) rest (omega (arith, length-drop start ps)) in
-        until (subst IsAscending (sym all) (ascends_lower 0 k rest (omega arith) from_k)) ∙ ap (position_or_len (nat_lt n)) all
-
-    is_mid : Within k n mid
-    is_mid = subst (λ (i : ℕ). Within k n (take i rest)) (sym ends) (front-within k n rest from_k)
-
-    is_high : AscendsFrom (suc n) high
-    is_high = subst (λ (i : ℕ). AscendsFrom (suc n) (drop i rest)) (sym ends) (rest-ascends k n rest from_k (omega arith))
-
-    parts : turns ++ drop (start + size - start) rest ≡ turned k n mid ++ high
-    parts = let long : start + size - start ≡ size = omega arith in λ i. (turn ∙ ap (λ (j : ℕ). turned k n (take j rest)) long) i ++ drop (long i) rest
+moved k n start size ps turns new some order at until turn is up =
+    let low = take start ps in
+    let rest = drop start ps in
+    let mid = take size rest in
+    let high = drop size rest in
+    let is_low : Within 0 (k - 1) low = subst (λ (i : ℕ). Within 0 (k - 1) (take i ps)) (sym (at up)) (front-within 0 (k - 1) ps up) in
+    let from_k : AscendsFrom k rest = subst (λ (i : ℕ). AscendsFrom k (drop i ps)) (sym (at up)) (ascends_lower k (suc (k - 1)) _ (omega arith) (rest-ascends 0 (k - 1) ps up (omega arith))) in
+    let all : take (length ps - start) rest ≡ rest = take_all (length ps - start) rest (omega (arith, length-drop start ps)) in
+    let ends : size ≡ position_or_len (nat_lt n) rest =
+    until (subst IsAscending (sym all) (ascends_lower 0 k rest (omega arith) from_k)) ∙ ap (position_or_len (nat_lt n)) all in
+    let is_mid : Within k n mid = subst (λ (i : ℕ). Within k n (take i rest)) (sym ends) (front-within k n rest from_k) in
+    let is_high : AscendsFrom (suc n) high = subst (λ (i : ℕ). AscendsFrom (suc n) (drop i rest)) (sym ends) (rest-ascends k n rest from_k (omega arith)) in
+    let long : start + size - start ≡ size = omega arith in
+    let parts : turns ++ drop (start + size - start) rest ≡ turned k n mid ++ high =
+    λ i. (turn ∙ ap (λ (j : ℕ). turned k n (take j rest)) long) i ++ drop (long i) rest in
+    subst (AreMoved k n ps) (sym (is ∙ (λ i. low ++ parts i))) (record {
+      ascends = within-append 0 (k - 1) low _ (omega arith) is_low (ascends_lower (suc (k - 1)) k _ (omega arith) (turned-ascends k n mid high some order is_mid is_high));
+      places = λ p.
+          list_any-append _ low (turned k n mid ++ high)
+          ∙ (λ i. low-has 0 k n p low is_low some order i || (list_any-append (λ q. q == moved_position k n p) (turned k n mid) high ∙ (λ j. turned-has k n p mid is_mid j || high-has (suc n) k n p high is_high (omega arith) order j)) i)
+          ∙ sym (list_any-append _ low (mid ++ high) ∙ ap (λ (b : Bool). contains low p || b) (list_any-append _ mid high))
+          ∙ ap (λ (l : List ℕ). contains l p) (ap (λ (l : List ℕ). low ++ l) (take-append-drop size rest) ∙ take-append-drop start ps);
+    })
 
 -- moving among no positions leaves none
 pub none_moved : (k n : ℕ) → IsMoved k n [] []
@@ -178,6 +154,4 @@ pub unmoved : (k n start : ℕ) (ps : List ℕ) → 1 ≤ k → k ≤ n → (IsA
 unmoved k n start ps some order at all =
     let none : length ps - start ≡ 0 = omega (arith, all) in
     let zero_long : start + 0 - start ≡ 0 = omega arith in
-    moved k n start 0 ps [] ps some order at (λ up. sym (ap (λ (j : ℕ). position_or_len (nat_lt n) (take j (drop start ps))) none))
-    (sym (ap (λ (j : ℕ). turned k n (take j (drop start ps))) zero_long))
-    (sym (take-append-drop start ps) ∙ ap (λ (j : ℕ). take start ps ++ drop j (drop start ps)) (sym zero_long))
+    moved k n start 0 ps [] ps some order at (λ up. grind arith) (grind arith) (grind (arith, take-append-drop))

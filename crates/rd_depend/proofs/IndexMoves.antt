@@ -1,6 +1,6 @@
 -- Moving a position in all lists: the index is then that of the entries with that one moved, and
 -- has the same room.
-use Rattle.rd_depend.proofs.Prelude.{◌≡◌, ℕ, zero, suc, ◌+◌, ◌-◌, ◌<◌, ◌≤◌, ◌==◌, Bool, false, nat_lt, if◌then◌else◌, List, [], ◌∷◌, ◌++◌, length, slice_get, take, drop, Option, Some, None, refl, sym, ap, ◌∙◌, append_assoc, arith, length-append, length-drop, option_map_or, nat_tests, drop_of_length-le, length-take-le, take_all, take-append-drop, drop-drop, Entry, numbered, without, DependIndex, AscendsFrom, AreMoved, contains, moved_position, positions_from, positions, number_of, touches, Touch, kept, capacity, IsIndexOf, KeepsRoom, IsMoved, moved_to}
+use Rattle.rd_depend.proofs.Prelude.{◌≡◌, ℕ, zero, suc, ◌+◌, ◌-◌, ◌<◌, ◌≤◌, ◌==◌, Bool, false, nat_lt, if◌then◌else◌, List, [], ◌∷◌, ◌++◌, length, slice_get, take, drop, Option, Some, None, refl, sym, ap, ◌∙◌, append_assoc, arith, length-append, length-drop, option_map_or, nat_tests, drop_of_length-le, length-take-le, take_all, take-append-drop, drop-drop, Entry, numbered, without, DependIndex, AscendsFrom, contains, moved_position, positions_from, positions, number_of, touches, Touch, kept, capacity, IsIndexOf, KeepsRoom, IsMoved, moved_to}
 use Rattle.rd_depend.proofs.IndexPositions.{positions-ascend, ascending, number-append}
 use Rattle.rd_depend.proofs.IndexChanges.{drop_one}
 use Rattle.rd_depend.proofs.IndexRoom.{room_stays}
@@ -44,13 +44,11 @@ cut {X} es k n some order within = by (drop (k - 1) first) refl
 -- Where each entry is then
 
 get-append : {X : Type 0} (xs ys : List X) (i : ℕ) → slice_get (xs ++ ys) i ≡ (if nat_lt i (length xs) then slice_get xs i else slice_get ys (i - length xs))
-get-append [] ys i = grind (arith, nat_tests)
-get-append (x ∷ xs) ys zero = grind (arith, nat_tests)
 get-append (x ∷ xs) ys (suc i) = grind (arith, nat_tests, get-append xs ys i)
+get-append xs ys i = grind arith
 
-number-is : {X : Type 0} (xs : List X) (q : ℕ) → numbered xs q ≡ (if q == 0 then None else slice_get xs (q - 1))
-number-is xs zero = refl
-number-is xs (suc i) = grind (arith, nat_tests)
+pub number-is : {X : Type 0} (xs : List X) (q : ℕ) → numbered xs q ≡ (if q == 0 then None else slice_get xs (q - 1))
+number-is xs q = grind arith
 
 at_moved : (low mid high : List Entry) (x : Entry) (k n p : ℕ) → k ≡ suc (length low) → n ≡ k + length mid
     → numbered ((low ++ mid) ++ x ∷ high) (moved_position k n p) ≡ numbered (low ++ ((x ∷ mid) ++ high)) p
@@ -80,10 +78,7 @@ same_ascending m n (x ∷ xs) (y ∷ ys) h g same =
     let below = first-least x y xs ys g.1 (same x) in
     let above = first-least y x ys xs h.1 (sym (same y)) in
     let e : x ≡ y = omega arith in
-    (λ i. e i ∷ same_ascending (suc x) (suc y) xs ys h.1 g.1 rest i)
-  where
-    rest : (p : ℕ) → contains xs p ≡ contains ys p
-    rest p = let e = same p in let below = first-least x y xs ys g.1 (same x) in let above = first-least y x ys xs h.1 (sym (same y)) in grind (arith, nat_tests, has-below)
+    (λ i. e i ∷ same_ascending (suc x) (suc y) xs ys h.1 g.1 (λ p. let same_p = same p in grind (arith, nat_tests, has-below)) i)
 
 -- the positions of entries are those of the ones that pass the test
 
@@ -98,20 +93,16 @@ has-numbered test (suc j) es = let e : suc j ≡ 1 + j = omega arith in ap (cont
 
 positions-moved : (test : Entry → Bool) (k n : ℕ) (es : List Entry) (new : List ℕ) → 1 ≤ k → k ≤ n → Cut es k n → IsMoved k n (positions test es) new → new ≡ positions test (moved_to es k n)
 unfolding IsMoved
-positions-moved test k n es new some order c moves = same_ascending 0 0 new (positions test (moved_to es k n)) all.ascends (ascending test (moved_to es k n)) same
-  where
-    all : AreMoved k n (positions test es) new
-    all = moves (ascending test es)
-
-    at : (p : ℕ) → numbered es p ≡ numbered (moved_to es k n) (moved_position k n p)
-    at p = ap (λ (l : List Entry). numbered l p) c.is ∙ sym (at_moved c.low c.mid c.high c.x k n p c.before c.until) ∙ ap (λ (l : List Entry). numbered l (moved_position k n p)) (sym c.moved)
-
-    same : (q : ℕ) → contains new q ≡ contains (positions test (moved_to es k n)) q
-    same q =
-        let p = moved_from k n q in
-        let e = there_and_back k n q some order in
-        ap (contains new) (sym e) ∙ all.places p ∙ has-numbered test p es ∙ ap (λ (o : Option Entry). option_map_or test o false) (at p)
-        ∙ sym (has-numbered test (moved_position k n p) (moved_to es k n)) ∙ ap (contains (positions test (moved_to es k n))) e
+positions-moved test k n es new some order c moves =
+    let to = moved_to es k n in
+    let all = moves (ascending test es) in
+    let at : (p : ℕ) → numbered es p ≡ numbered to (moved_position k n p) = λ p.
+    ap (λ (l : List Entry). numbered l p) c.is ∙ sym (at_moved c.low c.mid c.high c.x k n p c.before c.until) ∙ ap (λ (l : List Entry). numbered l (moved_position k n p)) (sym c.moved) in
+    same_ascending 0 0 new (positions test to) all.ascends (ascending test to) (λ q.
+    let p = moved_from k n q in
+    let e = there_and_back k n q some order in
+    ap (contains new) (sym e) ∙ all.places p ∙ has-numbered test p es ∙ ap (λ (o : Option Entry). option_map_or test o false) (at p)
+    ∙ sym (has-numbered test (moved_position k n p) to) ∙ ap (contains (positions test to)) e)
 
 number-moved : (test : Entry → Bool) (es : List Entry) (k n : ℕ) → Cut es k n → number_of test (moved_to es k n) ≡ number_of test es
 number-moved test es k n c = grind (arith, number-append)

@@ -1,17 +1,15 @@
 -- The room of an index, from the capacities of its lists.
-use Rattle.rd_depend.proofs.Prelude.{◌≡◌, ℕ, ◌+◌, ◌-◌, ◌≤◌, Bool, List, [], ◌∷◌, length, ap, ◌∙◌, arith, Entry, DependIndex, Key, list_at, kept_in, capacity_at, Touch, By, Under, touches, number_of, kept, capacity, spare, IsIndexOf, HasRoomFor, UsesRoom, capacity_in}
+use Rattle.rd_depend.proofs.Prelude.{◌≡◌, ℕ, ◌+◌, ◌-◌, ◌≤◌, Bool, List, [], ◌∷◌, length, ◌∙◌, arith, Entry, DependIndex, Key, list_at, kept_in, capacity_at, Touch, touches, number_of, kept, capacity, spare, IsIndexOf, HasRoomFor, UsesRoom, capacity_in}
 use Rattle.rd_depend.proofs.IndexPositions.{positions-number}
 
 -- what holds of each actor's list and of each key's list holds of all lists
 pub each : (old new : DependIndex) (R : List ℕ → List ℕ → Type 0) → ((i : ℕ) → R (list_at old.by_actor.items i) (list_at new.by_actor.items i))
     → ((w : Bool) (q : Key) → R (kept_in old.by_key w q) (kept_in new.by_key w q)) → (t : Touch) → R (kept old t) (kept new t)
-each old new R of_actors of_keys (By a) = of_actors a
-each old new R of_actors of_keys (Under w q) = of_keys w q
+each old new R of_actors of_keys t = grind arith
 
 pub each_capacity : (old new : DependIndex) → ((i : ℕ) → capacity_at new.by_actor.items i ≡ capacity_at old.by_actor.items i)
     → ((w : Bool) (q : Key) → capacity_in new.by_key w q ≡ capacity_in old.by_key w q) → (t : Touch) → capacity new t ≡ capacity old t
-each_capacity old new of_actors of_keys (By a) = of_actors a
-each_capacity old new of_actors of_keys (Under w q) = of_keys w q
+each_capacity old new of_actors of_keys t = grind arith
 
 -- no list has more positions than it can have
 fits : (index : DependIndex) (t : Touch) → length (kept index t) ≤ capacity index t
@@ -20,13 +18,10 @@ fits index t = grind arith
 spare_is : (index : DependIndex) (t : Touch) → spare index t ≡ capacity index t - length (kept index t)
 spare_is index t = grind arith
 
-kept-number : (index : DependIndex) (es : List Entry) → IsIndexOf index es → (t : Touch) → length (kept index t) ≡ number_of (touches t) es
-kept-number index es is t = ap length (is.lists t) ∙ positions-number (touches t) 1 es
-
 -- if the capacities are as before, an index has as much more room as it has fewer positions
 pub room_stays : (old new : DependIndex) (es fs : List Entry) → IsIndexOf old es → IsIndexOf new fs → ((t : Touch) → capacity new t ≡ capacity old t)
     → (t : Touch) → spare new t + number_of (touches t) fs ≡ spare old t + number_of (touches t) es
-room_stays old new es fs was is stays t = grind (arith, spare_is, kept-number, fits)
+room_stays old new es fs was is stays t = grind (arith, spare_is, positions-number, fits)
 
 -- room for an entry and others is room for the others once the entry has used its own
 pub room_left : (old new : DependIndex) (x : Entry) → UsesRoom old new (x ∷ []) → (rest : List Entry) → HasRoomFor old (x ∷ rest) → HasRoomFor new rest

@@ -1,5 +1,5 @@
 -- The table of keys: which key has which index, and what a change of the lists means for the keys.
-use Rattle.rd_depend.proofs.Prelude.{common_steps, nat_tests, option_map, slice_get-push_same, slice_get-push_other, Key, Table, key_eq, slot_in, key_eq-true, key_eq-refl, key_eq-sym, Lists, list_at, spare_at, one_if, list_of, capacity_of, lists_of, kept_in, spare_in, is_kept_in, IsReady, KeepsLists, Puts, TakesLast, Moves, capacity_at, IsMoved, ◌≡◌, ℕ, zero, suc, ◌+◌, ◌-◌, ◌<◌, ◌≤◌, Bool, true, false, ◌&&◌, ◌==◌, if◌then◌else◌, List, [], ◌∷◌, ◌++◌, length, get_or, take, Option, Some, None, slice_get, position, Vec, refl, sym, ap, subst, ◌∙◌, arith, eqb-true, eq-eqb, list_any, IsDistinct, apart_from_distinct, Global}
+use Rattle.rd_depend.proofs.Prelude.{nat_tests, slice_get-push_same, slice_get-push_other, Key, Table, key_eq, slot_in, key_eq-true, key_eq-refl, key_eq-sym, Lists, list_at, spare_at, one_if, list_of, capacity_of, lists_of, kept_in, spare_in, is_kept_in, IsReady, KeepsLists, Puts, TakesLast, Moves, capacity_at, IsMoved, ◌≡◌, ℕ, suc, ◌+◌, ◌-◌, ◌<◌, ◌≤◌, Bool, true, false, ◌&&◌, ◌==◌, if◌then◌else◌, List, [], ◌∷◌, ◌++◌, length, get_or, take, Option, Some, None, slice_get, position, Vec, refl, ap, subst, ◌∙◌, arith, eqb-true, eq-eqb, list_any, IsDistinct, apart_from_distinct, Global}
 use Rattle.rd_depend.proofs.IndexLists.{none_moved}
 use Rattle.std.specs.Cmp.{both_ways}
 
@@ -15,23 +15,14 @@ slot-within [] k i h = absurd cc
 slot-within (q ∷ qs) k i h = grind (arith, slot-within qs k)
 
 -- a key that is at an index has that index, since no key occurs twice
-stands-slot : (keys : List Key) (k : Key) (i : ℕ) (d : Key) → IsDistinct key_eq keys → i < length keys → k ≡ get_or keys i d → slot_in keys k ≡ Some i
+own-slot : (ks : List Key) (j : ℕ) (d : Key) → IsDistinct key_eq ks → j < length ks → slot_in ks (get_or ks j d) ≡ Some j
 unfolding IsDistinct
-stands-slot keys k i d distinct within at = ap (slot_in keys) at ∙ own keys i d distinct within
-  where
-    first : (q : Key) (qs : List Key) → slot_in (q ∷ qs) q ≡ Some 0
-    first q qs = ap (λ (b : Bool). if b then Some 0 else option_map (λ n. suc n) (slot_in qs q)) (key_eq-refl q)
+own-slot (q ∷ qs) (suc j) d s h =
+    grind (arith, key_eq-sym, apart_from_distinct key_eq (q ∷ qs) 0 (suc j) d s (omega arith) h, own-slot qs j d s.1 (omega arith))
+own-slot ks j d s h = grind (arith, key_eq-refl)
 
-    behind : (q x : Key) (qs : List Key) (j : ℕ) → key_eq q x ≡ false → slot_in qs x ≡ Some j → slot_in (q ∷ qs) x ≡ Some (suc j)
-    behind q x qs j apart at =
-        ap (λ (b : Bool). if b then Some 0 else option_map (λ n. suc n) (slot_in qs x)) (key_eq-sym x q ∙ apart)
-        ∙ ap (option_map (λ n. suc n)) at
-
-    own : (ks : List Key) (j : ℕ) (d : Key) → IsDistinct key_eq ks → j < length ks → slot_in ks (get_or ks j d) ≡ Some j
-    own [] j d s h = absurd (omega arith)
-    own (q ∷ qs) zero d s h = first q qs
-    own (q ∷ qs) (suc j) d s h =
-        behind q (get_or qs j d) qs j (apart_from_distinct key_eq (q ∷ qs) 0 (suc j) d s (omega arith) h) (own qs j d s.1 (omega arith))
+stands-slot : (keys : List Key) (k : Key) (i : ℕ) (d : Key) → IsDistinct key_eq keys → i < length keys → k ≡ get_or keys i d → slot_in keys k ≡ Some i
+stands-slot keys k i d distinct within at = ap (slot_in keys) at ∙ own-slot keys i d distinct within
 
 -- the same for a key that is equal to the one at the index
 pub key-slot : (keys read : List Key) (k : Key) (i : ℕ) (d : Key) → read ≡ keys → IsDistinct key_eq keys → i < length read → key_eq (get_or read i d) k ≡ true
@@ -66,19 +57,6 @@ position-slot (q ∷ qs) k = grind (arith, position-slot qs k)
 abbrev room_left : Lists → Option ℕ → ℕ
 room_left lists o = capacity_of lists o - length (list_of lists o)
 
--- what holds of each list, depending on whether it is at this index, holds of each key's list,
--- depending on whether it is this key
-keyed : (keys : List Key) (k q : Key) (i : ℕ) → slot_in keys k ≡ Some i → (b : Bool) (P : Bool → Option ℕ → Type 0) → ((j : ℕ) → P (b && (j == i)) (Some j)) → P false None
-    → P (b && key_eq q k) (slot_in keys q)
-keyed keys k q i slot b P some none = subst (λ (c : Bool). P (b && c) (slot_in keys q)) (slot-same keys k q i slot) (by (slot_in keys q))
-  where
-    no : (c : Bool) → false ≡ (c && false)
-    no c = grind arith
-
-    by : (o : Option ℕ) → P (b && is_slot i o) o
-    by None = subst (λ (c : Bool). P c None) (no b) none
-    by (Some j) = some j
-
 -- what the table's calls ask for
 
 pub ready_room : (t : Table) (k : Key) (wrote : Bool) (i : ℕ) → IsReady t k wrote i → (w : Bool) → is_kept_in w wrote ≡ true → 0 < spare_at (lists_of t w) i
@@ -107,10 +85,6 @@ slot_pushed : (keys : List Key) (k q : Key) → slot_in (keys ++ k ∷ []) q ≡
 slot_pushed [] k q = grind arith
 slot_pushed (x ∷ xs) k q = grind (arith, slot_pushed xs k q)
 
-kept_pushed : (keys : List Key) (k q : Key) (lists : Lists) (v : Vec ℕ Global) → v.items ≡ [] → length lists ≡ length keys
-    → list_of (lists ++ v ∷ []) (slot_in (keys ++ k ∷ []) q) ≡ list_of lists (slot_in keys q)
-kept_pushed keys k q lists v empty len = grind (arith, slot_pushed, slot-within, slice_get-push_same, slice_get-push_other)
-
 room_pushed : (keys : List Key) (k q : Key) (lists : Lists) (v : Vec ℕ Global) → length lists ≡ length keys
     → room_left lists (slot_in keys q) ≤ room_left (lists ++ v ∷ []) (slot_in (keys ++ k ∷ []) q)
 room_pushed keys k q lists v len = grind (arith, slot_pushed, slot-within, slice_get-push_other)
@@ -118,18 +92,10 @@ room_pushed keys k q lists v len = grind (arith, slot_pushed, slot-within, slice
 pub keeps_pushed : (old new : Table) (k : Key) (v u : Vec ℕ Global) → new.keys.keys ≡ old.keys.keys ++ k ∷ []
     → new.all.items ≡ old.all.items ++ v ∷ [] → new.writes.items ≡ old.writes.items ++ u ∷ [] → v.items ≡ [] → u.items ≡ []
     → length old.all.items ≡ length old.keys.keys → length old.writes.items ≡ length old.keys.keys → KeepsLists old new
-keeps_pushed old new k v u keys all writes none_v none_u in_all in_writes = grind (arith, slot_pushed, kept_pushed, room_pushed)
-
--- a key that is added is the last
-pub key_last : (keys new : List Key) (k : Key) → slot_in keys k ≡ None → new ≡ (if list_any (key_eq k) keys then keys else keys ++ k ∷ []) → new ≡ keys ++ k ∷ []
-key_last keys new k none h = h ∙ ap (λ (b : Bool). if b then keys else keys ++ k ∷ []) (absent keys k none)
+keeps_pushed old new k v u keys all writes none_v none_u in_all in_writes = grind (arith, slot_pushed, slot-within, slice_get-push_same, slice_get-push_other, room_pushed)
 
 pub slot_last : (keys new : List Key) (k : Key) (n : ℕ) → slot_in keys k ≡ None → new ≡ keys ++ k ∷ [] → n ≡ length keys → slot_in new k ≡ Some n
 slot_last keys new k n none h len = grind (arith, slot_pushed)
-
-pub one_longer : (keys new : List Key) (k : Key) (lists more : Lists) (v : Vec ℕ Global) → new ≡ keys ++ k ∷ [] → more ≡ lists ++ v ∷ []
-    → length lists ≡ length keys → length more ≡ length new
-one_longer keys new k lists more v e f len = grind (arith, common_steps)
 
 -- the table's changes, from those of its lists
 
@@ -140,20 +106,10 @@ pub puts : (old new : Table) (k : Key) (wrote : Bool) (p i : ℕ) → new.keys.k
     → ((j : ℕ) → spare_at old.writes.items j ≤ spare_at new.writes.items j + one_if (wrote && (j == i)))
     → slot_in old.keys.keys k ≡ Some i → Puts (Some k) wrote p old new
 puts old new k wrote p i keys all writes room_all room_writes slot = record {
-  lists = λ w q. ap (λ (ks : List Key). list_of (lists_of new w) (slot_in ks q)) keys
-      ∙ keyed old.keys.keys k q i slot (is_kept_in w wrote) (λ c o. list_of (lists_of new w) o ≡ (if c then list_of (lists_of old w) o ++ p ∷ [] else list_of (lists_of old w) o)) (lists w) refl;
-  room = λ w q. subst (λ (ks : List Key). spare_in old w q ≤ room_left (lists_of new w) (slot_in ks q) + one_if (is_kept_in w wrote && key_eq q k)) (sym keys)
-      (keyed old.keys.keys k q i slot (is_kept_in w wrote) (λ c o. room_left (lists_of old w) o ≤ room_left (lists_of new w) o + one_if c) (room w) (omega arith));
+  lists = λ w q. let same = slot-same old.keys.keys k q i slot in grind arith;
+  room = λ w q. let same = slot-same old.keys.keys k q i slot in grind arith;
   slots = λ q. ap (λ (ks : List Key). slot_in ks q) keys;
 }
-  where
-    lists : (w : Bool) (j : ℕ) → list_at (lists_of new w) j ≡ (if is_kept_in w wrote && (j == i) then list_at (lists_of old w) j ++ p ∷ [] else list_at (lists_of old w) j)
-    lists false = all
-    lists true = writes
-
-    room : (w : Bool) (j : ℕ) → spare_at (lists_of old w) j ≤ spare_at (lists_of new w) j + one_if (is_kept_in w wrote && (j == i))
-    room false = room_all
-    room true = room_writes
 
 pub takes_last : (old new : Table) (k : Key) (wrote : Bool) (i : ℕ) → new.keys.keys ≡ old.keys.keys
     → ((j : ℕ) → list_at new.all.items j ≡ (if j == i then take (length (list_at old.all.items j) - 1) (list_at old.all.items j) else list_at old.all.items j))
@@ -162,21 +118,9 @@ pub takes_last : (old new : Table) (k : Key) (wrote : Bool) (i : ℕ) → new.ke
     → ((j : ℕ) → spare_at new.writes.items j ≡ spare_at old.writes.items j + one_if (wrote && (j == i)))
     → slot_in old.keys.keys k ≡ Some i → TakesLast (Some k) wrote old new
 takes_last old new k wrote i keys all writes room_all room_writes slot = record {
-  lists = λ w q. ap (λ (ks : List Key). list_of (lists_of new w) (slot_in ks q)) keys
-      ∙ keyed old.keys.keys k q i slot (is_kept_in w wrote)
-      (λ c o. list_of (lists_of new w) o ≡ (if c then take (length (list_of (lists_of old w) o) - 1) (list_of (lists_of old w) o) else list_of (lists_of old w) o)) (lists w) refl;
-  room = λ w q. ap (λ (ks : List Key). room_left (lists_of new w) (slot_in ks q)) keys
-      ∙ keyed old.keys.keys k q i slot (is_kept_in w wrote) (λ c o. room_left (lists_of new w) o ≡ room_left (lists_of old w) o + one_if c) (room w) refl;
+  lists = λ w q. let same = slot-same old.keys.keys k q i slot in grind arith;
+  room = λ w q. let same = slot-same old.keys.keys k q i slot in grind arith;
 }
-  where
-    lists : (w : Bool) (j : ℕ) → list_at (lists_of new w) j
-        ≡ (if is_kept_in w wrote && (j == i) then take (length (list_at (lists_of old w) j) - 1) (list_at (lists_of old w) j) else list_at (lists_of old w) j)
-    lists false = all
-    lists true = writes
-
-    room : (w : Bool) (j : ℕ) → spare_at (lists_of new w) j ≡ spare_at (lists_of old w) j + one_if (is_kept_in w wrote && (j == i))
-    room false = room_all
-    room true = room_writes
 
 pub moves : (old new : Table) (k n : ℕ) → new.keys.keys ≡ old.keys.keys → ((i : ℕ) → IsMoved k n (list_at old.all.items i) (list_at new.all.items i))
     → ((i : ℕ) → IsMoved k n (list_at old.writes.items i) (list_at new.writes.items i)) → ((i : ℕ) → capacity_at new.all.items i ≡ capacity_at old.all.items i)

@@ -1,14 +1,13 @@
 -- The last writer of a place, from the last positions up to a number in the lists of the place and
 -- its segment.
-use Rattle.rd_depend.proofs.Prelude.{nat_lt, common_steps, Place, some_overlap, Entry, DependIndex, is_under, is_under_some, own_key, value_key_of_place, whole_key, IsAscending, before_first, last_or, later, Touch, touched_or_written, touches, positions_from, positions, kept, IsIndexOf, one_further, last_position, writes_to, ◌≡◌, ℕ, zero, suc, ◌+◌, ◌-◌, ◌<◌, ◌≤◌, Bool, true, false, ◌||◌, List, [], ◌∷◌, length, get_or, take, Option, Some, None, refl, ap, ◌∙◌, arith}
+use Rattle.rd_depend.proofs.Prelude.{nat_lt, common_steps, Place, some_overlap, Entry, DependIndex, is_under, is_under_some, own_key, value_key_of_place, whole_key, IsAscending, before_first, last_or, later, Touch, touched_or_written, touches, positions_from, positions, kept, IsIndexOf, one_further, last_position, writes_to, ◌≡◌, ℕ, suc, ◌+◌, ◌-◌, ◌<◌, ◌≤◌, Bool, true, false, ◌||◌, List, [], ◌∷◌, length, get_or, take, Option, Some, None, refl, ap, ◌∙◌, arith}
 use Rattle.rd_depend.proofs.IndexCuts.{positions-up_to}
 use Rattle.rd_depend.proofs.IndexFirst.{kept-ascends, kept-short, overlaps-keys}
 
 -- the last of the first i + 1 positions is the one at index i
 last-taken : (o : Option ℕ) (ps : List ℕ) (i d : ℕ) → i < length ps → last_or o (take (suc i) ps) ≡ Some (get_or ps i d)
-last-taken o [] i d within = absurd (omega arith)
-last-taken o (p ∷ ps) zero d within = refl
 last-taken o (p ∷ ps) (suc i) d within = last-taken (Some p) ps i d (omega arith)
+last-taken o ps i d within = grind arith
 
 pub last-among : (ps : List ℕ) (number look found : ℕ) → 0 < number → number ≤ length ps → look ≡ get_or ps (number - 1) look → found ≡ look
     → Some found ≡ last_or None (take number ps)

@@ -3,7 +3,7 @@
 use Rattle.rd_depend.proofs.Prelude.{common_steps, eqb-false, map-append, Entry, Key, Reached, is_under, last_blocking, taken_in, with_step, nothing_reached, AreAlike, Numbered, by_actor, all_left, with_steps, KeepsOrder, ◌≡◌, ◌≢◌, ℕ, ◌+◌, ◌<◌, ◌≤◌, Bool, true, false, ◌==◌, if◌then◌else◌, List, [], ◌∷◌, ◌++◌, length, map, refl, sym, ap, subst, ◌∙◌, arith, eqb-true, length-append, enumerate_from, filter-append}
 use Rattle.rd_depend.proofs.FirstOfActor.{HasNoneBy}
 use Rattle.rd_depend.proofs.TouchedKeys.{wrote_under, wrote_touched, passed_at, in_order_at, in_order_from}
-use Rattle.rd_depend.proofs.TakingOut.{touched-alike, wrote-alike, alike-sym, AreApart, IsApartFrom, TakesAll}
+use Rattle.rd_depend.proofs.TakingOut.{touched-alike, wrote-alike, alike-sym, AreApart, IsApartFrom, TakesAll, takes_out}
 
 -- How far steps reached, and their order, key by key
 
@@ -70,12 +70,8 @@ around : (ps : List Numbered) (p : Numbered) (qs : List Numbered) → Ascends (p
 around [] p qs h = record { before = tt; later = h.0; rest = h.1 }
 around (r ∷ ps) p qs h =
     let a = around ps p qs h.1 in
-    let its = (each-parts (λ q. r.0 < q.0) ps (p ∷ qs) h.0).1 in
-    record {
-      before = (its.0, a.before);
-      later = a.later;
-      rest = (each-append (λ q. r.0 < q.0) ps qs ((each-parts (λ q. r.0 < q.0) ps (p ∷ qs) h.0).0) its.1, a.rest);
-    }
+    let its = each-parts (λ q. r.0 < q.0) ps (p ∷ qs) h.0 in
+    record { before = (its.1.0, a.before); later = a.later; rest = (each-append (λ q. r.0 < q.0) ps qs its.0 its.1.1, a.rest) }
 
 numbers-from : (P : ℕ → Type 0) (i : ℕ) (xs : List Entry) → ((j : ℕ) → i ≤ j → P j) → Each (λ q. P q.0) (enumerate_from i xs)
 numbers-from P i [] h = tt
@@ -114,25 +110,12 @@ first_by n (q ∷ ps) p rest h = by (n == q.1.event.actor) refl h (first_by n ps
         → (by_actor n ps ≡ p ∷ rest → FirstBy n ps p rest) → FirstBy n (q ∷ ps) p rest
     by true e g later =
         let same : q ≡ p = cc in
-        record {
-          earlier = [];
-          later = ps;
-          stands = ap (λ (r : Numbered). r ∷ ps) same;
-          actor = eqb-true n q.1.event.actor e ∙ ap (λ (r : Numbered). r.1.event.actor) same;
-          none = tt;
-          left = cc;
-        }
+        let own = eqb-true n q.1.event.actor e in
+        record { earlier = []; later = ps; stands = cc; actor = cc; none = tt; left = cc }
     by false e g later =
         let f = later g in
         let other_actor = eqb-false n q.1.event.actor e in
-        record {
-          earlier = q ∷ f.earlier;
-          later = f.later;
-          stands = ap (λ (l : List Numbered). q ∷ l) f.stands;
-          actor = f.actor;
-          none = (other_actor, f.none);
-          left = f.left ∙ sym (other n q (f.earlier ++ f.later) other_actor);
-        }
+        record { earlier = q ∷ f.earlier; later = f.later; stands = cc; actor = f.actor; none = (other_actor, f.none); left = f.left ∙ sym (other n q (f.earlier ++ f.later) other_actor) }
 
 -- without the first step of its actor, that actor has the steps after it, and other actors have the
 -- same steps
@@ -140,19 +123,13 @@ by_actor-first : (n : ℕ) (ps qs : List Numbered) (p : Numbered) → n ≡ p.1.
 by_actor-first n [] qs p e none = own n p qs e
 by_actor-first n (r ∷ ps) qs p e none = grind (arith, by_actor-first n ps qs p e none.1)
 
-by_actor-others : (n : ℕ) (ps qs : List Numbered) (p : Numbered) → n ≢ p.1.event.actor → by_actor n (ps ++ p ∷ qs) ≡ by_actor n (ps ++ qs)
-by_actor-others n ps qs p h = grind (arith, filter-append, other)
-
 taken_out : (n : ℕ) (ps qs : List Numbered) (p : Numbered) → n ≡ p.1.event.actor → (m : ℕ)
     → with_steps (λ k. by_actor k (ps ++ p ∷ qs)) n (by_actor n (ps ++ qs)) m ≡ by_actor m (ps ++ qs)
-taken_out n ps qs p e m = grind (arith, by_actor-others)
+taken_out n ps qs p e m = grind (arith, filter-append, other)
 
 nobody_left : (ps : List Numbered) → ((n : ℕ) → by_actor n ps ≡ []) → ps ≡ []
 nobody_left [] h = refl
-nobody_left (p ∷ ps) h = absurd (some (sym (own p.1.event.actor p ps refl) ∙ h p.1.event.actor))
-  where
-    some : {qs : List Numbered} → p ∷ qs ≡ [] → ⊥
-    some e = cc
+nobody_left (p ∷ ps) h = let e = h p.1.event.actor in grind arith
 
 no_entries : (ps : List Numbered) → entries_of ps ≡ [] → ps ≡ []
 no_entries [] h = refl
@@ -180,18 +157,12 @@ kept_more : (s t : Key → Reached) (x : Entry) (xs : List Entry) (ps qs : List 
 kept_more s t x xs ps qs p m ascends alike order none h =
     let its = passes-alike s t x p.1 p.0 alike m in
     let before = each-parts _ ps qs (each-more _ (λ q. IsAfterAll s q.1 q.0) (ps ++ qs) (λ q g. after-before s t p.1 q.1 p.0 q.0 its g) h.order) in
+    let apart = all_apart s t p ps its (each-parts _ ps qs h.order).0 (around ps p qs ascends).before none in
+    let entry = λ (q : Numbered). q.1 in
     record {
       taken = (
         entries_of (ps ++ qs),
-        record {
-          earlier = entries_of ps;
-          entry = p.1;
-          later = entries_of qs;
-          stands = map-append (λ (q : Numbered). q.1) ps (p ∷ qs);
-          alike = alike;
-          apart = all_apart s t p ps its (each-parts _ ps qs h.order).0 (around ps p qs ascends).before none;
-          leaves = map-append (λ (q : Numbered). q.1) ps qs;
-        },
+        takes_out (entries_of ps) p.1 (entries_of qs) (map-append entry ps (p ∷ qs)) alike apart (map-append entry ps qs),
         h.taken,
       );
       order = each-append _ ps (p ∷ qs) before.0 (after-alike s x p.1 p.0 alike order, before.1);
@@ -233,15 +204,7 @@ find [] xs y ys h = absurd (omega (arith, ap length h, length-append xs (y ∷ y
 find (p ∷ ps) [] y ys h = record { earlier = []; step = p; later = ps; stands = refl; before = refl; itself = cc; after = cc }
 find (p ∷ ps) (x ∷ xs) y ys h =
     let f = find ps xs y ys (let e : entries_of ps ≡ xs ++ y ∷ ys = cc in e) in
-    record {
-      earlier = p ∷ f.earlier;
-      step = f.step;
-      later = f.later;
-      stands = ap (λ (l : List Numbered). p ∷ l) f.stands;
-      before = (let e : p.1 ≡ x = cc in λ i. e i ∷ f.before i);
-      itself = f.itself;
-      after = f.after;
-    }
+    record { earlier = p ∷ f.earlier; step = f.step; later = f.later; stands = cc; before = cc; itself = f.itself; after = f.after }
 
 none_by : (y : Entry) (xs : List Entry) → IsApartFrom y xs → HasNoneBy y.event.actor xs
 none_by y [] h = tt

@@ -57,8 +57,7 @@ never_meet x y p apart w h =
     by_whole (Some t) e d = apart.second (In t) (touched_in x p t w e) (made_it t y.place d)
 
 never : (b : Bool) → (b ≡ true → ⊥) → b ≡ false
-never true f = absurd (f refl)
-never false f = refl
+never b f = grind arith
 
 never_overlap : (x y : Entry) → AreApart x y → some_overlap (written x.place x.wrote) y.place ≡ false
 never_overlap x y apart = grind (arith, overlaps-keys, never, overlaps_under, never_meet)

@@ -4,9 +4,8 @@ use Rattle.rd_depend.proofs.Prelude.{◌≡◌, ℕ, zero, suc, Bool, true, fals
 -- an element that passes the test is the last of those up to it
 pub last-found : {X : Type 0} (test : X → Bool) (xs : List X) (i : ℕ) (x : X) → slice_get xs i ≡ Some x → test x ≡ true
     → last_position test (take (suc i) xs) ≡ Some (suc i)
-last-found {X} test [] i x h k = cc
-last-found {X} test (y ∷ ys) zero x h k = grind arith
 last-found {X} test (y ∷ ys) (suc i) x h k = ap (one_further (test y)) (last-found test ys i x h k)
+last-found {X} test xs i x h k = grind arith
 
 -- an element that fails the test, or none, leaves the last position
 pub last-passed : {X : Type 0} (test : X → Bool) (xs : List X) (i : ℕ) → ((x : X) → slice_get xs i ≡ Some x → test x ≡ false)

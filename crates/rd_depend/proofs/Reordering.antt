@@ -51,8 +51,7 @@ run_joined w [] fs r q h k = grind arith
 run_joined w (e ∷ es) fs r q h k =
     let ran = ran_on w e es r h in
     let rest : Ran = record { world = q.world; entries = ran.rest.entries ++ q.entries } in
-    let on = run_joined ran.one.world es fs ran.rest q ran.goes_on (ap (λ (y : Ran). run y.world fs) ran.joins ∙ k) in
-    run-cons w e (es ++ fs) ran.one rest ran.goes on ∙ ap (λ (y : Ran). Ok (record { world = q.world; entries = y.entries ++ q.entries })) ran.joins
+    grind (arith, ran_on, run-cons, run_joined ran.one.world es fs ran.rest q ran.goes_on (ap (λ (y : Ran). run y.world fs) ran.joins ∙ k))
 
 -- after two neighbours that do not depend on each other, the run with the two swapped goes on as
 -- the other does
@@ -87,13 +86,7 @@ run_alike : (w : World) (es fs : List Event) (r : Ran) → IsReordered w es fs �
 run_alike w es fs r (unchanged xs) runs = record { ran = r; runs = runs; same = reflexive w xs r runs }
 run_alike w es fs r (swapped before e f later _ b s u g h k free rest) runs =
     let now = goes_swapped w before e f later b s u r g h k free runs in
-    let on = run_alike w (before ++ f ∷ e ∷ later) fs now.ran rest now.runs in
-    record {
-      ran = on.ran;
-      runs = on.runs;
-      same = equivalent_through w (before ++ e ∷ f ∷ later) (before ++ f ∷ e ∷ later) fs r now.ran on.ran runs now.runs on.runs
-          (swapped_within w before e f later b s u now.rest g h k free now.goes_on) on.same;
-    }
+    grind (arith, goes_swapped, equivalent_through, swapped_within, run_alike w (before ++ f ∷ e ∷ later) fs now.ran rest now.runs)
 
 pub equivalent_reordered : (w : World) (es fs : List Event) (r : Ran) → run w es ≡ Ok r → IsEquivalent w es fs ↔ IsReordered w es fs
 equivalent_reordered w es fs r h = (reordered w es fs, λ order. (run_alike w es fs r order h).same)

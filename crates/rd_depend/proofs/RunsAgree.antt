@@ -3,7 +3,7 @@
 use Rattle.rd_depend.proofs.Prelude.{◌≡◌, true, false, refl, sym, ap, subst, List, [], ◌∷◌, ◌++◌, Ok, arith, list_any, or_from, depends, free_parts, World, step, IsFree, Entry, IsEquivalent, events, IsRunFrom, first_step, DecidesEquivalence}
 use Rattle.rd_depend.proofs.FirstOfActor.{MayComeFirst}
 use Rattle.rd_depend.proofs.Exactness.{comes_first, runs_on, equivalent_first, no_events}
-use Rattle.rd_depend.proofs.TakingOut.{alike-same, IsApartFrom, Takes, TakesAll}
+use Rattle.rd_depend.proofs.TakingOut.{alike-same, IsApartFrom, Takes, TakesAll, takes_out}
 use Rattle.rd_depend.proofs.KeysMeet.{MakingWrote, apart_of_free, free_of_apart}
 
 -- A step of a run at the whole of a segment is its making, which wrote
@@ -43,21 +43,13 @@ pub equivalent_taken : (w : World) (xs ys : List Entry) → IsRunFrom w xs → I
 equivalent_taken w [] ys runs_x runs_y h = no_events ys h
 equivalent_taken w (x ∷ xs) ys runs_x runs_y h =
     let c = comes_first w x.event (events xs) ys runs_y h in
+    let m = c.may in
     let first = first_step w x xs runs_x in
-    let on = runs_on w x xs ys c.left first runs_y c.may in
-    let makings = makings_wrote w (c.may.earlier ++ c.may.entry ∷ c.may.later) (subst (λ (l : List Entry). IsRunFrom w l) c.may.stands runs_y) in (
+    let on = runs_on w x xs ys c.left first runs_y m in
+    let makings = makings_wrote w (m.earlier ++ m.entry ∷ m.later) (subst (λ (l : List Entry). IsRunFrom w l) m.stands runs_y) in (
       c.left,
-      record {
-        earlier = c.may.earlier;
-        entry = c.may.entry;
-        later = c.may.later;
-        stands = c.may.stands;
-        alike = alike-same x c.may.entry (sym on.same);
-        apart =
-            grind (arith, all_apart, makings_before);
-        leaves = c.may.leaves;
-      },
-      equivalent_taken first.after xs c.left first.rest on.runs ((equivalent_first w x xs ys c.left first runs_y c.may).0 h),
+      takes_out m.earlier m.entry m.later m.stands (alike-same x m.entry (sym on.same)) (grind (arith, all_apart, makings_before)) m.leaves,
+      equivalent_taken first.after xs c.left first.rest on.runs ((equivalent_first w x xs ys c.left first runs_y m).0 h),
     )
 
 -- and the way back
@@ -70,8 +62,7 @@ taken_same w [] ys runs_x runs_y h = ap events h
 taken_same w (x ∷ xs) ys runs_x runs_y h =
     let first = first_step w x xs runs_x in
     let m = taken_first x ys h.0 h.1 in
-    (equivalent_first w x xs ys h.0 first runs_y m).1
-    (taken_same first.after xs h.0 first.rest (runs_on w x xs ys h.0 first runs_y m).runs h.2)
+    grind (arith, first_step, taken_first, equivalent_first, runs_on, taken_same first.after xs h.0 first.rest (runs_on w x xs ys h.0 first runs_y m).runs h.2)
 
 -- the answers
 

@@ -1,6 +1,6 @@
 -- Two entries depend on each other exactly if they have one actor, or share a place of the map that
 -- one of them wrote.
-use Rattle.rd_depend.proofs.Prelude.{◌≡◌, ◌↔◌, ◌⊎◌, Bool, true, false, inl, inr, Option, Some, eq-eqb, arith, or_cases, or_left, or_right, covers-refl, both_cover, written-covers, Place, covers, overlaps, some_covers, some_overlap, written, interfere, depends, Entry, is_of_map, wrote, SharesPlace, either_wrote}
+use Rattle.rd_depend.proofs.Prelude.{◌≡◌, ◌↔◌, ◌⊎◌, Bool, true, false, inl, inr, Option, Some, eq-eqb, arith, or_cases, covers-refl, both_cover, written-covers, Place, covers, overlaps, some_covers, some_overlap, written, interfere, depends, Entry, is_of_map, wrote, SharesPlace, either_wrote}
 use Rattle.rd_cell.specs.declared.places.Place.TheVariants as place
 
 -- one place of the map that a place names: itself, or one of several
@@ -38,33 +38,17 @@ shares x y h =
     elim (or_cases (some_overlap (written x.place x.wrote) y.place) (some_overlap x.place (written y.place y.wrote)) h) [
       | inl a ↦
           let c = some_common (written x.place x.wrote) y.place a in
-          record {
-            common = c.place;
-            is_of_the_map = c.of_map;
-            first = written-covers x.place x.wrote c.place c.first;
-            second = c.second;
-            one_wrote = or_left (wrote x c.place) (wrote y c.place) c.first;
-          }
+          record { common = c.place; is_of_the_map = c.of_map; first = grind (arith, written-covers); second = c.second; one_wrote = grind arith }
       | inr b ↦
           let c = some_common x.place (written y.place y.wrote) b in
-          record {
-            common = c.place;
-            is_of_the_map = c.of_map;
-            first = c.first;
-            second = written-covers y.place y.wrote c.place c.second;
-            one_wrote = or_right (wrote x c.place) (wrote y c.place) c.second;
-          }
+          record { common = c.place; is_of_the_map = c.of_map; first = c.first; second = grind (arith, written-covers); one_wrote = grind arith }
     ]
 
 interferes : (x y : Entry) → SharesPlace x y → interfere x.place x.wrote y.place y.wrote ≡ true
 interferes x y s =
     elim (or_cases (wrote x s.common) (wrote y s.common) s.one_wrote) [
-      | inl a ↦
-          or_left (some_overlap (written x.place x.wrote) y.place) (some_overlap x.place (written y.place y.wrote))
-          (both_cover (written x.place x.wrote) y.place s.common a s.second)
-      | inr b ↦
-          or_right (some_overlap (written x.place x.wrote) y.place) (some_overlap x.place (written y.place y.wrote))
-          (both_cover x.place (written y.place y.wrote) s.common s.first b)
+      | inl a ↦ let meet = both_cover (written x.place x.wrote) y.place s.common a s.second in grind arith
+      | inr b ↦ let meet = both_cover x.place (written y.place y.wrote) s.common s.first b in grind arith
     ]
 
 pub shared : (x y : Entry) → (depends x y ≡ true) ↔ ((x.event.actor ≡ y.event.actor) ⊎ SharesPlace x y)

@@ -1,13 +1,10 @@
 -- Taking out is transitive: if one list can be taken out of a second, and the second out of a
 -- third, the first can be taken out of the third.
-use Rattle.rd_depend.proofs.Prelude.{◌≡◌, ◌⊎◌, inl, inr, List, [], ◌∷◌, ◌++◌, refl, sym, ap, subst, ◌∙◌, append_assoc, arith, Entry, AreAlike}
-use Rattle.rd_depend.proofs.TakingOut.{AreApart, IsApartFrom, Takes, TakesAll}
-
-alike-trans : (x y z : Entry) → AreAlike x y → AreAlike y z → AreAlike x z
-alike-trans x y z h g = record { event = h.event ∙ g.event; place = h.place ∙ g.place; wrote = h.wrote ∙ g.wrote }
+use Rattle.rd_depend.proofs.Prelude.{◌≡◌, ◌⊎◌, inl, inr, List, [], ◌∷◌, ◌++◌, refl, sym, subst, ◌∙◌, append_assoc, arith, Entry, AreAlike}
+use Rattle.rd_depend.proofs.TakingOut.{AreApart, IsApartFrom, Takes, TakesAll, takes_out}
 
 takes-alike : (x y : Entry) (entries left : List Entry) → AreAlike x y → Takes y entries left → Takes x entries left
-takes-alike x y entries left h t = grind (arith, alike-trans)
+takes-alike x y entries left h t = grind (arith)
 
 -- if two steps are apart, so are two steps like them
 apart-alike : (x y u v : Entry) → AreAlike x u → AreAlike y v → AreApart x y → AreApart u v
@@ -37,15 +34,10 @@ record StandsInSecond (xs ys earlier : List Entry) (x : Entry) (later : List Ent
 
 in_either : (xs ys earlier : List Entry) (x : Entry) (later : List Entry) → xs ++ ys ≡ earlier ++ x ∷ later
     → StandsInFirst xs ys earlier x later ⊎ StandsInSecond xs ys earlier x later
-in_either [] ys earlier x later h = inr (record { middle = earlier; first = refl; second = h })
-in_either (z ∷ xs) ys [] x later h = grind arith
 in_either (z ∷ xs) ys (w ∷ earlier) x later h =
-    let head : z ≡ w = cc in
     let tail : xs ++ ys ≡ earlier ++ x ∷ later = cc in
-    elim (in_either xs ys earlier x later tail) [
-      | inl f ↦ inl (record { middle = f.middle; first = (λ i. head i ∷ f.first i); second = f.second })
-      | inr s ↦ inr (record { middle = s.middle; first = (λ i. sym head i ∷ s.first i); second = s.second })
-    ]
+    grind (arith, in_either xs ys earlier x later tail)
+in_either xs ys earlier x later h = grind arith
 
 -- Two steps that are apart may be taken out the one way round or the other
 
@@ -60,47 +52,19 @@ exchanged x y entries between left apart t u = elim (in_either t.earlier t.later
       let parts = apart-parts t.entry u.earlier (u.entry ∷ f.middle) (subst (IsApartFrom t.entry) f.first t.apart) in
       record {
         between = u.earlier ++ (f.middle ++ t.entry ∷ t.later);
-        first = record {
-          earlier = u.earlier;
-          entry = u.entry;
-          later = f.middle ++ t.entry ∷ t.later;
-          stands = t.stands ∙ ap (λ (l : List Entry). l ++ t.entry ∷ t.later) f.first ∙ append_assoc u.earlier (u.entry ∷ f.middle) (t.entry ∷ t.later);
-          alike = u.alike;
-          apart = u.apart;
-          leaves = refl;
-        };
-        second = record {
-          earlier = u.earlier ++ f.middle;
-          entry = t.entry;
-          later = t.later;
-          stands = sym (append_assoc u.earlier f.middle (t.entry ∷ t.later));
-          alike = t.alike;
-          apart = apart-append t.entry u.earlier f.middle parts.0 parts.1.1;
-          leaves = u.leaves ∙ ap (λ (l : List Entry). u.earlier ++ l) f.second ∙ sym (append_assoc u.earlier f.middle t.later);
-        };
+        first = takes_out u.earlier u.entry (f.middle ++ t.entry ∷ t.later) (grind (arith, append_assoc)) u.alike u.apart refl;
+        second =
+            takes_out (u.earlier ++ f.middle) t.entry t.later (grind (arith, append_assoc)) t.alike
+            (apart-append t.entry u.earlier f.middle parts.0 parts.1.1) (grind (arith, append_assoc));
       }
   | inr s ↦
       let parts = apart-parts u.entry t.earlier s.middle (subst (IsApartFrom u.entry) s.first u.apart) in
       record {
         between = (t.earlier ++ t.entry ∷ s.middle) ++ u.later;
-        first = record {
-          earlier = t.earlier ++ t.entry ∷ s.middle;
-          entry = u.entry;
-          later = u.later;
-          stands = t.stands ∙ ap (λ (l : List Entry). t.earlier ++ t.entry ∷ l) s.second ∙ sym (append_assoc t.earlier (t.entry ∷ s.middle) (u.entry ∷ u.later));
-          alike = u.alike;
-          apart = apart-append u.entry t.earlier (t.entry ∷ s.middle) parts.0 (apart-alike y x u.entry t.entry u.alike t.alike apart, parts.1);
-          leaves = refl;
-        };
-        second = record {
-          earlier = t.earlier;
-          entry = t.entry;
-          later = s.middle ++ u.later;
-          stands = append_assoc t.earlier (t.entry ∷ s.middle) u.later;
-          alike = t.alike;
-          apart = t.apart;
-          leaves = u.leaves ∙ ap (λ (l : List Entry). l ++ u.later) s.first ∙ append_assoc t.earlier s.middle u.later;
-        };
+        first =
+            takes_out (t.earlier ++ t.entry ∷ s.middle) u.entry u.later (grind (arith, append_assoc)) u.alike
+            (apart-append u.entry t.earlier (t.entry ∷ s.middle) parts.0 (apart-alike y x u.entry t.entry u.alike t.alike apart, parts.1)) refl;
+        second = takes_out t.earlier t.entry (s.middle ++ u.later) (grind (arith, append_assoc)) t.alike t.apart (grind (arith, append_assoc));
       }
 ]
 

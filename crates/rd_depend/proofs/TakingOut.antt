@@ -47,6 +47,12 @@ pub record Takes (x : Entry) (entries left : List Entry) : Type 0 where
   pub apart : IsApartFrom entry earlier
   pub leaves : left ≡ earlier ++ later
 
+-- taking out, from the place in the list
+pub takes_out : {x : Entry} {entries left : List Entry} (earlier : List Entry) (entry : Entry) (later : List Entry) → entries ≡ earlier ++ entry ∷ later
+    → AreAlike x entry → IsApartFrom entry earlier → left ≡ earlier ++ later → Takes x entries left
+takes_out earlier entry later stands alike apart leaves =
+    record { earlier = earlier; entry = entry; later = later; stands = stands; alike = alike; apart = apart; leaves = leaves }
+
 -- steps like these can be taken out of the other list one after another, and nothing is left
 abbrev pub TakesAll : List Entry → List Entry → Type 0
 TakesAll [] entries = entries ≡ []
@@ -55,23 +61,12 @@ TakesAll (x ∷ xs) entries = (left : List Entry) × Takes x entries left × Tak
 -- if a list can be taken out of another, it still can with a step put in where it is apart from
 -- those before it, and a like step in front of the other list
 put_back : (xs ys zs : List Entry) (x y : Entry) → AreAlike x y → IsApartFrom y xs → TakesAll (xs ++ ys) zs → TakesAll (xs ++ y ∷ ys) (x ∷ zs)
-put_back [] ys zs x y alike apart h = (
-  zs,
-  record { earlier = []; entry = x; later = zs; stands = refl; alike = alike-sym x y alike; apart = tt; leaves = refl },
-  h,
-)
+put_back [] ys zs x y alike apart h = (zs, takes_out [] x zs refl (alike-sym x y alike) tt refl, h)
 put_back (q ∷ xs) ys zs x y alike apart h =
     let t = h.1 in (
       x ∷ h.0,
-      record {
-        earlier = x ∷ t.earlier;
-        entry = t.entry;
-        later = t.later;
-        stands = ap (λ (l : List Entry). x ∷ l) t.stands;
-        alike = t.alike;
-        apart = (apart-turned y q x t.entry (alike-sym x y alike) t.alike apart.0, t.apart);
-        leaves = ap (λ (l : List Entry). x ∷ l) t.leaves;
-      },
+      takes_out (x ∷ t.earlier) t.entry t.later (ap (λ (l : List Entry). x ∷ l) t.stands) t.alike
+          (apart-turned y q x t.entry (alike-sym x y alike) t.alike apart.0, t.apart) (ap (λ (l : List Entry). x ∷ l) t.leaves),
       put_back xs ys h.0 x y alike apart.1 h.2,
     )
 

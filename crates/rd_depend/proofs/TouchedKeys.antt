@@ -1,6 +1,6 @@
 -- The keys under which a step touched, what it wrote under them, and its order and how far it
 -- reached under each.
-use Rattle.rd_depend.proofs.Prelude.{◌≡◌, ◌⊎◌, ℕ, ◌<◌, Bool, true, false, not, if◌then◌else◌, Option, Some, arith, SegName, Place, Wrote, is_nothing, written, name_eq, Entry, Key, At, In, Reached, is_under, place_key, value_key, segment_key, is_value_written, is_making, last_blocking, taken_in, IsAfter, IsInOrder, with_step}
+use Rattle.rd_depend.proofs.Prelude.{◌≡◌, ◌⊎◌, ℕ, ◌<◌, Bool, true, false, if◌then◌else◌, Option, Some, arith, SegName, Place, Wrote, written, name_eq, Entry, Key, At, In, Reached, is_under, value_key, is_value_written, last_blocking, taken_in, IsAfter, IsInOrder, with_step}
 use Rattle.rd_cell.specs.declared.places.Place.TheVariants as place
 
 -- whether there is a place, and it is the whole of this segment
@@ -14,28 +14,14 @@ abbrev pub wrote_under : Key → Option Place → Wrote → Bool
 wrote_under (At p) place wrote = is_under (At p) (written place wrote)
 wrote_under (In s) place wrote = is_whole_of s place
 
--- a key under which a step touched is one of the three keys of its place
-under_one : (k : Key) (q : Option Place) → is_under k q ≡ true → (place_key q ≡ Some k) ⊎ ((value_key q ≡ Some k) ⊎ (segment_key q ≡ Some k))
-under_one k q h = grind arith
-
--- a step touched under each of the three keys of its place
-one_under : (k : Key) (q : Option Place) → (place_key q ≡ Some k) ⊎ ((value_key q ≡ Some k) ⊎ (segment_key q ≡ Some k)) → is_under k q ≡ true
-one_under k q h = grind arith
-
 -- a step touched each key under which it wrote
 pub wrote_touched : (k : Key) (q : Option Place) (w : Wrote) → wrote_under k q w ≡ true → is_under k q ≡ true
 wrote_touched k q w h = grind arith
 
 -- what it wrote under each of them
 
-wrote_place : (o : Option Place) (w : Wrote) (k : Key) → place_key o ≡ Some k → wrote_under k o w ≡ not (is_nothing w)
-wrote_place o w k h = grind arith
-
 wrote_value : (o : Option Place) (w : Wrote) (k : Key) → value_key o ≡ Some k → wrote_under k o w ≡ is_value_written w
 wrote_value o w k h = grind arith
-
-wrote_segment : (o : Option Place) (w : Wrote) (k : Key) → segment_key o ≡ Some k → wrote_under k o w ≡ is_making o
-wrote_segment o w k h = grind arith
 
 -- how far the steps reached, and their order, key by key
 
@@ -45,10 +31,10 @@ unfolding with_step
 passed_at s x i k = grind arith
 
 pub in_order_at : (s : Key → Reached) (x : Entry) (i : ℕ) → IsInOrder s x i → (k : Key) → is_under k x.place ≡ true → last_blocking (s k) (wrote_under k x.place x.wrote) < i
-in_order_at s x i order k touched = grind (arith, under_one, wrote_place, wrote_value, wrote_segment)
+in_order_at s x i order k touched = grind (arith, wrote_value)
 
 after_at : (s : Key → Reached) (o : Option Key) (w : Bool) (i : ℕ) → ((k : Key) → o ≡ Some k → last_blocking (s k) w < i) → IsAfter s o w i
 after_at s o w i h = grind arith
 
 pub in_order_from : (s : Key → Reached) (x : Entry) (i : ℕ) → ((k : Key) → is_under k x.place ≡ true → last_blocking (s k) (wrote_under k x.place x.wrote) < i) → IsInOrder s x i
-in_order_from s x i h = grind (arith, after_at, one_under, wrote_place, wrote_value, wrote_segment)
+in_order_from s x i h = grind (arith, after_at, wrote_value)

@@ -1,12 +1,12 @@
-use Rattle.rd_depend.proofs.Prelude.{arith, rules, reached_of, left_of}
-use Rattle.rd_depend.proofs.ComparingLemmas.{left_over_one, differs_here, decided_at_end, some_and_none}
+use Rattle.rd_depend.proofs.Prelude.{arith, rules, reached_of, left_of, common_steps}
+use Rattle.rd_depend.proofs.ComparingLemmas.{differs_here, decided_at_end, some_and_none}
 use Rattle.rd_depend.proofs.equivalence.compare.Goals as goal
 
 pub loop-entry-init : goal.loop-entry-init
 loop-entry-init c = grind arith
 
 pub loop-entry-preserved : goal.loop-entry-preserved
-loop-entry-preserved c = grind (arith, left_over_one)
+loop-entry-preserved c = grind (arith, common_steps)
 
 pub returns-then-not-branch-clause-answer : goal.returns-then-not-branch-clause-answer
 returns-then-not-branch-clause-answer c =

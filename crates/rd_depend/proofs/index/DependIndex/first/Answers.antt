@@ -1,4 +1,4 @@
-use Rattle.rd_depend.proofs.Prelude.{◌∙◌, earlier, By}
+use Rattle.rd_depend.proofs.Prelude.{depends, ◌∙◌, earlier, By}
 use Rattle.rd_depend.proofs.IndexFirst.{found_in, found_by, found_either, first-after}
 use Rattle.rd_depend.proofs.index.DependIndex.first.Goals as goal
 
@@ -6,7 +6,7 @@ pub returns-in-None-clause-answer : goal.returns-in-None-clause-answer
 returns-in-None-clause-answer c = λ es is.
     found_in c.args.self.now es is (By c.args.entry.now.event.actor) c.args.k c.first_by-by_actor.result c.first_by-by_actor.ensures.answer
     ∙ found_by c.args.entry.now c.in-None.is c.args.k es
-    ∙ first-after c.args.entry.now c.args.k es
+    ∙ first-after (depends c.args.entry.now) c.args.k es
 
 pub returns-in-Some-clause-answer : goal.returns-in-Some-clause-answer
 returns-in-Some-clause-answer c = λ es is.
@@ -15,4 +15,4 @@ returns-in-Some-clause-answer c = λ es is.
     (found_in c.args.self.now es is (By c.args.entry.now.event.actor) c.args.k c.first_by-by_actor.result c.first_by-by_actor.ensures.answer i)
     (c.first_at.ensures.answer es is i))
     ∙ found_either c.args.entry.now c.in-Some.place c.in-Some.is c.args.k es
-    ∙ first-after c.args.entry.now c.args.k es
+    ∙ first-after (depends c.args.entry.now) c.args.k es

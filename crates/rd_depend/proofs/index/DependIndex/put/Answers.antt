@@ -9,11 +9,9 @@ put-requires c = record { key = c.args.homes.now.place.key; is = c.requires.read
 pub put-requires-2 : goal.put-requires-2
 put-requires-2 c =
     let h = c.args.homes.now in
-    let s = separate h c.args.entry.now c.requires.homes in
     record {
       key = h.value.key;
-      is =
-          grind arith;
+      is = grind arith;
     }
 
 pub put-requires-3 : goal.put-requires-3
@@ -24,8 +22,7 @@ put-requires-3 c =
     let second = c.put-2.ensures h.value.key (ready_after _ _ h.value.key h.value.wrote h.place _ c.args.slots.value (value_other h s) c.requires.ready.value first) in
     record {
       key = h.segment.key;
-      is =
-          grind arith;
+      is = grind arith;
     }
 
 pub returns : goal.returns
