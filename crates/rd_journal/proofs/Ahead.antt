@@ -1,19 +1,16 @@
 -- A journal in which only the first of the steps ahead are undone, beside the one in which all are.
-use Rattle.rd_journal.proofs.Prelude.{◌≡◌, ℕ, zero, suc, ◌+◌, ◌-◌, ◌≤◌, refl, sym, ◌∙◌, ap, arith, List, [], ◌∷◌, ◌++◌, length, take, drop, Result, length-drop, length-take, length-take-le, map-append, append_assoc, take-append-drop, take-take, drop-take, Refusal, World, Stepped, run, room, preceded_by, and_then, result_map, Event, Entry, first_step, Journal, events, IsRun, IsRunFrom, IsSession, IsMovedBack, IsMovedForward, IsUndoneAlone, journal, run_entries, Session}
+use Rattle.rd_journal.proofs.Prelude.{◌≡◌, ℕ, suc, ◌+◌, ◌-◌, ◌≤◌, sym, ◌∙◌, ap, arith, List, [], ◌∷◌, ◌++◌, length, take, drop, length-drop, length-take, length-take-le, map-append, append_assoc, take-append-drop, take-take, drop-take, World, room, and_then, Event, Entry, first_step, Journal, events, IsRunFrom, IsSession, IsMovedBack, IsMovedForward, IsUndoneAlone, journal, Session}
 use Rattle.rd_journal.proofs.EntryLemmas.{take_over}
-use Rattle.rd_journal.proofs.Runs.{preceded_entries}
 use Rattle.rd_journal.proofs.Walks.{room_first}
 
 -- The first steps of a run
 
 -- the first steps of a run are a run
 pub first_run : (n : ℕ) (w : World) (xs : List Entry) → IsRunFrom w xs → IsRunFrom w (take n xs)
-first_run zero w xs h = refl
-first_run (suc n) w [] h = h
 first_run (suc n) w (x ∷ xs) h =
     let first = first_step w x xs h in
-    ap (λ (r : Result Stepped Refusal). run_entries (and_then r (λ s. result_map (preceded_by s.entry) (run s.world (events (take n xs)))))) first.goes
-    ∙ preceded_entries x (run first.after (events (take n xs))) (take n xs) (first_run n first.after xs first.rest)
+    grind (arith, and_then, first_run n first.after xs first.rest)
+first_run n w xs h = grind arith
 
 -- The session
 
@@ -21,11 +18,8 @@ first_run (suc n) w (x ∷ xs) h =
 abbrev pub with_undone : ℕ → Journal → Journal
 with_undone n j = record { start = j.start; world = j.world; live = j.live; undone = take n j.undone }
 
-pub run_undone : (n : ℕ) (j : Journal) → IsRun j → IsRun (with_undone n j)
-run_undone n j runs = grind (arith, first_run)
-
 pub session_undone : (n : ℕ) (j : Journal) (room : ℕ → ℕ) → IsSession j room → IsSession (with_undone n j) room
-session_undone n j room session = grind (arith, length-take, run_undone, room_first)
+session_undone n j room session = grind (arith, length-take, first_run, room_first)
 
 pub is_session : {R : ℕ} (s : Session R) → IsSession (journal s) (room s.world)
 is_session s = session_undone s.undone _ (room s.world) s.kept
@@ -38,11 +32,7 @@ back_undone n k old new few moved = grind (arith, length-drop, take_over)
 pub forward_undone : (n k : ℕ) (old new : Journal) → k ≤ n → IsMovedForward k old new → IsMovedForward k (with_undone n old) (with_undone (n - k) new)
 forward_undone n k old new enough moved =
     let all : n ≡ k + (n - k) = omega arith in
-    record {
-      live = moved.live ∙ ap (λ (xs : List Entry). old.live ++ xs) (sym (take-take k n old.undone enough));
-      undone =
-          grind (arith, drop-take);
-    }
+    record { live = grind (arith, take-take); undone = grind (arith, drop-take) }
 
 pub out_undone : (n k : ℕ) (old new : Journal) → 1 ≤ k → k ≤ length old.live → IsUndoneAlone k old new → IsUndoneAlone k (with_undone n old) (with_undone (n + 1) new)
 out_undone n k old new some within moved = grind (arith, length-take-le, length-drop, take_over)
@@ -57,14 +47,10 @@ none_taken n xs none = grind arith
 abbrev pub track_of : Journal → List Event
 track_of j = events j.live ++ events j.undone
 
-same_track : (old new : Journal) → new.live ++ new.undone ≡ old.live ++ old.undone → track_of new ≡ track_of old
-same_track old new h =
-    let event = λ (x : Entry). x.event in
-    sym (map-append event new.live new.undone) ∙ ap events h ∙ map-append event old.live old.undone
-
 pub track_back : (n : ℕ) (old new : Journal) → IsMovedBack n old new → track_of new ≡ track_of old
 track_back n old new moved =
     let k = length old.live - n in
-    same_track old new
-    ((λ i. moved.live i ++ moved.undone i) ∙ sym (append_assoc (take k old.live) (drop k old.live) old.undone)
-    ∙ ap (λ (xs : List Entry). xs ++ old.undone) (take-append-drop k old.live))
+    let event = λ (x : Entry). x.event in
+    let same : new.live ++ new.undone ≡ old.live ++ old.undone =
+    grind (arith, append_assoc (take k old.live) (drop k old.live) old.undone, take-append-drop k old.live) in
+    sym (map-append event new.live new.undone) ∙ ap events same ∙ map-append event old.live old.undone

@@ -67,12 +67,10 @@ pub longer_session : (old new : Journal) (e : Event) (x : Entry) (before after :
     → IsSession old before → length old.live < MOST_STEPS → step old.world e ≡ Ok (record { world = new.world; entry = x }) → new.start ≡ old.start → IsLengthened x old new
     → IsSession new after
 longer_session old new e x before after session less h start longer =
-    let live : length new.live ≡ length old.live + 1 = ap length longer.live ∙ length-append old.live (x ∷ []) in
-    let none : length new.undone ≡ 0 = ap length longer.undone in
     let whole : new ≡ record { start = old.start; world = new.world; live = old.live ++ x ∷ []; undone = [] } =
     λ i. record { start = start i; world = new.world; live = longer.live i; undone = longer.undone i } in
     record {
-      few = omega arith;
+      few = omega (arith, ap length longer.live, length-append old.live (x ∷ []), ap length longer.undone);
       runs = subst (λ (j : Journal). IsRun j) (sym whole) (grown old.start old.world new.world old.live old.undone [] x e session.runs h refl);
       has_room = subst (λ (ys : List Entry). HasRoom ys after) (sym longer.undone) (record { at = λ k. omega arith });
     }
@@ -80,16 +78,6 @@ longer_session old new e x before after session less h start longer =
 -- a session that opens in a world
 pub opened_session : (j : Journal) (room : ℕ → ℕ) → IsWellFormed j.world → j.start ≡ j.world → j.live ≡ [] → j.undone ≡ [] → IsSession j room
 opened_session j room formed start live undone = grind arith
-
--- a session whose journal stays is still a session if no room is lost
-same_session : (old new : Journal) (before after : ℕ → ℕ) → IsSession old before → new ≡ old → ((m : ℕ) → before m ≤ after m)
-    → IsSession new after
-same_session old new before after session same more =
-    subst (λ (j : Journal). IsSession j after) (sym same) (record {
-      few = session.few;
-      runs = session.runs;
-      has_room = record { at = λ m. let a = session.has_room.at m in let b = more m in omega arith };
-    })
 
 -- what holds of a session still holds if its world and its entries stay
 pub record IsStill {R : ℕ} (old : Session R) (world : CodeWorld R) (entries : Entries) : Type 0 where
@@ -101,8 +89,8 @@ pub still : {R : ℕ} (old : Session R) (world : CodeWorld R) (entries : Entries
     → ahead_entries entries ≡ ahead_entries old.entries → ((m : ℕ) → room old.world m ≤ room world m) → IsStill old world entries
 still old world entries same live ahead more = record {
   kept =
-      same_session (whole_journal (opened_with old.opened) (model old.world) old.entries) (whole_journal (opened_with old.opened) (model world) entries) (room old.world) (room world) old.kept
-      (λ i. record { start = opened_with old.opened; world = same i; live = live i; undone = ahead i }) more;
+      subst (λ (j : Journal). IsSession j (room world)) (λ i. record { start = opened_with old.opened; world = sym same i; live = sym live i; undone = sym ahead i })
+      (record { few = old.kept.few; runs = old.kept.runs; has_room = record { at = λ m. omega (arith, old.kept.has_room.at m, more m) } });
   within = omega (arith, old.within, ap length ahead);
   indexed = subst (λ (es : List Entry). IsIndexOf old.index es) (λ i. sym live i ++ sym ahead i) old.indexed;
 }

@@ -1,6 +1,6 @@
 -- The entries of a session as one list in three parts: how long the parts are, and how they change.
-use Rattle.rd_journal.proofs.Prelude.{◌≡◌, ℕ, ◌+◌, ◌-◌, ◌<◌, ◌≤◌, List, [], ◌∷◌, ◌++◌, length, take, drop, sym, ◌∙◌, ap, arith, length-append, length-drop, take-add, length-take-le, take-take, drop-take, drop-drop, take_at, drop_at, moved_to, all_entries, live_entries, ahead_entries, kept_entries, entries_capacity, Entries}
-use Rattle.rd_journal.proofs.ListLemmas.{behind_from, drop_before}
+use Rattle.rd_journal.proofs.Prelude.{◌≡◌, ℕ, ◌+◌, ◌-◌, ◌<◌, ◌≤◌, List, [], ◌∷◌, ◌++◌, length, take, drop, sym, ◌∙◌, ap, arith, length-append, length-drop, take-add, length-take-le, drop-take, drop-drop, take_at, drop_at, moved_to, all_entries, live_entries, ahead_entries, kept_entries, entries_capacity, Entries}
+use Rattle.rd_journal.proofs.ListLemmas.{drop_before}
 use Rattle.rd_journal.proofs.Numbers.{at-length, order_below}
 
 -- how many there are
@@ -46,9 +46,6 @@ cut_back {X} l m u n enough within =
     ap (λ (ys : List X). take (u + n) ys) (drop_before l (m - n) m n within (omega arith))
     ∙ take_over (drop (length (take m l) - n) (take m l)) (drop m l) n u many
 
-pub cut_on : {X : Type 0} (l : List X) (m u n : ℕ) → n ≤ u → take (m + n) l ≡ take m l ++ take n (take u (drop m l))
-cut_on {X} l m u n enough = take-add m n l ∙ ap (λ (ys : List X). take m l ++ ys) (sym (take-take n u (drop m l) enough))
-
 pub cut_on_rest : {X : Type 0} (l : List X) (m u n : ℕ) → n ≤ u → take (u - n) (drop (m + n) l) ≡ drop n (take u (drop m l))
 cut_on_rest {X} l m u n enough =
     let more : u ≡ n + (u - n) = omega arith in
@@ -58,7 +55,7 @@ cut_on_rest {X} l m u n enough =
 -- border has moved back
 pub taken_out : {X : Type 0} (l : List X) (k m u : ℕ) → 1 ≤ k → k ≤ m → m ≤ length l
     → take (u + 1) (drop (m - 1) (moved_to l k m)) ≡ take 1 (drop (k - 1) (take m l)) ++ take u (drop m l)
-taken_out {X} l k m u some position within = grind (arith, length-take-le, length-drop, behind_from, take_over)
+taken_out {X} l k m u some position within = grind (arith, length-take-le, length-drop, length-append, drop_at, take_over)
 
 -- an element put after the first part is its last one
 pub put_last : {X : Type 0} (l new : List X) (u : ℕ) (x : X) → u ≤ length l → new ≡ take u l ++ x ∷ drop (u + 1) l → take (u + 1) new ≡ take u l ++ x ∷ []
@@ -67,14 +64,6 @@ put_last {X} l new u x within is =
     let turn : u + 1 ≡ 1 + u = omega arith in
     ap (λ (ys : List X). take (u + 1) ys) is ∙ ap (λ (n : ℕ). take n (take u l ++ x ∷ rest)) turn ∙ take_over (take u l) (x ∷ rest) u 1 (length-take-le u l within)
 
-pub cut_short : {X : Type 0} (l : List X) (m n : ℕ) → m ≤ length l → take (m - n) l ≡ take (length (take m l) - n) (take m l)
-cut_short {X} l m n within = grind (arith, length-take-le, take-take)
-
 -- moving the border between two parts keeps both together, if the end stays
 pub border_moved : {X : Type 0} (l : List X) (m u n v : ℕ) → n + v ≡ m + u → take n l ++ take v (drop n l) ≡ take m l ++ take u (drop m l)
 border_moved {X} l m u n v same = sym (take-add n v l) ∙ ap (λ (k : ℕ). take k l) same ∙ take-add m u l
-
--- the k-th element of the first list moved to its end, with a second list behind
-pub moved_among : {X : Type 0} (xs ys : List X) (k : ℕ)
-    → (take (k - 1) xs ++ drop k xs) ++ (take 1 (drop (k - 1) xs) ++ ys) ≡ moved_to (xs ++ ys) k (length xs)
-moved_among {X} xs ys k = grind (arith, take_at, drop_at)

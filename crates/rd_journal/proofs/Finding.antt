@@ -13,9 +13,7 @@ pub outside_begins : (l : List Entry) (k : ℕ) → 1 ≤ k → k ≤ length l �
 outside_begins l zero some within = absurd (omega arith)
 outside_begins l (suc i) some within =
     let x = nth l i (omega arith) in
-    let same : i ≡ suc i - 1 = omega arith in
-    let rest = items_where_false (closure_from (x.0 ∷ []) (drop (suc i) l)) (drop (suc i) l) in
-    (rest, (cut_at l i x.0 (omega arith) x.1).outside ∙ ap (λ (n : ℕ). take n l ++ rest) same)
+    (items_where_false (closure_from (x.0 ∷ []) (drop (suc i) l)) (drop (suc i) l), grind (arith, cut_at l i x.0 (omega arith) x.1))
 
 -- the list with the closure of the k-th entry gathered behind the others and more entries after it,
 -- cut before its k-th position
@@ -26,17 +24,8 @@ pub record IsCutBefore (l others : List Entry) (k : ℕ) : Type 0 where
 
 pub cut_before : (l others : List Entry) (k : ℕ) → 1 ≤ k → k ≤ length l → IsCutBefore l others k
 cut_before l others k some within =
-    let w = without_closure l k in
-    let c = closure_of l k in
     let out = outside_begins l k some within in
-    let len : length (take (k - 1) l) ≡ k - 1 = length-take-le (k - 1) l (omega arith) in
-    let long : k - 1 ≤ length w = omega (arith, ap length out.1, length-append (take (k - 1) l) out.0, len) in
-    record {
-      long = long;
-      before =
-          grind (arith, append_assoc, take-append-le, take_at);
-      behind = ap (drop (k - 1)) (append_assoc w c others) ∙ drop-append-le (k - 1) w (c ++ others) long;
-    }
+    grind (arith, length-take-le, length-append, append_assoc, take-append-le, take_at, drop-append-le)
 
 -- the first dependant
 

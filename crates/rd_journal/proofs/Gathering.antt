@@ -1,6 +1,6 @@
 -- The causal closure of a step gathered behind the other entries: the parts of the list meanwhile,
 -- and the run that it still is.
-use Rattle.rd_journal.proofs.Prelude.{◌≡◌, ℕ, zero, suc, ◌-◌, ◌<◌, ◌≤◌, Bool, true, false, if◌then◌else◌, sym, ◌∙◌, ap, subst, arith, inl, inr, List, [], ◌∷◌, ◌++◌, length, take, drop, get_or, Ok, cases_Bool, or_parts, append-nil, append_assoc, World, run, depends, depends_on_any, items_where_true, items_where_false, closure_of, without_closure, closure_from, Entry, run-cons, events, beginning, commutes}
+use Rattle.rd_journal.proofs.Prelude.{◌≡◌, ℕ, zero, suc, ◌-◌, ◌<◌, ◌≤◌, true, false, if◌then◌else◌, ◌∙◌, arith, inl, inr, List, [], ◌∷◌, ◌++◌, length, take, drop, get_or, Ok, cases_Bool, or_parts, append-nil, append_assoc, World, run, depends, depends_on_any, items_where_true, items_where_false, closure_of, without_closure, closure_from, Entry, run-cons, events, beginning, commutes}
 
 -- The closure, cut at its first entry
 
@@ -24,10 +24,7 @@ pub record Gathering (l : List Entry) (k : ℕ) (before block later : List Entry
 pub gathering_first : (l : List Entry) (k : ℕ) (x : Entry) → 1 ≤ k → k ≤ length l → x ≡ get_or l (k - 1) x
     → Gathering l k (take (k - 1) l) (x ∷ []) (drop k l)
 gathering_first l zero x some below here = absurd (omega arith)
-gathering_first l (suc i) x some below here =
-    let same : suc i - 1 ≡ i = omega arith in
-    let c = cut_at l i x (omega arith) (here ∙ ap (λ (n : ℕ). get_or l n x) same) in
-    record { outside = c.outside ∙ ap (λ (n : ℕ). take n l ++ items_where_false (closure_from (x ∷ []) (drop (suc i) l)) (drop (suc i) l)) (sym same); inside = c.inside }
+gathering_first l (suc i) x some below here = let c = cut_at l i x (omega arith) (grind arith) in grind arith
 
 -- if the next entry depends on one that goes, it goes too
 pub joins : (l before block later : List Entry) (k : ℕ) (x : Entry) → Gathering l k before block (x ∷ later) → depends_on_any block x ≡ true
@@ -52,11 +49,7 @@ moved_before u w (x ∷ b) y zs h free =
     let first = beginning u x (b ++ (y ∷ zs)) w h in
     let then_y = beginning first.after y (b ++ zs) w (moved_before first.after w b y zs first.rest both.1) in
     let sw = commutes u x.event y.event (record { world = first.after; entry = x }) (record { world = then_y.after; entry = y }) first.goes then_y.goes both.0 in
-    let rest : run sw.second.world (events (b ++ zs)) ≡ Ok (record { world = w; entries = b ++ zs }) =
-    ap (λ (v : World). run v (events (b ++ zs))) sw.same_world ∙ then_y.rest in
-    run-cons u y.event (events (x ∷ (b ++ zs))) sw.first (record { world = w; entries = sw.second.entry ∷ (b ++ zs) }) sw.goes_first
-    (run-cons sw.first.world x.event (events (b ++ zs)) sw.second (record { world = w; entries = b ++ zs }) sw.goes_second rest)
-    ∙ (λ i. Ok (record { world = w; entries = sw.same_entry i ∷ (sw.entry_unchanged i ∷ (b ++ zs)) }))
+    grind (arith, run-cons)
 
 -- if the closure of a block is gathered behind the other entries, the list is still a run to the
 -- same world
@@ -65,20 +58,9 @@ pub gathered_run : (u w : World) (b ys : List Entry) → run u (events (b ++ ys)
 gathered_run u w b [] h = h
 gathered_run u w b (y ∷ ys) h =
     elim (cases_Bool (depends_on_any b y)) [
-      | inl e ↦
-          let more : run u (events ((b ++ y ∷ []) ++ ys)) ≡ Ok (record { world = w; entries = (b ++ y ∷ []) ++ ys }) =
-          subst (λ (zs : List Entry). run u (events zs) ≡ Ok (record { world = w; entries = zs })) (sym (append_assoc b (y ∷ []) ys)) h in
-          let out = items_where_false (closure_from (b ++ y ∷ []) ys) ys in
-          let same : out ++ ((b ++ y ∷ []) ++ items_where_true (closure_from (b ++ y ∷ []) ys) ys) ≡ items_where_false (closure_from b (y ∷ ys)) (y ∷ ys) ++ (b ++ items_where_true (closure_from b (y ∷ ys)) (y ∷ ys)) =
-          grind (arith, append_assoc) in
-          subst (λ (zs : List Entry). run u (events zs) ≡ Ok (record { world = w; entries = zs })) same (gathered_run u w (b ++ y ∷ []) ys more)
+      | inl e ↦ let all = gathered_run u w (b ++ y ∷ []) ys in grind (arith, append_assoc)
       | inr e ↦
           let first = beginning u y (b ++ ys) w (moved_before u w b y ys h e) in
-          let ms = closure_from b ys in
           let rest = gathered_run first.after w b ys first.rest in
-          let all = run-cons u y.event (events (items_where_false ms ys ++ (b ++ items_where_true ms ys))) (record { world = first.after; entry = y })
-          (record { world = w; entries = items_where_false ms ys ++ (b ++ items_where_true ms ys) }) first.goes rest in
-          let same : y ∷ (items_where_false ms ys ++ (b ++ items_where_true ms ys)) ≡ items_where_false (closure_from b (y ∷ ys)) (y ∷ ys) ++ (b ++ items_where_true (closure_from b (y ∷ ys)) (y ∷ ys)) =
-          ap (λ (d : Bool). let m = d ∷ closure_from (if d then b ++ y ∷ [] else b) ys in items_where_false m (y ∷ ys) ++ (b ++ items_where_true m (y ∷ ys))) (sym e) in
-          subst (λ (zs : List Entry). run u (events zs) ≡ Ok (record { world = w; entries = zs })) same all
+          grind (arith, run-cons)
     ]

@@ -1,10 +1,10 @@
 -- The loop that gathers the closure of a step: what it has done so far, and what it has done at the
 -- end.
-use Rattle.rd_journal.proofs.Prelude.{common_steps, count_by, append_assoc, take-append-drop, take-take, length-take-le, length-set, get_or-take, drop_at, drop-append-le, drop-set-lt, drop_all, take_at, take_more_set, sum_by-append, sum_by-cons, sum_by_push, depends_on_any, closure_of, without_closure, Entry, DependIndex, IsIndexOf, HasRoomFor, at_numbers, IsOrder, ◌≡◌, ℕ, ◌+◌, ◌-◌, ◌<◌, ◌≤◌, Bool, true, false, cond, refl, sym, ◌∙◌, ap, subst, arith, List, [], ◌∷◌, ◌++◌, length, take, drop, set, get_or, length-append, length-drop}
+use Rattle.rd_journal.proofs.Prelude.{suc, drop-cons, common_steps, count_by, append_assoc, take-append-drop, take-take, length-take-le, length-set, get_or-take, drop_at, drop-append-le, drop-set-lt, drop_all, take_at, take_more_set, sum_by-append, sum_by-cons, sum_by_push, depends_on_any, closure_of, without_closure, Entry, DependIndex, IsIndexOf, HasRoomFor, at_numbers, IsOrder, ◌≡◌, ℕ, ◌+◌, ◌-◌, ◌<◌, ◌≤◌, Bool, true, false, cond, refl, sym, ◌∙◌, ap, arith, List, [], ◌∷◌, ◌++◌, length, take, drop, set, get_or, length-append, length-drop}
 use Rattle.rd_journal.proofs.Gathering.{Gathering, gathering_first, joins, gathered_outside, gathered_inside}
 use Rattle.rd_journal.proofs.RoomLemmas.{fits_between}
 use Rattle.rd_journal.proofs.ListLemmas.{drop_one_less}
-use Rattle.rd_journal.proofs.Numbers.{one, at-append, at-length, at-take, at-drop, at-get, order_below, order_moved}
+use Rattle.rd_journal.proofs.Numbers.{one, at-append, at-length, at-take, at-drop, at-get, order_below}
 
 -- the live entries among these slots, in their order
 abbrev pub live_of : List Entry → List ℕ → ℕ → List Entry
@@ -42,23 +42,19 @@ live-length es ns live o within = length-take-le live (at_numbers es ns) (omega 
 pub next_one : (es : List Entry) (ns now : List ℕ) (live next v : ℕ) → IsOrder (length es) ns → live ≤ length ns → next < live → length now ≡ length ns
     → drop next now ≡ drop next ns → v ≡ get_or now next v → Next es ns live next v
 next_one es ns now live next v o within low long later at =
-    let there : drop next now ≡ v ∷ drop (next + 1) now = drop_one_less now next v (omega (arith, long, within, low)) at in
-    let of_old : drop next ns ≡ get_or ns next v ∷ drop (next + 1) ns = drop_one_less ns next (get_or ns next v) (omega (arith, within, low)) (default ns next v (omega (arith, within, low))) in
-    let same : v ≡ get_or ns next v = (let both : v ∷ drop (next + 1) now ≡ get_or ns next v ∷ drop (next + 1) ns = sym there ∙ later ∙ of_old in cc) in
-    let below : v < length es = subst (λ (m : ℕ). m < length es) (sym same) (order_below (length es) ns o next v (omega (arith, within, low))) in
+    let there = drop_one_less now next v (omega arith) at in
+    let of_old = drop-cons ns next v (omega arith) in
+    let same : v ≡ get_or ns next v = (let both : v ∷ drop (next + 1) now ≡ get_or ns next v ∷ drop (suc next) ns = sym there ∙ later ∙ of_old in cc) in
+    let below : v < length es = grind (arith, order_below) in
     let all = live-length es ns live o within in
-    let here : (x : Entry) → x ≡ get_or es v x → get_or (live_of es ns live) next x ≡ x =
-    grind (arith, get_or-take, at-get, order_below) in
+    let here : (x : Entry) → x ≡ get_or es v x → get_or (live_of es ns live) next x ≡ x = grind (arith, get_or-take, at-get, order_below) in
     record {
       below = below;
-      numbers = of_old ∙ ap (λ (m : ℕ). m ∷ drop (next + 1) ns) (sym same);
+      numbers = grind arith;
       here = here;
-      entry = λ x e. drop_one_less (live_of es ns live) next x (omega (arith, all, low)) (sym (here x e));
-      alone = λ x e. ap (λ (xs : List Entry). xs ++ []) (one es v x below e);
+      entry = λ x e. drop_one_less (live_of es ns live) next x (omega arith) (sym (here x e));
+      alone = λ x e. grind (arith, one);
     }
-  where
-    default : (xs : List ℕ) (n d : ℕ) → n < length xs → get_or xs n d ≡ get_or xs n (get_or xs n d)
-    default xs n d h = grind (arith, common_steps)
 
 -- with one more number, one more entry
 at_more : (es : List Entry) (ns : List ℕ) (live next v : ℕ) (x : Entry) (xs : List ℕ) → Next es ns live next v → x ≡ get_or es v x
@@ -87,12 +83,11 @@ first_gathered es ns old index k live v x o some position within n e is put room
     let L = live_of es ns live in
     let all = live-length es ns live o within in
     let next : (k - 1) + 1 ≡ k = omega arith in
-    let below = order_below (length es) ns o in
     let front : at_numbers es (take (k - 1) ns) ≡ take (k - 1) L =
-    sym (at-take es (k - 1) ns below) ∙ sym (take-take (k - 1) live (at_numbers es ns) (omega arith)) in
+    sym (at-take es (k - 1) ns (order_below (length es) ns o)) ∙ sym (take-take (k - 1) live (at_numbers es ns) (omega arith)) in
     let one_there = n.alone x e in
     let behind : drop (k - 1) L ≡ x ∷ drop k L = n.entry x e ∙ ap (λ (m : ℕ). x ∷ drop m L) next in
-    let whole : length (take (k - 1) L) ≡ k - 1 = length-take-le (k - 1) L (omega (arith, all)) in
+    let first = gathering_first L k x some (omega (arith, all)) (sym (n.here x e)) in
     record {
       from = omega arith;
       number = omega arith;
@@ -101,22 +96,13 @@ first_gathered es ns old index k live v x o some position within n e is put room
       long = refl;
       later = refl;
       once = λ test.
-          omega (
-            arith,
-            ap (count_by test) (take-append-drop (k - 1) ns),
-            sum_by-append (λ m. cond (test m) 1 0) (take (k - 1) ns) (drop (k - 1) ns),
-            count_next test es ns live (k - 1) v n,
-            ap (λ (m : ℕ). count_by test (drop m ns)) next,
-            count_more test [] v,
-          );
-      staying = ap length front ∙ whole;
+          let parts = ap (count_by test) (take-append-drop (k - 1) ns) in
+          grind (arith, sum_by-append, count_next test es ns live (k - 1) v n, count_more test [] v);
+      staying = grind (arith, length-take-le);
       going = ap length one_there;
-      cut =
-          subst (λ (bs : List Entry). Gathering L k bs (at_numbers es (v ∷ [])) (drop k L)) (sym front)
-          (subst (λ (bs : List Entry). Gathering L k (take (k - 1) L) bs (drop k L)) (sym one_there)
-          (gathering_first L k x some (omega (arith, all)) (sym (n.here x e))));
-      indexed = subst (λ (bs : List Entry). IsIndexOf index (take (k - 1) L ++ bs)) (sym one_there) (put (take (k - 1) L) is);
-      room = grind (arith, drop_all);
+      cut = grind arith;
+      indexed = grind arith;
+      room = grind (arith, drop_all, length-take-le);
     }
 
 -- the index has room for the next entry, for the later ones, and for others for which it had room
@@ -133,7 +119,6 @@ pub joined : (es : List Entry) (ns now gathered : List ℕ) (old index new : Dep
     → ((rest : List Entry) → HasRoomFor index (x ∷ rest) → HasRoomFor new rest) → drop (next + 1) now ≡ drop (next + 1) ns
     → UnderWay es ns now (gathered ++ v ∷ []) old new k live front (next + 1)
 joined es ns now gathered old index new k live front next v x u low n e depends put room later =
-    let L = live_of es ns live in
     let more = at_more es ns live next v x gathered n e in
     record {
       from = u.from;
@@ -145,10 +130,8 @@ joined es ns now gathered old index new k live front next v x u low n e depends 
       once = λ test. omega (arith, u.once test, count_more test gathered v, count_next test es ns live next v n);
       staying = u.staying;
       going = omega (arith, ap length more, length-append (at_numbers es gathered) (x ∷ []), u.going, length-append gathered (v ∷ []));
-      cut =
-          grind (arith, joins);
-      indexed =
-          grind (arith, append_assoc);
+      cut = grind (arith, joins);
+      indexed = grind (arith, append_assoc);
       room = grind (arith, fits_between, before_next);
     }
 
@@ -174,25 +157,10 @@ pub ended : (es : List Entry) (ns now gathered new : List ℕ) (old index : Depe
     → new ≡ take front now ++ (gathered ++ drop live now) → IsGathered es ns new old index k live front
 ended es ns now gathered new old index k live front next u end o within is =
     let L = live_of es ns live in
-    let all : next ≡ live = omega (arith, u.within, end) in
-    let none : drop next L ≡ [] = drop_all next L (omega (arith, live-length es ns live o within, end)) in
-    let cut : Gathering L k (at_numbers es (take front now)) (at_numbers es gathered) [] =
-    subst (λ (bs : List Entry). Gathering L k (at_numbers es (take front now)) (at_numbers es gathered) bs) none u.cut in
+    let all : next ≡ live = omega (arith, u.within) in
+    let none : drop next L ≡ [] = grind (arith, drop_all, live-length) in
+    let cut : Gathering L k (at_numbers es (take front now)) (at_numbers es gathered) [] = grind arith in
     let out = gathered_outside L (at_numbers es (take front now)) (at_numbers es gathered) k cut in
     let in_it = gathered_inside L (at_numbers es (take front now)) (at_numbers es gathered) k cut in
-    let later : drop live now ≡ drop live ns = subst (λ (m : ℕ). drop m now ≡ drop m ns) all u.later in
-    let parts : at_numbers es new ≡ (at_numbers es (take front now) ++ at_numbers es gathered) ++ at_numbers es (drop live ns) =
-    grind (arith, at-append, append_assoc) in
-    let len : length (at_numbers es (take front now) ++ at_numbers es gathered) ≡ live =
-    omega (arith, length-append (at_numbers es (take front now)) (at_numbers es gathered), u.staying, u.going, u.number, all) in
-    record {
-      ordered =
-          grind (arith, order_moved, sum_by-append, cond, length-append, length-take-le, length-drop);
-      count = omega (arith, ap length in_it, u.going, u.number, all);
-      moved =
-          grind (arith, take_at);
-      behind =
-          grind (arith, drop_at, at-drop, order_below);
-      indexed = subst (λ (bs : List Entry). IsIndexOf index (take (k - 1) L ++ bs)) (sym in_it) u.indexed;
-      room = grind arith;
-    }
+    let parts : at_numbers es new ≡ (at_numbers es (take front now) ++ at_numbers es gathered) ++ at_numbers es (drop live ns) = grind (arith, at-append, append_assoc) in
+    grind (arith, sum_by-append, cond, length-append, length-take-le, length-drop, take_at, drop_at, at-drop, order_below)

@@ -1,8 +1,8 @@
 -- What the laws state: going back and forth, undoing steps out of their order and redoing them, and
 -- the old record and old content of an entry.
-use Rattle.rd_journal.proofs.Prelude.{◌≡◌, ℕ, sym, ◌∙◌, Ok, arith, length-append, length-drop, ◌-◌, ◌≤◌, refl, ap, List, [], ◌∷◌, ◌++◌, length, take, drop, Option, Some, None, Result, subst, get_or, ◌+◌, ◌<◌, append_assoc, drop-drop, drop-take, take-take, take-add, length-take-le, le-ltb, ltb-false, cond-false, take_at, drop_at, take-append-drop, Journal, IsRun, State, state_of, back, forward, length-map, first_dependant, Ran, step, unstep, Entry, IsTakenOut, taken_out, IsMovedLast, IsUndoneAlone, run_of, live_event, undo_at, and_then, Refusal, map-append, World, closure, closure_of, without_closure, Event, events, IsClosureLast, undone_where_true, roll, take-map, run, IsWellFormed, run_keeps, IsStepAfter, middle, nat_lt}
+use Rattle.rd_journal.proofs.Prelude.{◌≡◌, ℕ, sym, ◌∙◌, Ok, arith, length-append, length-drop, ◌-◌, ◌≤◌, refl, ap, List, [], ◌∷◌, ◌++◌, length, take, drop, None, Result, subst, get_or, ◌+◌, ◌<◌, append_assoc, drop-drop, drop-take, take-take, take-add, length-take-le, le-ltb, ltb-false, cond-false, take_at, drop_at, take-append-drop, Journal, IsRun, State, state_of, back, forward, length-map, first_dependant, Ran, step, unstep, Entry, IsTakenOut, taken_out, IsMovedLast, IsUndoneAlone, run_of, live_event, undo_at, and_then, Refusal, map-append, World, closure, closure_of, without_closure, Event, events, IsClosureLast, undone_where_true, roll, take-map, run, run_keeps, IsStepAfter, middle, nat_lt}
 use Rattle.rd_journal.proofs.Runs.{as_ok, as_ok-same, step_event, grown}
-use Rattle.rd_journal.proofs.ListLemmas.{nth, drop_one_less}
+use Rattle.rd_journal.proofs.ListLemmas.{nth, drop_one_less, drop_before}
 use Rattle.rd_journal.proofs.LoneUndo.{IsNumber, from_it, may_undo_at, undo_at_goes}
 use Rattle.rd_journal.proofs.Calls.{is_live, went_through}
 use Rattle.rd_journal.proofs.Walks.{state_forward}
@@ -29,21 +29,15 @@ from_one m xs = (λ i. drop-take m 1 xs i ++ sym (drop-drop 1 m xs) i) ∙ take-
 -- going back n + 1 steps is going back n steps, and then one
 pub back_more : (s : State) (n : ℕ) → n < length s.live → back s (n + 1) ≡ and_then (back s n) (λ u. back u 1)
 back_more s n few =
-    let xs = s.live in
-    let k = length xs - n in
-    let m = length xs - (n + 1) in
-    let u : State = record { start = s.start; live = take k xs; undone = drop k xs ++ s.undone } in
-    let more : k ≡ m + 1 = omega arith in
-    let left : length (take k xs) - 1 ≡ m = omega (arith, length-take-le k xs) in
-    let live : take m xs ≡ take (length (take k xs) - 1) (take k xs) =
-    sym (take-take m (m + 1) xs (omega arith)) ∙ (λ i. take (sym left i) (take (sym more i) xs)) in
-    let gone : drop m xs ≡ drop (length (take k xs) - 1) (take k xs) ++ drop k xs =
-    sym (from_one m xs) ∙ (λ i. drop (sym left i) (take (sym more i) xs) ++ drop (sym more i) xs) in
-    let undone : drop m xs ++ s.undone ≡ drop (length (take k xs) - 1) (take k xs) ++ (drop k xs ++ s.undone) =
-    ap (λ (ys : List Event). ys ++ s.undone) gone ∙ append_assoc (drop (length (take k xs) - 1) (take k xs)) (drop k xs) s.undone in
+    let k = length s.live - n in
+    let u : State = record { start = s.start; live = take k s.live; undone = drop k s.live ++ s.undone } in
+    let live : take (length s.live - (n + 1)) s.live ≡ take (length (take k s.live) - 1) (take k s.live) = grind (arith, length-take-le, take-take) in
+    let undone : drop (length s.live - (n + 1)) s.live ++ s.undone ≡ drop (length (take k s.live) - 1) (take k s.live) ++ (drop k s.live ++ s.undone) =
+    ap (λ (ys : List Event). ys ++ s.undone) (drop_before s.live (length s.live - (n + 1)) k 1 (omega arith) (omega arith))
+    ∙ append_assoc (drop (length (take k s.live) - 1) (take k s.live)) (drop k s.live) s.undone in
     back_within s (n + 1) (omega arith)
     ∙ (λ i. Ok (record { start = s.start; live = live i; undone = undone i }))
-    ∙ sym (ap (λ (r : Result State Refusal). and_then r (λ v. back v 1)) (back_within s n (omega arith)) ∙ back_within u 1 (omega (arith, length-take-le k xs (omega arith))))
+    ∙ sym (ap (λ (r : Result State Refusal). and_then r (λ v. back v 1)) (back_within s n (omega arith)) ∙ back_within u 1 (omega (arith, length-take-le k s.live (omega arith))))
 
 -- going forward n + 1 steps is going forward n steps, and then one
 pub forward_more : (s : State) (n : ℕ) → n < length s.undone → forward s (n + 1) ≡ and_then (forward s n) (λ u. forward u 1)
@@ -74,11 +68,7 @@ went_out : (s t : State) (r : Ran) (n : ℕ) → run_of s ≡ Ok r → undo_at s
 went_out s t r n ran h =
     let live = went_through (live_event s n) _ t h in
     let of_live = is_live s n live.0 live.1 in
-    (of_live.0, of_live.1, free (first_dependant r.entries n) refl)
-  where
-    free : (found : Option ℕ) → first_dependant r.entries n ≡ found → found ≡ None
-    free None is = refl
-    free (Some k) is = absurd (grind (arith, ran, h))
+    grind (arith, ran)
 
 -- Redone last
 
@@ -108,21 +98,12 @@ pub redone_last : (i j k : Journal) (n : ℕ) → IsRun i → IsRun k → undo_a
     → forward (state_of j) 1 ≡ Ok (state_of k) → IsMovedLast n i k
 redone_last i j k n ri rk undone redone =
     let went = went_out (state_of i) (state_of j) (record { world = i.world; entries = i.live }) n ri.live_ran undone in
-    let len = length-map i.live (λ (x : Entry). x.event) in
-    let within : n ≤ length i.live = omega (arith, went.1) in
+    let within : n ≤ length i.live = omega (arith, went.1, length-map i.live (λ (x : Entry). x.event)) in
     let found = nth i.live (n - 1) (omega arith) in
     let at : IsNumber i.live n found.0 = record { some = went.0; within = within; here = found.1 } in
     let is = again i n found.0 at went.2 ri in
-    let same : state_of k ≡ state_of (again_journal i n found.0) =
-    as_ok-same _ _ (sym redone ∙ ap (λ (r : Result State Refusal). and_then r (λ s. forward s 1)) (sym undone) ∙ is.1) in
-    let one : k ≡ again_journal i n found.0 = one_journal k (again_journal i n found.0) rk is.0 same in
-    record {
-      start = ap (λ (l : Journal). l.start) one;
-      world = ap (λ (l : Journal). l.world) one;
-      live =
-          grind (arith, from_it);
-      undone = ap (λ (l : Journal). l.undone) one;
-    }
+    let one : k ≡ again_journal i n found.0 = one_journal k (again_journal i n found.0) rk is.0 (grind arith) in
+    grind (arith, from_it)
 
 -- redoing as many steps as a block has puts the block last
 forward_all : (w : World) (n : ℕ) (xs ys zs : List Event) → n ≡ length ys
@@ -140,7 +121,6 @@ closure_redone i j k n ri rk back on =
     let its = λ (x : Entry). x.event in
     let within : n ≤ length i.live = omega (arith, went.1, length-map i.live its) in
     let re = reordered i n went.0 within ri in
-    let ms = closure i.live n in
     let xs = without_closure i.live n in
     let ys = closure_of i.live n in
     let left : state_of j ≡ record { start = i.start; live = events xs; undone = events ys ++ events i.undone } =
@@ -150,32 +130,15 @@ closure_redone i j k n ri rk back on =
     let same : state_of k ≡ state_of (closure_last i n) =
     there ∙ (λ t. record { start = i.start; live = sym (map-append its xs ys) t; undone = events i.undone }) in
     let one : k ≡ closure_last i n = one_journal k (closure_last i n) rk re same in
-    record {
-      start = ap (λ (l : Journal). l.start) one;
-      world = ap (λ (l : Journal). l.world) one;
-      live = ap (λ (l : Journal). l.live) one;
-      undone = ap (λ (l : Journal). l.undone) one;
-    }
+    grind arith
 
 -- the entry at position k of the live ones is that of the step after the first k
 pub step_after : (j : Journal) (k : ℕ) (x : Entry) → IsRun j → k < length j.live → x ≡ get_or j.live k x → IsStepAfter k j x
 step_after j k x runs low at =
-    let w = j.world in
     let xs = take k j.live in
     let ys = drop (k + 1) j.live in
-    let cut : j.live ≡ xs ++ x ∷ ys =
-    sym (take-append-drop k j.live) ∙ ap (λ (zs : List Entry). xs ++ zs) (drop_one_less j.live k x low at) in
-    let start = j.start in
-    let ran : run start (events (xs ++ x ∷ ys)) ≡ Ok (record { world = w; entries = xs ++ x ∷ ys }) =
-    subst (λ (zs : List Entry). run start (events zs) ≡ Ok (record { world = w; entries = zs })) cut runs.live_ran in
-    let m = middle start xs x ys w ran in
-    let formed : IsWellFormed m.before = run_keeps start (events xs) (record { world = m.before; entries = xs }) runs.well_formed m.ran in
+    let cut : j.live ≡ xs ++ x ∷ ys = sym (take-append-drop k j.live) ∙ ap (λ (zs : List Entry). xs ++ zs) (drop_one_less j.live k x low at) in
+    let m = middle j.start xs x ys j.world (subst (λ (zs : List Entry). run j.start (events zs) ≡ Ok (record { world = j.world; entries = zs })) cut runs.live_ran) in
+    let formed = run_keeps j.start (events xs) (record { world = m.before; entries = xs }) runs.well_formed m.ran in
     let words = keeps_old_words m.before x.event (record { world = m.after; entry = x }) formed m.goes in
-    record {
-      before = m.before;
-      ran = ap (run start) (take-map (λ (y : Entry). y.event) k j.live) ∙ m.ran;
-      after = m.after;
-      goes = m.goes;
-      old_actor = words.actor;
-      old_content = words.content;
-    }
+    grind (arith, take-map)

@@ -1,21 +1,17 @@
 -- Undoing one live step alone, on which no later one depends, over whole journals.
-use Rattle.rd_journal.proofs.Prelude.{list_any, or_from, common_steps, cases_Bool, cond-true, cond-false, map-append, take-map, drop-map, take-append-drop, depends, IsFree, first_dependant, MOST_STEPS, Entry, position_from, WasStepped, IsTakenOut, Journal, IsRun, IsUndoneAlone, IsRunWithout, unless_depended, answer_at, state_of, undo_at, and_then, events, numbered, without, ◌≡◌, refl, ℕ, ◌+◌, ◌-◌, ◌<◌, ◌≤◌, ◌⊎◌, inl, inr, sym, ◌∙◌, ap, subst, arith, List, [], ◌∷◌, ◌++◌, length, take, drop, get_or, Some, None, Ok, Err, length-append}
+use Rattle.rd_journal.proofs.Prelude.{Bool, false, list_any, common_steps, map-append, take-map, drop-map, take-append-drop, depends, first_dependant, MOST_STEPS, Entry, position_from, WasStepped, IsTakenOut, Journal, IsRun, IsUndoneAlone, IsRunWithout, unless_depended, answer_at, state_of, undo_at, and_then, events, numbered, without, ◌≡◌, refl, ℕ, ◌+◌, ◌-◌, ◌<◌, ◌≤◌, ◌⊎◌, sym, ◌∙◌, ap, subst, arith, List, [], ◌∷◌, ◌++◌, length, take, drop, get_or, Some, None, Ok, Err, length-append}
 use Rattle.rd_journal.proofs.ListLemmas.{nth, drop_one_less}
 use Rattle.rd_journal.proofs.Calls.{entry_missing, entry_found, event_of_entry}
 use Rattle.rd_journal.proofs.Finding.{numbered_in, scan_is}
-use Rattle.rd_journal.proofs.Runs.{MayTakeOut, may_take_out}
+use Rattle.rd_journal.proofs.Runs.{may_take_out}
 use Rattle.rd_cell.specs.declared.refusal.Refusal.TheVariants as refusal
 
 -- Dependence
 
-pub none_is_free : (x : Entry) (n : ℕ) (ys : List Entry) → position_from (depends x) n ys ≡ None → IsFree x ys
-none_is_free x n [] h = refl
-none_is_free x n (y ∷ ys) h =
-    elim (cases_Bool (depends x y)) [
-      | inl e ↦
-          grind (arith, cond-true)
-      | inr e ↦ or_from (depends x y) (list_any (depends x) ys) e (none_is_free x (n + 1) ys (sym (cond-false (depends x y) (Some n) (position_from (depends x) (n + 1) ys) e) ∙ h))
-    ]
+-- a scan that finds nothing has passed over all entries
+none_is_free : (test : Entry → Bool) (n : ℕ) (ys : List Entry) → position_from test n ys ≡ None → list_any test ys ≡ false
+none_is_free test n [] h = refl
+none_is_free test n (y ∷ ys) h = grind (arith, none_is_free test (n + 1) ys)
 
 -- the entry x is the k-th of the list, counted from 1
 pub record IsNumber (l : List Entry) (k : ℕ) (x : Entry) : Type 0 where
@@ -52,24 +48,18 @@ pub record MayUndoAt (old : Journal) (k : ℕ) (x : Entry) : Type 0 where
   pub was : WasStepped old.world x
   pub left : (new : Journal) → new.start ≡ old.start → IsTakenOut old.world new.world x was → IsUndoneAlone k old new → IsRun new
 
-may_undo_around : (old : Journal) (k : ℕ) (x : Entry) → IsNumber old.live k x
-    → MayTakeOut old.start old.world (take (k - 1) old.live) (drop k old.live) old.undone x → MayUndoAt old k x
-may_undo_around old k x at may = record { was = may.was; left = left }
-  where
-    same : (new : Journal) → new.start ≡ old.start → IsUndoneAlone k old new
-        → new ≡ record { start = old.start; world = new.world; live = take (k - 1) old.live ++ drop k old.live; undone = x ∷ old.undone }
-    same new start moved = grind (arith, common_steps, taken_out_front)
-
-    left : (new : Journal) → new.start ≡ old.start → IsTakenOut old.world new.world x may.was → IsUndoneAlone k old new → IsRun new
-    left new start out moved = subst (λ (j : Journal). IsRun j) (sym (same new start moved)) (may.left new.world out)
-
 pub may_undo_at : (old : Journal) (k : ℕ) (x : Entry) → IsNumber old.live k x → first_dependant old.live k ≡ None → IsRun old
     → MayUndoAt old k x
 may_undo_at old k x at none runs =
-    let free : IsFree x (drop k old.live) = none_is_free x (k + 1) (drop k old.live) (sym (first_behind old.live k x at) ∙ none) in
-    let cut : IsRun (record { start = old.start; world = old.world; live = take (k - 1) old.live ++ x ∷ drop k old.live; undone = old.undone }) =
-    subst (λ (l : List Entry). IsRun (record { start = old.start; world = old.world; live = l; undone = old.undone })) (around_it old.live k x at) runs in
-    may_undo_around old k x at (may_take_out old.start old.world (take (k - 1) old.live) (drop k old.live) old.undone x cut free)
+    let may = may_take_out old.start old.world (take (k - 1) old.live) (drop k old.live) old.undone x (grind (arith, around_it))
+    (none_is_free (depends x) (k + 1) (drop k old.live) (grind (arith, first_behind))) in
+    record {
+      was = may.was;
+      left = λ new start out moved.
+          let same : new ≡ record { start = old.start; world = new.world; live = take (k - 1) old.live ++ drop k old.live; undone = x ∷ old.undone } =
+          grind (arith, common_steps, taken_out_front) in
+          subst (λ (j : Journal). IsRun j) (sym same) (may.left new.world out);
+    }
 
 -- the events of a list without its k-th entry
 without-events : (xs : List Entry) (k : ℕ) → events (without xs k) ≡ without (events xs) k
@@ -98,9 +88,8 @@ undo_at_goes k old new runs some within free moved start =
     let x = nth old.live (k - 1) (omega arith) in
     let at : IsNumber old.live k x.0 = record { some = some; within = within; here = x.1 } in
     let there = undo_at_there old k x.0 runs at in
-    let live : events new.live ≡ without (events old.live) k = ap events moved.live ∙ without-events old.live k in
     let front = taken_out_front k old new x.0 at moved in
-    (grind arith, grind arith)
+    grind (arith, without-events)
 
 pub undo_at_refused : (k n : ℕ) (j : Journal) → IsRun j → 1 ≤ k → k ≤ length j.live → first_dependant j.live k ≡ Some n
     → (undo_at (state_of j) k ≡ Err (refusal.Depended n)) × (Err (refusal.Depended n) ≡ answer_at j k)

@@ -1,7 +1,8 @@
 -- Rolling back a live step with all that depends on it, over whole journals.
-use Rattle.rd_journal.proofs.Prelude.{run_joined, ◌≡◌, ℕ, zero, suc, ◌+◌, ◌-◌, ◌≤◌, Bool, refl, sym, ◌∙◌, ap, arith, List, [], ◌∷◌, ◌++◌, length, get_or, take, drop, None, ◌<◌, ◌⊎◌, subst, Ok, Err, depends, first_dependant, closure_of, without_closure, items_where_true, items_where_false, closure_from, position_from, Entry, Journal, IsUndoneAlone, IsRolledBack, append_assoc, map-append, take-append-drop, World, run, closure, run-cons, events, IsRun, IsWithoutClosure, roll_answer, IsSession, state_of, undone_where_true, roll, middle}
+use Rattle.rd_journal.proofs.Prelude.{◌≡◌, ℕ, zero, suc, ◌+◌, ◌-◌, ◌≤◌, Bool, refl, sym, ◌∙◌, ap, arith, List, [], ◌∷◌, ◌++◌, length, take, drop, None, ◌<◌, ◌⊎◌, subst, Ok, Err, depends, first_dependant, closure_of, without_closure, items_where_true, items_where_false, closure_from, position_from, Entry, Journal, IsUndoneAlone, IsRolledBack, append_assoc, map-append, take-append-drop, World, run, run-cons, events, IsRun, IsWithoutClosure, roll_answer, IsSession, state_of, roll, middle}
 use Rattle.rd_journal.proofs.Gathering.{cut_at, gathered_run}
 use Rattle.rd_journal.proofs.Finding.{numbered_in, scan_is}
+use Rattle.rd_journal.proofs.Runs.{runs_joined}
 use Rattle.rd_journal.proofs.ListLemmas.{nth, drop_one_less}
 use Rattle.rd_journal.proofs.Calls.{entry_missing, entry_found, event_of_entry}
 use Rattle.rd_cell.specs.declared.refusal.Refusal.TheVariants as refusal
@@ -22,12 +23,7 @@ alone_rolled (suc i) old new some within free out =
     let x = nth l i (omega arith) in
     let c = cut_at l i x.0 (omega arith) x.1 in
     let rest = drop (suc i) l in
-    let same : i ≡ suc i - 1 = omega arith in
-    let here : x.0 ≡ get_or l (suc i - 1) x.0 = x.1 ∙ ap (λ (m : ℕ). get_or l m x.0) same in
-    let none : position_from (depends x.0) (suc i + 1) rest ≡ None = sym (scan_is x.0 l (suc i) (numbered_in l (suc i) x.0 some within here)) ∙ free in
-    let outside : without_closure l (suc i) ≡ take (suc i - 1) l ++ rest = c.outside ∙ (λ j. take (same j) l ++ unmarked_all x.0 (suc i + 1) rest none j) in
-    let inside : closure_of l (suc i) ≡ take 1 (drop (suc i - 1) l) = grind (arith, marked_none, drop_one_less) in
-    record { live = out.live ∙ sym outside; undone = out.undone ∙ ap (λ (ys : List Entry). ys ++ old.undone) (sym inside) }
+    grind (arith, scan_is, numbered_in, unmarked_all, marked_none, drop_one_less)
 
 -- The closure gathered last
 
@@ -46,17 +42,12 @@ reordered_run s w l i low h =
     let one : i + 1 ≡ suc i = omega arith in
     let around : l ≡ xs ++ x ∷ ys = sym (take-append-drop i l) ∙ ap (λ (zs : List Entry). xs ++ zs) (drop_one_less l i x low found.1 ∙ ap (λ (n : ℕ). x ∷ drop n l) one) in
     let m = middle s xs x ys w (subst (λ (zs : List Entry). run s (events zs) ≡ Ok (record { world = w; entries = zs })) around h) in
-    let from : run m.before (events (x ∷ ys)) ≡ Ok (record { world = w; entries = x ∷ ys }) =
-    run-cons m.before x.event (events ys) (record { world = m.after; entry = x }) (record { world = w; entries = ys }) m.goes m.rest in
+    let from = run-cons m.before x.event (events ys) (record { world = m.after; entry = x }) (record { world = w; entries = ys }) m.goes m.rest in
     let ms = closure_from (x ∷ []) ys in
-    let zs = items_where_false ms ys ++ ((x ∷ []) ++ items_where_true ms ys) in
-    let turned = gathered_run m.before w (x ∷ []) ys from in
-    let all : run s (events (xs ++ zs)) ≡ Ok (record { world = w; entries = xs ++ zs }) =
-    ap (run s) (map-append (λ (y : Entry). y.event) xs zs)
-    ∙ run_joined s (events xs) (events zs) (record { world = m.before; entries = xs }) (record { world = w; entries = zs }) m.ran turned in
-    let same : xs ++ zs ≡ without_closure l (suc i) ++ closure_of l (suc i) =
+    let same : xs ++ (items_where_false ms ys ++ x ∷ items_where_true ms ys) ≡ without_closure l (suc i) ++ closure_of l (suc i) =
     sym (append_assoc xs (items_where_false ms ys) (x ∷ items_where_true ms ys)) ∙ (λ t. sym c.outside t ++ sym c.inside t) in
-    subst (λ (qs : List Entry). run s (events qs) ≡ Ok (record { world = w; entries = qs })) same all
+    subst (λ (qs : List Entry). run s (events qs) ≡ Ok (record { world = w; entries = qs })) same
+    (runs_joined s m.before w xs (items_where_false ms ys ++ x ∷ items_where_true ms ys) m.ran (gathered_run m.before w (x ∷ []) ys from))
 
 -- the journal with the closure gathered last is a run from the same start
 pub reordered : (j : Journal) (k : ℕ) → 1 ≤ k → k ≤ length j.live → IsRun j → IsRun (closure_last j k)
@@ -78,12 +69,9 @@ pub record IsGatheredLast (k : ℕ) (old new : Journal) : Type 0 where
   pub undone : new.undone ≡ old.undone
   pub len : length new.live ≡ length old.live
 
-gathered_journal : (k : ℕ) (old new : Journal) → IsGatheredLast k old new → new ≡ closure_last old k
-gathered_journal k old new g = λ i. record { start = g.start i; world = g.world i; live = g.live i; undone = g.undone i }
-
 pub gathered_session : (k : ℕ) (old new : Journal) (room : ℕ → ℕ) → IsSession old room → 1 ≤ k → k ≤ length old.live → IsGatheredLast k old new
     → IsSession new room
-gathered_session k old new room session some within g = grind (arith, reordered, gathered_journal)
+gathered_session k old new room session some within g = grind (arith, reordered)
 
 -- The state
 
@@ -95,9 +83,6 @@ pub items_where_false-map : (bs : List Bool) (xs : List Entry) → items_where_f
 items_where_false-map (b ∷ bs) (x ∷ xs) = grind (arith, items_where_false-map bs xs)
 items_where_false-map bs xs = grind arith
 
-pub rolled_state : (k : ℕ) (old new : Journal) → IsRolledBack k old new → new.start ≡ old.start → state_of new ≡ undone_where_true (state_of old) (closure old.live k)
-rolled_state k old new is start = grind (arith, items_where_false-map, map-append, marked-map)
-
 pub rolled_run : (k : ℕ) (old new : Journal) → IsRolledBack k old new → new.start ≡ old.start → IsRun new → IsWithoutClosure k old new
 rolled_run k old new is start runs = grind (arith, items_where_false-map)
 
@@ -108,7 +93,7 @@ pub roll_goes : (k : ℕ) (old new : Journal) → IsRun old → 1 ≤ k → k �
 roll_goes k old new runs some within is start =
     let x = nth old.live (k - 1) (omega arith) in
     let found = entry_found old k x.0 some within x.1 in
-    (grind (arith, event_of_entry, rolled_state), grind arith)
+    (grind (arith, event_of_entry, items_where_false-map, map-append, marked-map), grind arith)
 
 -- the answer to rolling back a step, if it is not there
 pub roll_missing : (j : Journal) (n k : ℕ) → n ≡ length j.live → (k ≡ 0) ⊎ (n < k)

@@ -1,15 +1,11 @@
 -- The room that redoing needs, of the makers and in the index of dependants. The index counts room
 -- for each actor, place and segment, so the order of entries doesn't matter.
-use Rattle.rd_journal.proofs.Prelude.{◌≡◌, true, Result, is_err, arith, ℕ, ◌+◌, ◌≤◌, List, ◌∷◌, Ok, [], ◌++◌, take, drop, ap, World, step, Event, Entry, makes_segment, room_used, room_returned, room_used_returned, HasRoom, take-append-drop, DependIndex, touches, number_of, GivesRoom, HasRoomFor, HasRoomInstead, LacksIndexRoom, OnErr}
+use Rattle.rd_journal.proofs.Prelude.{◌≡◌, true, Result, is_err, arith, ℕ, ◌+◌, ◌≤◌, List, ◌∷◌, Ok, [], ◌++◌, take, ap, World, step, Event, Entry, makes_segment, room_used, room_returned, room_used_returned, HasRoom, take-append-drop, DependIndex, touches, number_of, GivesRoom, HasRoomFor, HasRoomInstead, LacksIndexRoom, OnErr}
 use Rattle.rd_depend.proofs.IndexPositions.{number-append}
 
 -- what holds in case of an error holds of a result that is one
 pub err_then : {X E P : Type 0} (r : Result X E) → is_err r ≡ true → OnErr r P → P
 err_then r h p = grind arith
-
--- what follows from an error holds in case of one
-pub in_error : {X E P : Type 0} (r : Result X E) → (is_err r ≡ true → P) → OnErr r P
-in_error r f = grind arith
 
 -- undoing a step gives back the room that redoing it needs
 pub given_back : (xs ys : List Entry) (x : Entry) (before after : ℕ → ℕ) → ys ≡ x ∷ xs → HasRoom xs before
@@ -46,21 +42,8 @@ fits_back old new gone rest gives has = record { lists = λ t. omega (arith, num
 pub lacks_fewer : (index : DependIndex) (m : ℕ) (front gone given : List Entry) → (HasRoomInstead index (front ++ gone) given → ⊥)
     → LacksIndexRoom index (front ++ take m gone) given
 lacks_fewer index m front gone given lacks has = lacks (record {
-  lists = λ t.
-      let parts = ap (number_of (touches t)) (take-append-drop m gone) in
-      omega (
-        arith,
-        has.lists t,
-        number-append (touches t) front gone,
-        number-append (touches t) front (take m gone),
-        number-append (touches t) (take m gone) (drop m gone),
-        parts,
-      );
+  lists = λ t. omega (arith, number-append, ap (number_of (touches t)) (take-append-drop m gone), has.lists t);
 })
-
--- if there is room for two lists of entries, there is for the first
-pub fits_first : (index : DependIndex) (xs ys : List Entry) → HasRoomFor index (xs ++ ys) → HasRoomFor index xs
-fits_first index xs ys has = record { lists = λ t. omega (arith, number-append (touches t) xs ys, has.lists t) }
 
 -- if there is room for an entry and others, there is for the entry
 pub fits_one : (index : DependIndex) (x : Entry) (rest : List Entry) → HasRoomFor index (x ∷ rest) → HasRoomFor index (x ∷ [])

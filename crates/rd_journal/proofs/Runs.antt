@@ -1,6 +1,6 @@
 -- Runs and their entries: two runs joined, the first and the last step of a run, and journals that
 -- gain or lose a step.
-use Rattle.rd_journal.proofs.Prelude.{run_joined, ◌≡◌, refl, sym, ◌∙◌, ap, subst, List, [], ◌∷◌, ◌++◌, Result, Ok, arith, ℕ, ◌-◌, ◌<◌, ◌≤◌, ◌⊎◌, length, take, drop, get_or, slice_get, option_map, Some, None, map-append, Refusal, World, Stepped, step, unstep, Ran, run, IsFree, IsWellFormed, Event, Entry, preceded_by, and_then, result_map, WasStepped, IsTakenOut, took, undoes, run-cons, run_keeps, Middle, middle, Journal, events, IsRun, IsRunFrom, append-nil, taken_out, take_more, slice_get-map, slice_get_past, slice_get-get_or, LeadsTo, numbered, run_entries}
+use Rattle.rd_journal.proofs.Prelude.{runs_to, run_joined, ◌≡◌, refl, sym, ◌∙◌, ap, subst, List, [], ◌∷◌, ◌++◌, Result, Ok, arith, ℕ, ◌-◌, ◌<◌, ◌≤◌, ◌⊎◌, length, take, drop, get_or, slice_get, option_map, Some, None, map-append, Refusal, World, Stepped, step, unstep, run, IsFree, IsWellFormed, Event, Entry, WasStepped, IsTakenOut, took, run-cons, run_keeps, middle, Journal, events, IsRun, IsRunFrom, append-nil, taken_out, take_more, slice_get-map, slice_get_past, slice_get-get_or, LeadsTo, numbered, run_entries}
 use Rattle.rd_journal.proofs.ListLemmas.{drop_one_less}
 
 -- a result that is no refusal
@@ -21,13 +21,18 @@ pub runs_since : (s : World) (j : Journal) → j.start ≡ s → IsWellFormed s 
     → IsRunFrom j.world j.undone → IsRun j
 runs_since s j start formed ran on = grind arith
 
+-- two runs, the second from the last world of the first, are one run
+pub runs_joined : (s w v : World) (xs ys : List Entry) → run s (events xs) ≡ Ok (record { world = w; entries = xs })
+    → run w (events ys) ≡ Ok (record { world = v; entries = ys }) → run s (events (xs ++ ys)) ≡ Ok (record { world = v; entries = xs ++ ys })
+runs_joined s w v xs ys h k =
+    ap (run s) (map-append (λ (y : Entry). y.event) xs ys)
+    ∙ run_joined s (events xs) (events ys) (record { world = w; entries = xs }) (record { world = v; entries = ys }) h k
+
 -- a run with one more step is a run
 pub ran_more : (s w v : World) (xs : List Entry) (x : Entry) → run s (events xs) ≡ Ok (record { world = w; entries = xs })
     → step w x.event ≡ Ok (record { world = v; entry = x }) → run s (events (xs ++ x ∷ [])) ≡ Ok (record { world = v; entries = xs ++ x ∷ [] })
 ran_more s w v xs x ran goes =
-    let last = run-cons w x.event [] (record { world = v; entry = x }) (record { world = v; entries = [] }) goes refl in
-    ap (run s) (map-append (λ (y : Entry). y.event) xs (x ∷ []))
-    ∙ run_joined s (events xs) (x.event ∷ []) (record { world = w; entries = xs }) (record { world = v; entries = x ∷ [] }) ran last
+    runs_joined s w v xs (x ∷ []) ran (run-cons w x.event [] (record { world = v; entry = x }) (record { world = v; entries = [] }) goes refl)
 
 -- a journal's world is well-formed
 pub now_formed : (j : Journal) → IsRun j → IsWellFormed j.world
@@ -41,10 +46,6 @@ grown s w v xs zs ys x e runs h rest =
     let its : x.event ≡ e = step_event w e (record { world = v; entry = x }) h in
     record { well_formed = runs.well_formed; live_ran = ran_more s w v xs x runs.live_ran (ap (step w) its ∙ h); undone_run_on = rest }
 
--- if entries run on after a step, they run with the step's entry in front
-pub preceded_entries : (x : Entry) (r : Result Ran Refusal) (ys : List Entry) → run_entries r ≡ Ok ys → run_entries (result_map (preceded_by x) r) ≡ Ok (x ∷ ys)
-preceded_entries x r ys h = grind arith
-
 -- if a live step on which no later one depends is taken out of a run, what is left is a run from
 -- the same start, with the step's entry in front of the undone ones
 pub record MayTakeOut (s w : World) (xs ys zs : List Entry) (x : Entry) : Type 0 where
@@ -53,13 +54,9 @@ pub record MayTakeOut (s w : World) (xs ys zs : List Entry) (x : Entry) : Type 0
 
 pub may_take_out : (s w : World) (xs ys zs : List Entry) (x : Entry) → IsRun (record { start = s; world = w; live = xs ++ x ∷ ys; undone = zs })
     → IsFree x ys → MayTakeOut s w xs ys zs x
-may_take_out s w xs ys zs x runs free = record { was = was; left = left }
-  where
-    m : Middle s xs x ys w
-    m = middle s xs x ys w runs.live_ran
-
-    was : WasStepped w x
-    was = record {
+may_take_out s w xs ys zs x runs free =
+    let m = middle s xs x ys w runs.live_ran in
+    let was : WasStepped w x = record {
       start = m.before;
       well_formed = run_keeps s (events xs) (record { world = m.before; entries = xs }) runs.well_formed m.ran;
       event = x.event;
@@ -71,41 +68,17 @@ may_take_out s w xs ys zs x runs free = record { was = was; left = left }
       went_on = m.rest;
       here = refl;
       free = free;
+    } in
+    let on = runs_to w zs runs.undone_run_on in
+    record {
+      was = was;
+      left = λ v out.
+          record {
+            well_formed = runs.well_formed;
+            live_ran = runs_joined s m.before v xs ys m.ran out.rest;
+            undone_run_on = ap run_entries (run-cons v x.event (events zs) (record { world = w; entry = x }) (record { world = on.last; entries = zs }) out.again on.runs);
+          };
     }
-
-    left : (v : World) → IsTakenOut w v x was → IsRun (record { start = s; world = v; live = xs ++ ys; undone = x ∷ zs })
-    left v out =
-        let ran = run_joined s (events xs) (events ys) (record { world = m.before; entries = xs }) (record { world = v; entries = ys }) m.ran out.rest in
-        record {
-          well_formed = runs.well_formed;
-          live_ran = ap (run s) (map-append (λ (y : Entry). y.event) xs ys) ∙ ran;
-          undone_run_on =
-              ap (λ (r : Result Stepped Refusal). run_entries (and_then r (λ s. result_map (preceded_by s.entry) (run s.world (events zs))))) out.again
-              ∙ preceded_entries x (run w (events zs)) zs runs.undone_run_on;
-        }
-
--- a step that was just made may be undone, and undoing it restores the world before it
-pub record WasJustStepped (w v : World) (x : Entry) : Type 0 where
-  pub was : WasStepped v x
-  pub back : unstep v x ≡ w
-
-pub just_stepped : (w v : World) (e : Event) (x : Entry) → IsWellFormed w → step w e ≡ Ok (record { world = v; entry = x }) → WasJustStepped w v x
-just_stepped w v e x formed goes = record {
-  was = record {
-    start = w;
-    well_formed = formed;
-    event = e;
-    stepped = record { world = v; entry = x };
-    goes = goes;
-    its_entry = refl;
-    later = [];
-    ran = record { world = v; entries = [] };
-    went_on = refl;
-    here = refl;
-    free = refl;
-  };
-  back = undoes w e (record { world = v; entry = x }) formed goes;
-}
 
 -- the last of the steps that lead to a world may be undone, and the others then lead to what
 -- undoing leaves
@@ -118,12 +91,7 @@ may_step_back start w xs x leads =
     let v = unstep w x in
     let may = may_take_out start w xs [] [] x (record { well_formed = leads.well_formed; live_ran = leads.ran; undone_run_on = refl }) refl in
     let left = may.left v (taken_out w x may.was) in
-    record {
-      was = may.was;
-      left =
-          subst (λ (l : List Entry). LeadsTo start v l) (append-nil xs)
-          (record { well_formed = leads.well_formed; ran = left.live_ran });
-    }
+    grind (arith, append-nil)
 
 -- the live steps lead from the start to the world
 pub live_lead : (j : Journal) (steps : List Entry) → IsRun j → steps ≡ j.live → LeadsTo j.start j.world steps
@@ -132,6 +100,17 @@ live_lead j steps runs all = subst (λ (xs : List Entry). LeadsTo j.start j.worl
 -- no steps lead from a world only to itself
 pub led_nowhere : (start w : World) → LeadsTo start w [] → w ≡ start
 led_nowhere start w leads = grind arith
+
+-- a step that was just made may be undone, and undoing it restores the world before it
+pub record WasJustStepped (w v : World) (x : Entry) : Type 0 where
+  pub was : WasStepped v x
+  pub back : unstep v x ≡ w
+
+pub just_stepped : (w v : World) (e : Event) (x : Entry) → IsWellFormed w → step w e ≡ Ok (record { world = v; entry = x }) → WasJustStepped w v x
+just_stepped w v e x formed goes =
+    let its = step_event w e (record { world = v; entry = x }) goes in
+    let may = may_step_back w v [] x (record { well_formed = formed; ran = ran_more w w v [] x refl (ap (step w) its ∙ goes) }) in
+    record { was = may.was; back = led_nowhere w (unstep v x) may.left }
 
 -- the first n elements are the first n - 1 and one more
 pub one_more : {X : Type 0} (xs : List X) (n : ℕ) (x : X) → 1 ≤ n → n ≤ length xs → x ≡ get_or xs (n - 1) x → take n xs ≡ take (n - 1) xs ++ x ∷ []

@@ -1,6 +1,6 @@
 -- Entries of a run put after the first live ones, and the room that their makings need.
-use Rattle.rd_journal.proofs.Prelude.{run_joined, common_steps, take-suc, cases_Bool, cases_eq, cond-true, cond-false, map-append, take-map, length-take, length-take-le, get_or-set_same, get_or-set_other, SegName, Place, Content, after, World, Stepped, step, run, MOST_STEPS, Event, Entry, makes_segment, room_used, room_returned, took, with_actor-other, room_used_returned, Journal, events, IsRun, IsRunFrom, LeadsTo, IsSwitched, IsSession, room_returned_by, room_after_undoing, HasRoom, HasRoomForActors, state_of, switch, run_stays_actor, beginning, first_step, ◌≡◌, ◌≢◌, ℕ, zero, suc, ◌+◌, ◌-◌, ◌<◌, ◌≤◌, ◌==◌, Bool, true, false, refl, sym, ◌∙◌, ap, subst, arith, inl, inr, List, [], ◌∷◌, ◌++◌, length, take, drop, set, get_or, if◌then◌else◌, Option, Some, None, is_some, IsSome, Ok, eq-eqb, ne_eqb, length-append, made, made_at}
-use Rattle.rd_journal.proofs.Runs.{as_ok-same, live_lead}
+use Rattle.rd_journal.proofs.Prelude.{common_steps, take-suc, cases_Bool, map-append, take-map, length-take-le, SegName, Place, Content, after, World, Stepped, step, run, MOST_STEPS, Event, Entry, room_used, room_returned, took, with_actor-other, room_used_returned, Journal, events, IsRun, IsRunFrom, LeadsTo, IsSwitched, IsSession, room_returned_by, room_after_undoing, HasRoom, HasRoomForActors, state_of, switch, run_stays_actor, beginning, first_step, ◌≡◌, ◌≢◌, ℕ, zero, suc, ◌+◌, ◌-◌, ◌<◌, ◌≤◌, ◌==◌, Bool, false, refl, sym, ◌∙◌, ap, subst, arith, inl, inr, List, [], ◌∷◌, ◌++◌, length, take, drop, set, get_or, if◌then◌else◌, Option, Some, None, is_some, IsSome, Ok, length-append, made, made_at}
+use Rattle.rd_journal.proofs.Runs.{runs_joined, as_ok-same, live_lead}
 
 -- Counting makings
 
@@ -15,18 +15,14 @@ pub returned_joined : (xs ys : List Entry) (m : ℕ) → room_returned_by (xs ++
 returned_joined [] ys m = omega arith
 returned_joined (x ∷ xs) ys m = omega (arith, returned_joined xs ys m)
 
--- an entry that isn't a making gives no room back
-none_returned : (p : Option Place) (c : Option Content) (m : ℕ) → made_at p c ≡ None → room_returned p c m ≡ 0
-none_returned p c m h = grind arith
-
 -- a making gives the room of one segment back to its maker
 returned_made : (p : Option Place) (c : Option Content) (m : ℕ) (s : SegName) → made_at p c ≡ Some s → room_returned p c m ≡ (if m == s.maker then 1 else 0)
 returned_made p c m s h = grind (arith, h)
 
 -- the makings among the first entries and the next one
-returned_next : (xs : List Entry) (i m count more next : ℕ) (d : Entry) → i < length xs → count ≡ room_returned_by (take i xs) m
-    → more ≡ room_returned (get_or xs i d).place (get_or xs i d).old_content m → next ≡ count + more → next ≡ room_returned_by (take (i + 1) xs) m
-returned_next xs i m count more next d h counted one is = grind (arith, common_steps, take-suc, returned_joined)
+returned_next : (xs : List Entry) (i m : ℕ) (d : Entry) → i < length xs
+    → room_returned_by (take (i + 1) xs) m ≡ room_returned_by (take i xs) m + room_returned (get_or xs i d).place (get_or xs i d).old_content m
+returned_next xs i m d h = grind (arith, common_steps, take-suc, returned_joined)
 
 -- Who makes
 
@@ -36,7 +32,7 @@ not_its_actor w e s m k none same = grind arith
 
 brings_no_actor : (w : World) (e : Event) (s : Stepped) (m : ℕ) → step w e ≡ Ok s → is_some (w.actor m) ≡ false
     → is_some (s.world.actor m) ≡ false
-brings_no_actor w e s m k none = grind (arith, took, with_actor-other, not_its_actor)
+brings_no_actor w e s m k none = grind (arith, took, with_actor-other)
 
 used_by_other : (made : Bool) (n m : ℕ) → m ≢ n → room_used made n m ≡ 0
 used_by_other made n m ne = grind arith
@@ -47,10 +43,8 @@ none_made w [] m h none = refl
 none_made w (x ∷ xs) m h none =
     let first = first_step w x xs h in
     let s : Stepped = record { world = first.after; entry = x } in
-    let used = room_used_returned w x.event s m first.goes in
-    let other = used_by_other (makes_segment w x.event) x.event.actor m (not_its_actor w x.event s m first.goes none) in
     let rest = none_made first.after xs m first.rest (brings_no_actor w x.event s m first.goes none) in
-    omega (arith, used, other, rest)
+    grind (arith, room_used_returned w x.event s m first.goes, used_by_other, not_its_actor)
 
 -- Runs cut in two
 
@@ -58,28 +52,20 @@ none_made w (x ∷ xs) m h none =
 pub runs_on : (s w : World) (xs ys : List Entry) → run s (events xs) ≡ Ok (record { world = w; entries = xs }) → IsRunFrom s (xs ++ ys)
     → IsRunFrom w ys
 runs_on s w [] ys h k = grind (arith, as_ok-same)
-runs_on s w (x ∷ xs) ys h k =
-    let first = first_step s x (xs ++ ys) k in
-    let known = beginning s x xs w h in
-    let both : record { world = first.after; entry = x } ≡ record { world = known.after; entry = x } = cc (first.goes, known.goes) in
-    let there : first.after ≡ known.after = ap (λ (t : Stepped). t.world) both in
-    runs_on known.after w xs ys known.rest (subst (λ (v : World). IsRunFrom v (xs ++ ys)) there first.rest)
+runs_on s w (x ∷ xs) ys h k = grind (arith, first_step s x (xs ++ ys) k, beginning s x xs w h, runs_on (beginning s x xs w h).after w xs ys (beginning s x xs w h).rest)
 
 -- The session with these entries after the border
 
 -- there is room for every maker if there is for those that are actors after the live steps
 pub room_for_all : (s w : World) (xs ys : List Entry) (room : ℕ → ℕ) → run s (events xs) ≡ Ok (record { world = w; entries = xs })
     → (n : ℕ) → IsRunFrom s (take n xs ++ ys) → HasRoomForActors w ys room → HasRoom ys room
-room_for_all s w xs ys room ran n h has = record { at = each }
-  where
-    each : (m : ℕ) → room_returned_by ys m ≤ room m
-    each m =
-        elim (cases_Bool (is_some (s.actor m))) [
-          | inl e ↦
-              let there : is_some (w.actor m) ≡ true = run_stays_actor s (events xs) (record { world = w; entries = xs }) m ran e in
-              has.at m there
-          | inr e ↦ omega (arith, none_made s (take n xs ++ ys) m h e, returned_joined (take n xs) ys m)
-        ]
+room_for_all s w xs ys room ran n h has = record {
+  at = λ m.
+      elim (cases_Bool (is_some (s.actor m))) [
+        | inl e ↦ has.at m (run_stays_actor s (events xs) (record { world = w; entries = xs }) m ran e)
+        | inr e ↦ omega (arith, none_made s (take n xs ++ ys) m h e, returned_joined (take n xs) ys m)
+      ];
+}
 
 -- the given steps were made after the first n live ones: the session is one, and its state is the
 -- switched one
@@ -93,13 +79,10 @@ pub exchanged : (n : ℕ) (old new : Journal) (given again steps : List Entry) (
 exchanged n old new given again steps w room start runs within few all back_to same goes is =
     let s = old.start in
     let kept = take n old.live in
-    let l = kept ++ given in
     let leads : LeadsTo s w kept = subst (λ (xs : List Entry). LeadsTo s w (take n xs)) all (back_to s (live_lead old steps runs all)) in
     let ran : run w (events given) ≡ Ok (record { world = new.world; entries = given }) =
     subst (λ (xs : List Entry). run w (events xs) ≡ Ok (record { world = new.world; entries = xs })) same goes in
-    let joined : run s (events l) ≡ Ok (record { world = new.world; entries = l }) =
-    ap (run s) (map-append (λ (x : Entry). x.event) kept given)
-    ∙ run_joined s (events kept) (events given) (record { world = w; entries = kept }) (record { world = new.world; entries = given }) leads.ran ran in
+    let joined = runs_joined s w new.world kept given leads.ran ran in
     record {
       session = grind (arith, length-append, length-take-le);
       state = grind (arith, map-append, take-map);
@@ -140,60 +123,23 @@ room_for_actors w v xs number room same made none count =
 
 -- Counting the makings of each actor
 
--- among the first entries there are no more makings than entries
-pub few_makings : (xs : List Entry) (i m : ℕ) → room_returned_by (take i xs) m ≤ i
-few_makings xs i m = omega (arith, returned_few (take i xs) m, length-take i xs)
-
 -- an entry that isn't a making doesn't change the number of makings
 pub no_making_counted : (xs : List Entry) (i m count : ℕ) (d : Entry) → i < length xs → made (get_or xs i d) ≡ None
     → count ≡ room_returned_by (take i xs) m → count ≡ room_returned_by (take (i + 1) xs) m
-no_making_counted xs i m count d h none counted =
-    let x = get_or xs i d in
-    returned_next xs i m count 0 count d h counted (sym (none_returned x.place x.old_content m none)) (omega arith)
+no_making_counted xs i m count d h none counted = grind (arith, returned_next xs i m d h)
 
 -- a making adds one to its maker's number
 pub making_counted : (counts : List ℕ) (xs : List Entry) (i k m : ℕ) (d : Entry) (s : SegName) → i < length xs → made (get_or xs i d) ≡ Some s → k ≡ s.maker → k < length counts
     → get_or counts m 0 ≡ room_returned_by (take i xs) m → get_or (set counts k (get_or counts k 0 + 1)) m 0 ≡ room_returned_by (take (i + 1) xs) m
-making_counted counts xs i k m d s h makes its within counted =
-    let x = get_or xs i d in
-    let more = get_or counts k 0 + 1 in
-    let all : room_returned x.place x.old_content m ≡ (if m == k then 1 else 0) = returned_made x.place x.old_content m s makes ∙ ap (λ (n : ℕ). if m == n then 1 else 0) (sym its) in
-    elim (cases_eq m k) [
-      | inl e ↦
-          let at : get_or (set counts k more) m 0 ≡ get_or counts m 0 + 1 =
-          ap (λ (n : ℕ). get_or (set counts k more) n 0) e ∙ get_or-set_same counts k more 0 within ∙ ap (λ (n : ℕ). get_or counts n 0 + 1) (sym e) in
-          returned_next xs i m (get_or counts m 0) 1 _ d h counted (sym (all ∙ cond-true (m == k) 1 0 (eq-eqb m k e))) at
-      | inr ne ↦
-          returned_next xs i m (get_or counts m 0) 0 _ d h counted (sym (all ∙ cond-false (m == k) 1 0 (ne_eqb m k ne)))
-          (get_or-set_other counts k m more 0 ne ∙ omega arith)
-    ]
+making_counted counts xs i k m d s h makes its within counted = grind (arith, common_steps, returned_next xs i m d h, returned_made (get_or xs i d).place (get_or xs i d).old_content m s makes)
 
 -- a making among the dropped entries takes one off its maker's number
 pub making_missed : (counts : List ℕ) (xs : List Entry) (i k m base : ℕ) (x : Entry) (s : SegName) → i < length xs → x ≡ get_or xs i x → made x ≡ Some s → k ≡ s.maker
     → k < length counts → get_or counts m 0 ≡ base - room_returned_by (take i xs) m
     → get_or (set counts k (get_or counts k 0 - 1)) m 0 ≡ base - room_returned_by (take (i + 1) xs) m
-making_missed counts xs i k m base x s h here makes its within counted =
-    let less = get_or counts k 0 - 1 in
-    let y = get_or xs i x in
-    let of_y : made y ≡ Some s = ap made (sym here) ∙ makes in
-    let one : room_returned y.place y.old_content m ≡ (if m == k then 1 else 0) = returned_made y.place y.old_content m s of_y ∙ ap (λ (n : ℕ). if m == n then 1 else 0) (sym its) in
-    let so_far = room_returned_by (take i xs) m in
-    elim (cases_eq m k) [
-      | inl e ↦
-          let at : get_or (set counts k less) m 0 ≡ get_or counts m 0 - 1 =
-          ap (λ (n : ℕ). get_or (set counts k less) n 0) e ∙ get_or-set_same counts k less 0 within ∙ ap (λ (n : ℕ). get_or counts n 0 - 1) (sym e) in
-          let more : so_far + 1 ≡ room_returned_by (take (i + 1) xs) m = returned_next xs i m so_far 1 (so_far + 1) x h refl (sym (one ∙ cond-true (m == k) 1 0 (eq-eqb m k e))) refl in
-          omega (arith, at, counted, more)
-      | inr ne ↦
-          let more : so_far ≡ room_returned_by (take (i + 1) xs) m = returned_next xs i m so_far 0 so_far x h refl (sym (one ∙ cond-false (m == k) 1 0 (ne_eqb m k ne))) (omega arith) in
-          omega (arith, get_or-set_other counts k m less 0 ne, counted, more)
-    ]
+making_missed counts xs i k m base x s h here makes its within counted = grind (arith, common_steps, returned_next xs i m x h, returned_made x.place x.old_content m s makes)
 
 -- an entry that isn't a making takes nothing off
 pub no_making_missed : (xs : List Entry) (i m base count : ℕ) (x : Entry) → i < length xs → x ≡ get_or xs i x → made x ≡ None
     → count ≡ base - room_returned_by (take i xs) m → count ≡ base - room_returned_by (take (i + 1) xs) m
-no_making_missed xs i m base count x h here none counted =
-    let y = get_or xs i x in
-    let so_far = room_returned_by (take i xs) m in
-    let more : so_far ≡ room_returned_by (take (i + 1) xs) m = returned_next xs i m so_far 0 so_far x h refl (sym (none_returned y.place y.old_content m (ap made (sym here) ∙ none))) (omega arith) in
-    omega (arith, counted, more)
+no_making_missed xs i m base count x h here none counted = grind (arith, returned_next xs i m x h)

@@ -1,6 +1,6 @@
 -- Undoing a journal's last live steps, redoing its first undone ones, and how the state changes.
-use Rattle.rd_journal.proofs.Prelude.{run_joined, ◌≡◌, ℕ, ◌+◌, ◌-◌, ◌≤◌, sym, ◌∙◌, ap, subst, List, ◌++◌, length, take, drop, Ok, arith, length-append, le-ltb, cond-false, append_assoc, map-append, length-map, take-map, drop-map, take-append-drop, World, run, Entry, runs_to, Journal, events, IsRun, IsRunFrom, LeadsTo, IsSession, IsMovedBack, IsMovedForward, room_returned_by, HasRoom, state_of, back, forward, run_entries}
-use Rattle.rd_journal.proofs.Runs.{runs_since, live_lead}
+use Rattle.rd_journal.proofs.Prelude.{run_joined, ◌≡◌, ℕ, ◌+◌, ◌-◌, ◌≤◌, sym, ◌∙◌, ap, subst, List, ◌++◌, length, take, drop, Ok, arith, length-append, le-ltb, cond-false, append_assoc, map-append, length-map, take-map, drop-map, take-append-drop, World, run, Entry, runs_to, Journal, events, IsRun, IsRunFrom, LeadsTo, IsSession, IsMovedBack, IsMovedForward, room_returned_by, HasRoom, state_of, back, forward}
+use Rattle.rd_journal.proofs.Runs.{runs_joined, runs_since, live_lead}
 use Rattle.rd_journal.proofs.Switching.{returned_joined, runs_on}
 
 -- What is left is a session
@@ -9,9 +9,7 @@ use Rattle.rd_journal.proofs.Switching.{returned_joined, runs_on}
 pub whole_run : (j : Journal) → IsRun j → IsRunFrom j.start (j.live ++ j.undone)
 whole_run j runs =
     let on = runs_to j.world j.undone runs.undone_run_on in
-    ap run_entries (ap (run j.start) (map-append (λ (x : Entry). x.event) j.live j.undone)
-    ∙ run_joined j.start (events j.live) (events j.undone) (record { world = j.world; entries = j.live })
-    (record { world = on.last; entries = j.undone }) runs.live_ran on.runs)
+    grind (arith, map-append, run_joined j.start (events j.live) (events j.undone) (record { world = j.world; entries = j.live }) (record { world = on.last; entries = j.undone }) runs.live_ran on.runs)
 
 -- a session after n steps back, if the other live steps lead from the start to the new world
 pub moved_back : (n left : ℕ) (old new : Journal) (steps : List Entry) (before after : ℕ → ℕ) → new.start ≡ old.start → n ≤ length old.live → IsSession old before
@@ -23,9 +21,7 @@ moved_back n left old new steps before after start within session all many leads
     let l = take k old.live in
     let led : LeadsTo s new.world l =
     subst (λ (xs : List Entry). LeadsTo s new.world xs) (λ i. take (many i) (all i)) (leads s (live_lead old steps session.runs all)) in
-    let cut : l ++ new.undone ≡ old.live ++ old.undone =
-    ap (λ (xs : List Entry). l ++ xs) moved.undone ∙ sym (append_assoc l (drop k old.live) old.undone)
-    ∙ ap (λ (xs : List Entry). xs ++ old.undone) (take-append-drop k old.live) in
+    let cut : l ++ new.undone ≡ old.live ++ old.undone = grind (arith, append_assoc l (drop k old.live) old.undone, take-append-drop k old.live) in
     let gone : drop left steps ≡ drop k old.live = λ i. drop (many i) (all i) in
     record {
       few = omega (arith, session.few, ap length moved.live, ap length cut, length-append l new.undone, length-append old.live old.undone);
@@ -46,14 +42,12 @@ moved_forward n old new steps before after start session first goes has moved =
     let s = old.start in
     let live : new.live ≡ old.live ++ steps = moved.live ∙ ap (λ (xs : List Entry). old.live ++ xs) (sym first) in
     let cut : steps ++ new.undone ≡ old.undone = (λ i. first i ++ moved.undone i) ∙ take-append-drop n old.undone in
-    let all : run s (events (old.live ++ steps)) ≡ Ok (record { world = new.world; entries = old.live ++ steps }) =
-    ap (run s) (map-append (λ (x : Entry). x.event) old.live steps)
-    ∙ run_joined s (events old.live) (events steps) (record { world = old.world; entries = old.live }) (record { world = new.world; entries = steps }) session.runs.live_ran goes in
     record {
       few = omega (arith, session.few, ap length cut, ap length live, length-append steps new.undone, length-append old.live steps);
       runs =
           runs_since s new start session.runs.well_formed
-          (subst (λ (xs : List Entry). run s (events xs) ≡ Ok (record { world = new.world; entries = xs })) (sym live) all)
+          (subst (λ (xs : List Entry). run s (events xs) ≡ Ok (record { world = new.world; entries = xs })) (sym live)
+          (runs_joined s old.world new.world old.live steps session.runs.live_ran goes))
           (runs_on old.world new.world steps new.undone goes (subst (λ (xs : List Entry). IsRunFrom old.world xs) (sym cut) session.runs.undone_run_on));
       has_room = has new.undone (subst (λ (xs : List Entry). HasRoom xs before) (sym cut) session.has_room);
     }
@@ -61,10 +55,7 @@ moved_forward n old new steps before after start session first goes has moved =
 -- if there is room for the makings among some entries, there is for those among the first ones
 pub room_first : (n : ℕ) (xs : List Entry) (room : ℕ → ℕ) → HasRoom xs room → HasRoom (take n xs) room
 room_first n xs room has = record {
-  at = λ m.
-      let parts = returned_joined (take n xs) (drop n xs) m in
-      let all = ap (λ (ys : List Entry). room_returned_by ys m) (take-append-drop n xs) in
-      omega (arith, parts, all, has.at m);
+  at = λ m. omega (arith, returned_joined (take n xs) (drop n xs) m, ap (λ (ys : List Entry). room_returned_by ys m) (take-append-drop n xs), has.at m);
 }
 
 -- The state

@@ -7,9 +7,7 @@ invariant_of-self c = grind (arith, none_ahead, live-length)
 
 pub returns-clause-live : goal.returns-clause-live
 unfolding all_entries
-returns-clause-live c =
-    let self = c.args.self.now in
-    put_last (all_entries self) _ self.live c.args.entry.now (omega (arith, all-length self, self.within)) c.put_at.ensures.put
+returns-clause-live c = grind (arith, put_last, all-length)
 
 pub returns-clause-ahead : goal.returns-clause-ahead
 unfolding all_entries

@@ -1,7 +1,6 @@
-use Rattle.rd_journal.proofs.Prelude.{put_mid, vec_capacity, append-nil, drop-drop, drop_at, length-take-le, depends_on_any, Entry, HasRoomFor, at_numbers, ◌≡◌, ◌∙◌, ◌+◌, ◌-◌, ◌<◌, ◌≤◌, ℕ, List, [], ◌∷◌, ◌++◌, length, take, drop, set, Bool, refl, sym, ap, subst, arith, rules, length-append, length-drop}
+use Rattle.rd_journal.proofs.Prelude.{put_mid, vec_capacity, append-nil, drop-drop, drop_at, length-take-le, depends_on_any, Entry, HasRoomFor, at_numbers, ◌≡◌, ◌∙◌, ◌+◌, ◌-◌, ◌<◌, ◌≤◌, ℕ, List, [], ◌∷◌, ◌++◌, length, take, drop, set, Bool, refl, sym, ap, subst, arith, rules, length-append, length-drop, drop_of_length-le, take_all}
 use Rattle.rd_journal.proofs.GatheringLoop.{live_of, live-length, UnderWay, next_one, first_gathered, before_next, joined, stayed, ended, carried}
 use Rattle.rd_journal.proofs.RoomLemmas.{fits_one, fits_between}
-use Rattle.rd_journal.proofs.ListLemmas.{overwritten}
 use Rattle.rd_journal.proofs.Numbers.{order_below}
 use Rattle.rd_journal.proofs.entries.gathering.gather.Goals as goal
 use Rattle.rd_journal.proofs.entries.gathering.gather.Goals.{then-depends_after, else-depends_after}
@@ -13,7 +12,7 @@ told before block x b n len h = ap (λ (xs : List Entry). depends_on_any xs x) (
 -- what the order is when the gathered numbers were put after those that stay
 written : (n f live : ℕ) (now dm copied gathered : List ℕ) → n ≡ length now → dm ≡ now → copied ≡ gathered → f + length gathered ≡ live → live ≤ length now
     → let ys = put_mid f (live - f) dm copied in take n (ys ++ drop (length ys) now) ≡ take f now ++ (gathered ++ drop live now)
-written n f live now dm copied gathered len same its number within = grind (arith, drop-drop, length-append, length-take-le, length-drop, overwritten)
+written n f live now dm copied gathered len same its number within = grind (arith, drop-drop, length-append, length-take-le, length-drop, drop_of_length-le, append-nil, take_all)
 
 pub entry_in-step-requires : goal.entry_in-step-requires
 entry_in-step-requires c = grind (arith, order_below)
@@ -24,8 +23,7 @@ put_back-requires-clause-room c =
     let ns = c.args.order.now.items in
     let n = next_one es ns ns c.args.live (c.args.k - 1) c.index-first.result.now c.requires.ordered c.requires.within (omega (arith, c.requires.some, c.requires.position)) refl refl
     c.index-first.ensures in
-    fits_one c.args.index.now c.entry_in-step.result.now (drop ((c.args.k - 1) + 1) (live_of es ns c.args.live))
-    (subst (λ (xs : List Entry). HasRoomFor c.args.index.now xs) (n.entry c.entry_in-step.result.now c.entry_in-step.ensures) c.requires.room)
+    grind (arith, fits_one)
 
 pub loop-next-init : goal.loop-next-init
 loop-next-init c =
@@ -120,14 +118,4 @@ returns c =
     (omega (arith, u.long, c.requires.within)) in
     let e = ended c.args.slots.now c.args.order.now.items c.loop-next.order.items c.loop-next.gathered.items _ c.args.index.now c.loop-next.index c.args.k c.args.live c.loop-next.front
     c.loop-next.next u (omega (arith, c.loop-next-test.false)) c.requires.ordered c.requires.within put in
-    record {
-      ordered = e.ordered;
-      count = e.count;
-      moved = e.moved;
-      behind = e.behind;
-      order = search (rules, arith);
-      none = search (rules, arith);
-      place = search (rules, arith);
-      index = e.indexed;
-      room = e.room;
-    }
+    grind arith

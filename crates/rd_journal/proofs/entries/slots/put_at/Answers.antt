@@ -1,5 +1,6 @@
+use Rattle.rd_journal.proofs.Prelude.{drop_all, drop_at, take_all}
 use Rattle.std.proofs.Common.{arith, length-append}
-use Rattle.rd_journal.proofs.Numbers.{order_below, order_push, put_over, put_new}
+use Rattle.rd_journal.proofs.Numbers.{order_below, order_push, put_over, at-append, at-length, at-push}
 use Rattle.rd_journal.proofs.entries.slots.put_at.Goals as goal
 
 pub index_mut-requires : goal.index_mut-requires
@@ -12,4 +13,4 @@ pub returns-else-place-len-clause-ordered : goal.returns-else-place-len-clause-o
 returns-else-place-len-clause-ordered c = grind (arith, length-append, order_push)
 
 pub returns-else-place-len-clause-put : goal.returns-else-place-len-clause-put
-returns-else-place-len-clause-put c = grind (arith, put_new)
+returns-else-place-len-clause-put c = grind (arith, order_below, at-length, at-append, at-push, drop_at, take_all, drop_all)

@@ -114,8 +114,7 @@ invariant_of-self-2 g c =
           longer_session old new c.args.event c.in_ok-entry.entry (room self.world) (room c.step.new.self) self.kept less
           c.in_ok-entry.ensures.ok refl longer;
       within = omega arith;
-      indexed =
-          grind (arith, append-nil, ok_then);
+      indexed = grind (arith, append-nil, ok_then);
     }
 
 pub returns-clause-ok : goal.returns-clause-ok

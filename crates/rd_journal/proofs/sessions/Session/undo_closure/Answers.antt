@@ -36,10 +36,8 @@ fill_index-requires g c =
     (fits_back c.gather_closure-count.new.index index (drop n (take n live ++ closure_of live k)) (drop n (without_closure live k) ++ ahead)
     (c.truncate.ensures.room (take n live ++ closure_of live k) said.index) said.room) in
     record {
-      indexed =
-          grind arith;
-      room =
-          grind (arith, fits_turned);
+      indexed = grind arith;
+      room = grind (arith, fits_turned);
     }
 
 pub invariant_of-self : goal.invariant_of-self

@@ -1,4 +1,4 @@
-use Rattle.rd_journal.proofs.Prelude.{◌≡◌, ℕ, zero, suc, ◌+◌, ◌-◌, ◌<◌, ◌∙◌, IsSome, List, get_or, subst, sym, ap, arith, rules, World, model, room, Entry, error_passed_up, room_returned_by, room_after_undoing}
+use Rattle.rd_journal.proofs.Prelude.{◌≡◌, ℕ, zero, suc, ◌+◌, ◌-◌, ◌<◌, ◌∙◌, IsSome, List, get_or, subst, sym, arith, rules, World, model, room, Entry, error_passed_up, room_returned_by, room_after_undoing}
 use Rattle.rd_journal.proofs.Switching.{room_for_one_more, room_for_actors}
 use Rattle.rd_journal.proofs.sessions.switching.make_room_for_makings.Goals as goal
 
@@ -54,9 +54,7 @@ pub returns-in_err-make_room-clause-succeeds : goal.returns-in_err-make_room-cla
 returns-in_err-make_room-clause-succeeds g c none =
     let its = asked c.args.dropped.now c.args.given.now c.makings_of.result c.makings_missing-counts.result c.loop-number.number c.from.result c.makings_of.ensures
     c.makings_missing-counts.ensures c.from.ensures (omega (arith, c.loop-number-test.true, c.actors-number-end.ensures.within)) in
-    let lacks = c.in_err-make_room.ensures.room.err in
-    let zero_of : room_returned_by c.args.given.now (c.loop-number.number + 1) ≡ 0 = ap (λ xs. room_returned_by xs (c.loop-number.number + 1)) none in
-    absurd (omega arith)
+    grind arith
 
 pub returns-in_err-make_room-clause-room : goal.returns-in_err-make_room-clause-room
 returns-in_err-make_room-clause-room g c m = search (rules, arith)
