@@ -1,5 +1,5 @@
 -- A taken value is the argument of the call in which it was put.
-use Rattle.rd_origin.proofs.Prelude.{◌≡◌, ℕ, suc, ◌-◌, true, sym, ◌∙◌, ap, subst, append_assoc, List, ◌∷◌, ◌++◌, length, take, option_and_then, Some, Ok, arith, Place, Contents, World, Stepped, Ran, run, IsWellFormed, numbered, value_to_put, Event, Entry, events, puts_into, calls_by, argument, middle, last_position, call_of, origin_in, run_keeps, run_events}
+use Rattle.rd_origin.proofs.Prelude.{◌≡◌, ℕ, suc, ◌-◌, true, sym, ◌∙◌, ap, subst, append_assoc, List, ◌∷◌, ◌++◌, length, take, option_and_then, Some, Ok, arith, Place, Contents, World, Stepped, Ran, run, IsWellFormed, numbered, value_to_put, Event, Entry, events, puts_into, calls_by, argument, middle, last_position, call_of, origin_in, run_keeps, run_events, drop}
 use Rattle.rd_step.proofs.Keeps.{keeps}
 use Rattle.rd_origin.specs.Laws.{IsHandedOver}
 use Rattle.rd_origin.proofs.Split.{at_seam, before_seam, apart, NonePasses, apart_at_last}
@@ -67,12 +67,12 @@ pub handed_over : (w : World) (es : List Event) (ran : Ran) (c p k : ℕ) → Is
 handed_over w es ran c p k formed goes h =
     let xs : List Entry = ran.entries in
     let n = named_at xs c p k h in
-    let a = apart xs k n.taken n.there in
+    let later : List Entry = drop k xs in
     let b = apart_at_last (puts_into n.cell) (take (k - 1) xs) p n.last in
     let actor : ℕ = b.element.event.actor in
-    let rest : List Entry = b.behind ++ n.taken ∷ a.behind in
+    let rest : List Entry = b.behind ++ n.taken ∷ later in
     let second : xs ≡ b.before ++ b.element ∷ rest =
-    a.whole ∙ ap (λ (l : List Entry). l ++ n.taken ∷ a.behind) b.whole ∙ append_assoc b.before (b.element ∷ b.behind) (n.taken ∷ a.behind) in
+    apart xs k n.taken n.there ∙ ap (λ (l : List Entry). l ++ n.taken ∷ later) b.whole ∙ append_assoc b.before (b.element ∷ b.behind) (n.taken ∷ later) in
     let last_call : last_position (calls_by actor) b.before ≡ Some c =
     ap (last_position (calls_by actor)) (sym (seam_before xs b.before rest b.element p second b.number))
     ∙ ap (option_and_then (λ (x : Entry). last_position (calls_by x.event.actor) (take (p - 1) xs))) (sym (seam_number xs b.before rest b.element p second b.number)) ∙ n.its_call in
@@ -87,7 +87,7 @@ handed_over w es ran c p k formed goes h =
       value = n.value;
       replies = n.replies;
       argued =
-          argument_taken w ran.world d.before d.behind b.behind a.behind d.element b.element n.taken n.cell n.value formed
+          argument_taken w ran.world d.before d.behind b.behind later d.element b.element n.taken n.cell n.value formed
           (subst (λ (l : List Entry). run w (events l) ≡ Ok (record { world = ran.world; entries = l })) third (ap (run w) (run_events w es ran goes) ∙ goes))
           d.passes d.none b.passes b.none n.place n.replies;
     }

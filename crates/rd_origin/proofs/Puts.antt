@@ -1,5 +1,5 @@
 -- After a put, the cell has the value of the enqueue that its actor is in, or none.
-use Rattle.rd_origin.proofs.Prelude.{◌≡◌, ℕ, true, sym, ◌∙◌, ap, subst, Option, Some, Ok, IfOk, arith, IfOk-at_ok, Place, Access, Contents, Performed, perform, need, World, Stepped, step, IsWellFormed, Pc, value_to_put, Event, took, puts_into, is_there, Actor, Act, after, words_fit_at, record_fits, actor_fits}
+use Rattle.rd_origin.proofs.Prelude.{◌≡◌, ℕ, true, sym, ◌∙◌, ap, subst, Option, Some, Ok, arith, Place, Contents, Performed, need, World, Stepped, step, IsWellFormed, Pc, value_to_put, Event, took, puts_into, is_there, Actor, Act, after, words_fit_at, record_fits, actor_fits}
 use Rattle.rd_step.proofs.Fits.{words_of}
 use Rattle.rd_origin.proofs.Ops.{puts_values}
 use Rattle.rd_origin.proofs.Values.{HoldsOnly, LeavesOnly}
@@ -35,12 +35,6 @@ put w e s q formed goes h =
     sym (same_puts w e t.a t.did (after w.ring t.a e.act t.did.answer) q t.a.pc) ∙ ap (λ (x : Stepped). puts_into q x.entry) t.ends ∙ h in
     let stands = putter t.a.pc q t.did puts in
     let fits : record_fits w.ring (is_there w.at) t.a ≡ true = subst (λ (o : Option Actor). actor_fits w.ring (is_there w.at) o ≡ true) t.has (formed.actors e.actor) in
-    let by_access : IfOk (perform w.ring e.actor w.at t.access) (PutsOnly (value_to_put t.a.op) w.at t.a.pc q) =
-    IfOk-at_ok (λ (x : Access). IfOk (perform w.ring e.actor w.at x) (PutsOnly (value_to_put t.a.op) w.at t.a.pc q)) t.needs (act_puts w.ring e.actor w.at q t.a e.act stands) in
-    let holds : PutsOnly (value_to_put t.a.op) w.at t.a.pc q t.did = IfOk-at_ok (PutsOnly (value_to_put t.a.op) w.at t.a.pc q) t.does by_access in
-    record {
-      a = t.a;
-      has = t.has;
-      puts = putter_op t.a.pc t.a stands (words_of w.ring (is_there w.at) t.a fits);
-      holds = subst (λ (x : Stepped). HoldsOnly (value_to_put t.a.op) x.world.at q) t.ends (holds puts);
-    }
+    let words = words_of w.ring (is_there w.at) t.a fits in
+    let by_access = act_puts w.ring e.actor w.at q t.a e.act stands in
+    grind (arith, putter_op)

@@ -1,5 +1,5 @@
 -- A list taken apart at a position, and at the last position that passes a test.
-use Rattle.rd_origin.proofs.Prelude.{numbered, sym, subst, ◌<◌, ◌≡◌, ℕ, zero, suc, ◌-◌, Bool, true, false, refl, ap, ◌∙◌, List, [], ◌∷◌, ◌++◌, length, take, drop, slice_get, Option, Some, None, arith, last_position, one_further, IsGreatest, common_steps}
+use Rattle.rd_origin.proofs.Prelude.{numbered, sym, ◌<◌, ◌≡◌, ℕ, zero, suc, ◌-◌, Bool, true, false, refl, ap, ◌∙◌, List, [], ◌∷◌, ◌++◌, length, take, drop, slice_get, Option, Some, None, arith, last_position, one_further, IsGreatest, common_steps, take-append-drop, drop-cons, slice_get_cases}
 
 -- the element after the first part of a list has the number after that part's length
 pub at_seam : {X : Type 0} (xs ys : List X) (x : X) → numbered (xs ++ x ∷ ys) (suc (length xs)) ≡ Some x
@@ -10,22 +10,12 @@ at_seam {X} (y ∷ xs) ys x = at_seam xs ys x
 pub before_seam : {X : Type 0} (xs ys : List X) → take (suc (length xs) - 1) (xs ++ ys) ≡ xs
 before_seam {X} xs ys = grind (arith, common_steps)
 
--- a list taken apart at one of its positions
-pub record ApartAt {X : Type 0} (xs : List X) (k : ℕ) (x : X) : Type 0 where
-  pub behind : List X
-  pub whole : xs ≡ take (k - 1) xs ++ x ∷ behind
-
 apart_by : {X : Type 0} (xs : List X) (i : ℕ) (x : X) → slice_get xs i ≡ Some x → xs ≡ take i xs ++ x ∷ drop (suc i) xs
-apart_by {X} [] i x h = cc
-apart_by {X} (y ∷ ys) zero x h = let same : y ≡ x = cc in ap (λ (z : X). z ∷ ys) same
-apart_by {X} (y ∷ ys) (suc i) x h = ap (λ (zs : List X). y ∷ zs) (apart_by ys i x h)
+apart_by {X} xs i x h = grind (arith, take-append-drop, drop-cons, slice_get_cases)
 
 -- a list can be taken apart at every element
-pub apart : {X : Type 0} (xs : List X) (k : ℕ) (x : X) → numbered xs k ≡ Some x → ApartAt xs k x
-apart {X} xs zero x h = cc
-apart {X} xs (suc i) x h =
-    let e : i ≡ suc i - 1 = omega arith in
-    record { behind = drop (suc i) xs; whole = apart_by xs i x h ∙ ap (λ (n : ℕ). take n xs ++ x ∷ drop (suc i) xs) e }
+pub apart : {X : Type 0} (xs : List X) (k : ℕ) (x : X) → numbered xs k ≡ Some x → xs ≡ take (k - 1) xs ++ x ∷ drop k xs
+apart {X} xs k x h = let whole = apart_by xs (k - 1) x in grind (arith, whole)
 
 -- no element of the list passes the test
 abbrev pub NonePasses : {X : Type 0} → (X → Bool) → List X → Type 0
@@ -99,18 +89,7 @@ none_numbered {X} test before behind x y i h below k = grind (arith, none_behind
 
 -- the last position is the greatest
 pub is_greatest : {X : Type 0} (test : X → Bool) (xs : List X) (j : ℕ) → last_position test xs ≡ Some j → IsGreatest test xs j
-is_greatest {X} test xs j h =
-    let a = apart_at_last test xs j h in
-    record {
-      element = a.element;
-      there =
-          subst (λ (n : ℕ). numbered xs n ≡ Some a.element) a.number
-          (ap (λ (l : List X). numbered l (suc (length a.before))) a.whole ∙ at_seam a.before a.behind a.element);
-      passes = a.passes;
-      last = λ i y below k.
-          none_numbered test a.before a.behind a.element y i a.none (subst (λ (n : ℕ). n < i) (sym a.number) below)
-          (ap (λ (l : List X). numbered l i) (sym a.whole) ∙ k);
-    }
+is_greatest {X} test xs j h = let a = apart_at_last test xs j h in grind (arith, at_seam, none_numbered)
 
 -- if there is no last position, the test fails at every position
 pub has_none : {X : Type 0} (test : X → Bool) (xs : List X) → last_position test xs ≡ None → (i : ℕ) (y : X) → numbered xs i ≡ Some y → test y ≡ false

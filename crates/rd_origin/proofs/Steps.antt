@@ -1,5 +1,5 @@
 -- After a step that puts nothing into a cell, the cell has its value or none.
-use Rattle.rd_origin.proofs.Prelude.{◌≡◌, ◌⊎◌, ℕ, Bool, false, not, ◌&&◌, sym, ◌∙◌, subst, Option, Result, Ok, IfOk, arith, IfOk-at_ok, Place, Access, Refusal, Contents, is_nothing, Performed, perform, OpReply, need, World, Stepped, step, no_access, Pc, E8, E12, A2, need_at, Event, took, is_first_cell, puts_into, Actor, Act, after, need_for_call, need_for_choice, is_at, puts_at, step_outcome}
+use Rattle.rd_origin.proofs.Prelude.{◌≡◌, ◌⊎◌, ℕ, Bool, false, not, ◌&&◌, Option, Result, Ok, IfOk, arith, IfOk-at_ok, Place, Access, Refusal, Contents, is_nothing, Performed, perform, OpReply, need, World, Stepped, step, no_access, Pc, E8, E12, A2, need_at, Event, took, is_first_cell, puts_into, Actor, Act, need_for_call, need_for_choice, is_at, puts_at, step_outcome}
 use Rattle.rd_origin.proofs.Values.{HoldsOnly, LeavesOnly, AccessKeeps, kept_access}
 use Rattle.rd_actor.specs.declared.actors.Act.TheVariants as act
 
@@ -72,6 +72,4 @@ value_stays w e s q v goes other h =
     let t = took w e s goes in
     let by_access : IfOk (perform w.ring e.actor w.at t.access) (LeavesUnless v w.at t.a.pc q) =
     IfOk-at_ok (λ (x : Access). IfOk (perform w.ring e.actor w.at x) (LeavesUnless v w.at t.a.pc q)) t.needs (act_leaves v w.ring e.actor w.at q t.a e.act h) in
-    let leaves : LeavesUnless v w.at t.a.pc q t.did = IfOk-at_ok (LeavesUnless v w.at t.a.pc q) t.does by_access in
-    subst (λ (x : Stepped). puts_into q x.entry ≡ false → HoldsOnly v x.world.at q) t.ends
-    (λ k. leaves (sym (same_puts w e t.a t.did (after w.ring t.a e.act t.did.answer) q t.a.pc) ∙ k)) other
+    grind (arith, same_puts)

@@ -1,9 +1,8 @@
 -- A step that takes a value found it in its cell.
-use Rattle.rd_origin.proofs.Prelude.{◌≡◌, ℕ, inl, inr, sym, ◌∙◌, ap, Some, None, Ok, IfOk, arith, IfOk-at_ok, Place, Access, Contents, Performed, perform, need, World, Stepped, step, Pc, need_at, after_at, Event, took, Actor, Act, after}
-use Rattle.rd_origin.proofs.Rows.{value_in, IsTaker, HandsOut, row_goes}
+use Rattle.rd_origin.proofs.Prelude.{◌≡◌, ℕ, Some, Ok, arith, Place, Contents, Performed, World, Stepped, step, Pc, need_at, after_at, Event, took, Actor}
+use Rattle.rd_origin.proofs.Rows.{IsTaker, row_goes}
 use Rattle.rd_origin.proofs.Values.{held_at}
 use Rattle.rd_origin.proofs.Steps.{AtNone}
-use Rattle.rd_actor.specs.declared.actors.Act.TheVariants as act
 use Rattle.rd_actor.specs.declared.actors.OpReply.TheVariants as op_reply
 
 -- if an access makes an actor at this control point reply this value, the access's cell had the
@@ -23,21 +22,5 @@ pub taken_held : (w : World) (e : Event) (s : Stepped) (cell : Place) (u : ℕ) 
     → s.entry.reply ≡ Some (op_reply.Value u) → s.entry.place ≡ Some cell → held_at w.at cell ≡ Some u
 taken_held w e s cell u goes replies place =
     let t = took w e s goes in
-    let reply : (after w.ring t.a e.act t.did.answer).1 ≡ Some (op_reply.Value u) = ap (λ (x : Stepped). x.entry.reply) t.ends ∙ replies in
-    let at_place : t.did.place ≡ Some cell = ap (λ (x : Stepped). x.entry.place) t.ends ∙ place in
-    by_act w.ring e.actor w.at t.a e.act cell u t.access t.did t.needs t.does reply at_place
-  where
-    by_row : (R n : ℕ) (at : Contents) (a : Actor) (pc : Pc) (cell : Place) (u : ℕ) (x : Access) (did : Performed) → need_at R pc a ≡ Ok x
-        → perform R n at x ≡ Ok did → (after_at R pc a did.answer).1 ≡ Some (op_reply.Value u) → did.place ≡ Some cell → HandsOut pc (after_at R pc a did.answer)
-        → held_at at cell ≡ Some u
-    by_row R n at a pc cell u x did needs does reply place (inl none) = let wrong : Some u ≡ None = sym (ap value_in reply) ∙ none in cc
-    by_row R n at a pc cell u x did needs does reply place (inr taker) =
-        let by_access : IfOk (perform R n at x) (TakesFrom R at a cell u pc) =
-        IfOk-at_ok (λ (y : Access). IfOk (perform R n at y) (TakesFrom R at a cell u pc)) needs (taker_takes R n at a cell u pc taker) in
-        IfOk-at_ok (TakesFrom R at a cell u pc) does by_access reply place
-
-    by_act : (R n : ℕ) (at : Contents) (a : Actor) (act : Act) (cell : Place) (u : ℕ) (x : Access) (did : Performed) → need R a act ≡ Ok x
-        → perform R n at x ≡ Ok did → (after R a act did.answer).1 ≡ Some (op_reply.Value u) → did.place ≡ Some cell → held_at at cell ≡ Some u
-    by_act R n at a act.Go cell u x did needs does reply place =
-        by_row R n at a a.pc cell u x did needs does reply place (row_goes R a.pc a did.answer).1
-    by_act R n at a act cell u x did needs does reply place = let wrong : None ≡ Some u = ap value_in reply in cc
+    let row = (row_goes w.ring t.a.pc t.a t.did.answer).1 in
+    let takes = taker_takes w.ring e.actor w.at t.a cell u t.a.pc in grind arith

@@ -1,5 +1,5 @@
 -- The value in a cell or slot: only a put gives it another one.
-use Rattle.rd_origin.proofs.Prelude.{◌≡◌, ◌⊎◌, ℕ, Bool, true, false, inl, inr, refl, sym, subst, Option, Some, None, IfSome, Result, Ok, Err, IfOk, arith, SegName, Place, Content, Access, Refusal, Contents, is_of, operand, Performed, perform, Cas2, Swap, share, after_write, after_write_at, holding, effect_at, operate, result_map, cases_Bool, Operation, covers, Effect, effect, wrote_by, contents_after, is_cell_at, after_write-outside, after_write-inside, operand-covered, some_covers, written}
+use Rattle.rd_origin.proofs.Prelude.{◌≡◌, ◌⊎◌, ℕ, Bool, true, false, inl, inr, refl, subst, Option, Some, None, IfSome, Result, Ok, Err, IfOk, arith, SegName, Place, Content, Access, Refusal, Contents, is_of, operand, Performed, perform, Cas2, Swap, share, after_write, holding, effect_at, operate, result_map, cases_Bool, Operation, covers, Effect, effect, contents_after, is_cell_at, after_write-outside, each_left, operand-covered}
 use Rattle.rd_cell.specs.declared.access.Access.TheVariants.{NoPlace, At, Make}
 use Rattle.rd_cell.proofs.EffectLemmas.{not_written}
 use Rattle.rd_cell.specs.declared.places.Place.TheVariants as place
@@ -71,16 +71,7 @@ always_none v r = grind arith
 
 after_effect : (v : ℕ) (p : Place) (c : Content) (at : Contents) (r : Place) (f : Effect) → WritesOnly v f → HasOnly v (at r)
     → HasOnly v (contents_after (effect_at p c f) at r)
-after_effect v p c at r f writes h = by f.writes writes
-  where
-    by : (o : Option Content) → IfSome o (λ d. HasOnly v (Some d)) → HasOnly v (after_write_at (written (Some p) (wrote_by c o)) (share p o) at r)
-    by None k = h
-    by (Some d) k =
-        let place : Option Place = written (Some p) (wrote_by c (Some d)) in
-        elim (cases_Bool (some_covers place r)) [
-          | inl m ↦ subst (HasOnly v) (sym (after_write-inside place (share p (Some d)) at r m)) (share_has v p d r k)
-          | inr m ↦ subst (HasOnly v) (sym (after_write-outside place (share p (Some d)) at r m)) h
-        ]
+after_effect v p c at r f writes h = each_left (HasOnly v) (λ d. HasOnly v (Some d)) p c f at r h writes (λ d k within. share_has v p d r k)
 
 kept_effect : (v : ℕ) (p : Place) (c : Content) (at : Contents) (r : Place) (x : Result Effect Refusal) → IfOk x (WritesOnly v) → HasOnly v (at r)
     → IfOk (result_map (effect_at p c) x) (λ did. HasOnly v (contents_after did at r))
