@@ -4,6 +4,7 @@ use Rattle.rd_marks.proofs.Prelude.{◌≡◌, ℕ, zero, suc, ◌+◌, ◌-◌,
 use Rattle.std.proofs.lemmas.List.FromFn.{length-map-range_with_len, get_or-map-range_with_len}
 use Rattle.rd_marks.specs.Beginnings.{IsBeginning, AreDistinct, CountsBeginnings, NeedsNoEntry}
 use Rattle.rd_marks.proofs.MarkLemmas.{mark_of}
+use Rattle.rd_marks.proofs.Starting.{begins_shorter, event_length, events_of_first}
 use Rattle.rd_marks.proofs.StretchLists.{own_at, list_past, shared_past, shared_within, total, begins_shared}
 use Rattle.rd_marks.proofs.Fresh.{along_less, along_within, not_both}
 
@@ -76,7 +77,7 @@ along_begun : (ss : List Stretch) (i : ℕ) (es : List Event) → Begins es (eve
 along_begun ss i es b = record { enough = omega arith; alike = b ∙ sym (take-length es) }
 
 begun_within : (ss : List Stretch) (i : ℕ) (es : List Event) → Begins es (events (stretch_list ss i)) → length es ≤ length (stretch_list ss i)
-begun_within ss i es b = along_within ss i (length es) es (along_begun ss i es b)
+begun_within ss i es b = omega (arith, begins_shorter es (events (stretch_list ss i)) b, event_length (stretch_list ss i))
 
 -- if two lists begin alike, what begins the one begins the other
 begun_taken : (es : List Event) (xs ys : List Entry) → take (length es) xs ≡ take (length es) ys → Begins es (events xs) → Begins es (events ys)
@@ -88,11 +89,9 @@ begins_list ss ms es h =
     let found = mapped_contains (λ (x : MarkName × List Entry). mark_of x) (named_lists ss ms) h.mark h.kept in
     let named = mapped_contains (λ (x : MarkName × Node). (x.0, entries_at ss x.1)) ms found.0 found.1 in
     let p = named.0.1 in
-    let b : Begins es (events (entries_at ss p)) =
-    grind arith in
-    let its = length-map (entries_at ss p) (λ (x : Entry). x.event) ∙ length-take p.number (stretch_list ss p.stretch) in
-    let short : length es ≤ p.number = omega (arith, length-take (length es) (events (entries_at ss p)), ap length b, its) in
-    (p.stretch, begun_taken es (entries_at ss p) (stretch_list ss p.stretch) (take-take (length es) p.number (stretch_list ss p.stretch) short) b)
+    let xs = stretch_list ss p.stretch in
+    let b : Begins es (events (take p.number xs)) = grind arith in
+    (p.stretch, grind (arith, b, begins_shorter es (events (take p.number xs)) b, event_length (take p.number xs), length-take p.number xs, events_of_first p.number xs, take-take (length es) p.number (events xs)))
 
 -- if a bookmark needs no new entry, the search for its events finds all of them
 pub all_along : (ss : List Stretch) (ms : List (MarkName × Node)) (at n : ℕ) (es : List Event) → IsAlong ss at n es → IsDeepest ss n es
@@ -166,11 +165,8 @@ module _ (ss : List Stretch) (rule : AreNested ss) where
         elim (cases_lt (greatest_in i (map (λ (m : MarkName × Node). m.1) ms)) (length (stretch_list ss i))) [
           | inr there ↦
               let p = greatest_there i (length (stretch_list ss i)) (map (λ (m : MarkName × Node). m.1) ms) (omega (arith, rule.some i inside)) there in
-              let m = mapped_contains (λ (m : MarkName × Node). m.1) ms p.0 p.1 in (
-                m.0,
-                m.1,
-                grind (arith, take-take),
-              )
+              let m = mapped_contains (λ (m : MarkName × Node). m.1) ms p.0 p.1 in
+              (m.0, m.1, grind (arith, take-take))
           | inl less ↦
               let next : length (stretch_list ss i) ≤ shared_at ss (suc i) = omega (arith, needed i inside, less) in
               elim (cases_lt (suc i) (length ss)) [

@@ -1,22 +1,8 @@
 -- The entries of a session's live steps, and what switching to entries of a run leaves.
-use Rattle.rd_marks.proofs.Prelude.{◌≡◌, ℕ, zero, suc, drop, ◌+◌, ◌≤◌, refl, sym, ap, ◌∙◌, List, [], ◌∷◌, ◌++◌, length, take, ◌-◌, ◌⊎◌, inl, Result, Ok, Err, OnOk, IfErr, length-drop, arith, capacity, room, index, LacksRoomFor, take-length, Session, state, journal, Refusal, MOST_STEPS, World, Stepped, step, run, and_then, result_map, preceded_by, Event, take-append-drop, drop-map, Entry, State, state_of, switch, Journal, AreEntriesOfRun, events, run_entries, IsRunFrom, LacksRoom}
+use Rattle.rd_marks.proofs.Prelude.{◌≡◌, ℕ, zero, suc, drop, ◌≤◌, refl, List, [], ◌∷◌, ◌++◌, length, take, ◌⊎◌, inl, Result, Ok, Err, OnOk, IfErr, arith, capacity, room, index, LacksRoomFor, Session, state, journal, Refusal, World, run, Event, take-append-drop, drop-map, Entry, State, state_of, switch, Journal, AreEntriesOfRun, events, run_entries, IsRunFrom, LacksRoom, first_step}
 use Rattle.rd_cell.specs.declared.refusal.Refusal.TheVariants as refusal
 
 -- A start and its events determine the entries of a run
-
--- the first step of a run that left x and then xs, and the rest of that run
-pub record Began (w : World) (x : Entry) (xs : List Entry) : Type 0 where
-  pub stepped : Stepped
-  pub goes : step w x.event ≡ Ok stepped
-  pub entry : stepped.entry ≡ x
-  pub rest : run_entries (run stepped.world (events xs)) ≡ Ok xs
-
-began_by : (w : World) (x : Entry) (xs : List Entry) (r : Result Stepped Refusal) → step w x.event ≡ r
-    → run_entries (and_then r (λ s. result_map (preceded_by s.entry) (run s.world (events xs)))) ≡ Ok (x ∷ xs) → Began w x xs
-began_by w x xs r goes k = grind arith
-
-pub began : (w : World) (x : Entry) (xs : List Entry) → run_entries (run w (events (x ∷ xs))) ≡ Ok (x ∷ xs) → Began w x xs
-began w x xs h = began_by w x xs (step w x.event) refl h
 
 -- if the events of two runs from one world begin alike, so do their entries
 pub begin_alike : (n : ℕ) (w : World) (xs ys : List Entry) → run_entries (run w (events xs)) ≡ Ok xs → run_entries (run w (events ys)) ≡ Ok ys
@@ -25,17 +11,11 @@ begin_alike zero w xs ys p q h = refl
 begin_alike (suc n) w [] [] p q h = refl
 begin_alike (suc n) w [] (y ∷ ys) p q h = cc
 begin_alike (suc n) w (x ∷ xs) [] p q h = cc
-begin_alike (suc n) w (x ∷ xs) (y ∷ ys) p q h = grind (arith, began w x xs p, began w y ys q, begin_alike n (began w y ys q).stepped.world xs ys)
-
--- taking all that is left of a list after n elements
-pub to_the_end : {X : Type 0} (n : ℕ) (xs : List X) → take (length xs - n) (drop n xs) ≡ drop n xs
-to_the_end {X} n xs = ap (λ (k : ℕ). take k (drop n xs)) (sym (length-drop n xs)) ∙ take-length (drop n xs)
+begin_alike (suc n) w (x ∷ xs) (y ∷ ys) p q h = grind (arith, first_step w x xs p, first_step w y ys q, begin_alike n (first_step w y ys q).after xs ys)
 
 -- if n live events agree with a run's, they and the run's later events are all events of the run
 pub joined_events : (n : ℕ) (es : List Event) (ys : List Entry) → take n es ≡ take n (events ys) → take n es ++ events (drop n ys) ≡ events ys
-joined_events n es ys h =
-    ap (λ (zs : List Event). zs ++ events (drop n ys)) h ∙ ap (λ (zs : List Event). take n (events ys) ++ zs) (sym (drop-map (λ (x : Entry). x.event) n ys))
-    ∙ take-append-drop n (events ys)
+joined_events n es ys h = cc (drop-map (λ (x : Entry). x.event) n ys, take-append-drop n (events ys))
 
 -- after a switch to the entries of a run, just its events are live, and none is undone
 pub switched : {X : Type 0} (r : Result X Refusal) (s t : State) (n : ℕ) (zs ys : List Entry) → zs ≡ drop n ys → take n s.live ≡ take n (events ys)
@@ -46,9 +26,6 @@ switched r s t n zs ys given h k = grind (arith, joined_events)
 pub may_switch : (j : Journal) (n : ℕ) (zs ys : List Entry) → zs ≡ drop n ys → IsRunFrom j.start j.live → AreEntriesOfRun j.start ys
     → take n (state_of j).live ≡ take n (events ys) → IsRunFrom j.start (take n j.live ++ zs)
 may_switch j n zs ys given ran kept h = grind (arith, kept.ran, take-append-drop, begin_alike n j.start j.live ys ran kept.ran)
-
-pub few_enough : (n : ℕ) (zs ys : List Entry) → zs ≡ drop n ys → n ≤ length ys → length ys ≤ MOST_STEPS → n + length zs ≤ MOST_STEPS
-few_enough n zs ys given h k = omega (arith, ap length given, length-drop n ys)
 
 -- a session that lacks room for a switch lacks room for going to the events that the switch makes
 -- live

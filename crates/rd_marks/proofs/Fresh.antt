@@ -1,14 +1,12 @@
 -- Which stretches' lists begin alike, and how far the stretches can be followed along events.
-use Rattle.rd_marks.proofs.Prelude.{◌≡◌, ◌⊎◌, ℕ, zero, suc, ◌<◌, ◌≤◌, refl, sym, ap, ◌∙◌, List, length, take, length-take, arith, cases_eq, length-map, take-take, take-map, Event, Entry, Stretch, stretch_list, shared_at, AreNested, AreFresh, IsAlong, IsDeepest, events}
+use Rattle.rd_marks.proofs.Prelude.{◌≡◌, ◌⊎◌, ℕ, zero, suc, ◌<◌, ◌≤◌, refl, sym, ap, ◌∙◌, List, length, take, length-take, arith, cases_eq, length-map, take-take, take-map, Event, Stretch, stretch_list, shared_at, AreNested, AreFresh, IsAlong, IsDeepest, events}
+use Rattle.rd_marks.proofs.Starting.{event_length}
 use Rattle.rd_marks.proofs.StretchLists.{list_past, begins_shared, shared_entries}
-
-abbrev as_event : Entry → Event
-as_event x = x.event
 
 -- Lists that begin with given events
 
 pub along_within : (ss : List Stretch) (i n : ℕ) (es : List Event) → IsAlong ss i n es → n ≤ length (stretch_list ss i)
-along_within ss i n es a = omega (arith, length-take n (events (stretch_list ss i)), ap length a.alike, length-take n es, length-map (stretch_list ss i) as_event, a.enough)
+along_within ss i n es a = omega (arith, length-take n (events (stretch_list ss i)), ap length a.alike, length-take n es, event_length (stretch_list ss i), a.enough)
 
 pub along_less : (ss : List Stretch) (i m n : ℕ) (es : List Event) → m ≤ n → IsAlong ss i n es → IsAlong ss i m es
 along_less ss i m n es h a =
@@ -19,7 +17,7 @@ pub along_taken : (ss rs : List Stretch) (i m n : ℕ) (es : List Event) → tak
 along_taken ss rs i m n es same a = grind (arith, take-map)
 
 pub along_itself : (ss : List Stretch) (i n : ℕ) → n ≤ length (stretch_list ss i) → IsAlong ss i n (events (stretch_list ss i))
-along_itself ss i n h = let its = length-map (stretch_list ss i) as_event in record { enough = omega (arith, its, h); alike = refl }
+along_itself ss i n h = let its = event_length (stretch_list ss i) in record { enough = omega (arith, its, h); alike = refl }
 
 -- if two lists begin with n of the same events, each begins with n events of the other
 pub along_both : (ss rs : List Stretch) (i m n : ℕ) (es : List Event) → IsAlong ss i n es → IsAlong rs m n es → IsAlong ss i n (events (stretch_list rs m))
@@ -51,7 +49,7 @@ pub record Follows (ss : List Stretch) (es : List Event) (k at n : ℕ) : Type 0
 
 module _ (ss : List Stretch) (rule : AreNested ss) (fresh : AreFresh ss) (es : List Event) where
   -- the search may begin in the first stretch, or in one that has the last of these entries itself
-  pub follows_start : (at n : ℕ) → (at ≡ 0) ⊎ (shared_at ss at < n) → IsAlong ss at n es → Follows ss es at at n
+  pub follows_start : (at n : ℕ) → (0 < at → shared_at ss at < n) → IsAlong ss at n es → Follows ss es at at n
   follows_start at n owned a = record {
     along = a;
     shared = λ j low high. absurd (omega (arith, low, high));

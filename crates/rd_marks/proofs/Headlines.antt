@@ -1,5 +1,5 @@
 -- Each book keeps the run of its live events, as the headline states.
-use Rattle.rd_marks.proofs.Prelude.{◌≡◌, ◌↔◌, ◌-◌, ◌≤◌, ℕ, refl, length, sym, subst, Option, Some, None, Result, Ok, Err, IsOk, arith, Refusal, Entry, State, state_of, undo_at, Journal, BookState, journal, numbered, first_dependant, and_then, IsRun, unless_depended, event_of_entry, book_state, session_of, Book}
+use Rattle.rd_marks.proofs.Prelude.{◌≡◌, ◌↔◌, ◌-◌, ◌≤◌, ℕ, refl, length, Option, Some, None, Ok, Err, IsOk, arith, Entry, state_of, undo_at, Journal, journal, numbered, first_dependant, and_then, IsRun, unless_depended, event_of_entry, book_state, session_of, Book}
 use Rattle.rd_journal.proofs.Ahead.{is_session}
 use Rattle.rd_journal.proofs.Finding.{numbered_in}
 use Rattle.rd_journal.proofs.ListLemmas.{nth}
@@ -9,12 +9,10 @@ use Rattle.rd_cell.specs.declared.refusal.Refusal.TheVariants as refusal
 
 -- a lone undo is refused with `Depended n` exactly if n is the dependant that is found
 names : {X : Type 0} (x : X) (n : ℕ) (found : Option ℕ) → (and_then (unless_depended found) (λ _. Ok x) ≡ Err (refusal.Depended n)) ↔ (found ≡ Some n)
-names x n None = grind arith
-names x n (Some j) = grind arith
+names x n found = grind arith
 
 frees : {X : Type 0} (x : X) (found : Option ℕ) → IsOk (and_then (unless_depended found) (λ _. Ok x)) ↔ (found ≡ None)
-frees x None = grind arith
-frees x (Some j) = grind arith
+frees x found = grind arith
 
 -- a lone undo of the k-th live step is refused with `Depended n` exactly if n is its first
 -- dependant
@@ -23,28 +21,23 @@ refused j runs k n = by (numbered j.live k) refl
   where
     by : (o : Option Entry) → numbered j.live k ≡ o → (undo_at (state_of j) k ≡ Err (refusal.Depended n)) ↔ (first_dependant j.live k ≡ Some n)
     by None none = grind (arith, event_of_entry)
-    by (Some x) here =
-        subst (λ (r : Result State Refusal). (r ≡ Err (refusal.Depended n)) ↔ (first_dependant j.live k ≡ Some n)) (sym (undo_at_found j k x runs here))
-        (names _ n (first_dependant j.live k))
+    by (Some x) here = rw (undo_at_found j k x runs here) (names _ n (first_dependant j.live k))
 
 -- a lone undo of a live step is done exactly if the step has no dependant
 free : (j : Journal) → IsRun j → (k : ℕ) → 1 ≤ k → k ≤ length j.live → IsOk (undo_at (state_of j) k) ↔ (first_dependant j.live k ≡ None)
 free j runs k some within =
     let x = nth j.live (k - 1) (omega arith) in
     let here : numbered j.live k ≡ Some x.0 = numbered_in j.live k x.0 some within x.1 in
-    subst (λ (r : Result State Refusal). IsOk r ↔ (first_dependant j.live k ≡ None)) (sym (undo_at_found j k x.0 runs here))
-    (frees _ (first_dependant j.live k))
-
--- the fact of the headline holds of every state over a journal that is a run, whatever its marks
-pub run_of_live : (j : Journal) (b : BookState) → b.session ≡ state_of j → IsRun j → IsRunOfLive b j
-run_of_live j b is runs = record {
-  is_run = runs;
-  state = is;
-  free = rw is (free j runs);
-  refused = rw is (refused j runs);
-  missing = rw is (λ k none. (undo_at_missing j (length j.live) k refl none).0);
-}
+    rw (undo_at_found j k x.0 runs here) (frees _ (first_dependant j.live k))
 
 -- each book keeps the run of its live events
 pub book_runs : {R : ℕ} (b : Book R) → IsRunOfLive (book_state b) (journal (session_of b))
-book_runs b = run_of_live (journal b.session) (book_state b) refl (is_session b.session).runs
+book_runs b =
+    let runs = (is_session b.session).runs in
+    record {
+      is_run = runs;
+      state = refl;
+      free = free (journal b.session) runs;
+      refused = refused (journal b.session) runs;
+      missing = λ k none. (undo_at_missing (journal b.session) (length (journal b.session).live) k refl none).0;
+    }

@@ -1,15 +1,12 @@
 -- How each call keeps the fact that the events of `here` begin the session's track.
-use Rattle.rd_marks.proofs.Prelude.{◌≡◌, ℕ, zero, suc, ◌-◌, ◌≤◌, refl, ap, List, [], ◌∷◌, ◌++◌, length, take, drop, Ok, arith, take-append_seam, take-length, take-map, take-take, take-append-le, length-map, length-take, closure, items_where_false, Event, Entry, Begins, Session, Journal, ahead_entries, state, track, State, undo_at, roll, Node, Stretch, stretch_list, entries_at, IsWithin, IsAlong, events, live_event, is_live, went_through}
+use Rattle.rd_marks.proofs.Prelude.{◌≡◌, ℕ, zero, suc, ◌-◌, ◌≤◌, refl, ap, List, [], ◌∷◌, ◌++◌, length, take, drop, Ok, arith, take-append_seam, take-length, take-map, take-take, take-append-le, length-map, length-take, closure, items_where_false, Event, Entry, Begins, Session, Journal, ahead_entries, state, track, State, Node, Stretch, stretch_list, entries_at, IsWithin, IsAlong, events, live_event, is_live, went_through, Result, Refusal, and_then, cases_lt, drop_all, append-nil}
 use Rattle.rd_journal.specs.Moves.{IsLengthened, IsUndoneAlone, IsRolledBack}
 use Rattle.rd_marks.proofs.Starting.{begins_events, begins_shorter, begins_trans, events_length, events_of_first, fewer_begin, entries_length}
 
 -- How many of the first live entries each call keeps
 
 without_leaves : {X : Type 0} (m k : ℕ) (xs : List X) → m ≤ k → take m (take m xs ++ drop k xs) ≡ take m xs
-without_leaves zero k xs h = refl
-without_leaves (suc m) zero xs h = absurd (omega (arith, h))
-without_leaves (suc m) (suc k) [] h = refl
-without_leaves {X} (suc m) (suc k) (x ∷ xs) h = ap (λ (ys : List X). x ∷ ys) (without_leaves m k xs (omega (arith, h)))
+without_leaves m k xs h = grind (arith, cases_lt (length xs) m, take-append-le m (take m xs) (drop k xs), take-take m m xs, length-take, drop_all k xs, append-nil (take m xs))
 
 pub undone_alone_leaves : (k n : ℕ) (old new : Journal) → n ≡ k - 1 → IsUndoneAlone k old new → take n new.live ≡ take n old.live
 undone_alone_leaves k n old new its taken = grind (arith, without_leaves)
@@ -25,13 +22,10 @@ roll_leaves k n old new its rolled = grind (arith, closure_leaves)
 pub added_leaves : (n : ℕ) (x : Entry) (old new : Journal) → n ≡ length old.live → IsLengthened x old new → take n new.live ≡ take n old.live
 added_leaves n x old new all more = grind (arith, take-append_seam, take-length)
 
--- A step that was undone by its number was live
+-- A step that was undone or rolled back by its number was live
 
-pub undone_within : (s : State) (k : ℕ) (t : State) → undo_at s k ≡ Ok t → k ≤ length s.live
-undone_within s k t h = let live = went_through (live_event s k) _ t h in (is_live s k live.0 live.1).1
-
-pub rolled_within : (s : State) (k : ℕ) (t : State) → roll s k ≡ Ok t → k ≤ length s.live
-rolled_within s k t h = let live = went_through (live_event s k) _ t h in (is_live s k live.0 live.1).1
+pub was_live : (s : State) (k : ℕ) (f : Event → Result State Refusal) (t : State) → and_then (live_event s k) f ≡ Ok t → k ≤ length s.live
+was_live s k f t h = let live = went_through (live_event s k) f t h in (is_live s k live.0 live.1).1
 
 module _ (here there : List Entry) (begins : Begins there here) where
   -- if `here` begins the track, so does every beginning of it
@@ -43,13 +37,9 @@ module _ (here there : List Entry) (begins : Begins there here) where
   pub track_cut : (n : ℕ) (old new : Journal) (old_ahead new_ahead : List Event) → Begins (events here) (events old.live ++ old_ahead)
       → length there ≤ n → n ≤ length old.live → take n new.live ≡ take n old.live → Begins (events there) (events new.live ++ new_ahead)
   track_cut n old new old_ahead new_ahead stands short within same =
-      let fact = take-take (length (events there)) n (events new.live ++ new_ahead) in
-      let fact_2 = take-take (length (events there)) n (events old.live ++ old_ahead) in
-      let fact_3 = take-map (λ (x : Entry). x.event) n new.live in
-      let fact_4 = take-map (λ (x : Entry). x.event) n old.live in
-      let fact_5 = take-append-le n (events old.live) old_ahead in
-      let fact_6 = take-append-le n (events new.live) new_ahead in
-      grind (arith, stands, short, within, same, length-map, length-take, fact_3, fact_4, fact_5, fact_6, fact, fact_2, still_begins (events old.live ++ old_ahead))
+      let still = still_begins (events old.live ++ old_ahead) in
+      let cut = take-take {A = Event} (length (events there)) n in
+      grind (arith, stands, short, within, same, still, length-map, length-take, take-map, take-append-le, cut (events new.live ++ new_ahead), cut (events old.live ++ old_ahead))
 
 -- entries whose events are the live ones begin the track
 pub live_begin : {R : ℕ} (session : Session R) (xs : List Entry) → events xs ≡ (state session).live → Begins (events xs) (track session)

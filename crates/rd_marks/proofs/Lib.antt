@@ -1,6 +1,5 @@
 pub mod Prelude
 pub mod NameLemmas
-pub mod Starts
 pub mod MarkLemmas
 pub mod EntryLemmas
 pub mod AnswerLemmas
@@ -11,11 +10,8 @@ pub mod StretchChanges
 pub mod Counting
 pub mod Starting
 pub mod StretchUses
-pub mod Switches
-pub mod SameLemmas
 pub mod Here
 pub mod Headlines
-pub mod RulesLemmas
 pub mod Reading
 pub mod Putting
 pub mod Moving

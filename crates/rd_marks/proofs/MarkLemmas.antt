@@ -1,5 +1,6 @@
 -- The marks of a list of names with entries: looking one up, adding one and removing one.
-use Rattle.rd_marks.proofs.Prelude.{inr, is_ok, ◌⊎◌, ◌≢◌, suc, Result, Ok, Err, IsOk, IfErr, ne_eqb, ◌≡◌, ℕ, Bool, true, false, cond, map, refl, sym, ap, ◌∙◌, subst, List, [], ◌∷◌, ◌++◌, length, is_some, option_map, ok_or, Option, Some, All, slice_get, arith, lookup, remove_entry, remove_key, All-cons, All-head, All-tail, Entry, Event, MarkName, mark_name_eq, eq-eqb, false≢true, length-map, get_or_from_slice_get, slice_get-map, slice_get_within, Refusal, World, MOST_MARKS, Begins, Mark, BookState, marked_events, mark, drop_mark, goto_mark, mark_at, mark_events, result_map, MakesSteps, AnswersSame, marks_of, events, Node, book_state, entries_in, LacksRoomFor, MayRefuseToGo, IsInPieces, Book}
+use Rattle.rd_marks.proofs.Prelude.{inr, is_ok, ◌⊎◌, ◌≢◌, suc, Result, Err, IsOk, IfErr, ne_eqb, ◌≡◌, ℕ, Bool, true, false, cond, map, refl, sym, ap, ◌∙◌, subst, List, [], ◌∷◌, ◌++◌, length, is_some, option_map, Option, Some, All, slice_get, arith, lookup, remove_entry, remove_key, All-cons, All-head, All-tail, Entry, Event, MarkName, mark_name_eq, eq-eqb, false≢true, get_or_from_slice_get, slice_get-map, slice_get_within, Refusal, World, MOST_MARKS, Begins, Mark, BookState, marked_events, mark, goto_mark, MakesSteps, AnswersSame, marks_of, events, Node, book_state, entries_in, LacksRoomFor, MayRefuseToGo, IsInPieces, Book, numbered, Ok}
+use Rattle.std.proofs.lemmas.Map.Entries.{All-lookup}
 use Rattle.rd_cell.specs.declared.refusal.Refusal.TheVariants as refusal
 
 -- the mark with a name and the events of its entries
@@ -25,14 +26,10 @@ all_without test P [] h = h
 all_without test P (m ∷ ms) h = grind (arith, cond, All-tail P m ms h, All-cons P m (remove_entry test ms) (All-head P m ms h) (all_without test P ms (All-tail P m ms h)))
 
 pub all_found : {K V : Type 0} (test : K → Bool) (P : V → Type 0) (ms : List (K × V)) (v : V) → All (λ m. P m.1) ms → lookup test ms ≡ Some v → P v
-all_found test P [] v h found = cc
-all_found test P (m ∷ ms) v h found = grind (arith, cond, found, All-head (λ m. P m.1) m ms h, all_found test P ms v (All-tail (λ m. P m.1) m ms h))
+all_found test P ms v h found = rw found at (All-lookup P test ms h)
 
 pub all_at : {X : Type 0} (P : X → Type 0) (xs : List X) (k : ℕ) (x : X) → All P xs → slice_get xs k ≡ Some x → P x
 all_at P xs k x h at = subst P (get_or_from_slice_get xs k x x at) (h k x (slice_get_within xs k x at))
-
-is_some_map : {X Y : Type 0} (f : X → Y) (o : Option X) → is_some (option_map f o) ≡ is_some o
-is_some_map f o = grind arith
 
 module _ (name : MarkName) where
   -- looking up a name finds the events of its mark
@@ -42,7 +39,7 @@ module _ (name : MarkName) where
 
   -- the lookup of a name finds something exactly if there is a mark of that name
   pub found_marked : (ls : List (MarkName × List Entry)) → is_some (marked_events (marks_of ls) name) ≡ is_some (lookup (mark_name_eq name) ls)
-  found_marked ls = ap is_some (found_events ls) ∙ is_some_map (λ xs. events xs) (lookup (mark_name_eq name) ls)
+  found_marked ls = grind (arith, found_events ls)
 
   -- without the entry of a name, there are just the marks without its mark
   pub marks_without : (ls : List (MarkName × List Entry)) → marks_of (remove_entry (mark_name_eq name) ls) ≡ remove_key (λ m. mark_name_eq name m.name) (marks_of ls)
@@ -52,22 +49,12 @@ module _ (name : MarkName) where
 -- What the result of a lookup tells of the marks
 module _ {X : Type 0} (f : X → List Entry) (name : MarkName) (ls : List (MarkName × List Entry)) (o : Option X) (b : Bool) (found : option_map f o ≡ lookup (mark_name_eq name) ls) (is : b ≡ is_some o) where
   pub found_at : is_some (marked_events (marks_of ls) name) ≡ b
-  found_at = found_marked name ls ∙ ap is_some (sym found) ∙ is_some_map f o ∙ sym is
+  found_at = grind (arith, found_marked name ls, found, is)
 
 -- a mark is set if its name is new and there are fewer than MOST_MARKS
 pub mark_goes : (b : BookState) (name : MarkName) → is_some (marked_events b.marks name) ≡ false → length b.marks ≢ MOST_MARKS
     → mark b name ≡ Ok (with_marks b (b.marks ++ record { name = name; events = b.session.live } ∷ []))
 mark_goes b name new few = rw (new, ne_eqb (length b.marks) MOST_MARKS few) refl
-
--- a mark is dropped if there is one of that name
-pub drop_goes : (b : BookState) (name : MarkName) (ls left : List (MarkName × List Entry)) → b.marks ≡ marks_of ls → is_some (lookup (mark_name_eq name) ls) ≡ true
-    → left ≡ remove_entry (mark_name_eq name) ls → drop_mark b name ≡ Ok (with_marks b (marks_of left))
-drop_goes b name ls left same there e =
-    rw (same, found_marked name ls, there, e, marks_without name ls) refl
-
-pub drop_missing : (b : BookState) (name : MarkName) (ls : List (MarkName × List Entry)) → b.marks ≡ marks_of ls → is_some (lookup (mark_name_eq name) ls) ≡ false → drop_mark b name ≡ Err refusal.NoMark
-drop_missing b name ls same none =
-    rw (same, found_marked name ls, none) refl
 
 -- if nothing is found, a removal leaves the list as it is
 pub none_removed : {K V : Type 0} (test : K → Bool) (ms : List (K × V)) → is_some (lookup test ms) ≡ false → remove_entry test ms ≡ ms
@@ -88,21 +75,9 @@ module _ (w : World) (o p : Option (List Event)) where
 
 -- The mark of a number
 
--- looking up a position finds the mark of the entry there
-mark_there : (b : BookState) (ls : List (MarkName × List Entry)) (j : ℕ) (o : Option (MarkName × List Entry)) → b.marks ≡ marks_of ls → slice_get ls j ≡ o
-    → slice_get b.marks j ≡ option_map mark_of o
-mark_there b ls j o same h = ap (λ (xs : List Mark). slice_get xs j) same ∙ slice_get-map mark_of ls j ∙ ap (option_map mark_of) h
-
-pub mark_said : (b : BookState) (ls : List (MarkName × List Entry)) (i j : ℕ) (o : Option (MarkName × List Entry)) → b.marks ≡ marks_of ls → i ≡ suc j → slice_get ls j ≡ o
-    → mark_at b i ≡ result_map name_and_length (ok_or (option_map mark_of o) refusal.NoMark)
-mark_said b ls i j o same e h = ap (mark_at b) e ∙ ap (λ (p : Option Mark). result_map name_and_length (ok_or p refusal.NoMark)) (mark_there b ls j o same h)
-
-pub events_said : (b : BookState) (ls : List (MarkName × List Entry)) (i j : ℕ) (o : Option (MarkName × List Entry)) → b.marks ≡ marks_of ls → i ≡ suc j → slice_get ls j ≡ o
-    → mark_events b i ≡ option_map (λ (m : Mark). m.events) (option_map mark_of o)
-events_said b ls i j o same e h = ap (mark_events b) e ∙ ap (option_map (λ (m : Mark). m.events)) (mark_there b ls j o same h)
-
-pub length_said : (name : MarkName) (n : ℕ) (xs : List Entry) → length xs ≡ n → Ok (name, n) ≡ result_map name_and_length (ok_or (Some (mark_of (name, xs))) refusal.NoMark)
-length_said name n xs long = ap (λ (k : ℕ). Ok (name, k)) (sym long ∙ sym (length-map xs (λ x. x.event)))
+-- looking up the i-th mark finds the mark of the entry there
+pub mark_there : (ls : List (MarkName × List Entry)) (i j : ℕ) (o : Option (MarkName × List Entry)) → i ≡ suc j → slice_get ls j ≡ o → numbered (marks_of ls) i ≡ option_map mark_of o
+mark_there ls i j o e h = rw e (slice_get-map mark_of ls j ∙ ap (option_map mark_of) h)
 
 -- a mark is refused with MarkTaken if its name is taken
 pub mark_taken : (b : BookState) (name : MarkName) → is_some (marked_events b.marks name) ≡ true → mark b name ≡ Err refusal.MarkTaken

@@ -1,5 +1,5 @@
 -- Changing the value of each name, one after another, and reading the values.
-use Rattle.rd_marks.proofs.Prelude.{◌≡◌, ℕ, zero, suc, ◌≤◌, max, refl, sym, ap, subst, List, [], ◌∷◌, ◌++◌, map, length, take, drop, slice_get, Some, All, arith, values_of, All-head, All-tail, set_value_at, MarkName, Node, nodes_of, greatest_in, entries_in_stretch}
+use Rattle.rd_marks.proofs.Prelude.{◌≡◌, ℕ, zero, suc, max, sym, ap, subst, List, [], ◌∷◌, ◌++◌, map, take, drop, slice_get, Some, All, values_of, All-head, All-tail, set_value_at, MarkName, Node, nodes_of, greatest_in, entries_in_stretch}
 
 module _ {K V : Type 0} (f : V → V) where
   -- the list after the values of its first n entries were changed by f
@@ -19,13 +19,6 @@ module _ {K V : Type 0} (f : V → V) where
   value_next P zero (e ∷ es) v all h = (let same : e.1 ≡ v = cc in subst (λ (u : V). P u) same (All-head (λ (d : K × V). P d.1) e es all))
   value_next P (suc n) [] v all h = cc
   value_next P (suc n) (e ∷ es) v all h = value_next P n es v (All-tail (λ (d : K × V). P d.1) e es all) h
-
-  -- in the end, all values are changed
-  pub all_changed : (n : ℕ) (es : List (K × V)) → length es ≤ n → changed n es ≡ map (λ (e : K × V). (e.0, f e.1)) es
-  all_changed zero [] h = refl
-  all_changed zero (e ∷ es) h = absurd (omega (arith, h))
-  all_changed (suc n) [] h = refl
-  all_changed (suc n) (e ∷ es) h = ap (λ (rest : List (K × V)). (e.0, f e.1) ∷ rest) (all_changed n es (omega (arith, h)))
 
 -- The greatest number among the nodes that are left to read
 

@@ -1,8 +1,31 @@
 -- No command changes the start, and a refused one changes nothing.
-use Rattle.rd_marks.proofs.Prelude.{◌≡◌, ℕ, sym, subst, List, [], ◌∷◌, ◌++◌, length, Some, None, Result, Ok, Err, OnErr, IfErr, ◌∙◌, arith, same_Some, MayRefuse, Refusal, Event, Session, State, apply, reply_to, undo_at, roll, back, forward, Command, BookState, MarkName, with_session, goto_mark, Answered, answer_with, IsEventAnswer, IsAsDefined, IsObeyed, AreObeyed, Reply, Applied, step_counts, as_event}
+use Rattle.rd_marks.proofs.Prelude.{◌≡◌, ℕ, sym, subst, List, [], ◌∷◌, ◌++◌, length, Some, None, Result, Ok, Err, OnErr, IfErr, ◌∙◌, arith, same_Some, MayRefuse, Refusal, Event, Session, State, apply, reply_to, undo_at, roll, back, forward, Command, BookState, MarkName, with_session, goto_mark, Answered, answer_with, IsEventAnswer, IsAsDefined, IsObeyed, AreObeyed, Reply, Applied, step_counts, as_event, ap, OnOk, AnswersAs, state, Journal, state_of}
 use Rattle.rd_marks.specs.declared.commands.Command.TheVariants as command
 use Rattle.rd_actor.specs.declared.actors.Act.TheVariants as act
-use Rattle.rd_marks.proofs.Starts.{apply_start, undo_at_start, roll_start, back_start, forward_start}
+pub use Rattle.rd_journal.proofs.Calls.{back_start, forward_start}
+
+-- No call of a session changes its start
+
+pub apply_start : (s : State) (e : Event) (t : State) → apply s e ≡ Ok t → t.start ≡ s.start
+apply_start s e t h = grind arith
+
+pub undo_at_start : (s : State) (k : ℕ) (t : State) → undo_at s k ≡ Ok t → t.start ≡ s.start
+undo_at_start s k t l = grind arith
+
+pub roll_start : (s : State) (k : ℕ) (t : State) → roll s k ≡ Ok t → t.start ≡ s.start
+roll_start s k t l = grind arith
+
+-- the start stays, whether the call was done or refused
+pub answers_start : {R : ℕ} (moved : Result State Refusal) (done : Result (Unit {0}) Refusal) (old new : Session R)
+    → ((t : State) → moved ≡ Ok t → t.start ≡ (state old).start) → AnswersAs moved done old new → (state new).start ≡ (state old).start
+answers_start {R} moved (Ok tt) old new starts answers = starts (state new) answers
+answers_start {R} moved (Err e) old new starts answers = ap (λ (s : Session R). (state s).start) answers.1
+
+-- going to other events keeps the start too
+pub start_kept : {X : Type 0} (r : Result X Refusal) (i j : Journal) (es : List Event) → OnOk r (state_of j ≡ record { start = i.start; live = es; undone = [] }) → OnErr r (j ≡ i) → j.start ≡ i.start
+start_kept r i j es h g = grind arith
+
+-- No command changes the start
 
 -- the answer leaves the start as it was, and a refusal leaves everything
 pub record LeavesStart (b : BookState) (a : Answered) : Type 0 where
@@ -14,9 +37,6 @@ state_leaves b reply r starts = grind arith
 
 goto_start : (b : BookState) (name : MarkName) (t : BookState) → goto_mark b name ≡ Ok t → t.session.start ≡ b.session.start
 goto_start b name t h = grind arith
-
-query_leaves : (b : BookState) (a : Answered) → a.state ≡ b → LeavesStart b a
-query_leaves b a same = grind arith
 
 -- equal answers leave the same things
 as_this : (b : BookState) (a c : Answered) → LeavesStart b c → a ≡ c → LeavesStart b a
@@ -45,7 +65,7 @@ obeyed_leaves b (command.Forward n) a h = as_this b a _ (state_leaves b step_cou
 obeyed_leaves b (command.Mark name) a h = grind (arith, made_leaves)
 obeyed_leaves b (command.DropMark name) a h = grind (arith, as_this)
 obeyed_leaves b (command.GotoMark name) a h = made_leaves b _ (goto_mark b name) _ a (goto_start b name) h
-obeyed_leaves b _ a h = grind (arith, query_leaves)
+obeyed_leaves b _ a h = grind arith
 
 -- a command that is an event may be answered as the event may
 pub event_obeyed : (b : BookState) (c : Command) (e : Event) (a : Answered) → as_event c ≡ Some e → IsEventAnswer b e a → IsObeyed b c a

@@ -1,9 +1,12 @@
 -- The bookmarks after one was added, and after stretches were cut.
-use Rattle.rd_marks.proofs.Prelude.{◌≡◌, ℕ, zero, suc, ◌^◌, ◌<◌, ◌≤◌, inl, inr, refl, sym, ap, ◌∙◌, subst, List, [], ◌∷◌, ◌++◌, map, length, take, drop, length-append, option_map, Option, None, All, arith, cases_lt, sum_by-le, length-map, map-append, take-append-drop, All-push, All-contains, All-head, All-map, All-nil, All-tail, World, MOST_STEPS, Event, Entry, Begins, MarkName, Node, Stretch, Shift, shifted, Stays, IsGrown, IsShrunk, KeepsItsSteps, MOST_MARKS, AreEntriesOfRun, AreRuns, IsKept, IsPruned, named_lists, nodes_of, entry_count, stretch_list, entries_at, greatest_in, needed_at, IsWithin, IsAlong, AreNested, AreNeeded, AreNeededFrom, nat_tests, events, IsRunFrom, run}
+use Rattle.rd_marks.proofs.Prelude.{◌≡◌, ℕ, zero, suc, ◌^◌, ◌<◌, ◌≤◌, inl, inr, refl, sym, ap, ◌∙◌, subst, List, [], ◌∷◌, ◌++◌, map, length, take, drop, length-append, All, arith, cases_lt, sum_by-le, length-map, map-append, take-append-drop, All-push, All-contains, All-head, All-map, All-nil, All-tail, World, MOST_STEPS, Event, Entry, Begins, MarkName, Node, Stretch, Shift, shifted, Stays, IsGrown, IsShrunk, KeepsItsSteps, MOST_MARKS, AreEntriesOfRun, AreRuns, IsKept, IsPruned, named_lists, nodes_of, entry_count, stretch_list, entries_at, greatest_in, needed_at, IsWithin, IsAlong, AreNested, AreNeeded, AreNeededFrom, nat_tests, events, IsRunFrom, run, take-length, map-id}
+use Rattle.std.proofs.lemmas.Map.Made.{keys_of-map_values}
+use mathlib.Core.List.{map-map}
 use Rattle.rd_marks.specs.declared.stretches.changes.Grown.{Grown}
+use Rattle.rd_marks.specs.declared.stretches.changes.Shift.TheVariants.{Same}
 use Rattle.rd_marks.proofs.Counting.{begins_one, contains_mapped, count_bounded}
 use Rattle.rd_marks.proofs.EntryLemmas.{begin_alike}
-use Rattle.rd_marks.proofs.Starting.{begins_itself, begins_trans, events_of_first, fewer_begin, stretch_within}
+use Rattle.rd_marks.proofs.Starting.{begins_trans, events_of_first, fewer_begin, stretch_within}
 
 -- the names with their nodes, renumbered as the shift says
 abbrev pub names_shifted : Shift → List (MarkName × Node) → List (MarkName × Node)
@@ -11,12 +14,11 @@ names_shifted shift ms = map (λ (m : MarkName × Node). (m.0, shifted shift m.1
 
 -- the lists of the names have just the names
 pub names_same : (ss : List Stretch) (ms : List (MarkName × Node)) → map (λ (l : MarkName × List Entry). l.0) (named_lists ss ms) ≡ map (λ (m : MarkName × Node). m.0) ms
-names_same ss [] = refl
-names_same ss (m ∷ ms) = ap (λ (names : List MarkName). m.0 ∷ names) (names_same ss ms)
+names_same ss ms = keys_of-map_values (entries_at ss) ms
 
 pub nodes_shifted : (shift : Shift) (ms : List (MarkName × Node)) → nodes_of (names_shifted shift ms) ≡ map (shifted shift) (nodes_of ms)
-nodes_shifted shift [] = refl
-nodes_shifted shift (m ∷ ms) = ap (λ (ps : List Node). shifted shift m.1 ∷ ps) (nodes_shifted shift ms)
+nodes_shifted shift ms =
+    map-map (λ (m : MarkName × Node). m.1) (λ (m : MarkName × Node). (m.0, shifted shift m.1)) ms ∙ sym (map-map (shifted shift) (λ (m : MarkName × Node). m.1) ms)
 
 module _ (old new : List Stretch) (shift : Shift) where
   -- each name keeps its entries if its node does
@@ -33,54 +35,11 @@ module _ (old new : List Stretch) (shift : Shift) where
 pub each : (P Q : Node → Type 0) (ms : List (MarkName × Node)) → ((p : Node) → P p → Q p) → All (λ (m : MarkName × Node). P m.1) ms → All (λ (m : MarkName × Node). Q m.1) ms
 each P Q ms f h = λ k d inside. f _ (h k d inside)
 
-module _ (old new : List Stretch) (at : Node) (live : List Entry) (grown : Grown) (grows : IsGrown old new at live grown) (name : MarkName) (ms : List (MarkName × Node))
-    (within : All (λ (m : MarkName × Node). IsWithin old m.1) ms) where
-  stay : All (λ (m : MarkName × Node). Stays old new grown.shift m.1) ms
-  stay = each (IsWithin old) (Stays old new grown.shift) ms grows.stays within
-
-  abbrev put : List (MarkName × Node)
-  put = names_shifted grown.shift ms ++ (name, grown.node) ∷ []
-
-  pub lists_put : named_lists new put ≡ named_lists old ms ++ (name, entries_at new grown.node) ∷ []
-  lists_put =
-      map-append (λ (m : MarkName × Node). (m.0, entries_at new m.1)) (names_shifted grown.shift ms) ((name, grown.node) ∷ [])
-      ∙ ap (λ (ls : List (MarkName × List Entry)). ls ++ (name, entries_at new grown.node) ∷ []) (lists_shifted old new grown.shift ms stay)
-
-  pub within_put : All (λ (m : MarkName × Node). IsWithin new m.1) put
-  within_put =
-      All-push (λ (m : MarkName × Node). IsWithin new m.1) (names_shifted grown.shift ms) (name, grown.node) (within_shifted old new grown.shift ms stay) grows.within
-
-  pub needed_put : AreNeeded old (nodes_of ms) → AreNeeded new (nodes_of put)
-  needed_put needed =
-      rw (map-append (λ (m : MarkName × Node). m.1) (names_shifted grown.shift ms) ((name, grown.node) ∷ []), nodes_shifted grown.shift ms) (grows.needed (nodes_of ms) needed)
-
-  -- the invariant of the bookmarks holds with the new one
-  pub kept_put : (here there : Node) → IsKept old ms here → length ms < MOST_MARKS → (es : List (MarkName × Node)) → es ≡ put → IsWithin new there → IsKept new es there
-  kept_put here there kept fewer es its lies =
-      subst (λ (fs : List (MarkName × Node)). IsKept new fs there) (sym its) (record {
-        few =
-            omega (arith, fewer, length-append (names_shifted grown.shift ms) ((name, grown.node) ∷ []), length-map {B = MarkName × Node} ms (λ m. (m.0, shifted grown.shift m.1)));
-        within = within_put;
-        needed = needed_put kept.needed;
-        lies = lies;
-      })
-
-  -- `here` is within the new stretches, and its events still begin the track
-  here_put : (here there : Node) (n : ℕ) (steps : List Event) → IsWithin old here → Begins (events (entries_at old here)) steps → Begins (events (entries_at new grown.node)) steps
-      → (here.number ≤ n → there ≡ grown.node) → (n < here.number → there ≡ shifted grown.shift here) → IsWithin new there × Begins (events (entries_at new there)) steps
-  here_put here there n steps lies stands begins near far =
-      elim (cases_lt n here.number) [
-        | inl over ↦ let stays = grows.stays here lies in rw (far over) (stays.within, rw stays.same stands)
-        | inr short ↦ rw (near short) (grows.within, begins)
-      ]
-
 -- No bookmark was added
 
 module _ (old new : List Stretch) (unchanged : KeepsItsSteps old new) where
   lists_same : (ms : List (MarkName × Node)) → All (λ (m : MarkName × Node). IsWithin old m.1) ms → named_lists new ms ≡ named_lists old ms
-  lists_same [] h = refl
-  lists_same (m ∷ ms) h = λ i. (m.0, (unchanged.stays m.1 (All-head (λ (n : MarkName × Node). IsWithin old n.1) m ms h)).same i)
-      ∷ lists_same ms (All-tail (λ (n : MarkName × Node). IsWithin old n.1) m ms h) i
+  lists_same ms h = ap (named_lists new) (sym (map-id ms)) ∙ lists_shifted old new Same ms (λ k d inside. unchanged.stays _ (h k d inside))
 
   pub kept_same : (ms es : List (MarkName × Node)) (here : Node) → es ≡ ms → IsKept old ms here
       → IsKept new es here × (named_lists new es ≡ named_lists old ms) × (entries_at new here ≡ entries_at old here)
@@ -128,7 +87,7 @@ module _ (old new : List Stretch) (i n : ℕ) (shift : Shift) (shrunk : IsShrunk
 -- before any stretch is cut, `IsPruned` holds after the last one; and cuts in a row compose
 pub not_pruned : (ss : List Stretch) (ms : List (MarkName × Node)) (here : Node) → All (λ (m : MarkName × Node). IsWithin ss m.1) ms → IsWithin ss here
     → IsPruned (length ss) ss ss ms ms here here
-not_pruned ss ms here within lies = grind (arith, begins_itself)
+not_pruned ss ms here within lies = grind (arith, take-length)
 
 pub pruned_on : (i k : ℕ) (a b c : List Stretch) (ms ns ls : List (MarkName × Node)) (p q r : Node) → IsPruned k a b ms ns p q → IsPruned i b c ns ls q r → IsPruned i a c ms ls p r
 pruned_on i k a b c ms ns ls p q r first second = grind (arith, begins_trans)
@@ -145,16 +104,6 @@ count_fits ss rule ms needed within few =
     let all = All-map (λ (p : Node). p.number ≤ MOST_STEPS) (λ (m : MarkName × Node). m.1) ms (λ k d inside. number_few ss rule _ (within k d inside)) in
     omega (arith, count_bounded ss rule (nodes_of ms) needed, sum_by-le (λ (p : Node). p.number) MOST_STEPS (nodes_of ms) all, length-map ms (λ (m : MarkName × Node). m.1), few)
 
--- The entries of the added bookmark are those of a run, as all others are
-
-pub runs_put : (w : World) (ls ms : List (MarkName × List Entry)) (name : MarkName) (xs : List Entry) → AreRuns w ls → AreEntriesOfRun w xs → ms ≡ ls ++ (name, xs) ∷ [] → AreRuns w ms
-runs_put w ls ms name xs runs run its =
-    rw its (All-push (λ (l : MarkName × List Entry). AreEntriesOfRun w l.1) ls (name, xs) runs run)
-
--- a name that is not in the lists isn't among the names
-pub none_named : (f : Node → List Entry) (o : Option Node) → option_map f o ≡ None → o ≡ None
-none_named f o h = grind arith
-
 -- Adding a bookmark
 
 -- after a bookmark was added at the live entries, the invariant holds (`kept`), it is the last one
@@ -165,23 +114,57 @@ pub record IsSet (w : World) (old new : List Stretch) (ms es : List (MarkName ×
   pub runs : AreRuns w (named_lists new es)
   pub stands : Begins (events (entries_at new there)) steps
 
-module _ (w : World) (old : List Stretch) (rule : AreNested old) (ms : List (MarkName × Node)) (here : Node) (kept : IsKept old ms here) (fewer : length (named_lists old ms) < MOST_MARKS)
+module _ (w : World) (old new : List Stretch) (rule : AreNested old) (ms : List (MarkName × Node)) (here : Node) (kept : IsKept old ms here) (fewer : length (named_lists old ms) < MOST_MARKS)
     (runs : AreRuns w (named_lists old ms)) (live : List Entry) (run : AreEntriesOfRun w live) (steps : List Event) (stands : Begins (events (entries_at old here)) steps)
-    (began : Begins (events live) steps) (at : Node) (within : IsWithin old at) (along : IsAlong old at.stretch at.number (events live)) where
-  pub is_set : (new : List Stretch) (grown : Grown) → IsGrown old new at live grown → (name : MarkName) (mid es : List (MarkName × Node)) → mid ≡ ms
-      → es ≡ names_shifted grown.shift mid ++ (name, grown.node) ∷ [] → (there : Node) (n : ℕ) → (here.number ≤ n → there ≡ grown.node) → (n < here.number → there ≡ shifted grown.shift here)
-      → IsSet w old new ms es name live steps there
-  is_set new grown grows name mid es reserved its there n near far =
-      let all : entries_at new grown.node ≡ live =
-      grows.put ∙ ap (λ (xs : List Entry). xs ++ drop at.number live) (same_entries w old rule ms kept.needed runs at within live run.ran along) ∙ take-append-drop at.number live in
-      let put_now = its ∙ ap (λ (fs : List (MarkName × Node)). names_shifted grown.shift fs ++ (name, grown.node) ∷ []) reserved in
-      let lists : named_lists new es ≡ named_lists old ms ++ (name, live) ∷ [] =
-      ap (named_lists new) put_now ∙ lists_put old new at live grown grows name ms kept.within ∙ ap (λ (xs : List Entry). named_lists old ms ++ (name, xs) ∷ []) all in
-      let lies =
-      here_put old new at live grown grows name ms kept.within here there n steps kept.lies stands (subst (λ (xs : List Entry). Begins (events xs) steps) (sym all) began) near far in
+    (began : Begins (events live) steps) (at : Node) (within : IsWithin old at) (along : IsAlong old at.stretch at.number (events live))
+    (grown : Grown) (grows : IsGrown old new at live grown) (name : MarkName) where
+  stay : All (λ (m : MarkName × Node). Stays old new grown.shift m.1) ms
+  stay = each (IsWithin old) (Stays old new grown.shift) ms grows.stays kept.within
+
+  -- the new node has the live entries
+  its_entries : entries_at new grown.node ≡ live
+  its_entries =
+      grows.put ∙ ap (λ (xs : List Entry). xs ++ drop at.number live) (same_entries w old rule ms kept.needed runs at within live run.ran along) ∙ take-append-drop at.number live
+
+  abbrev put : List (MarkName × Node)
+  put = names_shifted grown.shift ms ++ (name, grown.node) ∷ []
+
+  lists_put : named_lists new put ≡ named_lists old ms ++ (name, live) ∷ []
+  lists_put =
+      map-append (λ (m : MarkName × Node). (m.0, entries_at new m.1)) (names_shifted grown.shift ms) ((name, grown.node) ∷ [])
+      ∙ (λ i. lists_shifted old new grown.shift ms stay i ++ (name, its_entries i) ∷ [])
+
+  -- the invariant of the bookmarks holds with the new one
+  kept_put : (there : Node) → IsWithin new there → IsKept new put there
+  kept_put there lies =
+      let were = length-map {B = MarkName × List Entry} ms (λ m. (m.0, entries_at old m.1)) in
+      let are = length-map {B = MarkName × Node} ms (λ m. (m.0, shifted grown.shift m.1)) in
       record {
-        kept = kept_put old new at live grown grows name ms kept.within here there kept (omega (arith, fewer, length-map {B = MarkName × List Entry} ms (λ m. (m.0, entries_at old m.1)))) es put_now lies.0;
+        few = omega (arith, fewer, were, are, length-append (names_shifted grown.shift ms) ((name, grown.node) ∷ []));
+        within =
+            All-push (λ (m : MarkName × Node). IsWithin new m.1) (names_shifted grown.shift ms) (name, grown.node) (within_shifted old new grown.shift ms stay) grows.within;
+        needed =
+            rw (map-append (λ (m : MarkName × Node). m.1) (names_shifted grown.shift ms) ((name, grown.node) ∷ []), nodes_shifted grown.shift ms) (grows.needed (nodes_of ms) kept.needed);
+        lies = lies;
+      }
+
+  -- the node `here` is within the new stretches, and its events still begin the track
+  here_put : (there : Node) (n : ℕ) → (here.number ≤ n → there ≡ grown.node) → (n < here.number → there ≡ shifted grown.shift here)
+      → IsWithin new there × Begins (events (entries_at new there)) steps
+  here_put there n near far =
+      elim (cases_lt n here.number) [
+        | inl over ↦ let stays = grows.stays here kept.lies in rw (far over) (stays.within, rw stays.same stands)
+        | inr short ↦ rw (near short) (grows.within, rw its_entries began)
+      ]
+
+  pub is_set : (mid es : List (MarkName × Node)) → mid ≡ ms → es ≡ names_shifted grown.shift mid ++ (name, grown.node) ∷ [] → (there : Node) (n : ℕ)
+      → (here.number ≤ n → there ≡ grown.node) → (n < here.number → there ≡ shifted grown.shift here) → IsSet w old new ms es name live steps there
+  is_set mid es reserved its there n near far =
+      let lies = here_put there n near far in
+      let lists : named_lists new es ≡ named_lists old ms ++ (name, live) ∷ [] = rw (its, reserved) lists_put in
+      record {
+        kept = rw (its, reserved) (kept_put there lies.0);
         lists = lists;
-        runs = runs_put w (named_lists old ms) (named_lists new es) name live runs run lists;
+        runs = rw lists (All-push (λ (l : MarkName × List Entry). AreEntriesOfRun w l.1) (named_lists old ms) (name, live) runs run);
         stands = lies.1;
       }

@@ -1,5 +1,6 @@
 -- Reading the entries of a node, and comparing the stretches with other entries.
-use Rattle.rd_marks.proofs.Prelude.{◌≡◌, ◌⊎◌, ℕ, zero, suc, ◌+◌, ◌-◌, ◌<◌, ◌≤◌, length-drop, refl, sym, ap, ◌∙◌, List, [], ◌∷◌, ◌++◌, length, take, drop, get_or, reverse, slice_get, option_map, Some, arith, drop-cons, take-add, cases_lt, append_assoc, drop-map, drop-take, length-map, reverse-append, take-take, slice_get-map, slice_get_read, Event, Entry, Node, Stretch, entry_count, stretch_list, list_before, shared_at, entries_at, IsWithin, IsOwn, IsAlong, AreNested, AreFresh, events, numbered}
+use Rattle.rd_marks.proofs.Prelude.{◌≡◌, ◌⊎◌, ℕ, zero, suc, ◌+◌, ◌-◌, ◌<◌, ◌≤◌, length-drop, refl, sym, ap, ◌∙◌, List, [], ◌∷◌, ◌++◌, length, take, drop, get_or, reverse, slice_get, option_map, Some, arith, drop-cons, take-add, cases_lt, append_assoc, drop-map, drop-take, length-map, reverse-append, take-take, slice_get-map, slice_get_read, Event, Entry, Node, Stretch, entry_count, stretch_list, list_before, shared_at, entries_at, IsWithin, IsOwn, IsAlong, AreNested, AreFresh, events, numbered, slice_get_within, get_or_from_slice_get, take-suc}
+use Rattle.rd_journal.proofs.ListLemmas.{nth}
 use Rattle.rd_marks.proofs.StretchLists.{own_at, stretch_there, total, shared_within, begins_shared, behind_shared, list_past}
 use Rattle.rd_marks.proofs.Fresh.{Follows, follows_compared, follows_skipped, along_itself, along_within, between}
 use Rattle.rd_marks.proofs.Starting.{first_events, stretch_within}
@@ -18,22 +19,8 @@ slice_get_drop [] (suc m) n = refl
 slice_get_drop (x ∷ xs) (suc m) n = slice_get_drop xs m n ∙ ap (slice_get (x ∷ xs)) (let e : suc (m + n) ≡ suc m + n = omega arith in e)
 
 -- one more element of a beginning is the next one of the list
-pub one_more : {X : Type 0} (xs : List X) (n : ℕ) (x : X) → slice_get xs n ≡ Some x → take (suc n) xs ≡ take n xs ++ x ∷ []
-one_more [] n x h = cc
-one_more {X} (y ∷ xs) zero x h = (let same : y ≡ x = cc in ap (λ (z : X). z ∷ []) same)
-one_more {X} (y ∷ xs) (suc n) x h = ap (λ (zs : List X). y ∷ zs) (one_more xs n x h)
-
-pub there_is : {X : Type 0} (xs : List X) (n : ℕ) → n < length xs → (x : X) × (slice_get xs n ≡ Some x)
-there_is [] n h = absurd (omega (arith, h))
-there_is (x ∷ xs) zero h = (x, refl)
-there_is (x ∷ xs) (suc n) h = there_is xs n (omega (arith, h))
-
--- two lists don't agree on n + m + 1 elements if they differ at the m-th one after the first n
-alike_no_further : {X : Type 0} (n m : ℕ) (xs ys : List X) → suc (n + m) ≤ length ys → take (suc (n + m)) xs ≡ take (suc (n + m)) ys
-    → ((x : X) → slice_get (drop n xs) m ≡ Some x → slice_get (drop n ys) m ≡ Some x → ⊥) → ⊥
-alike_no_further n m xs ys long same apart =
-    let found = there_is ys (n + m) long in
-    grind (arith, same, slice_get_drop, slice_get_take xs (suc (n + m)) (n + m), slice_get_take ys (suc (n + m)) (n + m), found, apart found.0)
+one_more : {X : Type 0} (xs : List X) (n : ℕ) (x : X) → slice_get xs n ≡ Some x → take (suc n) xs ≡ take n xs ++ x ∷ []
+one_more {X} xs n x h = take-suc xs n x (slice_get_within xs n x h) ∙ ap (λ (y : X). take n xs ++ y ∷ []) (get_or_from_slice_get xs n x x h)
 
 -- Reading from the last entry to the first
 
@@ -58,21 +45,15 @@ pub count_on : (ss : List Stretch) (i : ℕ) (s : Stretch) → i < length ss →
 count_on ss i s inside its = grind (arith, drop-cons)
 
 module _ (ss : List Stretch) (rule : AreNested ss) where
-  -- if the next stretch shares the first n entries, the list before it has them too
-  pub one_down : (k n : ℕ) → n ≤ shared_at ss (suc k) → (n ≤ length (stretch_list ss k)) × (take n (stretch_list ss k) ≡ take n (stretch_list ss (suc k)))
-  one_down k n h = (omega (arith, h, shared_within ss rule (suc k)), sym (begins_shared ss rule (suc k) n h))
-
+  -- if the stretch shares all entries of a node, the list before it has them too
   pub down : (p : Node) → 0 < p.stretch → p.number ≤ shared_at ss p.stretch
       → IsWithin ss (record { stretch = p.stretch - 1; number = p.number }) × (entries_at ss (record { stretch = p.stretch - 1; number = p.number }) ≡ entries_at ss p)
-  down p some h = grind (arith, one_down (p.stretch - 1) p.number)
+  down p some h = grind (arith, some, h, shared_within ss rule (suc (p.stretch - 1)), begins_shared ss rule (suc (p.stretch - 1)) p.number)
 
   -- if the lists from stretch `one` to i begin alike, so does the next one, as far as it shares
   pub common_on : (one i c d : ℕ) → d ≤ c → d ≤ shared_at ss (suc i) → take c (stretch_list ss i) ≡ take c (stretch_list ss one) → take d (stretch_list ss (suc i)) ≡ take d (stretch_list ss one)
   common_on one i c d less shared same =
       begins_shared ss rule (suc i) d shared ∙ sym (take-take d c (stretch_list ss i) less) ∙ ap (take d) same ∙ take-take d c (stretch_list ss one) less
-
-  pub own_cases : (p : Node) → IsOwn ss p → (p.stretch ≡ 0) ⊎ (shared_at ss p.stretch < p.number)
-  own_cases p own = grind arith
 
   -- a node whose last entry is its stretch's own has no fewer entries than the stretch shares
   pub own_number : (p : Node) → IsOwn ss p → shared_at ss p.stretch ≤ p.number
@@ -111,8 +92,10 @@ module _ (ss : List Stretch) (rule : AreNested ss) where
 
     pub along_no_further : ((e : Event) → slice_get (events (drop (n - shared_at ss i) (own_at ss i))) m ≡ Some e → slice_get (drop n es) m ≡ Some e → ⊥) → IsAlong ss i (suc (n + m)) es → ⊥
     along_no_further apart further =
-        alike_no_further n m (events (stretch_list ss i)) es further.enough further.alike
-        (λ e here there. apart e (ap (λ (fs : List Event). slice_get fs m) (sym own_events) ∙ here) there)
+        let xs = events (stretch_list ss i) in
+        let found = nth es (n + m) further.enough in
+        let there = slice_get_read es (length es) (n + m) found.0 refl further.enough found.1 in
+        grind (arith, there, further.alike, own_events, slice_get_drop xs n m, slice_get_drop es n m, slice_get_take xs (suc (n + m)) (n + m), slice_get_take es (suc (n + m)) (n + m), apart found.0)
 
 -- Following the stretches along events
 

@@ -1,9 +1,6 @@
 -- Lists that begin other lists, and the entries of a node.
-use Rattle.rd_marks.proofs.Prelude.{◌≡◌, ℕ, ◌<◌, ◌≤◌, sym, ap, ◌∙◌, List, length, take, length-take, arith, take-length, length-map, length-take-le, take-map, take-take, Entry, Begins, Node, Stretch, stretch_list, entries_at, IsWithin, events}
+use Rattle.rd_marks.proofs.Prelude.{◌≡◌, ℕ, ◌<◌, ◌≤◌, sym, ap, ◌∙◌, List, length, take, length-take, arith, length-map, length-take-le, take-map, take-take, Entry, Begins, Node, Stretch, stretch_list, entries_at, IsWithin, events}
 use Rattle.rd_marks.proofs.StretchLists.{list_past}
-
-pub begins_itself : {X : Type 0} (xs : List X) → Begins xs xs
-begins_itself xs = take-length xs
 
 pub begins_shorter : {X : Type 0} (xs ys : List X) → Begins xs ys → length xs ≤ length ys
 begins_shorter xs ys h = omega (arith, ap length h, length-take (length xs) ys)
@@ -34,17 +31,10 @@ module _ (ss : List Stretch) where
   pub stretch_within : (p : Node) → IsWithin ss p → 0 < p.number → p.stretch < length ss
   stretch_within p within some = grind (arith, list_past)
 
-  -- the first entries of a node are the first ones of its stretch's list
-  pub first_entries : (p : Node) (n : ℕ) → n ≤ p.number → take n (entries_at ss p) ≡ take n (stretch_list ss p.stretch)
-  first_entries p n h = take-take n p.number (stretch_list ss p.stretch) h
-
+  -- the first events of a node are the first ones of its stretch's list
   pub first_events : (p : Node) (n : ℕ) → n ≤ p.number → take n (events (entries_at ss p)) ≡ take n (events (stretch_list ss p.stretch))
-  first_events p n h = events_of_first n (entries_at ss p) ∙ ap events (first_entries p n h) ∙ sym (events_of_first n (stretch_list ss p.stretch))
+  first_events p n h = events_of_first n (entries_at ss p) ∙ ap events (take-take n p.number (stretch_list ss p.stretch) h) ∙ sym (events_of_first n (stretch_list ss p.stretch))
 
   -- a node of the same stretch with no more entries begins the entries of the node
   pub fewer_begin : (p q : Node) → IsWithin ss p → q.stretch ≡ p.stretch → q.number ≤ p.number → IsWithin ss q × Begins (entries_at ss q) (entries_at ss p)
-  fewer_begin p q within same fewer =
-      let is : IsWithin ss q = omega (arith, within, fewer, ap (λ (i : ℕ). length (stretch_list ss i)) same) in (
-        is,
-        ap (λ (n : ℕ). take n (entries_at ss p)) (entries_length q is) ∙ first_entries p q.number fewer ∙ ap (λ (i : ℕ). take q.number (stretch_list ss i)) (sym same),
-      )
+  fewer_begin p q within same fewer = grind (arith, within, fewer, length-take-le q.number (stretch_list ss p.stretch), take-take q.number p.number (stretch_list ss p.stretch))

@@ -1,5 +1,5 @@
 -- Inserting, removing and changing a stretch keeps the invariant, and each node keeps its entries.
-use Rattle.rd_marks.proofs.Prelude.{◌≡◌, ◌⊎◌, ℕ, zero, suc, ◌+◌, ◌-◌, ◌<◌, ◌≤◌, inl, inr, refl, sym, ap, ◌∙◌, subst, List, [], ◌∷◌, ◌++◌, map, length, take, length-take, arith, cases_lt, cases_eq, cases_order, nat_tests, length-map, take-append-le, take-take, take-map, MOST_STEPS, Event, Entry, Stretch, Node, stretch_list, list_before, shared_at, entries_at, IsWithin, AreNested, AreFresh, greatest_in, needed_at, AreNeeded, AreNeededFrom, IsAlong, IsDeepest, after_insertion, after_removal, events}
+use Rattle.rd_marks.proofs.Prelude.{◌≡◌, ◌⊎◌, ℕ, zero, suc, ◌+◌, ◌-◌, ◌<◌, ◌≤◌, inl, inr, refl, sym, ap, ◌∙◌, subst, List, [], ◌∷◌, ◌++◌, map, length, take, length-take, arith, cases_lt, cases_eq, cases_order, nat_tests, length-map, take-append-le, take-take, take-map, MOST_STEPS, Event, Entry, Stretch, Node, stretch_list, list_before, shared_at, entries_at, IsWithin, AreNested, AreFresh, greatest_in, needed_at, AreNeeded, AreNeededFrom, IsAlong, IsDeepest, after_insertion, after_removal, events, max}
 use Rattle.rd_marks.proofs.StretchLists.{shared_within, goes_back, IsChanged, IsInserted, IsReplaced}
 use Rattle.rd_marks.proofs.Fresh.{along_taken, along_itself, along_both, later_apart}
 
@@ -9,13 +9,9 @@ use Rattle.rd_marks.proofs.Fresh.{along_taken, along_itself, along_both, later_a
 abbrev pub with_node : List Node → ℕ → ℕ → List Node
 with_node ps i n = ps ++ record { stretch = i; number = n } ∷ []
 
-pub greatest_left : (i : ℕ) (ps qs : List Node) → greatest_in i ps ≤ greatest_in i (ps ++ qs)
-greatest_left i [] qs = omega arith
-greatest_left i (p ∷ ps) qs = omega (arith, greatest_left i ps qs)
-
-greatest_last : (i n : ℕ) (ps : List Node) → n ≤ greatest_in i (with_node ps i n)
-greatest_last i n [] = grind (arith, nat_tests)
-greatest_last i n (p ∷ ps) = omega (arith, greatest_last i n ps)
+pub greatest-append : (i : ℕ) (ps qs : List Node) → greatest_in i (ps ++ qs) ≡ max (greatest_in i ps) (greatest_in i qs)
+greatest-append i [] qs = omega arith
+greatest-append i (p ∷ ps) qs = omega (arith, greatest-append i ps qs)
 
 greatest_after_insertion : (i j : ℕ) (ps qs : List Node)
     → (i < j → greatest_in i ps ≤ greatest_in i (map (after_insertion j) ps ++ qs)) × (j ≤ i → greatest_in i ps ≤ greatest_in (suc i) (map (after_insertion j) ps ++ qs))
@@ -65,12 +61,8 @@ module _ (old new : List Stretch) (j more : ℕ) (change : IsChanged old new j m
         | inl same ↦ grind arith
         | inr other ↦
             let from = moved i other l in
-            let k = from.0 in
-            let b : IsAlong old k (suc (shared_at old k)) (events (stretch_list new m)) = grind (arith, a, from.1, along_taken old new k i) in
-            elim (cases_eq m j) [
-              | inl same ↦ grind (arith, same, b, h, later k, from.1)
-              | inr other_too ↦ grind (arith, b, h, l, change.small, moved m other_too, from.1, fresh k)
-            ]
+            let b : IsAlong old from.0 (suc (shared_at old from.0)) (events (stretch_list new m)) = grind (arith, a, from.1, along_taken old new from.0 i) in
+            grind (arith, b, h, l, change.small, cases_eq m j, moved m, later from.0, from.1, fresh from.0)
       ]
 
   -- all lists stay needed if the changed one is, and if nodes in the others count for no less
@@ -88,17 +80,16 @@ module _ (old new : List Stretch) (j : ℕ) (s : Stretch) (change : IsInserted o
   pub fresh_inserted : AreNested old → AreFresh old → (at : ℕ) (es : List Event) → events (stretch_list new j) ≡ es → (0 < length old → at < j)
       → IsAlong old at s.shared es → IsDeepest old s.shared es → AreFresh new
   fresh_inserted rule fresh at es its low along deepest =
-      fresh_changed old new j 1 change.changed fresh
-      (λ m h a. deepest m (omega (arith, h, change.changed.within)) (subst (λ (n : ℕ). IsAlong old m (suc n) es) change.here.1
-      (subst (λ (fs : List Event). IsAlong old m (suc (shared_at new j)) fs) its
-      (along_both old new m j _ _ (along_itself old m _ (omega (arith, a.enough, length-map (stretch_list old m) (λ (x : Entry). x.event)))) a))))
+      let on = λ (m : ℕ) (a : IsAlong new j (suc (shared_at new j)) (events (stretch_list old m))).
+      along_both old new m j _ _ (along_itself old m _ (omega (arith, a.enough, length-map (stretch_list old m) (λ (x : Entry). x.event)))) a in
+      fresh_changed old new j 1 change.changed fresh (λ m h a. grind (arith, h, its, change.changed.within, change.here.1, deepest m, on m a))
       (λ k high there a. later_apart old rule fresh es at s.shared k (omega (arith, low (omega (arith, there)), high)) there along deepest (rw its at a))
 
   -- a node at the end of the new list needs all of it
   pub needed_inserted : (ps : List Node) (n : ℕ) → length (stretch_list new j) ≤ n → AreNeeded old ps → AreNeeded new (with_node (map (after_insertion j) ps) j n)
   needed_inserted ps n all needed i h =
       needed_changed old new j 1 change.changed ps (with_node (map (after_insertion j) ps) j n) i h (λ k m. needed k m.inside)
-      (omega (arith, greatest_last j n (map (after_insertion j) ps), all))
+      (grind (arith, nat_tests, greatest-append j (map (after_insertion j) ps) (record { stretch = j; number = n } ∷ []), all))
       (λ k m. grind (arith, m.node, greatest_after_insertion k j ps (record { stretch = j; number = n } ∷ [])))
 
   -- the new stretch that has the list of the k-th old one
@@ -117,9 +108,8 @@ module _ (old new : List Stretch) (j : ℕ) (s : Stretch) (change : IsInserted o
       within zero h = grind (arith, cases_order 0 j, change.changed.below 0, change.changed.less, change.changed.there, shared_within new rule 0)
       within (suc k) h =
           let its = change.changed in
-          let above = λ (i : ℕ). its.above (suc i) i (omega arith) in
           let were = shared_within new rule in
-          grind (arith, cases_order (suc k) j, its.below k, its.below (suc k), its.less, its.there, above k, above (suc k), were (suc k), were (suc (suc k)))
+          grind (arith, cases_order (suc k) j, its.below k, its.below (suc k), its.less, its.there, its.above (suc k) k, its.above (suc (suc k)) (suc k), were (suc k), were (suc (suc k)))
 
   pub fresh_removed : AreFresh new → AreFresh old
   fresh_removed fresh i m h l a = grind (arith, a, h, along_taken, up i l, up m, fresh)
@@ -135,13 +125,8 @@ module _ (old new : List Stretch) (j : ℕ) (s : Stretch) (change : IsInserted o
 
   pub entries_after_removal : (p : Node) → (p.stretch ≡ j → p.number ≤ s.shared) → entries_at old (after_removal j p) ≡ entries_at new p
   entries_after_removal p own =
-      grind (arith, nat_tests, change.changed.below p.stretch, λ (high : j ≤ p.stretch). above p.stretch p.number high own)
-    where
-      above : (q n : ℕ) → j ≤ q → (q ≡ j → n ≤ s.shared) → take n (stretch_list new q) ≡ take n (stretch_list old (q - 1))
-      above zero n high own = (let none : n ≡ 0 = grind (arith, change.changed.there, change.here.1, high, own) in rw none refl)
-      above (suc q) n high own =
-          (let down : q ≡ suc q - 1 = omega arith in
-          grind (arith, down, cases_order (suc q) j, own, change.here.0, goes_back (list_before old j) s n, change.changed.there, change.here.1, change.changed.above (suc q) q (omega arith)))
+      let above = change.changed.above p.stretch (p.stretch - 1) in
+      grind (arith, nat_tests, own, cases_order p.stretch j, change.changed.below p.stretch, above, change.here, change.changed.there, goes_back (list_before old j) s p.number)
 
 -- a node with the same number and the same entries is within the new stretches
 pub within_at : (old new : List Stretch) (p q : Node) → q.number ≡ p.number → entries_at new q ≡ entries_at old p → IsWithin old p → IsWithin new q
@@ -173,17 +158,14 @@ module _ (old new : List Stretch) (j : ℕ) (change : IsReplaced old new j) wher
 
   pub fresh_cut : AreFresh old → (n : ℕ) → shared_at old j < n → stretch_list new j ≡ take n (stretch_list old j) → AreFresh new
   fresh_cut fresh n less its =
-      fresh_replaced fresh (sym (ap (take (suc (shared_at old j))) its ∙ take-take (suc (shared_at old j)) n (stretch_list old j) (omega (arith, less))))
-      (λ k h l a. (
       let cut : events (stretch_list new j) ≡ take n (events (stretch_list old j)) = grind (arith, its, take-map (λ (x : Entry). x.event) n (stretch_list old j)) in
-      let long = length-map (stretch_list new j) (λ (x : Entry). x.event) ∙ ap length its ∙ length-take n (stretch_list old j) in
-      fresh k j h l (grind (arith, a, cut, long, length-map (stretch_list old j) (λ (x : Entry). x.event), take-take (suc (shared_at old k)) n (events (stretch_list old j))))
-      ))
+      fresh_replaced fresh (sym (ap (take (suc (shared_at old j))) its ∙ take-take (suc (shared_at old j)) n (stretch_list old j) (omega (arith, less))))
+      (λ k h l a. fresh k j h l (grind (arith, a, cut, length-take n (events (stretch_list old j)), take-take (suc (shared_at old k)) n (events (stretch_list old j)))))
 
   pub needed_appended : (ps : List Node) (n : ℕ) → length (stretch_list new j) ≤ n → AreNeeded old ps → AreNeeded new (with_node ps j n)
   needed_appended ps n all needed i h =
-      needed_changed old new j 0 change.changed ps (with_node ps j n) i h (λ k m. needed k m.inside) (omega (arith, greatest_last j n ps, all))
-      (λ k m. grind (arith, m.node, greatest_left i ps (record { stretch = j; number = n } ∷ [])))
+      let both = λ (k : ℕ). greatest-append k ps (record { stretch = j; number = n } ∷ []) in
+      needed_changed old new j 0 change.changed ps (with_node ps j n) i h (λ k m. needed k m.inside) (grind (arith, nat_tests, both j, all)) (λ k m. grind (arith, m.node, both i))
 
   pub needed_cut : (ps : List Node) → length (stretch_list new j) ≤ needed_at old ps j → AreNeededFrom (suc j) old ps → AreNeededFrom j new ps
   needed_cut ps all needed i low h = grind (arith, needed_changed old new j 0 change.changed ps ps i h, needed, all, low, change.changed.above (suc j) (suc j))

@@ -1,6 +1,6 @@
 -- The lists of stretches: how each one continues the list before it, and which stay the same if a
 -- stretch is inserted, removed or changed.
-use Rattle.rd_marks.proofs.Prelude.{◌≡◌, ℕ, zero, suc, ◌+◌, ◌-◌, ◌<◌, ◌≤◌, refl, sym, ap, ◌∙◌, subst, List, [], ◌∷◌, ◌++◌, length, take, drop, get_or, set, insert, remove, length-append, length-set, arith, take-append-add, drop-append-add, cases_lt, cases_eq, append_assoc, take-append-le, take-take, length-take-le, Entry, Stretch, continued, list_after, stretch_list, list_before, shared_at, AreNested}
+use Rattle.rd_marks.proofs.Prelude.{◌≡◌, ℕ, zero, suc, ◌+◌, ◌-◌, ◌<◌, ◌≤◌, refl, sym, ap, ◌∙◌, subst, List, [], ◌∷◌, ◌++◌, length, take, drop, get_or, set, insert, remove, length-append, length-set, arith, take-append-add, drop-append-add, cases_lt, cases_eq, append_assoc, take-append-le, take-take, length-take-le, Entry, Stretch, continued, list_after, stretch_list, list_before, shared_at, AreNested, get_or-set_same, get_or-set_other}
 use Rattle.std.proofs.lemmas.List.Edits.{length-insert}
 
 -- the entries that the i-th stretch keeps itself; empty if there is no i-th stretch
@@ -60,15 +60,12 @@ module _ (ss : List Stretch) (rule : AreNested ss) where
   -- the first entries, up to the number that is shared, are those of the list before
   pub begins_shared : (i n : ℕ) → n ≤ shared_at ss i → take n (stretch_list ss i) ≡ take n (list_before ss i)
   begins_shared i n h =
-      ap (take n) (splits ss i) ∙ take-append-le n (take (shared_at ss i) (list_before ss i)) (own_at ss i) (omega (arith, front_length i, h))
-      ∙ take-take n (shared_at ss i) (list_before ss i) h
+      grind (arith, h, splits ss i, front_length i, take-append-le n (take (shared_at ss i) (list_before ss i)) (own_at ss i), take-take n (shared_at ss i) (list_before ss i))
 
   -- the entries after the shared ones are the stretch's own
   pub behind_shared : (i n : ℕ) → shared_at ss i ≤ n → drop n (stretch_list ss i) ≡ drop (n - shared_at ss i) (own_at ss i)
   behind_shared i n h =
-      let front = take (shared_at ss i) (list_before ss i) in
-      let parts : n ≡ length front + (n - shared_at ss i) = omega (arith, front_length i, h) in
-      ap (drop n) (splits ss i) ∙ ap (λ (m : ℕ). drop m (front ++ own_at ss i)) parts ∙ drop-append-add front (own_at ss i) (n - shared_at ss i)
+      grind (arith, h, splits ss i, front_length i, drop-append-add (take (shared_at ss i) (list_before ss i)) (own_at ss i) (n - shared_at ss i))
 
   -- two lists begin with the same n entries if all stretches after the first one, up to the second,
   -- share at least n
@@ -164,11 +161,10 @@ removed_at ss j rule h less =
     (back.0, back.2, rw back.1 at its)
 
 shared_replaced : (ss : List Stretch) (j : ℕ) (t : Stretch) (i : ℕ) → t.shared ≡ shared_at ss j → shared_at (set ss j t) i ≡ shared_at ss i
-shared_replaced [] j t i h = refl
-shared_replaced (s ∷ ss) zero t zero h = h
-shared_replaced (s ∷ ss) zero t (suc i) h = refl
-shared_replaced (s ∷ ss) (suc j) t zero h = refl
-shared_replaced (s ∷ ss) (suc j) t (suc i) h = shared_replaced ss j t i h
+shared_replaced ss j t i h =
+    let were = stretch_there ss i t in
+    let are = stretch_there (set ss j t) i t in
+    grind (arith, h, cases_lt i (length ss), cases_eq i j, were, are, shared_past ss i, shared_past (set ss j t) i, get_or-set_same, get_or-set_other, length-set)
 
 others_replaced : (x : List Entry) (ss : List Stretch) (j : ℕ) (t : Stretch) (i : ℕ) → (i ≡ j → ⊥)
     → take (shared_at ss (suc j)) (continued (before_after x ss j) t) ≡ take (shared_at ss (suc j)) (list_after x ss j) → list_after x (set ss j t) i ≡ list_after x ss i
@@ -192,18 +188,13 @@ module _ (ss : List Stretch) (rule : AreNested ss) (j : ℕ) (h : j < length ss)
   -- if entries are appended to a stretch's own, they are appended to its list
   pub appended_at : (rest : List Entry) → t.entries.items ≡ own_at ss j ++ rest → IsReplaced ss (set ss j t) j × (stretch_list (set ss j t) j ≡ stretch_list ss j ++ rest)
   appended_at rest its =
-      replaced_at (stretch_list ss j ++ rest)
-      ((λ i. take (shared i) (list_before ss j) ++ its i) ∙ sym (append_assoc (take (shared_at ss j) (list_before ss j)) (own_at ss j) rest)
-      ∙ ap (λ (ys : List Entry). ys ++ rest) (sym (splits ss j)))
+      replaced_at (stretch_list ss j ++ rest) (cc (splits ss j, append_assoc (take (shared_at ss j) (list_before ss j)) (own_at ss j) rest))
       (take-append-le (shared_at ss (suc j)) (stretch_list ss j) rest (shared_within ss rule (suc j)))
 
   -- if a stretch's own entries are cut, so is its list
   pub cut_at : (n : ℕ) → shared_at ss j ≤ n → shared_at ss (suc j) ≤ n → t.entries.items ≡ take (n - shared_at ss j) (own_at ss j)
       → IsReplaced ss (set ss j t) j × (stretch_list (set ss j t) j ≡ take n (stretch_list ss j))
   cut_at n less next its =
-      let front = take (shared_at ss j) (list_before ss j) in
-      let parts : length front + (n - shared_at ss j) ≡ n = omega (arith, front_length ss rule j, less) in
-      replaced_at (take n (stretch_list ss j))
-      ((λ i. take (shared i) (list_before ss j) ++ its i) ∙ sym (take-append-add front (own_at ss j) (n - shared_at ss j))
-      ∙ ap (λ (m : ℕ). take m (front ++ own_at ss j)) parts ∙ ap (take n) (sym (splits ss j)))
+      let both = take-append-add (take (shared_at ss j) (list_before ss j)) (own_at ss j) (n - shared_at ss j) in
+      replaced_at (take n (stretch_list ss j)) (grind (arith, less, shared, its, splits ss j, front_length ss rule j, both))
       (take-take (shared_at ss (suc j)) n (stretch_list ss j) next)

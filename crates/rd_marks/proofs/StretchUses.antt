@@ -1,20 +1,15 @@
 -- The contracts of adding entries to the stretches and of cutting a stretch.
-use Rattle.rd_marks.proofs.Prelude.{◌≡◌, ℕ, zero, suc, ◌-◌, ◌<◌, ◌≤◌, ◌^◌, refl, sym, ap, ◌∙◌, subst, List, [], ◌∷◌, ◌++◌, length, take, drop, set, insert, remove, length-take, arith, drop-length, nat_tests, append-nil, length-map, map-append, map-id, take-append-drop, take-map, take_all, MOST_STEPS, Entry, Node, Stretch, Shift, greatest_in, stretch_list, list_before, shared_at, entries_at, IsWithin, IsEnd, IsAlong, IsDeepest, AreNested, AreFresh, IsLow, IsGrown, IsShrunk, KeepsItsSteps, events, cases_order}
+use Rattle.rd_marks.proofs.Prelude.{◌≡◌, ℕ, zero, suc, ◌-◌, ◌<◌, ◌≤◌, ◌^◌, refl, sym, ap, ◌∙◌, subst, List, [], ◌∷◌, ◌++◌, length, take, drop, set, insert, remove, length-take, arith, drop-length, nat_tests, append-nil, map-append, map-id, take_all, MOST_STEPS, Entry, Node, Stretch, Shift, greatest_in, stretch_list, list_before, shared_at, entries_at, IsWithin, IsEnd, IsAlong, IsDeepest, AreNested, AreFresh, IsLow, IsGrown, IsShrunk, KeepsItsSteps, events, cases_order}
 use Rattle.rd_marks.specs.declared.stretches.changes.Shift.TheVariants.{Same, Up, Down}
 use Rattle.rd_marks.proofs.StretchLists.{own_at, shared_within, inserted_at, removed_at, appended_at, cut_at}
 use Rattle.rd_marks.proofs.Fresh.{along_taken}
-use Rattle.rd_marks.proofs.StretchChanges.{greatest_left, within_at, nested_inserted, nested_removed, fresh_inserted, fresh_removed, needed_inserted, needed_removed, entries_after_insertion, entries_after_removal, nested_replaced, fresh_appended, fresh_cut, needed_appended, needed_cut, entries_appended, entries_cut}
-use Rattle.rd_marks.proofs.Starting.{stretch_within}
+use Rattle.rd_marks.proofs.StretchChanges.{greatest-append, within_at, nested_inserted, nested_removed, fresh_inserted, fresh_removed, needed_inserted, needed_removed, entries_after_insertion, entries_after_removal, nested_replaced, fresh_appended, fresh_cut, needed_appended, needed_cut, entries_appended, entries_cut}
+use Rattle.rd_marks.proofs.EntryLemmas.{joined_events}
+use Rattle.rd_marks.proofs.Starting.{event_length, events_of_first, stretch_within}
 
 -- if there are fewer than 2^64 stretches, every node is low
 pub is_low : (ss : List Stretch) → length ss < 2 ^ 64 → (p : Node) → IsWithin ss p → IsLow p
 is_low ss few p within some = omega (arith, few, stretch_within ss p within some)
-
--- if xs have the first n events of ys, xs and the rest of ys have all events of ys
-joined_events : (xs ys zs : List Entry) (n : ℕ) → zs ≡ xs ++ drop n ys → events xs ≡ take n (events ys) → events zs ≡ events ys
-joined_events xs ys zs n its same =
-    let fact = map-append (λ (x : Entry). x.event) (take n ys) (drop n ys) in
-    grind (arith, its, same, take-map (λ (x : Entry). x.event) n ys, map-append (λ (x : Entry). x.event) xs (drop n ys), fact, take-append-drop n ys)
 
 -- if the node has all entries already, nothing changes
 pub all_there : (ss : List Stretch) (few : length ss < 2 ^ 64) (at : Node) (live : List Entry) → IsWithin ss at → at.number ≡ length live
@@ -25,7 +20,7 @@ all_there ss few at live within all = record {
   low = is_low ss few;
   stays = λ p is. record { within = is; same = refl };
   needed = λ nodes needed i inside.
-      omega (arith, needed i inside, ap (greatest_in i) (ap (λ (ps : List Node). ps ++ at ∷ []) (map-id nodes)), greatest_left i nodes (at ∷ []));
+      omega (arith, needed i inside, ap (greatest_in i) (ap (λ (ps : List Node). ps ++ at ∷ []) (map-id nodes)), greatest-append i nodes (at ∷ []));
 }
 
 -- the invariants of the new stretches, and what `IsGrown` states of them
@@ -36,6 +31,14 @@ pub record Grows (old new : List Stretch) (at : Node) (entries : List Entry) (sh
 
 module _ (ss : List Stretch) (few : length ss < 2 ^ 64) (rule : AreNested ss) (fresh : AreFresh ss) (live : List Entry) (most : length live ≤ MOST_STEPS) (at : Node)
     (more : at.number < length live) (along : IsAlong ss at.stretch at.number (events live)) (deepest : IsDeepest ss at.number (events live)) where
+  -- a list of the node's entries and then the later live ones has the live events
+  live_list : (xs : List Entry) → xs ≡ entries_at ss at ++ drop at.number live → (events xs ≡ events live) × (length xs ≡ length live)
+  live_list xs its =
+      let both = map-append (λ (x : Entry). x.event) (entries_at ss at) (drop at.number live) in
+      let joined = joined_events at.number (events (stretch_list ss at.stretch)) live along.alike in
+      let same : events xs ≡ events live = grind (arith, its, both, joined, events_of_first at.number (stretch_list ss at.stretch)) in
+      (same, sym (event_length xs) ∙ ap length same ∙ event_length live)
+
   -- appending the entries to the stretch whose list ends at the node
   pub extended : IsEnd ss at → (t : Stretch) → t.shared ≡ shared_at ss at.stretch → t.entries.items ≡ own_at ss at.stretch ++ drop at.number live
       → Grows ss (set ss at.stretch t) at live Same (record { stretch = at.stretch; number = length live })
@@ -46,22 +49,20 @@ module _ (ss : List Stretch) (few : length ss < 2 ^ 64) (rule : AreNested ss) (f
       let rest = drop n live in
       let both = appended_at ss rule j end.there t shared rest its in
       let change = both.0 in
-      let list = both.1 in
-      let whole : take n (stretch_list ss j) ≡ stretch_list ss j = take_all n (stretch_list ss j) (omega (arith, end.all)) in
-      let start : events (stretch_list ss j) ≡ take n (events live) = ap events (sym whole) ∙ sym (take-map (λ (x : Entry). x.event) n (stretch_list ss j)) ∙ along.alike in
-      let same : events (stretch_list new j) ≡ events live = joined_events (stretch_list ss j) live (stretch_list new j) n list start in
-      let long : length (stretch_list new j) ≡ length live = sym (length-map (stretch_list new j) (λ (x : Entry). x.event)) ∙ ap length same ∙ length-map live (λ (x : Entry). x.event) in
+      let list = both.1 ∙ ap (λ (xs : List Entry). xs ++ rest) (sym (take_all n (stretch_list ss j) (omega (arith, end.all)))) in
+      let lives = live_list (stretch_list new j) list in
+      let long = lives.1 in
       let nested : AreNested new = grind (arith, most, more, long, end.all, rule.some j end.there, shared_within ss rule (suc j), nested_replaced ss new j change rule) in
       record {
         nested = nested;
         fresh =
-            fresh_appended ss new j change rule fresh rest (events live) list same (subst (λ (m : ℕ). IsAlong ss j m (events live)) end.all along)
+            fresh_appended ss new j change rule fresh rest (events live) both.1 lives.0 (subst (λ (m : ℕ). IsAlong ss j m (events live)) end.all along)
             (subst (λ (m : ℕ). IsDeepest ss m (events live)) end.all deepest);
         grown = record {
           within = omega (arith, long);
-          put = take_all (length live) (stretch_list new j) (omega (arith, long)) ∙ list ∙ ap (λ (xs : List Entry). xs ++ rest) (sym whole);
+          put = take_all (length live) (stretch_list new j) (omega (arith, long)) ∙ list;
           low = is_low ss few;
-          stays = grind (arith, both, entries_appended ss new j change rest list, within_at);
+          stays = grind (arith, both, entries_appended ss new j change rest both.1, within_at);
           needed = λ nodes needed.
               rw (map-id nodes) (needed_appended ss new j change nodes (length live) (omega (arith, long)) needed);
         };
@@ -78,14 +79,13 @@ module _ (ss : List Stretch) (few : length ss < 2 ^ 64) (rule : AreNested ss) (f
       let change = inserted_at ss j s inside (omega (arith, shared, less)) (omega (arith, shared, there)) in
       let list : stretch_list new j ≡ entries_at ss at ++ rest =
       change.here.0 ∙ (λ i. take (shared i) (list_before ss j) ++ its i) ∙ ap (λ (xs : List Entry). xs ++ rest) begins in
-      let start : events (entries_at ss at) ≡ take n (events live) = sym (take-map (λ (x : Entry). x.event) n (stretch_list ss at.stretch)) ∙ along.alike in
-      let same : events (stretch_list new j) ≡ events live = joined_events (entries_at ss at) live (stretch_list new j) n list start in
-      let long : length (stretch_list new j) ≡ length live = sym (length-map (stretch_list new j) (λ (x : Entry). x.event)) ∙ ap length same ∙ length-map live (λ (x : Entry). x.event) in
+      let lives = live_list (stretch_list new j) list in
+      let long = lives.1 in
       let nested = nested_inserted ss new j s change rule (omega (arith, shared, more, long)) (omega (arith, most, long)) in
       record {
         nested = nested;
         fresh =
-            before j first begins (λ k low on. fresh_inserted ss new j s change rule fresh k (events live) same low (subst (λ (m : ℕ). IsAlong ss k m (events live)) (sym shared) on)
+            before j first begins (λ k low on. fresh_inserted ss new j s change rule fresh k (events live) lives.0 low (subst (λ (m : ℕ). IsAlong ss k m (events live)) (sym shared) on)
             (subst (λ (m : ℕ). IsDeepest ss m (events live)) (sym shared) deepest));
         grown = record {
           within = omega (arith, long);

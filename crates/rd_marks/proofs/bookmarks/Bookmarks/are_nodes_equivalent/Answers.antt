@@ -1,31 +1,49 @@
-use Rattle.rd_marks.proofs.Prelude.{◌≡◌, ◌∙◌, ℕ, ◌≤◌, take, arith, fact_passed_up, NeitherBegins, DecidesEquivalence, Bookmarks, Node, entries_in, IsNodeIn, events, IfOk-weaker}
-use Rattle.rd_marks.proofs.Starting.{entries_length}
-use Rattle.rd_marks.proofs.SameLemmas.{decided_by_length, decided_behind, not_begun}
-use Rattle.rd_marks.proofs.bookmarks.Bookmarks.are_nodes_equivalent.Goals.{then-shared-one-via-then-shared-one, then-shared-one-via-else-shared-one+then-shared-other}
+use Rattle.rd_marks.proofs.Prelude.{◌≡◌, ◌∙◌, ℕ, ◌≤◌, take, arith, fact_passed_up, NeitherBegins, DecidesEquivalence, Node, entries_in, IsNodeIn, events, IfOk-weaker, ◌⊎◌, Bool, ◌==◌, sym, ap, List, [], ◌∷◌, ◌++◌, length, drop, length-append, eqb-true, eq-eqb, take_all, World, IsEquivalent, Event, Entry, Begins, reflexive, runs_to, take_rest}
+use Rattle.rd_marks.proofs.Starting.{entries_length, begins_shorter, event_length}
+use Rattle.rd_depend.proofs.Exactness.{right_behind}
+use Rattle.rd_marks.proofs.bookmarks.Bookmarks.are_nodes_equivalent.Goals.{After-common-shared, then-shared-one-via-then-shared-one, then-shared-one-via-else-shared-one+then-shared-other}
 use Rattle.rd_marks.proofs.bookmarks.Bookmarks.are_nodes_equivalent.Goals as goal
 
+-- equivalent lists are equally long
+equivalent_length : (w : World) (es fs : List Event) → IsEquivalent w es fs → length es ≡ length fs
+equivalent_length w [] fs h = sym (ap length h)
+equivalent_length w (e ∷ es) fs h = grind (arith, length-append, equivalent_length h.stepped.world es (h.earlier ++ h.later) h.rest)
+
+module _ (ones others : List Entry) (m n c : ℕ) (long : length ones ≡ m) (long_too : length others ≡ n) (alike : take c ones ≡ take c others) where
+  -- if one list begins the other, they are equivalent exactly if they are equally long
+  decided_by_length : (c ≡ m) ⊎ (c ≡ n) → (same : Bool) → same ≡ (m == n) → DecidesEquivalence ones others same
+  decided_by_length meets same tested w p q = grind (arith, eqb-true, take_all, reflexive w (events ones) _ (runs_to w ones p).runs, event_length, equivalent_length, eq-eqb)
+
+  -- the answer for the lists without their common beginning is the answer for the lists
+  decided_behind : c ≤ m → c ≤ n → (same : Bool) (xs ys : List Entry) → xs ≡ drop c ones → ys ≡ drop c others → DecidesEquivalence xs ys same → DecidesEquivalence ones others same
+  decided_behind first second same xs ys one other decided =
+      right_behind ones others c same (omega (arith, long, first)) (omega (arith, long_too, second)) (ap events alike) (rw (take_rest ones c, take_rest others c) (rw (one, other) at decided))
+
+-- if two lists have at most c first events in common, and the first has more than c, it doesn't
+-- begin the other
+not_begun : (xs ys : List Entry) (c : ℕ)
+    → ((n : ℕ) → n ≤ length xs → n ≤ length ys → take n (events xs) ≡ take n (events ys) → n ≤ c) → c ≤ length xs → (c ≡ length xs → ⊥)
+    → Begins (events xs) (events ys) → ⊥
+not_begun xs ys c most within apart h = grind (arith, event_length, begins_shorter, take_all)
+
 -- where what two lists have in common is neither of them, neither begins the other
-apart : (b : Bookmarks) (one other : Node) (c : ℕ) → IsNodeIn b one → IsNodeIn b other → c ≤ one.number → c ≤ other.number
-    → ((n : ℕ) → n ≤ one.number → n ≤ other.number → take n (events (entries_in b one)) ≡ take n (events (entries_in b other)) → n ≤ c)
-    → (c ≡ one.number → ⊥) → (c ≡ other.number → ⊥) → NeitherBegins (events (entries_in b one)) (events (entries_in b other))
-apart b one other c one_in other_in first second most not_one not_other =
-    let fact = not_begun (entries_in b one) (entries_in b other) c in
-    grind (arith, entries_length, fact, not_begun (entries_in b other) (entries_in b one) c, most)
+apart : (c : After-common-shared) → (c.common-shared.result ≡ c.args.one.number → ⊥) → (c.common-shared.result ≡ c.args.other.number → ⊥)
+    → NeitherBegins (events (entries_in c.args.self.now c.args.one)) (events (entries_in c.args.self.now c.args.other))
+apart c not_one not_other =
+    let one = entries_in c.args.self.now c.args.one in
+    let other = entries_in c.args.self.now c.args.other in
+    grind (arith, entries_length, not_one, not_other, c.common-shared.ensures.most, not_begun one other c.common-shared.result, not_begun other one c.common-shared.result)
 
 pub returns-then-shared-one-clause-answer : goal.returns-then-shared-one-clause-answer
 returns-then-shared-one-clause-answer c = grind (arith, then-shared-one-via-then-shared-one, then-shared-one-via-else-shared-one+then-shared-other, decided_by_length, entries_length)
 
 pub returns-in_err-ones-clause-memory : goal.returns-in_err-ones-clause-memory
 returns-in_err-ones-clause-memory c =
-    let fact = apart c.args.self.now c.args.one c.args.other c.common-shared.result c.requires.one c.requires.other c.common-shared.ensures.first c.common-shared.ensures.second
-    c.common-shared.ensures.most in
-    grind (arith, fact_passed_up, c.if-shared-one.false, c.if-shared-other.false, fact)
+    grind (arith, fact_passed_up, c.if-shared-one.false, c.if-shared-other.false, apart (goal.at.returns-in_err-ones-clause-memory c).After-common-shared)
 
 pub returns-in_err-others-clause-memory : goal.returns-in_err-others-clause-memory
 returns-in_err-others-clause-memory c =
-    let fact = apart c.args.self.now c.args.one c.args.other c.common-shared.result c.requires.one c.requires.other c.common-shared.ensures.first c.common-shared.ensures.second
-    c.common-shared.ensures.most in
-    grind (arith, fact_passed_up, c.if-shared-one.false, c.if-shared-other.false, fact)
+    grind (arith, fact_passed_up, c.if-shared-one.false, c.if-shared-other.false, apart (goal.at.returns-in_err-others-clause-memory c).After-common-shared)
 
 pub returns-clause-answer : goal.returns-clause-answer
 returns-clause-answer c =
@@ -40,6 +58,4 @@ returns-clause-answer c =
 
 pub returns-clause-memory : goal.returns-clause-memory
 returns-clause-memory c =
-    let fact = apart c.args.self.now c.args.one c.args.other c.common-shared.result c.requires.one c.requires.other c.common-shared.ensures.first c.common-shared.ensures.second
-    c.common-shared.ensures.most in
-    grind (arith, c.are_equivalent.ensures.memory, c.if-shared-one.false, c.if-shared-other.false, fact)
+    grind (arith, c.are_equivalent.ensures.memory, c.if-shared-one.false, c.if-shared-other.false, apart (goal.at.returns-clause-memory c).After-common-shared)

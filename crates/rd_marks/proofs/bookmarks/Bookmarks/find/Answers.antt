@@ -10,5 +10,4 @@ returns-in-Some-clause-found c = grind (arith, option_map, c.in-Some.ensures.val
 
 pub returns-in-Some-clause-within : goal.returns-in-Some-clause-within
 returns-in-Some-clause-within c =
-    let b = c.args.self.now in
-    all_found (mark_name_eq c.args.name.now) (IsWithin b.stretches.list.items) b.names.entries c.in-Some.node.now b.kept.within (sym c.in-Some.ensures.value)
+    all_found (mark_name_eq c.args.name.now) (IsWithin c.args.self.now.stretches.list.items) c.args.self.now.names.entries c.in-Some.node.now c.args.self.now.kept.within (sym c.in-Some.ensures.value)

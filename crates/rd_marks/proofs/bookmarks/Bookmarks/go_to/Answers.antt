@@ -1,6 +1,6 @@
-use Rattle.rd_marks.proofs.Prelude.{sym, ◌≡◌, ◌≤◌, [], ℕ, List, length, take, lit<, refl, subst, ap, ◌∙◌, arith, fact_passed_up, Event, Begins, state, track, Bookmarks, Node, here_in, entries_in, IsNodeIn, events, entries_at, length-take, take-length}
+use Rattle.rd_marks.proofs.Prelude.{◌≡◌, ◌≤◌, [], ℕ, List, length, take, lit<, refl, subst, ap, ◌∙◌, arith, fact_passed_up, Event, Begins, state, track, Bookmarks, Node, here_in, entries_in, IsNodeIn, events, take-length}
 use Rattle.rd_marks.proofs.Here.{along_to}
-use Rattle.rd_marks.proofs.Starting.{events_length}
+use Rattle.rd_marks.proofs.Starting.{begins_shorter, events_length}
 use Rattle.rd_marks.proofs.bookmarks.Bookmarks.go_to.Goals as goal
 
 -- the entries of the node begin the track
@@ -22,21 +22,13 @@ returns-then-common-node-clause-ok g c =
     ∙ ap (λ (es : List Event). record { start = (state c.args.session.now).start; live = es; undone = [] })
     (on_track c.args.self.now c.args.node (track c.args.session.now) c.common.result c.requires.within c.requires.stands c.common.ensures.first c.common.ensures.alike (omega (arith, c.if-common-node.true))).1
 
-pub returns-then-common-node-clause-stands : goal.returns-then-common-node-clause-stands
-returns-then-common-node-clause-stands g c = rw c.go_along.ensures.along.track c.requires.stands
-
 pub returns-in_err-switch_to-clause-unchanged : goal.returns-in_err-switch_to-clause-unchanged
 returns-in_err-switch_to-clause-unchanged g c = fact_passed_up c.from_residual.result c.in_err-switch_to.ensures.unchanged
 
 pub returns-in_err-switch_to-clause-along : goal.returns-in_err-switch_to-clause-along
 returns-in_err-switch_to-clause-along g c = λ h.
-    let ss = c.args.self.now.stretches.list.items in
-    let node = c.args.node in
-    let es = events (entries_at ss node) in
-    let hs = events (entries_at ss c.args.self.now.here) in
-    let len : length es ≡ node.number = events_length ss node c.requires.within in
-    let here : length hs ≡ c.args.self.now.here.number = events_length ss c.args.self.now.here c.args.self.now.kept.lies in
-    let alike : take node.number hs ≡ es = subst (λ (n : ℕ). take n hs ≡ es) len h in
-    let all : take node.number es ≡ es = subst (λ (n : ℕ). take n es ≡ es) len (take-length es) in
-    let fewer : node.number ≤ c.args.self.now.here.number = omega (arith, ap length alike, length-take node.number hs, len, here) in
-    absurd (omega (arith, c.common.ensures.second, c.common.ensures.most node.number fewer (omega arith) (alike ∙ sym all), c.if-common-node.false))
+    let b = c.args.self.now in
+    let es = events (entries_in b c.args.node) in
+    let short = begins_shorter es (events (here_in b)) h in
+    let long = events_length b.stretches.list.items in
+    grind (arith, h, short, long c.args.node c.requires.within, long b.here b.kept.lies, take-length es, c.common.ensures.second, c.common.ensures.most c.args.node.number, c.if-common-node.false)

@@ -1,7 +1,7 @@
-use Rattle.rd_marks.proofs.Prelude.{◌≡◌, ◌++◌, ◌∙◌, [], ◌∷◌, List, sym, ap, subst, arith, length-map, lookup-map_values, fact_passed_up, Entry, Begins, state, track, MarkName, IsLow, lists_in, here_in, AreRuns, IsKept, named_lists, mark_name_eq, entries_at, IsWithin, events}
+use Rattle.rd_marks.proofs.Prelude.{◌≡◌, ◌++◌, ◌∙◌, [], ◌∷◌, List, ap, arith, length-map, lookup-map_values, fact_passed_up, Entry, state, track, IsLow, lists_in, here_in, IsKept, named_lists, mark_name_eq, entries_at, IsWithin, events, option_map}
 use Rattle.rd_marks.proofs.Counting.{all_along}
 use Rattle.rd_marks.proofs.Here.{live_along, live_begin}
-use Rattle.rd_marks.proofs.Putting.{IsSet, each, is_set, kept_same, none_named}
+use Rattle.rd_marks.proofs.Putting.{IsSet, each, is_set, kept_same}
 use Rattle.rd_marks.proofs.bookmarks.Bookmarks.set.Given.{Over}
 use Rattle.rd_marks.proofs.bookmarks.Bookmarks.set.Goals.{After-here_after-self, In_err-grown}
 use Rattle.rd_marks.proofs.bookmarks.Bookmarks.set.Goals as goal
@@ -13,8 +13,8 @@ follow-at-requires-clause-along g c =
 
 pub put-requires-clause-new : goal.put-requires-clause-new
 put-requires-clause-new g c =
-    let f = entries_at c.args.self.now.stretches.list.items in
-    rw c.reserve.ensures.entries (none_named f _ (sym (lookup-map_values f (mark_name_eq c.args.name) c.args.self.now.names.entries) ∙ c.requires.new))
+    let found = lookup-map_values (entries_at c.args.self.now.stretches.list.items) (mark_name_eq c.args.name) c.args.self.now.names.entries in
+    grind (arith, option_map, c.reserve.ensures.entries, c.requires.new, found)
 
 pub put-requires-clause-low : goal.put-requires-clause-low
 put-requires-clause-low g c =
@@ -35,12 +35,10 @@ pub invariant_of-self-in-Break-branch-2 : goal.invariant_of-self-in-Break-branch
 invariant_of-self-in-Break-branch-2 g c = record { kept = (kept_same _ _ c.in_err-grown.ensures.err _ _ _ c.reserve.ensures.entries c.args.self.now.kept).0 }
 
 pub returns-in_err-grown-clause-runs : goal.returns-in_err-grown-clause-runs
-returns-in_err-grown-clause-runs g c =
-    subst (λ (ls : List (MarkName × List Entry)). AreRuns (state c.args.session.now).start ls) (sym (stay g (goal.at.returns-in_err-grown-clause-runs g c).In_err-grown).1) c.requires.runs
+returns-in_err-grown-clause-runs g c = rw (stay g (goal.at.returns-in_err-grown-clause-runs g c).In_err-grown).1 c.requires.runs
 
 pub returns-in_err-grown-clause-stands : goal.returns-in_err-grown-clause-stands
-returns-in_err-grown-clause-stands g c =
-    subst (λ (xs : List Entry). Begins (events xs) (track c.args.session.now)) (sym (stay g (goal.at.returns-in_err-grown-clause-stands g c).In_err-grown).2) c.requires.stands
+returns-in_err-grown-clause-stands g c = rw (stay g (goal.at.returns-in_err-grown-clause-stands g c).In_err-grown).2 c.requires.stands
 
 pub returns-in_err-grown-clause-succeeds : goal.returns-in_err-grown-clause-succeeds
 returns-in_err-grown-clause-succeeds g c =
@@ -59,9 +57,9 @@ put_last g c =
     let b = c.args.self.now in
     let live = c.live-live in
     let at = c.follow-at in
-    is_set _ _ b.stretches.nested _ _ b.kept c.requires.few c.requires.runs live.result (record { few = live.ensures.few; ran = live.ensures.run }) _ c.requires.stands
-    (live_begin c.args.session.now live.result live.ensures.events) at.result at.ensures.within at.ensures.along _ c.in_ok-grown.grown c.in_ok-grown.ensures.ok c.args.name _ _ c.reserve.ensures.entries
-    c.put.ensures _ c.len-2.result c.here_after-self.ensures.near c.here_after-self.ensures.far
+    is_set _ _ _ b.stretches.nested _ _ b.kept c.requires.few c.requires.runs live.result (record { few = live.ensures.few; ran = live.ensures.run }) _ c.requires.stands
+    (live_begin c.args.session.now live.result live.ensures.events) at.result at.ensures.within at.ensures.along c.in_ok-grown.grown c.in_ok-grown.ensures.ok c.args.name _ _
+    c.reserve.ensures.entries c.put.ensures _ c.len-2.result c.here_after-self.ensures.near c.here_after-self.ensures.far
 
 pub invariant_of-self-2 : goal.invariant_of-self-2
 invariant_of-self-2 g c = record { kept = (put_last g (goal.at.invariant_of-self-2 g c).After-here_after-self).kept }

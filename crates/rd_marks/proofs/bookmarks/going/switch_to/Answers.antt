@@ -1,9 +1,32 @@
-use Rattle.rd_marks.proofs.Prelude.{List, ◌++◌, ◌≤◌, take, lit<, ap, subst, length, ◌∙◌, arith, on_err_weaker, length-map, Entry, journal, state, entries_at, events, IsRunFrom, AreInPieces}
+use Rattle.rd_marks.proofs.Prelude.{List, ◌++◌, ◌≤◌, take, lit<, ap, subst, length, ◌∙◌, arith, on_err_weaker, length-map, Entry, journal, state, entries_at, events, IsRunFrom, AreInPieces, ◌≡◌, ℕ, suc, take-length, take-take, Event, Begins, Node, Stretch, stretch_list, IsWithin, IsAlong, IsDeepest, ◌+◌, MOST_STEPS, length-drop, drop_all}
 use Rattle.rd_marks.proofs.Here.{live_along}
-use Rattle.rd_marks.proofs.Starting.{entries_length}
-use Rattle.rd_marks.proofs.EntryLemmas.{switched, joined_events, lacked, may_switch, few_enough}
-use Rattle.rd_marks.proofs.Switches.{common_live, none_behind, whole_common}
+use Rattle.rd_marks.proofs.Starting.{entries_length, begins_shorter, stretch_within, events_length, events_of_first, first_events}
+use Rattle.rd_marks.proofs.EntryLemmas.{switched, joined_events, lacked, may_switch}
 use Rattle.rd_marks.proofs.bookmarks.going.switch_to.Goals as goal
+
+module _ (ss : List Stretch) where
+  -- the live events have the first n in common with a node if a node whose events begin them has
+  common_live : (b node : Node) (n : ℕ) (es live : List Event) → es ≡ live → n ≤ b.number → IsAlong ss b.stretch b.number es
+      → take n (entries_at ss b) ≡ take n (entries_at ss node) → take n live ≡ take n (events (entries_at ss node))
+  common_live b node n es live same within along alike =
+      let fact = take-take n b.number (events (stretch_list ss b.stretch)) in
+      grind (arith, same, within, along, alike, take-take n b.number es, fact, first_events ss b n, events_of_first n (entries_at ss b), events_of_first n (entries_at ss node))
+
+  -- a node whose events begin the live ones has at most as many entries as any list has of them
+  no_deeper : (node : Node) (n : ℕ) (es : List Event) → IsWithin ss node → IsDeepest ss n es → Begins (events (entries_at ss node)) es → node.number ≤ n
+  no_deeper node n es is deepest h =
+      let fact = take-take (suc n) (length (events (entries_at ss node))) es in
+      grind (arith, h, deepest node.stretch, stretch_within ss node is, events_length ss node is, begins_shorter, first_events ss node (suc n), fact)
+
+  -- if the node's events begin the live ones, all of them are found to be in common
+  whole_common : (b node : Node) (n : ℕ) (es : List Event) → IsWithin ss node → IsAlong ss b.stretch b.number es → IsDeepest ss b.number es
+      → Begins (events (entries_at ss node)) es → n ≤ node.number
+      → ((m : ℕ) → m ≤ b.number → m ≤ node.number → take m (events (entries_at ss b)) ≡ take m (events (entries_at ss node)) → m ≤ n) → node.number ≡ n
+  whole_common b node n es is along deepest h within most =
+      let fact = take-take node.number b.number (events (stretch_list ss b.stretch)) in
+      let fact_2 = take-length (events (entries_at ss node)) in
+      let fact_3 = no_deeper node b.number es is deepest h in
+      grind (arith, h, within, along, most node.number, fact_3, events_length ss node is, first_events ss b node.number, fact, take-take node.number b.number es, fact_2)
 
 pub follow-beginning-requires-clause-along : goal.follow-beginning-requires-clause-along
 follow-beginning-requires-clause-along g c =
@@ -20,7 +43,8 @@ switch-requires g c =
     c.follow-beginning.ensures.along said.alike in
     let run = subst (λ (xs : List Entry). IsRunFrom (state c.args.session.now).start xs) c.live-live.ensures.entries c.live-live.ensures.run in
     let live = length-map c.live-live.result (λ (x : Entry). x.event) in
-    let few = few_enough n c.deref.result.now (entries_at ss c.args.node) given (omega (arith, said.second, entries_length ss c.args.node c.requires.within)) c.requires.run.few in
+    let few : n + length c.deref.result.now ≤ MOST_STEPS =
+    omega (arith, said.second, entries_length ss c.args.node c.requires.within, c.requires.run.few, ap length given, length-drop n (entries_at ss c.args.node)) in
     let may = may_switch (journal c.args.session.now) n c.deref.result.now (entries_at ss c.args.node) given run c.requires.run same in
     (lit< tt, (omega (arith, said.first, c.follow-beginning.ensures.along.enough, ap length c.live-live.ensures.entries, live), (few, may)))
 
@@ -38,14 +62,12 @@ returns-in-Ok-clause-ok g c =
 pub returns-in-Ok-clause-unchanged : goal.returns-in-Ok-clause-unchanged
 returns-in-Ok-clause-unchanged g c = on_err_weaker c.switch.result (λ is. is.journal) c.switch.ensures.unchanged
 
-pub returns-in-Ok-clause-track : goal.returns-in-Ok-clause-track
-returns-in-Ok-clause-track g c = on_err_weaker c.switch.result (λ is. is.track) c.switch.ensures.unchanged
-
 pub returns-in-Ok-clause-succeeds : goal.returns-in-Ok-clause-succeeds
 returns-in-Ok-clause-succeeds g c = λ h.
     let all = whole_common c.args.stretches.now.list.items c.follow-beginning.result c.args.node c.common-common.result (events c.live-live.result) c.requires.within c.follow-beginning.ensures.along
     c.follow-beginning.ensures.deepest (grind (arith, c.live-live.ensures.events, h)) c.common-common.ensures.second c.common-common.ensures.most in
-    c.switch.ensures.succeeds (none_behind c.args.stretches.now.list.items c.args.node c.common-common.result c.deref.result.now c.requires.within all (c.deref.ensures.value ∙ c.in-Ok.ensures.ok))
+    let long = entries_length c.args.stretches.now.list.items c.args.node c.requires.within in
+    c.switch.ensures.succeeds (c.deref.ensures.value ∙ c.in-Ok.ensures.ok ∙ drop_all c.common-common.result (entries_at c.args.stretches.now.list.items c.args.node) (omega (arith, all, long)))
 
 pub returns-in-Ok-clause-err : goal.returns-in-Ok-clause-err
 returns-in-Ok-clause-err g c =

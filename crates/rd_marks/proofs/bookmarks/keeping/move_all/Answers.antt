@@ -1,5 +1,5 @@
-use Rattle.rd_marks.proofs.Prelude.{◌∙◌, List, sym, ap, slice_get, arith, values_of, MarkName, Node, shifted, IsLow}
-use Rattle.rd_marks.proofs.Moving.{changed_next, value_next, all_changed}
+use Rattle.rd_marks.proofs.Prelude.{◌∙◌, List, sym, ap, slice_get, arith, values_of, MarkName, Node, shifted, IsLow, take_all, drop_all, append-nil}
+use Rattle.rd_marks.proofs.Moving.{changed_next, value_next}
 use Rattle.rd_marks.proofs.bookmarks.keeping.move_all.Goals as goal
 
 pub shifted-requires : goal.shifted-requires
@@ -12,4 +12,4 @@ pub loop-index-preserved : goal.loop-index-preserved
 loop-index-preserved c = grind (arith, changed_next (shifted c.args.shift) c.loop-index.index c.args.names.now.entries c.index.result.now)
 
 pub returns-clause-entries : goal.returns-clause-entries
-returns-clause-entries c = c.loop-index.invariant.entries ∙ all_changed (shifted c.args.shift) c.loop-index.index c.args.names.now.entries (omega (arith, c.loop-index-test.false, c.len-index-end.ensures.len))
+returns-clause-entries c = grind (arith, take_all, drop_all, append-nil, c.loop-index.invariant.entries, c.loop-index-test.false, c.len-index-end.ensures.len)

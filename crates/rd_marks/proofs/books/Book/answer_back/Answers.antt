@@ -1,16 +1,14 @@
-use Rattle.rd_marks.proofs.Prelude.{refl, state, marks_of, lists_in}
-use Rattle.rd_marks.proofs.AnswerLemmas.{kept_along, move_answered}
-use Rattle.rd_marks.proofs.Starts.{back_start}
+use Rattle.rd_marks.proofs.Prelude.{refl, marks_of, lists_in, state}
+use Rattle.rd_marks.proofs.AnswerLemmas.{move_answered}
+use Rattle.rd_marks.proofs.ObeyLemmas.{answers_start, back_start}
 use Rattle.rd_marks.proofs.books.Book.answer_back.Goals as goal
 
 pub invariant_of-self : goal.invariant_of-self
 invariant_of-self g c =
-    let done = c.back-done in
-    let kept = kept_along c.args.self.now done.new.self done.result _ (back_start (state c.args.self.now.session) c.args.n) done.ensures.state done.ensures.along in
-    record { runs = kept.0; stands = kept.1 }
+    let start = answers_start _ c.back-done.result c.args.self.now.session c.back-done.new.self (back_start (state c.args.self.now.session) c.args.n) c.back-done.ensures.state in
+    record { runs = rw start c.args.self.now.runs; stands = rw c.back-done.ensures.along.track c.args.self.now.stands }
 
 pub returns : goal.returns
 returns g c =
-    let done = c.back-done in
-    move_answered c.args.self.now.session done.new.self (marks_of (lists_in c.args.self.now.bookmarks)) _ c.counts_after.result done.result _
-    done.ensures.state refl c.counts_after.ensures.ok c.counts_after.ensures.err
+    move_answered c.args.self.now.session c.back-done.new.self (marks_of (lists_in c.args.self.now.bookmarks)) _ c.counts_after.result c.back-done.result _
+    c.back-done.ensures.state refl c.counts_after.ensures.ok c.counts_after.ensures.err

@@ -1,6 +1,6 @@
-use Rattle.rd_marks.proofs.Prelude.{◌∙◌, List, refl, sym, arith, Entry, state, MarkName, book_state, lists_in, AreEntriesOfRun, mark_name_eq}
+use Rattle.rd_marks.proofs.Prelude.{◌∙◌, List, refl, sym, arith, Entry, state, MarkName, lists_in, AreEntriesOfRun, mark_name_eq}
 use Rattle.rd_marks.proofs.Here.{still_begins}
-use Rattle.rd_marks.proofs.MarkLemmas.{all_without, drop_goes, drop_missing, none_removed}
+use Rattle.rd_marks.proofs.MarkLemmas.{all_without, found_marked, marks_without, none_removed}
 use Rattle.rd_marks.proofs.books.Book.drop_mark.Goals as goal
 
 pub invariant_of-self : goal.invariant_of-self
@@ -11,11 +11,11 @@ invariant_of-self g c = record {
 
 pub returns-then-drop-clause-ok : goal.returns-then-drop-clause-ok
 returns-then-drop-clause-ok g c =
-    drop_goes (book_state c.args.self.now) c.args.name (lists_in c.args.self.now.bookmarks) (lists_in c.drop.new.self) refl (sym c.drop.ensures.found ∙ c.if-drop.true) c.drop.ensures.lists
+    let lists = lists_in c.args.self.now.bookmarks in
+    rw (found_marked c.args.name lists, sym c.drop.ensures.found ∙ c.if-drop.true, c.drop.ensures.lists, marks_without c.args.name lists) refl
 
 pub returns-else-drop-clause-err : goal.returns-else-drop-clause-err
-returns-else-drop-clause-err g c =
-    drop_missing (book_state c.args.self.now) c.args.name (lists_in c.args.self.now.bookmarks) refl (sym c.drop.ensures.found ∙ c.if-drop.false)
+returns-else-drop-clause-err g c = rw (found_marked c.args.name (lists_in c.args.self.now.bookmarks), sym c.drop.ensures.found ∙ c.if-drop.false) refl
 
 pub returns-else-drop-clause-unchanged : goal.returns-else-drop-clause-unchanged
 returns-else-drop-clause-unchanged g c = grind (arith, none_removed)

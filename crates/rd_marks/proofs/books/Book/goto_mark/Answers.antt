@@ -1,6 +1,6 @@
 use Rattle.rd_marks.proofs.Prelude.{List, sym, ap, ◌∙◌, option_map, arith, Entry, state, book_state, lists_in, entries_in, AreEntriesOfRun, mark_name_eq, events}
 use Rattle.rd_marks.proofs.MarkLemmas.{all_found, found_events, goto_not_done}
-use Rattle.rd_marks.proofs.Starts.{runs_stay, start_kept}
+use Rattle.rd_marks.proofs.ObeyLemmas.{start_kept}
 use Rattle.rd_marks.proofs.books.Book.goto_mark.Goals as goal
 
 pub go_to-requires : goal.go_to-requires
@@ -14,8 +14,5 @@ returns-clause-err g c =
     goto_not_done _ c.go_to.result (book_state c.args.self.now) c.args.name (events (entries_in c.args.self.now.bookmarks c.in-Some.node))
     (found_events c.args.name (lists_in c.args.self.now.bookmarks) ∙ ap (option_map events) (sym c.in-Some.ensures.found)) c.go_to.ensures.err c.go_to.ensures.succeeds
 
-pub invariant_of-self : goal.invariant_of-self
-invariant_of-self g c = record {
-  runs = runs_stay _ _ _ _ (start_kept c.go_to.result _ _ _ c.go_to.ensures.ok c.go_to.ensures.unchanged) c.go_to.ensures.lists c.args.self.now.runs;
-  stands = c.go_to.ensures.stands;
-}
+pub invariant_of-self-clause-runs : goal.invariant_of-self-clause-runs
+invariant_of-self-clause-runs g c = rw (start_kept c.go_to.result _ _ _ c.go_to.ensures.ok c.go_to.ensures.unchanged, c.go_to.ensures.lists) c.args.self.now.runs

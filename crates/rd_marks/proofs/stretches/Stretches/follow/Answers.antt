@@ -1,11 +1,11 @@
 use Rattle.rd_marks.proofs.Prelude.{◌≡◌, ◌⊎◌, ◌+◌, ◌≤◌, suc, arith, shared_at, events}
 use Rattle.rd_marks.proofs.Fresh.{Follows, along_taken, follows_start, follows_here, follows_stopped}
-use Rattle.rd_marks.proofs.Reading.{own_number, own_cases, step_compared, step_skipped}
+use Rattle.rd_marks.proofs.Reading.{own_number, step_compared, step_skipped}
 use Rattle.rd_marks.proofs.stretches.Stretches.follow.Goals.{else-i-at-via-then-i-at+else-shared-at, else-i-at-via-else-i-at, then-shared-at-2, else-shared-at-2}
 use Rattle.rd_marks.proofs.stretches.Stretches.follow.Goals as goal
 
 pub loop-i-init : goal.loop-i-init
-loop-i-init c = grind (arith, along_taken, follows_start, own_cases, own_number)
+loop-i-init c = grind (arith, along_taken, follows_start, own_number)
 
 pub returns-then-shared-at-clause-deepest : goal.returns-then-shared-at-clause-deepest
 returns-then-shared-at-clause-deepest c = grind (arith, follows_stopped)
