@@ -1,5 +1,5 @@
 -- Keywords and kinds of places: each has a text of its own, which finds it among all of them.
-use Rattle.rd_script.proofs.Prelude.{◌≡◌, ◌≢◌, ◌∙◌, ℕ, suc, ◌<◌, Bool, true, false, true≢false, List, [], ◌∷◌, length, Option, Some, None, if◌then◌else◌, nat_eq, slice_index_or, refl, sym, ap, arith, Keyword, PlaceKind, keyword_text, kind_text, unwrap_or, is_some}
+use Rattle.rd_script.proofs.Prelude.{◌≡◌, ◌≢◌, ◌∙◌, ℕ, suc, ◌<◌, true≢false, List, [], ◌∷◌, length, Option, Some, None, if◌then◌else◌, nat_eq, slice_index_or, refl, sym, ap, arith, Keyword, PlaceKind, keyword_text, kind_text, unwrap_or, is_some}
 use Rattle.rd_script.specs.declared.reading.keywords.Keyword.TheVariants as keyword
 use Rattle.rd_script.specs.declared.reading.places.PlaceKind.TheVariants as kind
 use Rattle.rd_script.specs.declared.reading.keywords.TheConstants.Keyword.{ALL as keywords}
@@ -14,10 +14,10 @@ first_with text word (k ∷ ks) = if pointwise nat_eq word (text k) then Some k 
 -- if no text is the word, none is found
 none_first : {K : Type 0} (text : K → List ℕ) (word : List ℕ) (d : K) (ks : List K) → ((i : ℕ) → i < length ks → word ≢ text (slice_index_or ks i d)) → first_with text word ks ≡ None
 none_first text word d [] none = refl
-none_first text word d (k ∷ ks) none = go (pointwise nat_eq word (text k)) refl (none_first text word d ks (λ i below. none (suc i) (omega (arith, below)))) where
-  go : (b : Bool) → pointwise nat_eq word (text k) ≡ b → first_with text word ks ≡ None → (if b then Some k else first_with text word ks) ≡ None
-  go true e rest = absurd (none 0 (omega arith) (same_text word (text k) (sym e)))
-  go false e rest = rest
+none_first text word d (k ∷ ks) none =
+    let others = none_first text word d ks (λ i below. none (suc i) (omega (arith, below))) in
+    let first = none 0 (omega arith) in
+    grind (arith, same_text)
 
 -- Things each of which is found by its own text
 module _ {K : Type 0} (text : K → List ℕ) (all : List K) (found : (k : K) → first_with text (text k) all ≡ Some k) where

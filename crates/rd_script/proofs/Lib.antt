@@ -1,6 +1,5 @@
 pub mod Prelude
 pub mod ResultLemmas
-pub mod KnownLemmas
 pub mod LineLemmas
 pub mod ScriptLemmas
 pub mod TextLemmas

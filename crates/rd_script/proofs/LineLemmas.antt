@@ -1,6 +1,6 @@
 -- Reading a line, byte by byte.
-use Rattle.rd_script.proofs.Prelude.{◌≡◌, ◌≢◌, ℕ, ◌+◌, Bool, false, List, [], ◌∷◌, ◌++◌, length, Option, Some, None, sym, ◌∙◌, ap, length-append, arith, Consumes, Line, GivesByte, IsOneLine, Holds, ReadsLast}
-use Rattle.rd_script.proofs.KnownLemmas.{Consumes-join}
+use Rattle.rd_script.proofs.Prelude.{Consumes-trans, ◌≡◌, ◌≢◌, ℕ, ◌+◌, Bool, false, List, [], ◌∷◌, ◌++◌, length, Option, Some, None, sym, ◌∙◌, ap, length-append, arith, Consumes, Line, GivesByte, IsOneLine, Holds, ReadsLast}
+use Rattle.std.proofs.SliceLists.{all_by_recursion_push}
 
 -- the source has given `count` bytes of a line, none of them a line feed, and the buffer stands for
 -- them
@@ -12,11 +12,6 @@ pub record HasBegun (old now : Option (List ℕ)) (failed : Bool) (line : Line) 
   pub works : failed ≡ false
   pub counted : length text ≡ count
 
--- a text without a line feed stays one with another byte that is none
-pub IsOneLine-more : (text : List ℕ) (byte : ℕ) → IsOneLine text → byte ≢ 10 → IsOneLine (text ++ byte ∷ [])
-IsOneLine-more [] byte h n = (n, tt)
-IsOneLine-more (x ∷ xs) byte h n = (h.0, IsOneLine-more xs byte h.1 n)
-
 -- an empty buffer stands for a line of which no byte was given
 pub begins : (old : Option (List ℕ)) (failed : Bool) (line : Line) → Holds line [] → failed ≡ false → HasBegun old old failed line 0
 begins old failed line h works = grind arith
@@ -25,16 +20,12 @@ begins old failed line h works = grind arith
 pub goes_on : {old now : Option (List ℕ)} (new : Option (List ℕ)) {failed failed' : Bool} {line line' : Line} {count : ℕ} (byte : ℕ) → HasBegun old now failed line count → GivesByte now new (Some byte) → byte ≢ 10 → ((text : List ℕ) → Holds line text → Holds line' (text ++ byte ∷ [])) → failed' ≡ false → HasBegun old new failed' line' (count + 1)
 goes_on {old} {now} new {count = count} byte b gives n pushes works = record {
   text = b.text ++ byte ∷ [];
-  is_one = IsOneLine-more b.text byte b.is_one n;
+  is_one = all_by_recursion_push (λ x. x ≢ 10) b.text byte b.is_one n;
   held = pushes b.text b.held;
-  took = Consumes-join old now new b.text (byte ∷ []) b.took gives;
+  took = Consumes-trans old now new b.text (byte ∷ []) b.took gives;
   works = works;
   counted = length-append b.text (byte ∷ []) ∙ ap (λ k. k + 1) b.counted;
 }
-
--- a text whose length isn't 0 isn't empty
-some_text : (text : List ℕ) → length text ≢ 0 → text ≢ []
-some_text text n e = n (ap length e)
 
 -- if at least one byte was given, the end of the source ends the last line
 pub is_last : {old now : Option (List ℕ)} (new : Option (List ℕ)) {failed : Bool} {line : Line} {count : ℕ} → HasBegun old now failed line count → GivesByte now new None → count ≢ 0 → ReadsLast old new line
@@ -43,8 +34,8 @@ is_last {old} {now} new b gives n = record {
     text = b.text;
     is_one = b.is_one;
     held = b.held;
-    took = Consumes-join old now new b.text [] b.took gives.0;
+    took = Consumes-trans old now new b.text [] b.took gives.0;
   };
-  some = some_text b.text (λ z. n (sym b.counted ∙ z));
+  some = λ e. n (sym b.counted ∙ ap length e);
   ended = gives.1;
 }

@@ -1,11 +1,10 @@
 -- The names after a keyword, and the fault if they are missing or bad.
-use Rattle.rd_script.proofs.Prelude.{common_steps, list_all, and_parts, is_mark_name, Command, LineFault, Keyword, keyword_of, arguments_of, argument_words, names_after, IsInRange, NamesBadly, is_word, AreNoNames, ReadsCommand, ◌≡◌, ℕ, ◌<◌, true, true≢false, List, [], ◌∷◌, length, Err, refl, arith}
-use Rattle.rd_script.proofs.SpellingLemmas.{is_word_of_name}
+use Rattle.rd_script.proofs.Prelude.{common_steps, list_all, is_mark_name, Command, LineFault, Keyword, keyword_of, arguments_of, argument_words, names_after, IsInRange, NamesBadly, is_word, AreNoNames, ReadsCommand, ◌≡◌, ℕ, ◌<◌, true, true≢false, List, length, Err, arith}
+use Rattle.rd_script.proofs.SpellingLemmas.{is_word_of_name, list_all-weaker}
 
 -- bookmarks' names are words
 are_words : (words : List (List ℕ)) → list_all is_mark_name words ≡ true → list_all is_word words ≡ true
-are_words [] e = refl
-are_words (x ∷ xs) e = let here = and_parts (is_mark_name x) (list_all is_mark_name xs) e in rw (is_word_of_name x here.0, are_words xs here.1) refl
+are_words words e = list_all-weaker is_mark_name is_word is_word_of_name words e
 
 -- if names follow its keyword, a command has as many arguments as names
 counted : (c : Command) → 0 < names_after (keyword_of c) → length (argument_words (arguments_of c)) ≡ names_after (keyword_of c)

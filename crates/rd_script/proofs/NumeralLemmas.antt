@@ -1,17 +1,11 @@
 -- Words that spell numbers, and the parts of a segment's name.
-use Rattle.rd_script.proofs.Prelude.{◌≡◌, ◌≢◌, ℕ, suc, ◌^◌, ◌<◌, ◌==◌, ◌⊎◌, List, [], ◌∷◌, get_or, length, Option, Some, None, IfSome, IfNone, Result, Ok, Err, ParsesUnsigned, parse_plain, numerals_by_value, tells_digits, decimal-digits_value, decimal_digit, first_decimal, parse-decimal, subst, arith, sym, ◌∙◌, ap, append_assoc, decimal, slice_split, join_with_byte, IsUtf8, IsAscii-decimal, SegName, name_words, IsSegmentInRange, IsUtf8-from_ascii}
-use Rattle.std.specs.Prelude.{zero}
+use Rattle.rd_script.proofs.Prelude.{None, Some, ◌≡◌, ◌≢◌, ℕ, ◌^◌, ◌<◌, ◌==◌, ◌⊎◌, List, [], ◌∷◌, get_or, length, Option, IfSome, IfNone, Result, Ok, Err, ParsesUnsigned, parse_plain, numerals_by_value, tells_digits, decimal-digits_value, decimal_digit, first_decimal, parse-decimal, subst, arith, sym, ◌∙◌, ap, append_assoc, decimal, slice_split, join_with_byte, SegName, name_words, IsSegmentInRange}
 use Rattle.std.specs.Result.{result_ok}
 use Rattle.rd_script.proofs.SplitLemmas.{parts_of_join, join_of_parts, is_free_decimal}
 
--- the digits of a number are UTF-8
-pub IsUtf8-decimal : (n : ℕ) → n < 2 ^ 64 → IsUtf8 (decimal n)
-IsUtf8-decimal n h = IsUtf8-from_ascii (decimal n) (IsAscii-decimal n h)
-
 -- the digits of a number don't begin with a plus sign, or with a zero before another byte
 pub begins_as_number : (n : ℕ) → n < 2 ^ 64 → (get_or (decimal n) 0 0 ≡ 43) ⊎ ((get_or (decimal n) 0 0 ≡ 48) × (1 < length (decimal n))) → ⊥
-begins_as_number zero small begins = grind (arith, decimal_digit zero (omega arith))
-begins_as_number (suc n) small begins = grind (arith, first_decimal (suc n) (omega arith) small)
+begins_as_number n small begins = grind (arith, decimal_digit, first_decimal)
 
 -- if std reads a number from a word that begins with neither, the word is the number's spelling
 pub read_as_spelled : {E : Type 0} (word digits : List ℕ) (r : Result ℕ E) (o : Option ℕ) → digits ≡ word → ParsesUnsigned 64 10 digits r → o ≡ result_ok r → get_or word 0 0 ≢ 43
@@ -35,9 +29,8 @@ name_join s = append_assoc (decimal s.maker) (46 ∷ []) (decimal s.n)
 -- a segment's name has two parts
 pub name_parts : (s : SegName) → IsSegmentInRange s → slice_split (λ byte. byte == 46) (name_words s) ≡ decimal s.maker ∷ decimal s.n ∷ []
 name_parts s small =
-    ap (slice_split (λ byte. byte == 46)) (name_join s)
-    ∙ parts_of_join 46 (decimal s.maker) (decimal s.n ∷ [])
-    (is_free_decimal 46 s.maker (omega arith) (omega (arith, small.0)), (is_free_decimal 46 s.n (omega arith) (omega (arith, small.1)), tt))
+    rw (name_join s) (parts_of_join 46 (decimal s.maker) (decimal s.n ∷ [])
+    (is_free_decimal 46 s.maker (omega arith) (omega (arith, small.0)), (is_free_decimal 46 s.n (omega arith) (omega (arith, small.1)), tt)))
 
 -- if the parts of a word spell a segment's name, so does the word
 pub name_from_parts : (word : List ℕ) (parts : List (List ℕ)) (r : Option SegName) → parts ≡ slice_split (λ byte. byte == 46) word → IfSome r (λ s. parts ≡ decimal s.maker ∷ decimal s.n ∷ []) → IfSome r (λ s. word ≡ name_words s)

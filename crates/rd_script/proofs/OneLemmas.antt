@@ -54,11 +54,10 @@ same_argument _ _ same small below e = absurd (omega (arith, same))
 -- two alike lists of arguments with the same words are equal
 same_arguments : (xs ys : List Argument) → AreAlike xs ys → AreArgumentsInRange xs → AreArgumentsInRange ys → argument_words xs ≡ argument_words ys → xs ≡ ys
 same_arguments [] [] a small below e = refl
-same_arguments [] (y ∷ ys) a small below e = absurd (omega (arith, ap length e))
-same_arguments (x ∷ xs) [] a small below e = absurd (omega (arith, ap length e))
 same_arguments (x ∷ xs) (y ∷ ys) a small below e =
     let same = same_argument x y a.0 small.0 below.0 (ap (word_at 0) e) in
     ap (λ z. z ∷ xs) same ∙ ap (λ zs. y ∷ zs) (same_arguments xs ys (a.1 same) small.1 below.1 (ap (drop 1) e))
+same_arguments _ _ a small below e = absurd (omega (arith, ap length e))
 
 -- two commands with one keyword and the same words are the same
 pub one_command : (c d : Command) → IsInRange c → IsInRange d → keyword_of c ≡ keyword_of d → argument_words (arguments_of c) ≡ argument_words (arguments_of d) → IsSameCommand c d

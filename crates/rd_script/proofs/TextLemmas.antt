@@ -1,5 +1,5 @@
 -- The lines of a whole text, as the parts between its line feeds, and what they spell.
-use Rattle.rd_script.proofs.Prelude.{AllZip, ◌≡◌, ◌≢◌, ℕ, Bool, ◌==◌, if◌then◌else◌, List, [], ◌∷◌, ◌++◌, refl, ap, Result, arith, ne_eqb, slice_split, onto_first, Command, LineFault, Says, with_first_byte, lines_of}
+use Rattle.rd_script.proofs.Prelude.{◌≡◌, ◌≢◌, ℕ, Bool, ◌==◌, if◌then◌else◌, List, [], ◌∷◌, ◌++◌, refl, ap, arith, ne_eqb, slice_split, onto_first, with_first_byte, lines_of}
 
 -- one more byte in front of the text
 one-more : (ends : Bool) (x : ℕ) (parts lines : List (List ℕ)) → parts ≡ lines
@@ -18,10 +18,3 @@ parts-of_unended (x ∷ []) some unended = rw (ne_eqb x 10 (λ e. unended [] (ap
 parts-of_unended (x ∷ y ∷ ys) some unended =
     one-more (x == 10) x (slice_split (λ byte. byte == 10) (y ∷ ys)) (lines_of (y ∷ ys))
     (parts-of_unended (y ∷ ys) (λ e. cc) (λ front e. unended (x ∷ front) (ap (λ t. x ∷ t) e)))
-
--- one more line, with what it spells
-pub said_more : (lines : List (List ℕ)) (said : List (Result Command LineFault)) (line : List ℕ) (r : Result Command LineFault) → AllZip Says lines said → Says line r → AllZip Says (lines ++ line ∷ []) (said ++ r ∷ [])
-said_more [] [] line r are says = (says, tt)
-said_more [] (y ∷ ys) line r are says = absurd are
-said_more (x ∷ xs) [] line r are says = absurd are
-said_more (x ∷ xs) (y ∷ ys) line r are says = (are.0, said_more xs ys line r are.1 says)

@@ -1,4 +1,4 @@
-use Rattle.rd_script.proofs.Prelude.{◌≡◌, ◌≢◌, ℕ, ◌<◌, Bool, List, [], ◌∷◌, map, None, sym, subst, arith, decimal, Command, yes_or_no, keyword_of, arguments_of, argument_words, IsInRange, ReadsNameless}
+use Rattle.rd_script.proofs.Prelude.{◌≡◌, ◌≢◌, ℕ, ◌<◌, Bool, List, [], ◌∷◌, arith, decimal, Command, yes_or_no, keyword_of, arguments_of, argument_words, IsInRange}
 use Rattle.rd_script.specs.declared.reading.keywords.Keyword.TheVariants as keyword
 use Rattle.rd_script.proofs.reading.commands.command_without_name.Goals as goal
 
@@ -8,7 +8,4 @@ no_starve : (words : List (List ℕ)) → ((actor : ℕ) (choice : Bool) → act
 no_starve words none c small is = grind arith
 
 pub returns-in_err-actor-in-Starve : goal.returns-in_err-actor-in-Starve
-returns-in_err-actor-in-Starve c =
-    let words = map (λ word. word.now) c.args.words.now in
-    subst (λ r. ReadsNameless c.args.keyword words r) (sym c.from_residual-in_err-actor-in-Starve.ensures)
-    (subst (λ k. ReadsNameless k words None) (sym c.in-Starve.is) (λ free. no_starve words c.in_err-actor-in-Starve.ensures.none))
+returns-in_err-actor-in-Starve c = rw (c.from_residual-in_err-actor-in-Starve.ensures, c.in-Starve.is) (λ free. no_starve _ c.in_err-actor-in-Starve.ensures.none)

@@ -1,4 +1,4 @@
-use Rattle.rd_script.proofs.Prelude.{common_steps, GivesByte, subst, arith}
+use Rattle.rd_script.proofs.Prelude.{common_steps, arith}
 use Rattle.rd_script.proofs.LineLemmas.{goes_on, is_last}
 use Rattle.rd_script.proofs.reading.lines.next_line.Goals as goal
 
@@ -9,8 +9,4 @@ pub loop-length-preserved : goal.loop-length-preserved
 loop-length-preserved g c = grind (arith, goes_on)
 
 pub returns-in-None-2-clause-reads : goal.returns-in-None-2-clause-reads
-returns-in-None-2-clause-reads g c =
-    let old = g.S.Source.bytes c.loop-length.reader in
-    let new = g.S.Source.bytes c.byte.new.self in
-    let gives = subst (λ given. GivesByte old new given) c.in-None-2.is c.in_ok-byte.ensures.gives in
-    is_last new c.loop-length.invariant gives c.if-length-eq0.false
+returns-in-None-2-clause-reads g c = is_last _ c.loop-length.invariant (rw c.in-None-2.is at c.in_ok-byte.ensures.gives) c.if-length-eq0.false

@@ -1,6 +1,6 @@
 use Rattle.rd_script.proofs.Prelude.{AllZip, rules, tests, ◌≡◌, ◌==◌, List, [], ◌∷◌, ◌++◌, map, refl, ◌∙◌, subst, Bor, ℕ, map-append, YieldsList-from_slice_split, Says}
 use Rattle.rd_script.proofs.PartLemmas.{all_parts}
-use Rattle.rd_script.proofs.TextLemmas.{said_more}
+use Rattle.std.proofs.lemmas.Slice.Zip.{all_zipped_more}
 use Rattle.rd_script.proofs.reading.whole_texts.lines.Goals as goal
 
 pub loop-line-preserved : goal.loop-line-preserved
@@ -8,7 +8,7 @@ loop-line-preserved c =
     let pushed : c.push.new.self.items ≡ c.loop-line.said.items ++ c.command_in.result ∷ [] = search rules in
     let given : map (λ (line : Bor (List ℕ)). line.now) (c.loop-line.yielded ++ c.in-Some.line ∷ []) ≡ map (λ (line : Bor (List ℕ)). line.now) c.loop-line.yielded ++ c.in-Some.line.now ∷ []
     = map-append _ c.loop-line.yielded (c.in-Some.line ∷ []) in
-    let more = said_more _ c.loop-line.said.items c.in-Some.line.now c.command_in.result c.loop-line.invariant c.command_in.ensures.says in
+    let more = all_zipped_more Says _ c.loop-line.said.items c.in-Some.line.now c.command_in.result c.loop-line.invariant c.command_in.ensures.says in
     rw (pushed, given) more
 
 pub returns-clause-ok : goal.returns-clause-ok
