@@ -1,13 +1,12 @@
 -- Actors as JSON values: the values that are written are read as the same.
-use Rattle.rd_trace.proofs.Prelude.{◌≡◌, ℕ, List, [], ◌∷◌, length, Option, Some, None, refl, arith, unsigned, items_view, Actor, name_of, name_data, byte_number, value_of, value_data, op_of_items, IsActor, actor_data, Value}
+use Rattle.rd_trace.proofs.Prelude.{◌≡◌, [], ◌∷◌, refl, ℕ, List, length, Option, Some, None, arith, unsigned, items_view, Actor, name_of, name_data, byte_number, value_of, value_data, op_of_items, IsActor, actor_data, Value}
 use Rattle.serde_json.specs.Data.{number}
 
 -- a list of another length than one or two spells no call
 pub no_op : (vs : List Value) → (length vs ≡ 1 → ⊥) → (length vs ≡ 2 → ⊥) → op_of_items (items_view vs) ≡ None
-no_op [] one two = refl
 no_op (a ∷ []) one two = absurd (one refl)
 no_op (a ∷ b ∷ []) one two = absurd (two refl)
-no_op (a ∷ b ∷ c ∷ vs) one two = refl
+no_op _ one two = refl
 
 pub value_spelled : (val : Option ℕ) → value_of (value_data val) ≡ Some val
 value_spelled val = grind arith

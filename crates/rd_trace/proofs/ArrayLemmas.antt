@@ -8,10 +8,8 @@ use Rattle.rd_cell.specs.declared.contents.ArrSlot.TheVariants as slot
 
 -- a list of another length than two spells no slot
 pub no_slot : (vs : List Value) → (length vs ≡ 2 → ⊥) → slot_of_items (items_view vs) ≡ None
-no_slot [] two = refl
-no_slot (i ∷ []) two = refl
 no_slot (i ∷ s ∷ []) two = absurd (two refl)
-no_slot (i ∷ s ∷ more ∷ vs) two = refl
+no_slot _ two = refl
 
 abbrev pub IsFilled : ArrSlot → Type 0
 IsFilled slot.Empty = ⊥
@@ -134,13 +132,10 @@ module _ (ss : List ArrSlot) (i : ℕ) (d : ArrSlot) (vs : List Value) (within :
 
   pub one_more_value : (v : Value) → (get_or ss i d ≡ slot.Empty → ⊥) → view v ≡ slot_data (i, get_or ss i d) → items_view (vs ++ v ∷ []) ≡ items_by slot_data (filled_slots 0 (take (i + 1) ss))
   one_more_value v other is =
-      let s = get_or ss i d in
-      items_written slot_data vs (filled_slots 0 (take i ss)) v (i, s) so_far is
-      ∙ ap (items_by slot_data) (ap (λ ps. filled_slots 0 (take i ss) ++ ps) (sym (filled_first i s [] (not_empty s other))) ∙ sym filled_take)
+      rw (filled_take, filled_first i (get_or ss i d) [] (not_empty (get_or ss i d) other)) (items_written slot_data vs (filled_slots 0 (take i ss)) v (i, get_or ss i d) so_far is)
 
   pub no_more_value : get_or ss i d ≡ slot.Empty → items_view vs ≡ items_by slot_data (filled_slots 0 (take (i + 1) ss))
-  no_more_value empty =
-      so_far ∙ ap (items_by slot_data) (sym (append-nil (filled_slots 0 (take i ss))) ∙ ap (λ s. filled_slots 0 (take i ss) ++ filled_slots i (s ∷ [])) (sym empty) ∙ sym filled_take)
+  no_more_value empty = rw (filled_take, empty, append-nil) so_far
 
 -- the JSON value as which the array is written spells it
 pub array_spelled : (a : ArrayParts) → IsArray (array_data a) a

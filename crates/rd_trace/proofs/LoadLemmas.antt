@@ -1,23 +1,16 @@
 -- The result of loading a text.
-use Rattle.rd_trace.proofs.Prelude.{◌≡◌, ◌≤◌, ◌<◌, ◌+◌, inl, inr, ℕ, List, [], ◌∷◌, length, codes, Option, Some, None, option_map, Result, Ok, Err, refl, sym, ap, ◌∙◌, subst, arith, option_or, IsDistinct, Data, World, Refusal, Mark, book_state, loaded_state, first_refused, first_refused_mark, Replays, MOST_MARKS, HaveDifferentNames, LoadTraceFault, BadTrace, Flawed, TraceMark, TraceStep, Start, number_at, IsStart, HasActorsInRange, Trace, IsEitherVersion, HasValue, Reads, view, AnyBook, any_state, IsTraceText, IsTraceRing, LoadsValue, LoadsTrace, read, Book, NoMemory}
+use Rattle.rd_trace.proofs.Prelude.{◌≡◌, ◌≤◌, ◌<◌, ◌+◌, ℕ, List, [], ◌∷◌, length, codes, Some, none-some, Result, Ok, Err, refl, sym, ap, ◌∙◌, subst, arith, IsDistinct, Data, World, Mark, book_state, loaded_state, first_refused_mark, Replays, MOST_MARKS, HaveDifferentNames, LoadTraceFault, BadTrace, number_at, HasActorsInRange, Trace, IsEitherVersion, HasValue, Reads, view, AnyBook, any_state, IsTraceText, IsTraceRing, LoadsValue, LoadsTrace, Book, NoMemory}
 use Rattle.std.specs.Prelude.{IsOkAnd, MatchResult}
 use Rattle.serde_json.proofs.OnLiterals.{serde_json_on_literals}
 
 -- What holds of a session that a value spells
 
-start_counted : {R : ℕ} (d : Data) (start : Start R) → IsStart d start → HasActorsInRange start
-start_counted d start h = grind arith
-
 pub counted : {R : ℕ} (d : Data) (t : Trace R) → IsEitherVersion d t → HasActorsInRange t.start
-counted {R} d t (inl h) = subst (λ (start : Start R). HasActorsInRange start) (sym h.actors.2) (h.actors.1.some, h.actors.1.few)
-counted d t (inr h) = start_counted h.start.0 t.start h.start.2
-
-none_differ : HaveDifferentNames []
-unfolding IsDistinct
-none_differ = tt
+counted d t h = grind arith
 
 pub names_differ : {R : ℕ} (d : Data) (t : Trace R) → IsEitherVersion d t → HaveDifferentNames t.marks
-names_differ d t h = grind (arith, none_differ)
+unfolding IsDistinct
+names_differ d t h = grind arith
 
 pub few_marks : {R : ℕ} (d : Data) (t : Trace R) → IsEitherVersion d t → length t.marks ≤ MOST_MARKS
 few_marks d t h = grind arith
@@ -29,12 +22,9 @@ pub value_eq : {R : ℕ} (text : List ℕ) (d : Data) (t : Trace R) → HasValue
 value_eq text d t value is = grind arith
 
 -- the empty text has no value
-nothing_read : read [] ≡ None
-unfolding serde_json_on_literals
-nothing_read = refl
-
 not_empty : (text : List ℕ) (d : Data) → HasValue text d → 0 < length text
-not_empty [] d value = absurd (cc (nothing_read, value.1))
+unfolding serde_json_on_literals
+not_empty [] d value = absurd (none-some d value.1)
 not_empty (x ∷ xs) d value = omega arith
 
 module _ (text : List ℕ) (d : Data) (value : HasValue text d) (Q : ℕ) (ring : number_at (codes "ring") d ≡ Some Q) (is_ring : IsTraceRing Q) where
@@ -51,9 +41,7 @@ module _ (text : List ℕ) (d : Data) (value : HasValue text d) (Q : ℕ) (ring 
   pub loads_none : (fault : LoadTraceFault) → LoadsValue {R = Q} d (Err fault) → LoadsTrace text (Err fault)
   loads_none NoMemory h = not_empty text d value
   loads_none BadTrace h = no_session h
-  loads_none (Flawed flaw) h = (Q, h.0, is_text h.0 h.1, h.2)
-  loads_none (TraceMark m n cause) h = (Q, h.0, is_text h.0 h.1, h.2)
-  loads_none (TraceStep n cause) h = (Q, h.0, is_text h.0 h.1, h.2)
+  loads_none _ h = (Q, h.0, is_text h.0 h.1, h.2)
 
   -- the result over rings of this size is the result of loading, with its book as an `AnyBook`
   pub loads_any : (wrap : Book Q → AnyBook) → ((book : Book Q) → any_state (wrap book) ≡ book_state book) → (r : Result (Book Q) LoadTraceFault) (s : Result AnyBook LoadTraceFault)
@@ -70,12 +58,9 @@ not_read text _ h memory = absurd h
 
 -- The result of loading a value
 
-not_bad : (n : ℕ) (o : Option (ℕ × Refusal)) (later : Option LoadTraceFault) → (later ≡ Some BadTrace → ⊥) → option_or (option_map (λ r. TraceMark n r.0 r.1) o) later ≡ Some BadTrace → ⊥
-not_bad n o later good h = grind arith
-
 marks_not_bad : (w : World) (n : ℕ) (ms : List Mark) → first_refused_mark w n ms ≡ Some BadTrace → ⊥
 marks_not_bad w n [] h = cc
-marks_not_bad w n (m ∷ ms) h = not_bad (n + 1) (first_refused w [] m.events) (first_refused_mark w (n + 1) ms) (marks_not_bad w (n + 1) ms) h
+marks_not_bad w n (m ∷ ms) h = grind (arith, marks_not_bad w (n + 1) ms)
 
 pub loads_value : {R : ℕ} (d : Data) (t : Trace R) → IsEitherVersion d t → (r : Result (Book R) LoadTraceFault) → Replays (λ (book : Book R). book_state book ≡ loaded_state t) t r → LoadsValue d r
 loads_value d t is r h = grind (arith, marks_not_bad)

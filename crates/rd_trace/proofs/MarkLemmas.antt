@@ -1,8 +1,8 @@
 -- Bookmarks as JSON values.
-use Rattle.rd_trace.proofs.Prelude.{◌≡◌, ℕ, nat_eq, nat_lt, suc, ◌+◌, ◌<◌, ◌≤◌, true, false, ◌||◌, List, [], ◌∷◌, ◌++◌, map, Bool, length, get_or, take, drop, slice_get, codes, Decides, Option, Some, None, ok_or, option_map, IfSome, Ok, inl, inr, refl, sym, ap, ap₂, ◌∙◌, subst, arith, AllByRecursion, list_any, list_all, IsDistinct, and_parts, or_cases, eqb-true, true≢false, false≢true, same_Some, map_push, take_all, IsDistinct-head, IsDistinct-tail, IsDistinct-push, escape, escape_byte, escape_byte_plain, Data, view, items_view, compact_text, comma_if, MarkName, Event, MOST_MARKS, is_name_byte, is_mark_name, bytes_of, mark_name_eq, HaveDifferentNames, Mark, BookState, mark_at, mark_events, result_map, Gives, SpellEach, items_by, event_of, event_data, IsMark, AreMarks, saved_mark, mark_data, AreAppended, IsMarkAppended, SavedMark, name_and_length, slice_get_within, Value, bytes_eq-Decides}
+use Rattle.rd_trace.proofs.Prelude.{◌≡◌, items_by, ℕ, nat_eq, nat_lt, ◌+◌, ◌<◌, ◌≤◌, true, false, ◌||◌, List, [], ◌∷◌, ◌++◌, map, Bool, length, get_or, take, drop, slice_get, codes, Decides, Option, Some, None, ok_or, option_map, IfSome, Ok, inl, inr, refl, sym, ap, ap₂, ◌∙◌, subst, arith, append_assoc, AllByRecursion, list_any, list_all, IsDistinct, and_parts, or_cases, eqb-true, true≢false, false≢true, same_Some, map_push, take_all, IsDistinct-head, IsDistinct-tail, IsDistinct-push, escape, escape_byte, escape_byte_plain, Data, view, items_view, compact_text, comma_if, MarkName, Event, MOST_MARKS, is_name_byte, is_mark_name, bytes_of, mark_name_eq, HaveDifferentNames, Mark, result_map, Gives, SpellEach, event_of, event_data, IsMark, AreMarks, saved_mark, mark_data, AreAppended, IsMarkAppended, SavedMark, name_and_length, slice_get_within, Value, bytes_eq-Decides}
 use Rattle.std.specs.Cmp.{IsEquivalence}
-use Rattle.rd_trace.proofs.SpellLemmas.{split_at, take_got, some_got, spelled_at, spelled_length, spell_each-more}
-use Rattle.rd_trace.proofs.TextLemmas.{each_spelled, list_back, one_more_appended, two_parts, mark_text}
+use Rattle.rd_trace.proofs.SpellLemmas.{split_at, take_got, spelled_at, spelled_length, spell_each-more}
+use Rattle.rd_trace.proofs.TextLemmas.{all_kept, items_text-joined, one_more_appended, two_parts}
 use Rattle.rd_cell.specs.declared.refusal.Refusal.TheVariants as refusal
 
 -- ---- names
@@ -24,10 +24,9 @@ one_name d m n h k = same_Some _ _ (sym h.name.text ∙ k.name.text)
 -- that a value among them spells
 apart_later : (q o : Mark) (xs ws : List Value) (v : Value) → IsMark (view v) o → (ms : List Mark) → SpellEach IsMark (items_view (xs ++ v ∷ ws)) ms
     → AllByRecursion (λ name. mark_name_eq q.name name ≡ false) (map (λ m. m.name) ms) → bytes_of q.name ≡ bytes_of o.name → ⊥
-apart_later q o [] ws v is [] h apart same = h
 apart_later q o [] ws v is (m ∷ ms) h apart same = true≢false (sym ((name_decides q.name m.name).1 (same ∙ one_name (view v) o m is h.0)) ∙ apart.0)
-apart_later q o (x ∷ xs) ws v is [] h apart same = h
 apart_later q o (x ∷ xs) ws v is (m ∷ ms) h apart same = apart_later q o xs ws v is ms h.1 apart.1 same
+apart_later q o _ ws v is _ h apart same = absurd h
 
 -- if a value spells a bookmark with a name that an earlier value's bookmark has, the values spell
 -- no bookmarks with different names
@@ -35,8 +34,6 @@ taken_twice : (xs ws : List Value) (v : Value) (os : List Mark) (o : Mark) → S
     → list_any (λ m. mark_name_eq o.name m.name) os ≡ true → (ms : List Mark) → SpellEach IsMark (items_view (xs ++ v ∷ ws)) ms
     → IsDistinct mark_name_eq (map (λ m. m.name) ms) → ⊥
 taken_twice [] ws v [] o ours is taken ms h distinct = false≢true taken
-taken_twice [] ws v (p ∷ os) o ours is taken ms h distinct = ours
-taken_twice (x ∷ xs) ws v [] o ours is taken ms h distinct = ours
 taken_twice (x ∷ xs) ws v (p ∷ os) o ours is taken [] h distinct = h
 taken_twice (x ∷ xs) ws v (p ∷ os) o ours is taken (m ∷ ms) h distinct =
     elim (or_cases _ _ taken) [
@@ -45,6 +42,7 @@ taken_twice (x ∷ xs) ws v (p ∷ os) o ours is taken (m ∷ ms) h distinct =
           (one_name (view x) m p h.0 ours.0 ∙ sym ((name_decides o.name p.name).0 e))
       | inr e ↦ taken_twice xs ws v os o ours.1 is e ms h.1 (IsDistinct-tail mark_name_eq m.name (map (λ n. n.name) ms) distinct)
     ]
+taken_twice _ ws v _ o ours is taken ms h distinct = absurd ours
 
 any_of_map : {X Y : Type 0} (f : X → Y) (test : Y → Bool) (xs : List X) → list_any test (map f xs) ≡ list_any (λ x. test (f x)) xs
 any_of_map f test [] = refl
@@ -74,18 +72,7 @@ module _ (vs : List Value) (i : ℕ) (v : Value) (within : i < length vs) (is : 
 
     -- if the name of the value's bookmark isn't taken, one more bookmark was read
     pub one_more_mark : list_any (λ o. mark_name_eq m.name o.name) marks ≡ false → AreRead vs (i + 1) (marks ++ m ∷ [])
-    one_more_mark free =
-        let saved = map_push saved_mark marks m in
-        let names = map_push (λ (n : Mark). n.name) (map saved_mark marks) (saved_mark m) in
-        record {
-          each =
-              grind (arith, spell_each-more);
-          names =
-              subst (λ (ms : List Mark). HaveDifferentNames ms) (sym saved)
-              (subst (λ (ns : List MarkName). IsDistinct mark_name_eq ns) (sym names)
-              (IsDistinct-push name_laws (map (λ n. n.name) (map saved_mark marks)) m.name so_far.names
-              (any_of_map (λ n. n.name) (mark_name_eq m.name) (map saved_mark marks) ∙ any_of_map saved_mark (λ o. mark_name_eq m.name o.name) marks ∙ free)));
-        }
+    one_more_mark free = grind (arith, spell_each-more, map_push, IsDistinct-push, name_laws, any_of_map)
 
 -- if all values were read, the list spells the bookmarks that were read
 pub all_read : (vs : List Value) (i : ℕ) (marks : List SavedMark) → length vs ≤ i → length vs ≤ MOST_MARKS → AreRead vs i marks → AreMarks (items_view vs) (map saved_mark marks)
@@ -97,31 +84,17 @@ too_many vs many ms h = omega (arith, many, h.few, spelled_length IsMark vs ms h
 
 -- ---- lists that are written
 
-module _ (ms : List Mark) (i : ℕ) (name : MarkName) (len : ℕ) (old mid comma new : List ℕ) (so_far : AreAppended IsMark mark_data (take i ms) old mid)
-    (more : comma ≡ mid ++ comma_if (nat_lt 0 i)) where
-  next_appended_of : (o : Option Mark) → slice_get ms i ≡ o → result_map name_and_length (ok_or o refusal.NoMark) ≡ Ok (name, len)
-      → IfSome (option_map (λ m. m.events) o) (λ es. IsMarkAppended (record { name = name; events = es }) comma new) → AreAppended IsMark mark_data (take (i + 1) ms) old new
-  next_appended_of None there found h = absurd (cc)
-  next_appended_of (Some m) there found h =
-      let both : (m.name, length m.events) ≡ (name, len) = cc in
-      let same : m.name ≡ name = ap (λ (p : MarkName × ℕ). p.0) both in
-      let is : IsMarkAppended m comma new = subst (λ (n : MarkName). IsMarkAppended (record { name = n; events = m.events }) comma new) (sym same) h in
-      one_more_appended IsMark mark_data ms i m old mid new (omega (arith, slice_get_within ms i m there)) (take_got ms i m there) so_far
-      (two_parts mid comma new (comma_if (nat_lt 0 i)) (compact_text (mark_data m)) more is.text) is.kept
-
-module _ (b : BookState) (i n : ℕ) (next : n ≡ suc i) where
-  -- the texts of the first i bookmarks, and then the text of the next one, are the texts of i + 1
-  pub next_appended : (name : MarkName) (len : ℕ) (old mid comma new : List ℕ) → AreAppended IsMark mark_data (take i b.marks) old mid → mark_at b n ≡ Ok (name, len)
-      → comma ≡ mid ++ comma_if (nat_lt 0 i) → IfSome (mark_events b n) (λ es. IsMarkAppended (record { name = name; events = es }) comma new)
-      → AreAppended IsMark mark_data (take (i + 1) b.marks) old new
-  next_appended name len old mid comma new so_far found more h =
-      next_appended_of b.marks i name len old mid comma new so_far more (slice_get b.marks i) refl (subst (λ (k : ℕ). mark_at b k ≡ Ok (name, len)) next found)
-      (subst (λ (k : ℕ). IfSome (mark_events b k) (λ es. IsMarkAppended (record { name = name; events = es }) comma new)) next h)
-
-  -- there is a bookmark at each number up to their number
-  pub some_mark : i < length b.marks → ((name : MarkName) (len : ℕ) → mark_at b n ≡ Ok (name, len) → ⊥) → ⊥
-  some_mark within none =
-      some_got b.marks i within (λ m h. none m.name (length m.events) (ap (mark_at b) next ∙ ap (λ (o : Option Mark). result_map name_and_length (ok_or o refusal.NoMark)) h))
+-- the texts of the first i bookmarks, and then the text of the next one, are the texts of i + 1
+pub next_appended : (ms : List Mark) (i : ℕ) (name : MarkName) (len : ℕ) (old mid comma new : List ℕ) → AreAppended IsMark mark_data (take i ms) old mid → comma ≡ mid ++ comma_if (nat_lt 0 i)
+    → (o : Option Mark) → slice_get ms i ≡ o → result_map name_and_length (ok_or o refusal.NoMark) ≡ Ok (name, len)
+    → IfSome (option_map (λ m. m.events) o) (λ es. IsMarkAppended (record { name = name; events = es }) comma new) → AreAppended IsMark mark_data (take (i + 1) ms) old new
+next_appended ms i name len old mid comma new so_far more None there found h = absurd (cc)
+next_appended ms i name len old mid comma new so_far more (Some m) there found h =
+    let both : (m.name, length m.events) ≡ (name, len) = cc in
+    let same : m.name ≡ name = ap (λ (p : MarkName × ℕ). p.0) both in
+    let is : IsMarkAppended m comma new = subst (λ (n : MarkName). IsMarkAppended (record { name = n; events = m.events }) comma new) (sym same) h in
+    one_more_appended IsMark mark_data ms i m old mid new (omega (arith, slice_get_within ms i m there)) (take_got ms i m there) so_far
+    (two_parts mid comma new (comma_if (nat_lt 0 i)) (compact_text (mark_data m)) more is.text) is.kept
 
 plain_byte : (x : ℕ) → is_name_byte x ≡ true → escape_byte x ≡ x ∷ []
 plain_byte x h = grind (arith, or_cases, eqb-true, escape_byte_plain)
@@ -139,11 +112,10 @@ plain_name (x ∷ xs) h =
 -- them
 pub mark_appended : (name : MarkName) (es : List Event) (old t u v w new : List ℕ) → t ≡ old ++ codes "{\"events\":[" → AreAppended (Gives event_of) event_data es t u
     → v ≡ u ++ codes "],\"name\":\"" → w ≡ v ++ bytes_of name → new ≡ w ++ codes "\"}" → IsMarkAppended (record { name = name; events = es }) old new
+unfolding escape_byte
 mark_appended name es old t u v w new opened events between named closed =
-    let ds = items_by event_data es in
-    let all =
-    two_parts old t new _ _ opened (two_parts t u new _ _ events.text (two_parts u v new _ _ between (two_parts v w new (bytes_of name) _ named closed))) in
+    let plain = plain_name (bytes_of name) (name_bytes (bytes_of name) name.valid) in
     record {
-      text = all ∙ ap (λ s. old ++ s) (sym (mark_text ds (bytes_of name) (plain_name (bytes_of name) (name_bytes (bytes_of name) name.valid))));
-      kept = grind (arith, each_spelled, list_back);
+      text = simp (closed, named, between, events.text, opened, items_text-joined false (items_by event_data es), plain, append_assoc);
+      kept = grind (arith, all_kept);
     }

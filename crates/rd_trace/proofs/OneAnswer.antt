@@ -5,12 +5,11 @@ use Rattle.rd_trace.proofs.OneTrace.{seen, same_trace, same_book}
 -- bookmarks that are seen as the same have the same fault
 same_mark_fault : (w : World) (n : ℕ) (ms ns : List Mark) → map seen_mark ms ≡ map seen_mark ns → first_refused_mark w n ms ≡ first_refused_mark w n ns
 same_mark_fault w n [] [] h = refl
-same_mark_fault w n [] (k ∷ ns) h = absurd (cc)
-same_mark_fault w n (m ∷ ms) [] h = absurd (cc)
 same_mark_fault w n (m ∷ ms) (k ∷ ns) h =
     let both : seen_mark m ≡ seen_mark k = cc in
     let later : map seen_mark ms ≡ map seen_mark ns = cc in
     ap₂ (λ (es : List Event) (o : Option LoadTraceFault). option_or (option_map (λ (r : ℕ × Refusal). TraceMark (n + 1) r.0 r.1) (first_refused w [] es)) o) (ap (λ (s : List ℕ × List Event). s.1) both) (same_mark_fault w (n + 1) ms ns later)
+same_mark_fault w n _ _ h = absurd (cc)
 
 -- two traces that are seen as the same have the same fault and the same result
 module _ (R Q : ℕ) (t : Trace R) (u : Trace Q) (same : seen t ≡ seen u) where
@@ -24,9 +23,7 @@ module _ (R Q : ℕ) (t : Trace R) (u : Trace Q) (same : seen t ≡ seen u) wher
   same_answer : (r q : Result AnyBook LoadTraceFault) → (r ≡ Err NoMemory → ⊥) → (q ≡ Err NoMemory → ⊥) → Replays (IsBookIn (loaded_state t)) t r
       → Replays (IsBookIn (loaded_state u)) u q → IsSameAnswer r q
   same_answer (Ok a) (Ok b) some also h k = subst₂ IsSameBook (sym h.1) (sym k.1) (same_book R Q t u same)
-  same_answer (Ok a) (Err f) some also h k = let alike = same_fault in grind arith
-  same_answer (Err e) (Ok b) some also h k = let alike = same_fault in grind arith
-  same_answer (Err e) (Err f) some also h k = let alike = same_fault in grind arith
+  same_answer _ _ some also h k = let alike = same_fault in grind arith
 
   -- a trace without a fault, loaded again as a trace that is seen as the same, gives its book again
   again : trace_fault t ≡ None → (q : Result AnyBook LoadTraceFault) → Replays (IsBookIn (loaded_state u)) u q → LoadsAgain (loaded_state t) q

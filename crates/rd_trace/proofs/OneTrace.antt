@@ -1,9 +1,9 @@
 -- A text is at most one trace.
-use Rattle.rd_trace.proofs.Prelude.{◌≡◌, ◌≢◌, ℕ, suc, ◌+◌, ◌≤◌, Bool, not, ◌&&◌, ◌==◌, nat_le, if◌then◌else◌, List, [], ◌∷◌, map, length, slice_get, codes, Option, Some, None, is_some, option_map, Vec, Global, inl, inr, refl, sym, ap, ◌∙◌, subst, arith, length-map, slice_get-map, list_all, Data, get, as_array, read, SegName, ArrSlot, Actor, SLOTS, SegmentParts, ArrayParts, World, MOST_ACTORS, Event, fresh_world, numbered, world_of_parts, first_flaw, indexes_fit, array_fits, Parts, Flaw, bytes_of, Mark, member_count, items_at, Gives, SpellEachAt, elements, event_of, IsActor, slot_of, filled_slots, IsArray, cell_of, IsSegment, IsSegmentList, IsMark, IsParts, IsStart, start_world, start_flaw, Start, Trace, IsVersion1, IsVersion2, IsEitherVersion, IsTraceText, loaded_state, seen_mark, IsSameBook, list_all-map, COUNTER_END, MOST_SEGMENTS, MOST_CELLS, counters_fit, array_part, by_number, by_name, count_in, count, segments_by, part_of_parts, contents_by, words_fit, next_fits, names_fit, numbers_within}
+use Rattle.rd_trace.proofs.Prelude.{◌≡◌, ℕ, suc, ◌+◌, ◌≤◌, Bool, not, ◌&&◌, ◌==◌, nat_le, if◌then◌else◌, List, [], ◌∷◌, map, length, slice_get, codes, Option, Some, None, is_some, option_map, Vec, Global, inl, inr, refl, sym, ap, ◌∙◌, subst, arith, length-map, slice_get-map, list_all, Data, get, as_array, read, SegName, ArrSlot, Actor, SLOTS, SegmentParts, ArrayParts, World, MOST_ACTORS, Event, fresh_world, numbered, world_of_parts, first_flaw, indexes_fit, array_fits, Parts, Flaw, bytes_of, Mark, member_count, items_at, Gives, SpellEachAt, elements, event_of, IsActor, slot_of, filled_slots, IsArray, cell_of, IsSegment, IsSegmentList, IsMark, IsParts, IsStart, start_world, start_flaw, Start, Trace, IsVersion1, IsVersion2, IsEitherVersion, IsTraceText, loaded_state, seen_mark, IsSameBook, list_all-map, COUNTER_END, MOST_SEGMENTS, MOST_CELLS, counters_fit, array_part, by_number, by_name, count_in, count, segments_by, part_of_parts, contents_by, words_fit, next_fits, names_fit, numbers_within}
 use Rattle.std.proofs.Props.{props}
 use mathlib.Core.HLevel.{is_prop→PathP}
-use Rattle.rd_cell.specs.declared.contents.ArrSlot.TheVariants as slot
 use Rattle.rd_step.specs.declared.flaws.Flaw.TheVariants.{Makers, PlaceNames, ActorNames, Counters, Indexes, ArrayCounters, ActorNumbers, ActorWords}
+use Rattle.rd_trace.proofs.ArrayLemmas.{Rises, filled_rises}
 use Rattle.rd_trace.proofs.LoadLemmas.{ring_of}
 use Rattle.rd_trace.proofs.SpellLemmas.{one_given, same_each_at, same_seen_at}
 use Rattle.rd_trace.specs.declared.starts.Start.TheVariants as start
@@ -18,35 +18,22 @@ same_actor d a b h k = grind arith
 
 -- ---- the array
 
-abbrev front_number : List (ℕ × ArrSlot) → ℕ
-front_number [] = 0
-front_number (s ∷ ss) = s.0
-
--- the position of the first filled slot is not before the position of the first slot
-later_slot : (j : ℕ) (slots : List ArrSlot) (i : ℕ) (s : ArrSlot) (rest : List (ℕ × ArrSlot)) → filled_slots j slots ≡ (i, s) ∷ rest → j ≤ i
-later_slot j [] i s rest h = absurd (cc)
-later_slot j (slot.Empty ∷ slots) i s rest h = let k = later_slot (suc j) slots i s rest h in omega (arith, k)
-later_slot j (slot.Top ∷ slots) i s rest h = omega (arith, ap front_number h)
-later_slot j (slot.Value x ∷ slots) i s rest h = omega (arith, ap front_number h)
-
+-- no filled slot is before the position of the first slot
 none_before : (i : ℕ) (slots : List ArrSlot) (s : ArrSlot) (rest : List (ℕ × ArrSlot)) → filled_slots (suc i) slots ≡ (i, s) ∷ rest → ⊥
-none_before i slots s rest h = let k = later_slot (suc i) slots i s rest h in omega (arith, k)
+none_before i slots s rest h = omega (arith, (subst (Rises (suc i) (suc i + length slots)) h (filled_rises (suc i) (suc i + length slots) slots (omega arith))).0)
 
 same_slots : (i : ℕ) (xs ys : List ArrSlot) → length xs ≡ length ys → filled_slots i xs ≡ filled_slots i ys → xs ≡ ys
 same_slots i [] [] n h = refl
-same_slots i [] (b ∷ ys) n h = absurd (omega arith)
-same_slots i (a ∷ xs) [] n h = absurd (omega arith)
 same_slots i (a ∷ xs) (b ∷ ys) n h = let fewer : length xs ≡ length ys = omega arith in grind (arith, none_before, same_slots (suc i) xs ys fewer)
+same_slots i _ _ n h = absurd (omega arith)
 
 same_array : (d : Data) (a b : ArrayParts) → IsArray d a → IsArray d b → a ≡ b
 same_array d a b h k =
-    let head = some_same _ a.head b.head h.head k.head in
-    let tail = some_same _ a.tail b.tail h.tail k.tail in
     let filled = same_each_at (Gives slot_of) (one_given slot_of) _ (filled_slots 0 a.cells) (filled_slots 0 b.cells) h.cells k.cells in
     let cells = same_slots 0 a.cells b.cells (a.sized ∙ sym b.sized) filled in
     λ i. record {
-      head = head i;
-      tail = tail i;
+      head = some_same _ a.head b.head h.head k.head i;
+      tail = some_same _ a.tail b.tail h.tail k.tail i;
       cells = cells i;
       sized = is_prop→PathP (λ j. length (cells j) ≡ SLOTS) (λ j. hlevel props) a.sized b.sized i;
     }
@@ -55,16 +42,12 @@ same_array d a b h k =
 
 same_segment : (R : ℕ) (d : Data) (s r : SegmentParts R) → IsSegment d s → IsSegment d r → s ≡ r
 same_segment R d s r h k =
-    let head = some_same _ s.head r.head h.head k.head in
-    let tail = some_same _ s.tail r.tail h.tail k.tail in
-    let closed = some_same _ s.closed r.closed h.closed k.closed in
-    let next = some_same _ s.next r.next h.next k.next in
     let cells = same_each_at (Gives cell_of) (one_given cell_of) _ s.cells r.cells h.cells k.cells in
     λ i. record {
-      head = head i;
-      tail = tail i;
-      closed = closed i;
-      next = next i;
+      head = some_same _ s.head r.head h.head k.head i;
+      tail = some_same _ s.tail r.tail h.tail k.tail i;
+      closed = some_same _ s.closed r.closed h.closed k.closed i;
+      next = some_same _ s.next r.next h.next k.next i;
       cells = cells i;
       small = is_prop→PathP (λ j. R ≤ MOST_CELLS) (λ j. hlevel props) s.small r.small i;
       sized = is_prop→PathP (λ j. length (cells j) ≡ R) (λ j. hlevel props) s.sized r.sized i;
@@ -73,25 +56,10 @@ same_segment R d s r h k =
 same_segments : (R : ℕ) (d : Data) (v w : Vec (SegmentParts R) Global) → IsSegmentList d v → IsSegmentList d w → v.items ≡ w.items
 same_segments R d v w h k = same_each_at IsSegment (same_segment R) (as_array d) v.items w.items h k
 
-same_makers : (R : ℕ) (d : Data) (vs ws : List (Vec (SegmentParts R) Global)) → SpellEachAt IsSegmentList (codes "segments") d vs → SpellEachAt IsSegmentList (codes "segments") d ws
-    → map elements vs ≡ map elements ws
-same_makers R d vs ws h k = same_seen_at IsSegmentList elements (same_segments R) (items_at (codes "segments") d) vs ws h k
-
 -- ---- what is seen of the makers' lists: their elements
 
-abbrev count_of : {X : Type 0} → Option (List X) → ℕ
-count_of None = 0
-count_of (Some xs) = length xs
-
-abbrev one_of : {X : Type 0} → Option (List X) → ℕ → Option X
-one_of None n = None
-one_of (Some xs) n = slice_get xs n
-
-counted : {X : Type 0} (o : Option (Vec X Global)) → count_in o ≡ count_of (option_map elements o)
-counted o = grind arith
-
-one_by_number : {X : Type 0} (o : Option (Vec X Global)) (n : ℕ) → by_number o n ≡ one_of (option_map elements o) n
-one_by_number o n = grind arith
+same_list : {X : Type 0} (o p : Option (Vec X Global)) (n : ℕ) → option_map elements o ≡ option_map elements p → (by_number o n ≡ by_number p n) × (count_in o ≡ count_in p)
+same_list o p n h = grind arith
 
 module _ {X : Type 0} (vs ws : List (Vec X Global)) (same : map elements vs ≡ map elements ws) where
   same_length : length vs ≡ length ws
@@ -103,11 +71,8 @@ module _ {X : Type 0} (vs ws : List (Vec X Global)) (same : map elements vs ≡ 
   same_at : (m : ℕ) → option_map elements (slice_get vs m) ≡ option_map elements (slice_get ws m)
   same_at m = sym (slice_get-map elements vs m) ∙ ap (λ l. slice_get l m) same ∙ slice_get-map elements ws m
 
-  same_count : (m : ℕ) → count vs m ≡ count ws m
-  same_count m = counted (slice_get vs m) ∙ ap count_of (same_at m) ∙ sym (counted (slice_get ws m))
-
-  mark_name_eq : (s : SegName) → by_name vs s ≡ by_name ws s
-  mark_name_eq s = one_by_number (slice_get vs s.maker) s.n ∙ ap (λ o. one_of o s.n) (same_at s.maker) ∙ sym (one_by_number (slice_get ws s.maker) s.n)
+  same_name : (s : SegName) → by_name vs s ≡ by_name ws s
+  same_name s = (same_list _ _ s.n (same_at s.maker)).0
 
 -- ---- starts
 
@@ -124,51 +89,28 @@ flaw_by R actors makers roots few there each qhead qtail array =
     else if not (list_all words_fit actors) then Some ActorWords
     else None
 
-module _ (R : ℕ) (d : Data) (p q : Parts R) (h : IsParts d p) (k : IsParts d q) where
-  actors_same : p.actors.items ≡ q.actors.items
-  actors_same = same_each_at IsActor same_actor _ p.actors.items q.actors.items h.actors k.actors
-
-  makers_same : map elements p.segments.items ≡ map elements q.segments.items
-  makers_same = same_makers R d p.segments.items q.segments.items h.segments k.segments
-
-  names_same : (s : SegName) → by_name p.segments.items s ≡ by_name q.segments.items s
-  names_same = mark_name_eq p.segments.items q.segments.items makers_same
-
-  qhead_same : p.qhead ≡ q.qhead
-  qhead_same = some_same _ p.qhead q.qhead h.qhead k.qhead
-
-  qtail_same : p.qtail ≡ q.qtail
-  qtail_same = some_same _ p.qtail q.qtail h.qtail k.qtail
-
-  array_same : p.array ≡ q.array
-  array_same =
-      let one = some_same (get (codes "array") d) h.array.0 k.array.0 h.array.1 k.array.1 in
-      same_array k.array.0 p.array q.array (subst (λ x. IsArray x p.array) one h.array.2) k.array.2
-
-  one_world : world_of_parts p ≡ world_of_parts q
-  one_world = λ i. record {
-    ring = R;
-    at = contents_by (segments_by (λ n. part_of_parts (names_same n i))) (qhead_same i) (qtail_same i) (array_part (array_same i));
-    actor = numbered (actors_same i);
-  }
-
-  one_flaw : first_flaw p ≡ first_flaw q
-  one_flaw =
-      let all = same_all p.segments.items q.segments.items makers_same in
-      let long = same_length p.segments.items q.segments.items makers_same in
-      let roots = same_count p.segments.items q.segments.items makers_same 0 in
-      λ i.
-      flaw_by R (actors_same i) (long i) (roots i) (all (λ l. nat_le (length l) MOST_SEGMENTS) i) (λ s. is_some (names_same s i))
-      (λ test. all (list_all test) i) (qhead_same i) (qtail_same i) (array_same i)
-
-two_counts : (d : Data) (n m : ℕ) → n ≢ m → member_count d ≡ Some n → member_count d ≡ Some m → ⊥
-two_counts d n m apart h k = apart (some_same (member_count d) n m h k)
+same_parts : (R : ℕ) (d : Data) (p q : Parts R) → IsParts d p → IsParts d q → (first_flaw p ≡ first_flaw q) × (world_of_parts p ≡ world_of_parts q)
+same_parts R d p q h k =
+    let actors = same_each_at IsActor same_actor _ p.actors.items q.actors.items h.actors k.actors in
+    let makers = same_seen_at IsSegmentList elements (same_segments R) _ p.segments.items q.segments.items h.segments k.segments in
+    let names = same_name p.segments.items q.segments.items makers in
+    let all = same_all p.segments.items q.segments.items makers in
+    let long = same_length p.segments.items q.segments.items makers in
+    let roots = (same_list _ _ 0 (same_at p.segments.items q.segments.items makers 0)).1 in
+    let qhead = some_same _ p.qhead q.qhead h.qhead k.qhead in
+    let qtail = some_same _ p.qtail q.qtail h.qtail k.qtail in
+    let one = some_same (get (codes "array") d) h.array.0 k.array.0 h.array.1 k.array.1 in
+    let slots = same_array k.array.0 p.array q.array (subst (λ x. IsArray x p.array) one h.array.2) k.array.2 in (
+      (λ i.
+          flaw_by R (actors i) (long i) (roots i) (all (λ l. nat_le (length l) MOST_SEGMENTS) i) (λ s. is_some (names s i))
+          (λ test. all (list_all test) i) (qhead i) (qtail i) (slots i)),
+      (λ i. record { ring = R; at = contents_by (segments_by (λ n. part_of_parts (names n i))) (qhead i) (qtail i) (array_part (slots i)); actor = numbered (actors i) }),
+    )
 
 one_start : (R : ℕ) (d : Data) (s r : Start R) → IsStart d s → IsStart d r → (start_flaw s ≡ start_flaw r) × (start_world s ≡ start_world r)
 one_start R d (start.Fresh n) (start.Fresh m) h k = (refl, ap (fresh_world R) (some_same _ n m h.fresh.number k.fresh.number))
-one_start R d (start.Fresh n) (start.Parts q) h k = absurd (two_counts d 1 5 (λ e. omega (arith, e)) h.members k.members)
-one_start R d (start.Parts p) (start.Fresh m) h k = absurd (two_counts d 5 1 (λ e. omega (arith, e)) h.members k.members)
-one_start R d (start.Parts p) (start.Parts q) h k = (one_flaw R d p q h k, one_world R d p q h k)
+one_start R d (start.Parts p) (start.Parts q) h k = same_parts R d p q h k
+one_start R d _ _ h k = absurd (omega (arith, some_same (member_count d) _ _ h.members k.members))
 
 -- ---- bookmarks
 
@@ -176,10 +118,7 @@ same_events : (key : List ℕ) (d : Data) (es fs : List Event) → SpellEachAt (
 same_events key d es fs h k = same_each_at (Gives event_of) (one_given event_of) (items_at key d) es fs h k
 
 same_mark : (d : Data) (m n : Mark) → IsMark d m → IsMark d n → seen_mark m ≡ seen_mark n
-same_mark d m n h k =
-    let name = some_same _ (bytes_of m.name) (bytes_of n.name) h.name.text k.name.text in
-    let events = same_events (codes "events") d m.events n.events h.events k.events in
-    λ i. (name i, events i)
+same_mark d m n h k = λ i. (some_same _ (bytes_of m.name) (bytes_of n.name) h.name.text k.name.text i, same_events (codes "events") d m.events n.events h.events k.events i)
 
 -- ---- traces
 
@@ -198,12 +137,9 @@ module _ (R : ℕ) (d : Data) (t u : Trace R) where
   same_first : IsVersion1 d t → IsVersion1 d u → seen t ≡ seen u
   same_first h k =
       let count = some_same _ h.actors.0 k.actors.0 h.actors.1.number k.actors.1.number in
-      let flaw = ap start_flaw h.actors.2 ∙ sym (ap start_flaw k.actors.2) in
-      let world = ap start_world h.actors.2 ∙ ap (fresh_world R) count ∙ sym (ap start_world k.actors.2) in
-      let marks = ap (map seen_mark) (h.marks ∙ sym k.marks) in
+      let begun = h.actors.2 ∙ ap start.Fresh count ∙ sym k.actors.2 in
       let live = same_events (codes "events") d t.live u.live h.live k.live in
-      let undone = h.undone ∙ sym k.undone in
-      λ i. record { flaw = flaw i; world = world i; marks = marks i; live = live i; undone = undone i }
+      λ i. seen {R = R} (record { start = begun i; marks = (h.marks ∙ sym k.marks) i; live = live i; undone = (h.undone ∙ sym k.undone) i })
 
   same_second : IsVersion2 d t → IsVersion2 d u → seen t ≡ seen u
   same_second h k =
@@ -216,8 +152,8 @@ module _ (R : ℕ) (d : Data) (t u : Trace R) where
 
   same_either : IsEitherVersion d t → IsEitherVersion d u → seen t ≡ seen u
   same_either (inl h) (inl k) = same_first h k
-  same_either (inl h) (inr k) = absurd (two_counts d 4 6 (λ e. omega (arith, e)) h.members k.members)
-  same_either (inr h) (inl k) = absurd (two_counts d 6 4 (λ e. omega (arith, e)) h.members k.members)
+  same_either (inl h) (inr k) = absurd (omega (arith, some_same _ 4 6 h.members k.members))
+  same_either (inr h) (inl k) = absurd (omega (arith, some_same _ 6 4 h.members k.members))
   same_either (inr h) (inr k) = same_second h k
 
 -- any two traces that a text is have rings of one size, and are seen as the same

@@ -1,6 +1,6 @@
 -- The words that several proofs of the crate use: definitions of this crate and of those below,
 -- generated types and their variants, and lemmas of these crates and of std.
-pub use Rattle.rd_cell.proofs.Prelude.{AllByRecursion, BTreeMap, Bool, Decides, Err, Global, IfNone, IfOk, IfOk-weaker, IfSome, IsDistinct-head, IsDistinct-push, IsDistinct-tail, IsErrAnd, IsOk, IsUtf8, List, None, Ok, OnOk, Option, Result, Some, String, Vec, [], add-one, and_parts, ap, append-nil, append_assoc, ap₂, arith, both_ways, bytes_eq-Decides, codes, common_steps, cond, cond-false, decimal, drop, drop-append_seam, drop_more, eqb-true, false, false≢true, get_or, get_or-map, get_or_default, get_or_from_slice_get, if◌then◌else◌, inl, inr, is_ok, is_some, le-ltb, length, length-append, length-drop, length-map, length-set, length-take, length-take-le, list_all, list_all-map, list_any, lt-ltb, map, map-append, map-id, map_more, map_push, max, nat_eq, nat_le, nat_lt, ne_eqb, none-some, not, ok_or, option_and_then, option_map, option_or, or_cases, refl, replicate, result_err, rules, same_Some, set, slice_get, slice_get-get_or, slice_get-map, slice_get_within, string_bytes, subst, subst₂, suc, sym, take, take-append-drop, take-append_seam, take-suc-set, take_all, take_more, true, true≢false, vec_capacity, vec_len, zero, ℕ, ◌&&◌, ◌++◌, ◌+◌, ◌-◌, ◌<◌, ◌==◌, ◌^◌, ◌||◌, ◌∙◌, ◌∷◌, ◌≡◌, ◌≢◌, ◌≤◌, ◌⊎◌}
+pub use Rattle.rd_cell.proofs.Prelude.{AllByRecursion, BTreeMap, Bool, Decides, Err, Global, IfNone, IfOk, IfOk-weaker, IfSome, IsDistinct-head, IsDistinct-push, IsDistinct-tail, IsErrAnd, IsOk, IsUtf8, List, None, Ok, OnOk, Option, Result, Some, String, Vec, [], add-one, and_parts, ap, append-nil, append_assoc, ap₂, arith, both_ways, bytes_eq-Decides, codes, common_steps, cond, cond-false, decimal, drop, drop-append_seam, drop_more, eqb-true, false, false≢true, get_or, get_or-map, get_or_default, get_or_from_slice_get, if◌then◌else◌, inl, inr, is_ok, is_some, le-ltb, length, length-append, length-drop, length-map, length-set, length-take, length-take-le, list_all, list_all-map, list_any, lt-ltb, map, map-append, map-id, map_more, map_push, max, nat_eq, nat_le, nat_lt, ne_eqb, none-some, not, ok_or, option_and_then, option_map, option_or, or_cases, refl, replicate, result_err, rules, same_Some, set, slice_get, slice_get-get_or, slice_get-map, slice_get_within, string_bytes, subst, subst₂, suc, sym, take, take-append-drop, take-append_seam, take-suc-set, take_all, take_more, take_rest, true, true≢false, vec_capacity, vec_len, zero, ℕ, ◌&&◌, ◌++◌, ◌+◌, ◌-◌, ◌<◌, ◌==◌, ◌^◌, ◌||◌, ◌∙◌, ◌∷◌, ◌≡◌, ◌≢◌, ◌≤◌, ◌⊎◌}
 unfoldable pub use Rattle.rd_cell.proofs.Prelude.{IsDistinct}
 pub use Rattle.rd_ring.proofs.Prelude.{ArrSlot, COUNTER_END, Cell, MOST_ACTORS, MOST_CELLS, MOST_SEGMENTS, SLOTS, SegName, counters_fit}
 pub use Rattle.rd_segments.proofs.Prelude.{array_part, by_name, by_number, contents_by, count, count_in, part_of_parts, segments_by}

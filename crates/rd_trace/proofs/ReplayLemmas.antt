@@ -1,7 +1,8 @@
 -- Replaying events: which ones happen, and which one is refused.
-use Rattle.rd_trace.proofs.Prelude.{common_steps, AllByRecursion, cond-false, IsDistinct-head, IsDistinct-tail, take-append_seam, drop-append_seam, append-nil, length-map, map-append, map_more, take_all, take-append-drop, length-take-le, length-drop, World, Refusal, Stepped, step, Ran, run, MOST_STEPS, result_map, Event, State, step_after, with_event, apply, back, MarkName, MOST_MARKS, bytes_of, mark_name_eq, Mark, BookState, with_session, marked_events, mark, GoThrough, MarksGoThrough, HaveDifferentNames, SavedMark, LoadTraceFault, Flawed, TraceMark, TraceStep, saved_mark, start_world, start_flaw, Trace, loaded_state, session_at, first_refused, first_refused_mark, trace_fault, Replays, RefusesOne, GoesTo, MakesLive, SetsMarks, mark_fault, step_fault, le-ltb, ◌≡◌, ◌⊎◌, inl, inr, ℕ, suc, ◌+◌, ◌-◌, ◌<◌, ◌≤◌, if◌then◌else◌, Bool, false, List, [], ◌∷◌, ◌++◌, length, take, drop, get_or, map, Some, None, is_some, Option, option_map, Result, Ok, Err, IsOk, refl, sym, ap, ap₂, ◌∙◌, subst, arith, append_assoc, length-append, ne_eqb, option_or, result_err, at_events, with_marks, NoMemory, Reply, Answered, answer_with, IsEventAnswer}
+use Rattle.rd_trace.proofs.Prelude.{common_steps, AllByRecursion, cond-false, IsDistinct-head, IsDistinct-tail, take-append_seam, drop-append_seam, append-nil, length-map, map-append, map_push, take_all, take-append-drop, length-take-le, World, Refusal, Stepped, Ran, run, MOST_STEPS, result_map, Event, State, step_after, with_event, apply, back, MarkName, MOST_MARKS, bytes_of, mark_name_eq, Mark, BookState, marked_events, mark, GoThrough, MarksGoThrough, HaveDifferentNames, SavedMark, LoadTraceFault, Flawed, TraceMark, TraceStep, saved_mark, start_world, start_flaw, Trace, loaded_state, session_at, first_refused, first_refused_mark, trace_fault, Replays, RefusesOne, GoesTo, MakesLive, SetsMarks, mark_fault, step_fault, le-ltb, ◌≡◌, ◌⊎◌, inl, inr, ℕ, suc, ◌+◌, ◌-◌, ◌<◌, ◌≤◌, if◌then◌else◌, Bool, false, List, [], ◌∷◌, ◌++◌, length, take, drop, get_or, map, Some, None, is_some, Option, option_map, Result, Ok, Err, IsOk, refl, sym, ap, ap₂, ◌∙◌, subst, arith, append_assoc, length-append, ne_eqb, option_or, result_err, at_events, with_marks, NoMemory, Reply, IsEventAnswer}
 use Rattle.std.proofs.lemmas.Cmp.{nat_list_eq_equiv}
 use Rattle.rd_step.proofs.Equivalence.{ran_through}
+use Rattle.rd_marks.proofs.MarkLemmas.{mark_goes}
 use Rattle.rd_trace.proofs.SpellLemmas.{split_at, take_item}
 use Rattle.rd_cell.specs.declared.refusal.Refusal.TheVariants as refusal
 
@@ -14,9 +15,6 @@ option_or_assoc (Some x) p q = refl
 not_refused : (s : State) (e : Event) (full : Bool) (o : Result Stepped Refusal) → full ≡ false → IsOk o → result_err (if full then Err refusal.TooLong else result_map (λ stepped. with_event s e) o) ≡ None
 not_refused s e full o room ok = grind arith
 
-happens_by : (r : Result Ran Refusal) (e : Event) (ran : Ran) (one : Stepped) → r ≡ Ok ran → step ran.world e ≡ Ok one → IsOk (step_after r e)
-happens_by r e ran one runs goes = grind arith
-
 -- the first refused event of an event after these and of later ones: the event itself if it has a
 -- cause, else the first of the later ones
 abbrev then_refused : List Event → Option Refusal → Option (ℕ × Refusal) → Option (ℕ × Refusal)
@@ -25,16 +23,11 @@ then_refused b cause later = option_or (option_map (λ c. (length b + 1, c)) cau
 module _ (w : World) where
   first_refused-append : (b xs ys : List Event) → first_refused w b (xs ++ ys) ≡ option_or (first_refused w b xs) (first_refused w (b ++ xs) ys)
   first_refused-append b [] ys = ap (λ (l : List Event). first_refused w l ys) (sym (append-nil b))
-  first_refused-append b (x ∷ xs) ys =
-      let here = option_map (λ c. (length b + 1, c)) (result_err (apply (session_at w b) x)) in
-      let rest = first_refused w (b ++ x ∷ []) xs in
-      ap (option_or here) (first_refused-append (b ++ x ∷ []) xs ys ∙ ap (λ (l : List Event). option_or rest (first_refused w l ys)) (append_assoc b (x ∷ []) xs))
-      ∙ option_or_assoc here rest (first_refused w (b ++ x ∷ xs) ys)
+  first_refused-append b (x ∷ xs) ys = grind (arith, append_assoc, option_or_assoc, first_refused-append (b ++ x ∷ []) xs ys)
 
   -- if a list of events can run, each event happens in the last world of those before it
   happens_in : (b : List Event) (e : Event) (es : List Event) (o : Result Ran Refusal) → run w (b ++ e ∷ es) ≡ o → IsOk o → IsOk (step_after (run w b) e)
-  happens_in b e es (Ok ran) is ok =
-      let t = ran_through w b e es ran is in happens_by (run w b) e t.before t.one t.runs t.goes
+  happens_in b e es (Ok ran) is ok = let t = ran_through w b e es ran is in grind arith
   happens_in b e es (Err cause) is ok = absurd cc
 
   -- if events can run, none of them is refused
@@ -48,18 +41,11 @@ module _ (w : World) where
 
   marks-append : (n : ℕ) (xs ys : List Mark) → first_refused_mark w n (xs ++ ys) ≡ option_or (first_refused_mark w n xs) (first_refused_mark w (n + length xs) ys)
   marks-append n [] ys = let at : n ≡ n + 0 = omega arith in ap (λ (k : ℕ). first_refused_mark w k ys) at
-  marks-append n (x ∷ xs) ys =
-      let here = option_map (λ (r : ℕ × Refusal). TraceMark (n + 1) r.0 r.1) (first_refused w [] x.events) in
-      let rest = first_refused_mark w (n + 1) xs in
-      let at : n + 1 + length xs ≡ n + suc (length xs) = omega arith in
-      ap (option_or here) (marks-append (n + 1) xs ys ∙ ap (λ (k : ℕ). option_or rest (first_refused_mark w k ys)) at)
-      ∙ option_or_assoc here rest (first_refused_mark w (n + suc (length xs)) ys)
+  marks-append n (x ∷ xs) ys = let at : n + 1 + length xs ≡ n + suc (length xs) = omega arith in grind (arith, option_or_assoc, marks-append (n + 1) xs ys)
 
   pub no_mark_refused : (n : ℕ) (ms : List Mark) → MarksGoThrough w ms → first_refused_mark w n ms ≡ None
   no_mark_refused n [] h = refl
-  no_mark_refused n (m ∷ ms) h =
-      ap₂ (λ (o : Option (ℕ × Refusal)) (later : Option LoadTraceFault). option_or (option_map (λ (r : ℕ × Refusal). TraceMark (n + 1) r.0 r.1) o) later) (none_refused [] m.events h.0)
-      (no_mark_refused (n + 1) ms h.1)
+  no_mark_refused n (m ∷ ms) h = rw (none_refused [] m.events h.0, no_mark_refused (n + 1) ms h.1)
 
 -- One event
 
@@ -89,20 +75,14 @@ module _ (old now : BookState) (es : List Event) (i : ℕ) (e : Event) (within :
   -- refusal, else the first of the later ones
   from_here : (later : List Event) (answer : Result State Refusal) → apply now.session e ≡ answer → first_refused old.session.start [] ((old.session.live ++ take i es) ++ e ∷ later)
       ≡ then_refused (old.session.live ++ take i es) (result_err answer) (first_refused old.session.start ((old.session.live ++ take i es) ++ e ∷ []) later)
-  from_here later answer said =
-      let w = old.session.start in
-      let live = old.session.live ++ take i es in
-      first_refused-append w [] live (e ∷ later) ∙ ap (λ (o : Option (ℕ × Refusal)). option_or o (first_refused w live (e ∷ later))) so_far.1
-      ∙ ap (λ (r : Result State Refusal). then_refused live (result_err r) (first_refused w (live ++ e ∷ []) later)) (sym at_now ∙ said)
+  from_here later answer said = grind (arith, first_refused-append, at_now)
 
   pub one_stepped : (after : BookState) → apply now.session e ≡ Ok after.session → after.marks ≡ now.marks → GoesTo old (old.session.live ++ take (i + 1) es) after (Ok tt)
   one_stepped after h marks =
       let w = old.session.start in
       let live = old.session.live ++ take i es in
       let left = applied (session_at w live) after.session e _ _ (sym at_now ∙ h) in
-      let all : live ++ e ∷ [] ≡ old.session.live ++ take (i + 1) es =
-      append_assoc old.session.live (take i es) (e ∷ []) ∙ ap (λ (fs : List Event). old.session.live ++ fs) (sym (take_item es i e within is)) in
-      subst (λ (done : List Event). GoesTo old done after (Ok tt)) all
+      rw (take_item es i e within is, ← append_assoc old.session.live (take i es) (e ∷ []))
       ((λ j. record { session = left j; marks = (marks ∙ ap (λ (b : BookState). b.marks) so_far.0) j }), from_here [] (Ok after.session) h)
 
   pub one_refused : (n : ℕ) (cause : Refusal) (fault : LoadTraceFault) → n ≡ length now.session.live + 1 → (cause ≡ refusal.NoMemory) ⊎ (apply now.session e ≡ Err cause)
@@ -115,14 +95,7 @@ module _ (old now : BookState) (es : List Event) (i : ℕ) (e : Event) (within :
       fault_told n cause fault _ _ why its
       (λ h told. (n, cause, ap (first_refused old.session.start []) all ∙ from_here (drop (i + 1) es) (Err cause) h ∙ ap (λ (m : ℕ). Some (m, cause)) here, told))
 
-pub all_of : (old new : BookState) (es : List Event) (i : ℕ) → length es ≤ i → GoesTo old (old.session.live ++ take i es) new (Ok tt) → GoesTo old (old.session.live ++ es) new (Ok tt)
-all_of old new es i all h = subst (λ (done : List Event). GoesTo old (old.session.live ++ done) new (Ok tt)) (take_all i es all) h
-
 -- An event's answer
-
-event_not_made : (b after : BookState) (cause : Refusal) (reply : State → Reply) (o : Result State Refusal)
-    → record { answer = Err cause; state = after } ≡ answer_with b reply (with_session b) o → o ≡ Err cause
-event_not_made b after cause reply o h = grind arith
 
 -- the session of an event that happened is the answer of `apply`, and the bookmarks are the same
 pub happened : (b after : BookState) (e : Event) (reply : Reply) → IsEventAnswer b e (record { answer = Ok reply; state = after })
@@ -131,8 +104,7 @@ happened b after e reply k = grind (arith, common_steps)
 
 pub not_happened : (b after : BookState) (e : Event) (cause : Refusal) → IsEventAnswer b e (record { answer = Err cause; state = after })
     → (cause ≡ refusal.NoMemory) ⊎ (apply b.session e ≡ Err cause)
-not_happened b after e cause (inl h) = inr (event_not_made b after cause _ (apply b.session e) h)
-not_happened b after e cause (inr h) = inl (cc (ap (λ (a : Answered). a.answer) h.1))
+not_happened b after e cause k = grind (arith, common_steps)
 
 -- Going back
 
@@ -146,17 +118,14 @@ goes_from : (old new : BookState) (es fs : List Event) (r : Result (Unit {0}) Lo
 goes_from old new es fs (Ok done) h = h
 goes_from old new es fs (Err fault) h = h
 
+pub from_old : (old mid new : BookState) (es fs : List Event) (r : Result (Unit {0}) LoadTraceFault) → mid ≡ at_events old es → GoesTo mid (mid.session.live ++ fs) new r → GoesTo old (es ++ fs) new r
+from_old old mid new es fs r at h = goes_from old new (es ++ fs) es r (subst (λ (b : BookState). GoesTo b (b.session.live ++ fs) new r) at h)
+
 -- if just the first k events of a list are live, making the others happen makes just this list live
 pub goes_to : (old mid new : BookState) (es rest : List Event) (k : ℕ) (r : Result (Unit {0}) LoadTraceFault) → mid ≡ at_events old (take k old.session.live)
     → take k old.session.live ≡ take k es → rest ≡ drop k es → GoesTo mid (mid.session.live ++ rest) new r → GoesTo old es new r
 goes_to old mid new es rest k r at shared behind h =
-    let all : mid.session.live ++ rest ≡ es =
-    ap₂ (λ (fs gs : List Event). fs ++ gs) (ap (λ (b : BookState). b.session.live) at ∙ shared) behind ∙ take-append-drop k es in
-    goes_from old new es (take k old.session.live) r (subst (λ (b : BookState). GoesTo b es new r) at (subst (λ (fs : List Event). GoesTo mid fs new r) all h))
-
--- there are no more elements after the first k than the length of the list less k
-pub rest_of : (k : ℕ) (es : List Event) → take (length es - k) (drop k es) ≡ drop k es
-rest_of k es = take_all (length es - k) (drop k es) (omega (arith, length-drop k es))
+    subst (λ (fs : List Event). GoesTo old fs new r) (ap₂ (λ (fs gs : List Event). fs ++ gs) shared behind ∙ take-append-drop k es) (from_old old mid new (take k old.session.live) rest r at h)
 
 -- Making these events live and others undone
 
@@ -164,32 +133,16 @@ pub live_refused : (w : World) (es fs : List Event) (fault : LoadTraceFault) →
 live_refused w es fs fault (inl memory) = inl memory
 live_refused w es fs fault (inr h) = inr (h.0, h.1, first_refused-append w [] es fs ∙ ap (λ (o : Option (ℕ × Refusal)). option_or o (first_refused w es fs)) h.2, h.3)
 
-pub undone_refused : (old mid new : BookState) (es fs : List Event) (fault : LoadTraceFault) → mid ≡ at_events old es → GoesTo mid (mid.session.live ++ fs) new (Err fault)
-    → RefusesOne old.session.start (es ++ fs) fault
-undone_refused old mid new es fs fault at h = subst (λ (b : BookState). RefusesOne b.session.start (b.session.live ++ fs) fault) at h
-
-all_behind : (old mid now : BookState) (es fs : List Event) → mid ≡ at_events old es → GoesTo mid (mid.session.live ++ fs) now (Ok tt) → GoesTo old (es ++ fs) now (Ok tt)
-all_behind old mid now es fs at h = subst (λ (b : BookState). GoesTo b (b.session.live ++ fs) now (Ok tt)) at h
-
 back_to : (w : World) (es fs : List Event) (t : State) → back (session_at w (es ++ fs)) (length fs) ≡ Ok t → t ≡ record { start = w; live = es; undone = fs }
-back_to w es fs t goes =
-    back_left (length fs) (length es) (session_at w (es ++ fs)) t (omega (arith, length-append es fs)) goes
-    ∙ (λ i. record {
-      start = w;
-      live = take-append_seam es fs i;
-      undone = (append-nil (drop (length es) (es ++ fs)) ∙ drop-append_seam es fs) i;
-    })
+back_to w es fs t goes = simp (take-append_seam, drop-append_seam, append-nil) at (back_left (length fs) (length es) (session_at w (es ++ fs)) t (omega (arith, length-append es fs)) goes)
 
 -- at least as many events are live as are to be undone
 pub enough_live : (old mid now : BookState) (es fs : List Event) → mid ≡ at_events old es → GoesTo mid (mid.session.live ++ fs) now (Ok tt) → length fs ≤ length now.session.live
-enough_live old mid now es fs at h = omega (arith, ap (λ (b : BookState). length b.session.live) (all_behind old mid now es fs at h).0, length-append es fs)
+enough_live old mid now es fs at h = grind (arith, from_old, length-append)
 
 pub made_live : (old mid now new : BookState) (es fs : List Event) → mid ≡ at_events old es → GoesTo mid (mid.session.live ++ fs) now (Ok tt)
     → back now.session (length fs) ≡ Ok new.session → new.marks ≡ now.marks → MakesLive old es fs new (Ok tt)
-made_live old mid now new es fs at h goes marks =
-    let there = all_behind old mid now es fs at h in
-    let its = back_to old.session.start es fs new.session (ap (λ (b : BookState). back b.session (length fs)) (sym there.0) ∙ goes) in
-    ((λ i. record { session = its i; marks = (marks ∙ ap (λ (b : BookState). b.marks) there.0) i }), there.1)
+made_live old mid now new es fs at h goes marks = grind (arith, from_old, back_to)
 
 -- Bookmarks
 
@@ -200,15 +153,8 @@ pub record HasSet (old now : BookState) (done : List Mark) : Type 0 where
   pub start : now.session.start ≡ old.session.start
   pub none : first_refused_mark old.session.start 0 done ≡ None
 
-pub none_set : (b : BookState) → b.marks ≡ [] → HasSet b b []
-none_set b h = record { marks = h; start = refl; none = refl }
-
 mark_set : (after x : BookState) (taken full : Bool) → (if taken then Err refusal.MarkTaken else if full then Err refusal.TooManyMarks else Ok x) ≡ Ok after → after ≡ x
 mark_set after x taken full h = grind arith
-
-mark_not_refused : (taken full : Bool) (x : BookState) (cause : Refusal) → taken ≡ false → full ≡ false
-    → (if taken then Err refusal.MarkTaken else if full then Err refusal.TooManyMarks else Ok x) ≡ Err cause → ⊥
-mark_not_refused taken full x cause free few h = grind arith
 
 differs : (x : Mark) (before : List Mark) (m : Mark) (later : List Mark) → AllByRecursion (λ y. mark_name_eq x.name y ≡ false) (map (λ y. y.name) (before ++ m ∷ later))
     → mark_name_eq x.name m.name ≡ false
@@ -222,8 +168,7 @@ none_taken (x ∷ before) m later h =
     let names : List MarkName = map (λ (y : Mark). y.name) (before ++ m ∷ later) in
     let apart : mark_name_eq m.name x.name ≡ false =
     nat_list_eq_equiv.symm (bytes_of m.name) (bytes_of x.name) ∙ differs x before m later (IsDistinct-head mark_name_eq x.name names h) in
-    cond-false (mark_name_eq m.name x.name) (Some x.events) (marked_events before m.name) apart
-    ∙ none_taken before m later (IsDistinct-tail mark_name_eq x.name names h)
+    rw apart (none_taken before m later (IsDistinct-tail mark_name_eq x.name names h))
 
 module _ (old now : BookState) (ms : List SavedMark) (i : ℕ) (m : SavedMark) (within : i < length ms) (is : m ≡ get_or ms i m) (so_far : HasSet old now (map saved_mark (take i ms))) where
   -- the first refused event of the bookmarks so far, this one and later ones: this one's first if
@@ -235,17 +180,14 @@ module _ (old now : BookState) (ms : List SavedMark) (i : ℕ) (m : SavedMark) (
       let w = old.session.start in
       let done = map saved_mark (take i ms) in
       let count : 0 + length done ≡ i = omega (arith, length-map (take i ms) saved_mark, length-take-le i ms (omega arith)) in
-      marks-append w 0 done (saved_mark m ∷ later) ∙ ap (λ (p : Option LoadTraceFault). option_or p (first_refused_mark w (0 + length done) (saved_mark m ∷ later))) so_far.none
-      ∙ ap₂ (λ (k : ℕ) (p : Option (ℕ × Refusal)). option_or (option_map (λ (r : ℕ × Refusal). TraceMark (k + 1) r.0 r.1) p) (first_refused_mark w (k + 1) later)) count said
+      rw (marks-append w 0 done (saved_mark m ∷ later), so_far.none, count, said)
 
   pub one_set : (mid after : BookState) → GoesTo now m.events.items mid (Ok tt) → mark mid m.name ≡ Ok after → HasSet old after (map saved_mark (take (i + 1) ms))
   one_set mid after goes made =
       let set : after ≡ with_marks mid (mid.marks ++ record { name = m.name; events = mid.session.live } ∷ []) = mark_set after _ _ _ made in
       let there : after ≡ record { session = session_at now.session.start m.events.items; marks = now.marks ++ saved_mark m ∷ [] } =
       set ∙ ap (λ (b : BookState). with_marks b (b.marks ++ record { name = m.name; events = b.session.live } ∷ [])) goes.0 in
-      let longer : map saved_mark (take i ms) ++ saved_mark m ∷ [] ≡ map saved_mark (take (i + 1) ms) =
-      sym (map_more saved_mark ms i m within ∙ ap (λ (x : SavedMark). map saved_mark (take i ms) ++ saved_mark x ∷ []) (sym is)) in
-      subst (λ (done : List Mark). HasSet old after done) longer
+      rw (take_item ms i m within is, map_push)
       (record {
         marks = ap (λ (b : BookState). b.marks) there ∙ ap (λ (done : List Mark). done ++ saved_mark m ∷ []) so_far.marks;
         start = ap (λ (b : BookState). b.session.start) there ∙ so_far.start;
@@ -265,7 +207,8 @@ module _ (old now : BookState) (ms : List SavedMark) (i : ℕ) (m : SavedMark) (
       ap (λ (done : List Mark). is_some (marked_events done m.name)) set
       ∙ ap is_some (none_taken (map saved_mark (take i ms)) (saved_mark m) (map saved_mark (drop (i + 1) ms)) (subst (λ (xs : List Mark). HaveDifferentNames xs) placed names)) in
       let few_so_far : length mid.marks ≡ i = omega (arith, ap length set, length-map (take i ms) saved_mark, length-take-le i ms (omega arith)) in
-      mark_not_refused _ _ _ cause free (ne_eqb (length mid.marks) MOST_MARKS (omega arith)) h
+      let made = mark_goes mid m.name free (omega arith) in
+      cc (made, h)
   can_mark mid cause goes names few other (inr h) = other h.0
 
   -- the fault of making the next bookmark's events live, with its number, is a result of setting
@@ -296,27 +239,18 @@ module _ {R : ℕ} (t : Trace R) (flawless : start_flaw t.start ≡ None) where
   no_fault marks through = fault_of None None (no_mark_refused (start_world t.start) 0 t.marks marks) (none_refused (start_world t.start) [] (t.live ++ t.undone) through)
 
   module _ (old : BookState) (start : old.session.start ≡ start_world t.start) where
-    -- `NoMemory`, and the fault of the trace, are results of replaying it
-    not_replayed : {B : Type 0} (IsBook : B → Type 0) (fault : LoadTraceFault) → (fault ≡ NoMemory) ⊎ (trace_fault t ≡ Some fault) → Replays IsBook t (Err fault)
-    not_replayed IsBook fault (inl memory) = inl (memory, flawless)
-    not_replayed IsBook fault (inr h) = inr h
-
     -- the fault of setting the bookmarks is a result of replaying the trace
     pub no_marks : {B : Type 0} (IsBook : B → Type 0) (new : BookState) (fault : LoadTraceFault) → SetsMarks old t.marks new (Err fault) → Replays IsBook t (Err fault)
-    no_marks IsBook new fault (inl memory) = not_replayed IsBook fault (inl memory)
-    no_marks IsBook new fault (inr h) =
-        inr (fault_of (Some fault) _ (subst (λ (w : World). first_refused_mark w 0 t.marks ≡ Some fault) start h) refl)
+    no_marks IsBook new fault h = grind (arith, fault_of)
 
     module _ (now : BookState) (set : SetsMarks old t.marks now (Ok tt)) where
       by_steps : (p : Option (ℕ × Refusal)) → first_refused now.session.start [] (t.live ++ t.undone) ≡ p → trace_fault t ≡ option_map (λ (r : ℕ × Refusal). TraceStep r.0 r.1) p
-      by_steps p h =
-          fault_of None p (subst (λ (w : World). first_refused_mark w 0 t.marks ≡ None) start set.2) (subst (λ (w : World). first_refused w [] (t.live ++ t.undone) ≡ p) (set.1 ∙ start) h)
+      by_steps p h = grind (arith, fault_of)
 
       -- the fault of making its live and undone events happen is a result of replaying the trace
       pub no_steps : {B : Type 0} (IsBook : B → Type 0) (fault : LoadTraceFault) → RefusesOne now.session.start (t.live ++ t.undone) fault → Replays IsBook t (Err fault)
-      no_steps IsBook fault (inl memory) = not_replayed IsBook fault (inl memory)
-      no_steps IsBook fault (inr h) = not_replayed IsBook fault (inr (by_steps (Some (h.0, h.1)) h.2 ∙ ap Some (sym h.3)))
+      no_steps IsBook fault h = grind (arith, by_steps)
 
       -- if all its events happened, the trace has no fault, and the book is the trace's
       pub plays : (new : BookState) → MakesLive now t.live t.undone new (Ok tt) → (trace_fault t ≡ None) × (new ≡ loaded_state t)
-      plays new h = (by_steps None h.1, h.0 ∙ (λ i. record { session = record { start = (set.1 ∙ start) i; live = t.live; undone = t.undone }; marks = set.0 i }))
+      plays new h = grind (arith, by_steps)

@@ -1,16 +1,13 @@
 -- Segments as JSON values: which cells are read, and the values as which segments are written spell
 -- them.
-use Rattle.rd_trace.proofs.Prelude.{◌≡◌, ℕ, ◌+◌, ◌<◌, ◌≤◌, List, [], ◌∷◌, length, take, set, get_or, Some, None, option_map, refl, ap, ◌∙◌, arith, add-one, take-suc-set, length-set, take_all, none-some, view, items_view, Cell, SegmentParts, Gives, SpellEach, items_by, next_of, next_data, cell_of_items, cell_of, cell_data, IsSegment, segment_data, Value}
+use Rattle.rd_trace.proofs.Prelude.{◌≡◌, refl, ℕ, ◌+◌, ◌<◌, ◌≤◌, List, [], ◌∷◌, length, take, set, get_or, Some, None, option_map, ap, ◌∙◌, arith, add-one, take-suc-set, length-set, take_all, none-some, view, items_view, Cell, SegmentParts, Gives, SpellEach, items_by, next_of, next_data, cell_of_items, cell_of, cell_data, IsSegment, segment_data, Value}
 use Rattle.rd_trace.proofs.SpellLemmas.{spell_each-more, spell_each-none}
 use Rattle.rd_trace.proofs.ActorLemmas.{value_spelled}
 
 -- a list of another length than three spells no cell
 pub no_cell : (vs : List Value) → (length vs ≡ 3 → ⊥) → cell_of_items (items_view vs) ≡ None
-no_cell [] three = refl
-no_cell (a ∷ []) three = refl
-no_cell (a ∷ b ∷ []) three = refl
 no_cell (a ∷ b ∷ c ∷ []) three = absurd (three refl)
-no_cell (a ∷ b ∷ c ∷ d ∷ vs) three = refl
+no_cell _ three = refl
 
 -- ---- the cells of a ring: the first are those of the values at their places
 
@@ -41,11 +38,4 @@ cells_spelled (c ∷ cs) = (cell_spelled c, cells_spelled cs)
 -- the JSON value of a segment spells it, if the value of the next segment's name is read as this
 -- name
 pub segment_spelled : {R : ℕ} (s : SegmentParts R) → next_of (next_data s.next) ≡ Some s.next → IsSegment (segment_data s) s
-segment_spelled s next = record {
-  members = refl;
-  cells = (items_by cell_data s.cells, refl, cells_spelled s.cells);
-  closed = refl;
-  head = refl;
-  next = next;
-  tail = refl;
-}
+segment_spelled s next = grind (arith, cells_spelled s.cells)

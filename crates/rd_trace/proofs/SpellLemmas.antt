@@ -10,12 +10,9 @@ passed_up P r x is k = grind arith
 -- where a whole that is spelled has a part that is spelled, the fault of reading the part is a
 -- result of reading the whole
 module _ {V W X Y : Type 0} (part : V → X) (whole : W → Y) (IsPart : X → Type 0) (IsWhole : Y → Type 0) (has : (y : Y) → IsWhole y → (x : X) × IsPart x) where
-  pub no_part : (fault : LoadTraceFault) → Reads part IsPart (Err fault) → Reads whole IsWhole (Err fault)
-  no_part fault h = grind arith
-
   -- the fault of the part, passed up, is a result of reading the whole
   pub part_passed_up : (fault : LoadTraceFault) (r : Result W LoadTraceFault) → IsErrAnd r (λ e. e ≡ fault) → Reads part IsPart (Err fault) → Reads whole IsWhole r
-  part_passed_up fault r is h = passed_up (Reads whole IsWhole) r fault is (no_part fault h)
+  part_passed_up fault r is h = grind arith
 
 -- a result that is an option's value, or `BadTrace` if the option is none
 module _ {X : Type 0} (o : Option X) (r : Result X LoadTraceFault) (is : r ≡ ok_or o BadTrace) where
@@ -42,10 +39,10 @@ items_by-last datum (y ∷ xs) x = ap (item (datum y)) (items_by-last datum xs x
 
 -- a list is its first elements, the element at a position, and those after it
 pub split_at : {X : Type 0} (xs : List X) (i : ℕ) (x : X) → i < length xs → x ≡ get_or xs i x → xs ≡ take i xs ++ x ∷ drop (i + 1) xs
-split_at xs i x within is = sym (take-append-drop i xs) ∙ ap (λ ys. take i xs ++ ys) (drop_more xs i x within ∙ ap (λ y. y ∷ drop (i + 1) xs) (sym is))
+split_at xs i x within is = grind (arith, take-append-drop, drop_more)
 
 pub take_item : {X : Type 0} (xs : List X) (i : ℕ) (x : X) → i < length xs → x ≡ get_or xs i x → take (i + 1) xs ≡ take i xs ++ x ∷ []
-take_item xs i x within is = take_more xs i x within ∙ ap (λ y. take i xs ++ y ∷ []) (sym is)
+take_item xs i x within is = grind (arith, take_more)
 
 -- the first i + 1 elements are the first i and the element that `slice_get` gives at i
 pub take_got : {X : Type 0} (xs : List X) (i : ℕ) (x : X) → slice_get xs i ≡ Some x → take (i + 1) xs ≡ take i xs ++ x ∷ []
@@ -62,25 +59,22 @@ items_written datum vs xs v x so_far is = items_view-last vs v ∙ ap₂ then_it
 module _ {X : Type 0} (Spells : Data → X → Type 0) where
   spell_each-last : (ds : Items) (d : Data) (xs : List X) (x : X) → SpellEach Spells ds xs → Spells d x → SpellEach Spells (then_item ds d) (xs ++ x ∷ [])
   spell_each-last no_items d [] x h k = (k, tt)
-  spell_each-last no_items d (y ∷ xs) x h k = absurd h
-  spell_each-last (item e ds) d [] x h k = absurd h
   spell_each-last (item e ds) d (y ∷ xs) x h k = (h.0, spell_each-last ds d xs x h.1 k)
+  spell_each-last _ d _ x h k = absurd h
 
   -- if values spell a list, a value among them spells one of its elements, and those before it the
   -- elements before
   pub spelled_here : (vs ws : List Value) (v : Value) (xs : List X) → SpellEach Spells (items_view (vs ++ v ∷ ws)) xs
       → (before : List X) × (x : X) × (more : List X) × (xs ≡ before ++ x ∷ more) × SpellEach Spells (items_view vs) before × Spells (view v) x
-  spelled_here [] ws v [] h = absurd h
   spelled_here [] ws v (x ∷ xs) h = ([], x, xs, refl, tt, h.0)
-  spelled_here (y ∷ vs) ws v [] h = absurd h
   spelled_here (y ∷ vs) ws v (x ∷ xs) h = let rest = spelled_here vs ws v xs h.1 in (x ∷ rest.0, rest.1, rest.2, ap (λ l. x ∷ l) rest.3, (h.0, rest.4), rest.5)
+  spelled_here _ ws v _ h = absurd h
 
   -- values spell a list of as many things as they are
   pub spelled_length : (vs : List Value) (xs : List X) → SpellEach Spells (items_view vs) xs → length vs ≡ length xs
   spelled_length [] [] h = refl
-  spelled_length [] (x ∷ xs) h = absurd h
-  spelled_length (v ∷ vs) [] h = absurd h
   spelled_length (v ∷ vs) (x ∷ xs) h = ap suc (spelled_length vs xs h.1)
+  spelled_length _ _ h = absurd h
 
   module _ (vs : List Value) (i : ℕ) (v : Value) (within : i < length vs) (is : v ≡ get_or vs i v) where
     -- the first i + 1 values spell what the first i spell, and then what the next one spells
@@ -118,11 +112,8 @@ module _ {X : Type 0} (Spells : Data → X → Type 0) where
 module _ {X Y : Type 0} (Spells : Data → X → Type 0) (seen : X → Y) (one : (d : Data) (x y : X) → Spells d x → Spells d y → seen x ≡ seen y) where
   same_seen : (ds : Items) (xs ys : List X) → SpellEach Spells ds xs → SpellEach Spells ds ys → map seen xs ≡ map seen ys
   same_seen no_items [] [] h k = refl
-  same_seen no_items [] (y ∷ ys) h k = absurd k
-  same_seen no_items (x ∷ xs) ys h k = absurd h
-  same_seen (item d ds) [] ys h k = absurd h
-  same_seen (item d ds) (x ∷ xs) [] h k = absurd k
   same_seen (item d ds) (x ∷ xs) (y ∷ ys) h k = ap₂ (λ z zs. z ∷ zs) (one d x y h.0 k.0) (same_seen ds xs ys h.1 k.1)
+  same_seen _ _ _ h k = absurd (omega arith)
 
   pub same_seen_at : (o : Option Items) (xs ys : List X) → (ds : Items) × (o ≡ Some ds) × SpellEach Spells ds xs → (ds : Items) × (o ≡ Some ds) × SpellEach Spells ds ys
       → map seen xs ≡ map seen ys

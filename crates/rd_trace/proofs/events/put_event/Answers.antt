@@ -1,6 +1,6 @@
-use Rattle.std.proofs.Common.{codes, arith}
+use Rattle.std.proofs.Common.{codes, refl, arith}
 use Rattle.rd_actor.specs.declared.actors.Act.TheVariants as act
-use Rattle.rd_trace.proofs.TextLemmas.{act_back, boolean_back, short_back, long_back}
+use Rattle.rd_trace.proofs.TextLemmas.{act_back, short_back, long_back}
 use Rattle.rd_trace.proofs.events.put_event.Goals as goal
 
 pub returns-in-Enq-clause-back : goal.returns-in-Enq-clause-back
@@ -19,4 +19,4 @@ pub returns-in-Go-clause-back : goal.returns-in-Go-clause-back
 returns-in-Go-clause-back c = act_back c.args.event act.Go c.in-Go.is (short_back (codes "go") _ (omega arith))
 
 pub returns-in-Starve-clause-back : goal.returns-in-Starve-clause-back
-returns-in-Starve-clause-back c = act_back c.args.event (act.Starve c.in-Starve.choice) c.in-Starve.is (long_back (codes "starve") _ _ (omega arith) (boolean_back _))
+returns-in-Starve-clause-back c = act_back c.args.event (act.Starve c.in-Starve.choice) c.in-Starve.is (long_back (codes "starve") _ _ (omega arith) (record { numbers = tt; back = refl }))

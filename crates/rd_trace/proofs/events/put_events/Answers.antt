@@ -1,10 +1,7 @@
-use Rattle.rd_trace.proofs.Prelude.{string_bytes, refl, arith, take_all, Gives, event_of, event_data, get_or_default}
+use Rattle.rd_trace.proofs.Prelude.{string_bytes, arith, take_all, Gives, event_of, event_data, get_or_default}
 use Rattle.rd_trace.proofs.SpellLemmas.{take_item}
-use Rattle.rd_trace.proofs.TextLemmas.{none_appended, one_more_appended}
+use Rattle.rd_trace.proofs.TextLemmas.{one_more_appended}
 use Rattle.rd_trace.proofs.events.put_events.Goals as goal
-
-pub loop-i-init : goal.loop-i-init
-loop-i-init c = none_appended (Gives event_of) event_data _ _ refl
 
 pub loop-i-preserved : goal.loop-i-preserved
 loop-i-preserved c =

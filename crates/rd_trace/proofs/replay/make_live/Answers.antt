@@ -1,5 +1,5 @@
 use Rattle.rd_trace.proofs.Prelude.{arith, book_state, MakesLive}
-use Rattle.rd_trace.proofs.ReplayLemmas.{live_refused, undone_refused, enough_live, made_live}
+use Rattle.rd_trace.proofs.ReplayLemmas.{live_refused, from_old, enough_live, made_live}
 use Rattle.rd_trace.proofs.SpellLemmas.{passed_up}
 use Rattle.rd_trace.proofs.replay.make_live.Goals as goal
 
@@ -10,11 +10,7 @@ returns-in_err-go_to g c =
     (live_refused old.session.start c.args.events.now c.args.undone.now c.in_err-go_to.field-0.0 c.in_err-go_to.ensures)
 
 pub returns-in_err-step_all : goal.returns-in_err-step_all
-returns-in_err-step_all g c =
-    let old = book_state c.args.book.now in
-    let mid = book_state c.go_to.new.book in
-    passed_up (λ r. MakesLive old c.args.events.now c.args.undone.now (book_state c.step_all.new.book) r) c.from_residual-in_err-step_all.result c.in_err-step_all.field-0.0 c.from_residual-in_err-step_all.ensures.1
-    (undone_refused old mid (book_state c.step_all.new.book) c.args.events.now c.args.undone.now c.in_err-step_all.field-0.0 c.in_ok-go_to.ensures.0 c.in_err-step_all.ensures.goes)
+returns-in_err-step_all g c = grind (arith, from_old)
 
 pub go_back-requires : goal.go_back-requires
 go_back-requires g c =

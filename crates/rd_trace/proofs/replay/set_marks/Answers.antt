@@ -1,10 +1,10 @@
-use Rattle.rd_trace.proofs.Prelude.{◌≡◌, ◌⊎◌, Ok, Err, IsOk, ap, sym, subst, ◌∙◌, arith, book_state, get_or_default, mark, SavedMark, RefusesOne, GoesTo}
-use Rattle.rd_trace.proofs.ReplayLemmas.{none_set, one_set, can_mark, mark_refused, all_set}
+use Rattle.rd_trace.proofs.Prelude.{◌≡◌, ◌⊎◌, Ok, Err, IsOk, refl, ap, sym, subst, ◌∙◌, arith, book_state, get_or_default, mark, SavedMark, RefusesOne, GoesTo}
+use Rattle.rd_trace.proofs.ReplayLemmas.{one_set, can_mark, mark_refused, all_set}
 use Rattle.rd_trace.proofs.replay.set_marks.Goals as goal
 use Rattle.rd_cell.specs.declared.refusal.Refusal.TheVariants as refusal
 
 pub loop-i-init : goal.loop-i-init
-loop-i-init g c = none_set (book_state c.args.book.now) c.requires.none
+loop-i-init g c = record { marks = c.requires.none; start = refl; none = refl }
 
 pub returns : goal.returns
 returns g c = all_set (book_state c.args.book.now) (book_state c.loop-i.book) c.args.marks.now c.loop-i.i (omega arith) c.loop-i.invariant

@@ -1,5 +1,5 @@
-use Rattle.rd_trace.proofs.Prelude.{◌≡◌, ◌+◌, length, ap, ◌∙◌, arith, get_or_default, State, BookState, book_state}
-use Rattle.rd_trace.proofs.ReplayLemmas.{none_stepped, one_stepped, one_refused, all_of, happened, not_happened}
+use Rattle.rd_trace.proofs.Prelude.{◌≡◌, ◌+◌, ◌++◌, List, Ok, length, ap, subst, take_all, Event, GoesTo, ◌∙◌, arith, get_or_default, State, BookState, book_state}
+use Rattle.rd_trace.proofs.ReplayLemmas.{none_stepped, one_stepped, one_refused, happened, not_happened}
 use Rattle.rd_trace.proofs.replay.step_all.Goals as goal
 
 pub loop-event-init : goal.loop-event-init
@@ -22,4 +22,6 @@ loop-event-preserved g c =
     one_stepped (book_state c.args.book.now) now c.args.events.now c.loop-event.event-index _ c.loop-event-test.true (get_or_default c.args.events.now c.loop-event.event-index _ _ c.loop-event-test.true) c.loop-event.invariant after did.0 did.1
 
 pub returns-clause-goes : goal.returns-clause-goes
-returns-clause-goes g c = all_of (book_state c.args.book.now) (book_state c.loop-event.book) c.args.events.now c.loop-event.event-index (omega arith) c.loop-event.invariant
+returns-clause-goes g c =
+    let old = book_state c.args.book.now in
+    subst (λ (done : List Event). GoesTo old (old.session.live ++ done) (book_state c.loop-event.book) (Ok tt)) (take_all c.loop-event.event-index c.args.events.now (omega arith)) c.loop-event.invariant

@@ -1,10 +1,7 @@
-use Rattle.rd_trace.proofs.Prelude.{◌≡◌, ◌+◌, ◌++◌, ◌∷◌, [], List, length, take, string_bytes, refl, ap, subst, arith, take_all, length-map, Event, state, Gives, event_of, event_data}
+use Rattle.rd_trace.proofs.Prelude.{◌≡◌, ◌+◌, ◌++◌, ◌∷◌, [], List, length, take, string_bytes, ap, subst, arith, take_all, length-map, Event, state, Gives, event_of, event_data}
 use Rattle.rd_trace.proofs.SavedLemmas.{live_next}
-use Rattle.rd_trace.proofs.TextLemmas.{none_appended, one_more_appended}
+use Rattle.rd_trace.proofs.TextLemmas.{one_more_appended}
 use Rattle.rd_trace.proofs.saved.put_live.Goals as goal
-
-pub loop-k-init : goal.loop-k-init
-loop-k-init g c = none_appended (Gives event_of) event_data _ _ refl
 
 pub loop-k-preserved : goal.loop-k-preserved
 loop-k-preserved g c =

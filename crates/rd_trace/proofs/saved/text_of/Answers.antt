@@ -1,5 +1,5 @@
-use Rattle.rd_trace.proofs.Prelude.{decimal, string_bytes, sym, ap, ◌∙◌, ◌++◌, ◌<◌, ◌^◌, subst, arith, state, State, book_state, BookState, KeepsRules, items_by, event_data, mark_data, IsTextOf, opened_ring}
-use Rattle.rd_trace.proofs.TextLemmas.{whole_text, put_together}
+use Rattle.rd_trace.proofs.Prelude.{◌≡◌, ◌∙◌, items_by, event_data, mark_data, string_bytes, sym, ◌<◌, ◌^◌, subst, arith, state, State, book_state, BookState, KeepsRules, IsTextOf, opened_ring}
+use Rattle.rd_trace.proofs.TextLemmas.{whole_text, book_text}
 use Rattle.rd_trace.proofs.WriteLemmas.{text_of_book}
 use Rattle.rd_trace.proofs.saved.text_of.Goals as goal
 
@@ -14,20 +14,10 @@ returns g c = λ utf8.
     let start = c.in_ok-put_start.ensures in
     let text = string_bytes c.push_str-6.new.self in
     let rules : KeepsRules (of s) = subst (λ x. KeepsRules (of x)) (sym same) c.put_marks.ensures.rules in
-    let number = c.in_ok-put_number.ensures ∙ ap (λ n. string_bytes c.push_str-3.new.self ++ decimal n) (sym ring) in
-    let is =
-    put_together (items_by event_data s.live) (items_by mark_data ms) (items_by event_data s.undone) s.start.ring start.start _ _ _ _ _ _ _ _ _ _ _ text c.in_ok-push_str.ensures.bytes
-    c.in_ok-put_live.ensures.text c.in_ok-push_str-2.ensures.bytes c.in_ok-put_marks.ensures.marks.text c.in_ok-push_str-3.ensures.bytes number c.in_ok-push_str-4.ensures.bytes start.text
-    c.in_ok-push_str-5.ensures.bytes c.in_ok-put_undone.ensures.text c.in_ok-push_str-6.ensures.bytes in
+    let parts : text ≡ whole_text (items_by event_data s.live) (items_by mark_data ms) s.start.ring start.start (items_by event_data s.undone) =
+    rw (c.in_ok-push_str-6.ensures.bytes, c.in_ok-put_undone.ensures.text, c.in_ok-push_str-5.ensures.bytes, start.text)
+    (rw (c.in_ok-push_str-4.ensures.bytes, c.in_ok-put_number.ensures, c.in_ok-push_str-3.ensures.bytes, c.in_ok-put_marks.ensures.marks.text)
+    (rw (c.in_ok-push_str-2.ensures.bytes, c.in_ok-put_live.ensures.text, c.in_ok-push_str.ensures.bytes, c.new-text.ensures.bytes, ring))) in
     subst (λ x. IsTextOf (of x) text) same
-    (text_of_book (of s) start.start text (subst (λ n. n < 2 ^ 64) (sym ring) (omega arith))
-    (record {
-      is_start = start.is_start;
-      start_back = start.back;
-      live = c.in_ok-put_live.ensures.kept;
-      marks = c.in_ok-put_marks.ensures.marks.kept;
-      undone = c.in_ok-put_undone.ensures.kept;
-      rules = rules;
-      through = c.events_go_through.ensures;
-    })
-    (is ∙ ap (λ t. t ++ whole_text (items_by event_data s.live) (items_by mark_data ms) s.start.ring start.start (items_by event_data s.undone)) c.new-text.ensures.bytes) utf8)
+    (text_of_book (of s) start.start text (subst (λ n. n < 2 ^ 64) (sym ring) (omega arith)) start.is_start start.back c.in_ok-put_live.ensures.kept c.in_ok-put_marks.ensures.marks.kept
+    c.in_ok-put_undone.ensures.kept rules c.events_go_through.ensures (parts ∙ sym (book_text _ _ _ _ _)) utf8)

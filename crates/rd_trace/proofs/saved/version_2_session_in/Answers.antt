@@ -1,4 +1,4 @@
-use Rattle.rd_trace.proofs.Prelude.{codes, ◌∙◌, arith, none-some, view, Gives, SpellEachAt, elements, event_of, saved_trace, IsVersion2}
+use Rattle.rd_trace.proofs.Prelude.{codes, ◌∙◌, none-some, view, Gives, SpellEachAt, elements, event_of, saved_trace, IsVersion2}
 use Rattle.rd_trace.proofs.SpellLemmas.{part_passed_up}
 use Rattle.rd_trace.proofs.saved.version_2_session_in.Goals as goal
 
@@ -7,12 +7,6 @@ returns-in_default g c = λ t h. none-some h.start.0 (c.in_default.ensures ∙ h
 
 pub returns-in_default-items_at : goal.returns-in_default-items_at
 returns-in_default-items_at g c = λ t h. none-some h.marks.0 (c.in_default-items_at.ensures ∙ h.marks.1)
-
-pub returns-in_err-start_in : goal.returns-in_err-start_in
-returns-in_err-start_in g c = grind arith
-
-pub returns-in_err-marks_in : goal.returns-in_err-marks_in
-returns-in_err-marks_in g c = grind arith
 
 pub returns-in_err-list_at : goal.returns-in_err-list_at
 returns-in_err-list_at g c =

@@ -15,4 +15,4 @@ loop-i-preserved g c =
     c.in_ok-cells.field-0 (omega arith) (sym c.in_ok-cells.was ∙ c.cell_in.ensures)
 
 pub returns-clause-some : goal.returns-clause-some
-returns-clause-some g c = all_cells g.row.R c.args.list.now.items c.loop-i.cells c.loop-i.i c.loop-i.invariant (omega arith) (omega arith)
+returns-clause-some g c = grind (arith, all_cells)

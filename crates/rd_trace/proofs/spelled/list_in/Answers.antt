@@ -1,4 +1,4 @@
-use Rattle.rd_trace.proofs.Prelude.{arith, take_all}
+use Rattle.rd_trace.proofs.Prelude.{arith}
 use Rattle.rd_trace.proofs.SpellLemmas.{spell_each-more, spelled_at, part_passed_up}
 use Rattle.rd_trace.proofs.spelled.list_in.Goals as goal
 
@@ -7,6 +7,3 @@ returns-in_err-from_value g c = grind (arith, part_passed_up, spelled_at)
 
 pub loop-value-preserved : goal.loop-value-preserved
 loop-value-preserved g c = grind (arith, spell_each-more)
-
-pub returns : goal.returns
-returns g c = grind (arith, take_all)

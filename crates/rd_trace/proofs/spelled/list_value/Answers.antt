@@ -1,4 +1,4 @@
-use Rattle.rd_trace.proofs.Prelude.{take, arith, take_all}
+use Rattle.rd_trace.proofs.Prelude.{take, arith}
 use Rattle.rd_trace.proofs.SpellLemmas.{take_item, none_written, one_more_written}
 use Rattle.rd_trace.proofs.spelled.list_value.Goals as goal
 
@@ -15,6 +15,3 @@ loop-thing-preserved g c =
       omega arith,
       omega arith,
     )
-
-pub returns : goal.returns
-returns g c = grind (arith, take_all)
