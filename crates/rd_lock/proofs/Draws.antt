@@ -17,16 +17,6 @@ module _ {T E O : Type 0} (lock : Lock T E O) where
   abbrev drawn : Facts T E → ℕ → Place T → Facts T E
   drawn f id place = record { next = f.next + 1; served = f.served; log = f.log; owner = f.owner; taker = put f.taker f.next id; place = place }
 
-  drawn_suits : (f : Facts T E) (id j : ℕ) (place : Place T) (p q : PassView E O) → MemberFits lock f id p → j ≢ id → MemberFits lock f j q → MemberFits lock (drawn f id place) j q
-  drawn_suits f id j place p q mine ne h = grind arith
-
-  drawer_suits : (f : Facts T E) (id : ℕ) (place : Place T) (p : PassView E O) → MemberFits lock f id p → MemberFits lock (drawn f id place) id (with_next_seen (f.next + 1) p)
-  drawer_suits f id place p h = grind arith
-
-  -- another seat's stage still fits after a draw that doesn't take the value away from that seat
-  drawn_stays : (f : Facts T E) (id j : ℕ) (place : Place T) → (f.place ≡ away j → place ≡ away j) → (s : Stage E) → StageFits lock f j s → StageFits lock (drawn f id place) j s
-  drawn_stays f id j place stays s h = grind arith
-
   -- the new facts are kept after a draw, whether the drawer then waits or holds
   drawn_kept : (f : Facts T E) (views : List (View E O)) (id : ℕ) (p : PassView E O) (s : Stage E) (place : Place T) → IsKept lock f views → get_elem? views id ≡ some (view_of (p ∷ []) Out) → f.next < 2 ^ 63
       → ticket s ≡ some f.next → StageFits lock (drawn f id place) id s → IsAloneAt s (p ∷ []) → ((j : ℕ) → j ≢ id → f.place ≡ away j → place ≡ away j)
@@ -35,21 +25,13 @@ module _ {T E O : Type 0} (lock : Lock T E O) where
   drawn_kept f views id p s place kept at room has stage alone stays placed = let v : View E O = view_of (p ∷ []) Out in let w : View E O = view_of (with_next_seen (f.next + 1) p ∷ []) s in
       let fits = kept.each_view id v at in let g = drawn f id place in let order = kept.order in
       moved lock f g views id v w kept at (omega arith) (omega arith) kept.names
-      (maps_fit lock f g id (with_next_seen (f.next + 1)) v s (λ q. refl) (drawer_suits f id place) stage alone fits) refl refl
-      (λ j u ne here h. others_fit lock f g j u (λ q. drawn_suits f id j place p q fits.members.0 ne) (drawn_stays f id j place (stays j ne)) h)
+      (maps_fit lock f g id (with_next_seen (f.next + 1)) v s (λ q. refl) (λ q h. grind arith) stage alone fits) refl refl
+      (λ j u ne here h. others_fit lock f g j u (let mine = fits.members.0 in λ q fit. grind arith) (let stays_j = stays j ne in λ s fit. grind arith) h)
       (λ t low high. dite (ℕ_discrete t f.next)
       (λ e. (w, subst (λ (k : ℕ). get_elem? (set views id w) k ≡ some w) (sym (put_here f.taker f.next id t e)) (set_here views id w (inside views id v at)), has ∙ ap (λ (k : ℕ). some k) (sym e)))
       (λ ne. subst (λ (k : ℕ). HasTicket (set views id w) k t) (sym (put_else f.taker f.next id t ne))
       (still (λ u. ticket u.stage ≡ some t) views id (f.taker t) v w at (λ none_is. absurd (some-ne-none t (sym none_is))) (kept.each_ticket t low (omega arith)))))
       placed
-
-  -- a draw that wins adds one to the word `next`
-  drawn_words : (f : Facts T E) → set (f.served ∷ f.next ∷ []) 1 (either (eqb f.next f.next) (f.next + 1) f.next) ≡ f.served ∷ (f.next + 1) ∷ []
-  drawn_words f = ap (λ b. f.served ∷ either b (f.next + 1) f.next ∷ []) (eq-eqb f.next f.next refl)
-
-  -- a draw that loses leaves the words as they are
-  missed_words : (f : Facts T E) (n : ℕ) → f.next ≢ n → set (f.served ∷ f.next ∷ []) 1 (either (eqb f.next n) (n + 1) f.next) ≡ f.served ∷ f.next ∷ []
-  missed_words f n ne = ap (λ b. f.served ∷ either b (n + 1) f.next ∷ []) (ne_eqb f.next n ne)
 
   -- what a draw of ticket n makes of the word `next`
   abbrev draw : ℕ → ℕ → ℕ
@@ -64,19 +46,15 @@ module _ {T E O : Type 0} (lock : Lock T E O) where
         after_next (f.next + 1) stage v,
         keeps,
         drawn f id f.place,
-        subst (λ (k : ℕ). set (f.served ∷ f.next ∷ []) 1 (draw k f.next) ≡ f.served ∷ (f.next + 1) ∷ []) hit (drawn_words f),
+        subst (λ (k : ℕ). set (f.served ∷ f.next ∷ []) 1 (draw k f.next) ≡ f.served ∷ (f.next + 1) ∷ []) hit (rw (eq-eqb f.next f.next refl) refl),
         tt,
         refl,
         drawn_kept f views id p stage f.place kept at (omega arith) refl (order, omega arith, put_here f.taker f.next id f.next refl) (p, refl) (λ j ne e. e)
             (place_still lock f (drawn f id f.place) views id v (after_next (f.next + 1) stage v) f.place at (λ e. absurd (cc)) refl refl kept.is_placed),
         record { newest = newest_next lock f views id v kept fits; won = λ _. refl; lost = λ miss. absurd (miss hit) },
       ))
-      (λ miss. unmoved lock id (v, []) 1 (draw n) then f views (after_next f.next Out v) (missed_words f n miss) (next_kept lock f views id v kept at)
+      (λ miss. unmoved lock id (v, []) 1 (draw n) then f views (after_next f.next Out v) (rw (ne_eqb f.next n miss) refl) (next_kept lock f views id v kept at)
       (record { newest = newest_next lock f views id v kept fits; won = λ hit. absurd (miss hit); lost = λ _. refl }))))
-
-  -- the value isn't at home and away at once
-  pub elsewhere : {x : T} (j : ℕ) → home x ≡ away j → ⊥
-  elsewhere j e = cc
 
   -- while a ticket is drawn and not finished, some seat has the ticket `served`, by a pass that is
   -- its member
@@ -106,9 +84,9 @@ module _ {T E O : Type 0} (lock : Lock T E O) where
       → Owed lock id (view_of (p ∷ []) Out, []) 1 (draw f.next) (Tries history origin f.next (view_of (p ∷ []) Out, [])) f views
   won id p f views kept at room same = let v : View E O = view_of (p ∷ []) Out in let fits = kept.each_view id v at in let there = idle_home f views kept same in let x : T = there.0 in
       let at_home : (history x ≡ f.log) × (origin x ≡ root) = (there.2, there.3) in let stage : Stage E = Holds f.next (history x) in let w : View E O = after_next (f.next + 1) stage v in
-      takes_home lock id v 1 (draw f.next) (Tries history origin f.next (v, [])) f (drawn f id (away id)) views w x there.1 refl (drawn_words f)
+      takes_home lock id v 1 (draw f.next) (Tries history origin f.next (v, [])) f (drawn f id (away id)) views w x there.1 refl (rw (eq-eqb f.next f.next refl) refl)
       (drawn_kept f views id p stage (away id) kept at room refl (sym same, omega arith, put_here f.taker f.next id f.next refl, refl, there.2) (p, refl)
-      (λ j ne e. absurd (elsewhere j (sym there.1 ∙ e))) (w, set_here views id w (inside views id v at), (λ i. Holds (sym same i) (there.2 i))))
+      (λ j ne e. let never = sym there.1 ∙ e in cc) (w, set_here views id w (inside views id v at), (λ i. Holds (sym same i) (there.2 i))))
       (record { newest = newest_next lock f views id v kept fits; won = λ _. (x, (found f id x p at_home fits.members.0, tt), refl); lost = λ miss. absurd (miss refl) })
 
   -- the draw of `try_take`, after the load of the ticket that it expects, is allowed
@@ -119,7 +97,7 @@ module _ {T E O : Type 0} (lock : Lock T E O) where
       subst (λ (y : Me (Option T) (View E O)). Allows (LockRule lock) slots id y 1 (draw n) (Tries history origin n y)) (sym is) (allowed lock slots id (v, []) 1 (draw n) then (λ f views kept at.
       let fits = kept.each_view id v at in let words = fits.members.0.words.1 in let order = kept.order in dite (ℕ_discrete f.next n)
       (λ hit. subst (λ (k : ℕ). Owed lock id (v, []) 1 (draw k) (Tries history origin k (v, [])) f views) hit (won id p f views kept at (omega arith) (omega arith)))
-      (λ miss. unmoved lock id (v, []) 1 (draw n) then f views (after_next f.next Out v) (missed_words f n miss) (next_kept lock f views id v kept at) (record {
+      (λ miss. unmoved lock id (v, []) 1 (draw n) then f views (after_next f.next Out v) (rw (ne_eqb f.next n miss) refl) (next_kept lock f views id v kept at) (record {
         newest = newest_next lock f views id v kept fits;
         won = λ hit. absurd (miss hit);
         lost = λ _. (((λ one. miss (alone_hits f views id p kept at (sym fits.members.0.knows_opening.0 ∙ one))), tt), refl);

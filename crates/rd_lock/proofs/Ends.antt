@@ -1,6 +1,7 @@
 -- The first state of a table, and what its last state shows.
 use Rattle.rd_lock.proofs.Prelude.{◌≡◌, ◌≢◌, ℕ, zero, suc, ◌+◌, ◌^◌, ◌<◌, ◌≤◌, List, [], ◌∷◌, sym, refl, ap, ◌∙◌, subst, inl, inr, ⊎_elim, arith, Option, Some, AllByRecursion, Apart, AreAll, Continues, Facts, Final, IsEnded, IsEndedWith, IsIn, IsKept, Lock, LockRule, MemberFits, NamesUpTo, Out, PassView, Place, Seen, State, View, ViewFits, dite, get_elem?, home, newcomers, numbers_of, opening, opening_view, single_slot, some, some-injective, some-ne-none, view_of, ℕ_discrete}
 use Rattle.rd_lock.proofs.Lists.{every_from}
+use Rattle.rd_lock.proofs.Looks.{out_fits}
 use Rattle.rd_lock.proofs.Draws.{idle_home, no_ticket, taken_by}
 
 module _ (E : Type 0) {O : Type 0} where
@@ -34,12 +35,8 @@ module _ {T E O : Type 0} (lock : Lock T E O) where
   newcomers_fit x first k (suc n) low high = grind (arith, newcomers_fit x first (suc k) n (omega arith) (omega arith))
 
   first_view : (x : T) (first : ℕ) (j : ℕ) (v : View E O) → get_elem? (opening_view seats root first ∷ []) j ≡ some v → ViewFits lock (opened x first) j v
-  first_view x first zero v at = subst (ViewFits lock (opened x first) 0) (some-injective (opening_view seats root first) v at) (record {
-    members = newcomers_fit x first 1 seats (omega arith) (omega arith);
-    apart = newcomers_apart E seats root first 1 seats;
-    stage = tt;
-    alone = tt;
-  })
+  first_view x first zero v at = subst (ViewFits lock (opened x first) 0) (some-injective (opening_view seats root first) v at)
+      (out_fits lock (opened x first) 0 (newcomers seats root first 1 seats) (newcomers_fit x first 1 seats (omega arith) (omega arith)) (newcomers_apart E seats root first 1 seats))
   first_view x first (suc j) v at = absurd (some-ne-none v (sym at))
 
   pub opens : (x : T) (first : ℕ) → history x ≡ [] → origin x ≡ root → first ≤ 2 ^ 63 → LockRule lock (opening (first ∷ first ∷ []) (Some x ∷ []) (opening_view seats root first))

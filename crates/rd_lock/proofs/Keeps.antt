@@ -1,13 +1,12 @@
 -- How a change of one seat's view keeps the rule.
-use Rattle.rd_lock.proofs.Prelude.{◌≡◌, ◌≢◌, ℕ, ◌^◌, ◌<◌, ◌≤◌, List, [], ◌∷◌, get_or, set, sym, refl, ap, ◌∙◌, subst, ⊎_elim, Option, arith, Some, length, Act, Allows, Facts, HasPass, HasTicket, Holds, IsAloneAt, IsIn, IsKept, IsPlaced, Lock, LockRule, Me, NamesUpTo, Out, PassView, Place, Stage, Valid, View, ViewFits, Waits, ℕ_discrete, at_set, away, carried_after, dite, get_elem?, home, homes_after, in_hand, keeps, numbers_of, only, set_else, set_here, single_slot, some, some-injective, some-ne-none, takes, ticket, view_of}
+use Rattle.rd_lock.proofs.Prelude.{◌≡◌, ◌≢◌, ℕ, ◌^◌, ◌<◌, ◌≤◌, List, [], ◌∷◌, get_or, set, sym, refl, ap, ◌∙◌, subst, Option, arith, Some, length, Act, Allows, Facts, HasPass, HasTicket, Holds, IsAloneAt, IsIn, IsKept, IsPlaced, Lock, LockRule, Me, NamesUpTo, Out, PassView, Place, Stage, Valid, View, ViewFits, ℕ_discrete, at_set, away, carried_after, dite, get_elem?, home, homes_after, in_hand, keeps, numbers_of, only, set_else, set_here, single_slot, some, some-injective, some-ne-none, takes, ticket, view_of}
 use Rattle.rd_lock.proofs.Lists.{inside, one_of}
 
 module _ {E O : Type 0} where
   -- a seat that has a ticket has just one member
   pub alone_with : (t : ℕ) (s : Stage E) (ps : List (PassView E O)) → ticket s ≡ some t → IsAloneAt s ps → (p : PassView E O) × (ps ≡ p ∷ [])
   alone_with t Out ps e h = absurd (some-ne-none t (sym e))
-  alone_with t (Waits u) ps e h = h
-  alone_with t (Holds u found) ps e h = h
+  alone_with t _ ps e h = h
 
   -- after a change of one view, what held of some seat's view still does, if the change keeps it
   pub still : (P : View E O → Type 0) (views : List (View E O)) (id k : ℕ) (v w : View E O) → get_elem? views id ≡ some v → (P v → P w) → (u : View E O) × (get_elem? views k ≡ some u) × P u
@@ -19,8 +18,7 @@ module _ {E O : Type 0} where
   -- after a change of one view, what holds of each other view and of the new one holds of each
   pub each_set : (P : ℕ → View E O → Type 0) (views : List (View E O)) (id : ℕ) (w : View E O) → P id w → ((j : ℕ) (u : View E O) → j ≢ id → get_elem? views j ≡ some u → P j u)
       → (j : ℕ) (u : View E O) → get_elem? (set views id w) j ≡ some u → P j u
-  each_set P views id w mine others j u e = ⊎_elim (λ (z : (j ≡ id) × (w ≡ u)). subst (λ (x : ℕ × View E O). P x.0 x.1) (λ i. (sym z.0 i, z.1 i)) mine)
-      (λ (z : (j ≢ id) × (get_elem? views j ≡ some u)). others j u z.0 z.1) (at_set views id j w u e)
+  each_set P views id w mine others j u e = grind (arith, at_set)
 
 module _ {T E O : Type 0} where
   -- what a seat with one member knows and has taken, given by the member and the stage
@@ -56,12 +54,6 @@ module _ {T E O : Type 0} (lock : Lock T E O) where
   place_still f g views id v w (home x) at holds log served h = grind arith
   place_still f g views id v w (away k) at holds log served h = still (λ u. u.stage ≡ Holds g.served g.log) views id k v w at (λ e. holds (grind arith)) (grind arith)
 
-  -- the rule is kept if the facts stay and a view changes only in what its members know
-  pub knows_more : (f : Facts T E) (views : List (View E O)) (id : ℕ) (v w : View E O) → IsKept lock f views → get_elem? views id ≡ some v → w.stage ≡ v.stage → numbers_of w.members ≡ numbers_of v.members → ViewFits lock f id w → IsKept lock f (set views id w)
-  knows_more f views id v w kept at same passes fits = moved f f views id v w kept at kept.order kept.limit kept.names fits refl passes (λ j u ne here h. h)
-      (λ t low high. still (λ u. ticket u.stage ≡ some t) views id (f.taker t) v w at (λ e. ap ticket same ∙ e) (kept.each_ticket t low high))
-      (place_still f f views id v w f.place at (λ e. same ∙ e) refl refl kept.is_placed)
-
   -- what has to be shown of a step on a word: after it, there are facts that its words and its slot
   -- agree with and that the views keep
   abbrev pub Owed : ℕ → Me (Option T) (View E O) → ℕ → (ℕ → ℕ) → (ℕ → Me (Option T) (View E O) → Type 0) → Facts T E → List (View E O) → Type 0
@@ -76,16 +68,7 @@ module _ {T E O : Type 0} (lock : Lock T E O) where
   -- what has to be shown, for a step that takes the value from home
   pub takes_home : (id : ℕ) (v : View E O) (i : ℕ) (F : ℕ → ℕ) (then : ℕ → Me (Option T) (View E O) → Type 0) (f g : Facts T E) (views : List (View E O)) (w : View E O) (x : T) → f.place ≡ home x → away id ≡ g.place
       → set (f.served ∷ f.next ∷ []) i (F (get_or (f.served ∷ f.next ∷ []) i 0)) ≡ g.served ∷ g.next ∷ [] → IsKept lock g (set views id w) → then (get_or (f.served ∷ f.next ∷ []) i 0) (w, (0, Some x) ∷ []) → Owed id (v, []) i F then f views
-  takes_home id v i F then f g views w x there here words kept after = (
-    w,
-    takes 0 (Some x),
-    g,
-    words,
-    subst (λ (l : Place T). get_elem? (single_slot l) 0 ≡ some (some (Some x))) (sym there) refl,
-    subst (λ (l : Place T). homes_after (single_slot l) [] (takes 0 (Some x)) ≡ single_slot (away id)) (sym there) refl ∙ ap (λ (l : Place T). single_slot l) here,
-    kept,
-    after,
-  )
+  takes_home id v i F then f g views w x there here words kept after = (w, takes 0 (Some x), g, words, rw there refl, rw (there, ← here) refl, kept, after)
 
   pub allowed : (slots id : ℕ) (me : Me (Option T) (View E O)) (i : ℕ) (F : ℕ → ℕ) (then : ℕ → Me (Option T) (View E O) → Type 0)
       → ((f : Facts T E) (views : List (View E O)) → IsKept lock f views → get_elem? views id ≡ some me.0 → Owed id me i F then f views) → Allows (LockRule lock) slots id me i F then

@@ -1,27 +1,26 @@
 -- Histories, and facts about each element or each pair of elements of a list.
-use Rattle.rd_lock.proofs.Prelude.{AllByRecursion, AreComparable, Continues, IsPrefix, NamesUpTo, Pairwise, append-nil, common_steps, get_elem?, put_by, only, placed, signed, some, some-injective, some-ne-none, ◌≡◌, ◌≢◌, ℕ, zero, suc, ◌+◌, ◌<◌, ◌≤◌, ◌⊎◌, List, [], ◌∷◌, ◌++◌, map, length, sym, refl, ap, ◌∙◌, inl, inr, ⊎_elim, arith, append_assoc, add-zero, ne_eqb, eq-eqb}
+use Rattle.rd_lock.proofs.Prelude.{AllByRecursion, AreComparable, Continues, IsPrefix, Pairwise, append-nil, nil_from_length, common_steps, get_elem?, put_by, only, placed, signed, some, some-injective, some-ne-none, ◌≡◌, ◌≢◌, ℕ, suc, ◌+◌, ◌<◌, ◌⊎◌, List, [], ◌∷◌, ◌++◌, map, length, sym, refl, ap, ◌∙◌, inl, inr, arith, append_assoc, add-zero, ne_eqb, eq-eqb}
 
 module _ {A : Type 0} where
   pub one_of : (xs : List A) (one : length xs ≡ 1) → xs ≡ only xs one ∷ []
   one_of [] one = absurd (omega arith)
-  one_of (x ∷ []) one = refl
-  one_of (x ∷ y ∷ ys) one = absurd (omega arith)
+  one_of (x ∷ xs) one = ap (λ others. x ∷ others) (nil_from_length xs (omega arith))
 
   pub inside : (l : List A) (i : ℕ) (a : A) → get_elem? l i ≡ some a → i < length l
   inside [] i a e = absurd (some-ne-none a (sym e))
-  inside (x ∷ xs) zero a e = omega arith
-  inside (x ∷ xs) (suc i) a e = let r = inside xs i a e in omega arith
+  inside (x ∷ xs) i a e = grind (arith, inside xs)
 
   -- an element of a list with one more at the end is in the list or is that last one
   pub at_end : (l : List A) (a b : A) (j : ℕ) → get_elem? (l ++ a ∷ []) j ≡ some b → (get_elem? l j ≡ some b) ⊎ ((j ≡ length l) × (a ≡ b))
-  at_end [] a b zero e = inr (refl, some-injective a b e)
-  at_end [] a b (suc j) e = absurd (some-ne-none b (sym e))
-  at_end (x ∷ xs) a b zero e = inl e
-  at_end (x ∷ xs) a b (suc j) e = ⊎_elim (λ (h : get_elem? xs j ≡ some b). inl h) (λ (h : (j ≡ length xs) × (a ≡ b)). inr (ap suc h.0, h.1)) (at_end xs a b j e)
+  at_end [] a b j e = grind (arith, some-injective)
+  at_end (x ∷ xs) a b j e = grind (arith, at_end xs)
+
+  pub every_both : (P Q R : A → Type 0) → ((x : A) → P x → Q x → R x) → (xs : List A) → AllByRecursion P xs → AllByRecursion Q xs → AllByRecursion R xs
+  every_both P Q R f [] h k = tt
+  every_both P Q R f (x ∷ xs) h k = (f x h.0 k.0, every_both P Q R f xs h.1 k.1)
 
   pub every_from : (P Q : A → Type 0) → ((x : A) → P x → Q x) → (xs : List A) → AllByRecursion P xs → AllByRecursion Q xs
-  every_from P Q f [] h = tt
-  every_from P Q f (x ∷ xs) h = (f x h.0, every_from P Q f xs h.1)
+  every_from P Q f xs h = every_both P P Q (λ x p _. f x p) xs h h
 
   pub every_append : (P : A → Type 0) (xs ys : List A) → AllByRecursion P xs → AllByRecursion P ys → AllByRecursion P (xs ++ ys)
   every_append P xs ys h k = grind (arith, common_steps)
@@ -30,17 +29,9 @@ module _ {A : Type 0} where
   every_map f P [] h = tt
   every_map f P (x ∷ xs) h = (h.0, every_map f P xs h.1)
 
-  pub every_both : (P Q R : A → Type 0) → ((x : A) → P x → Q x → R x) → (xs : List A) → AllByRecursion P xs → AllByRecursion Q xs → AllByRecursion R xs
-  every_both P Q R f [] h k = tt
-  every_both P Q R f (x ∷ xs) h k = (f x h.0 k.0, every_both P Q R f xs h.1 k.1)
-
-  pub pairwise_from : (R S : A → A → Type 0) → ((x y : A) → R x y → S x y) → (xs : List A) → Pairwise R xs → Pairwise S xs
-  pairwise_from R S f [] h = tt
-  pairwise_from R S f (x ∷ xs) h = (every_from (R x) (S x) (λ y. f x y) xs h.0, pairwise_from R S f xs h.1)
-
-  pub pairwise_map : {B : Type 0} (f : A → B) (R : B → B → Type 0) (xs : List A) → Pairwise (λ x y. R (f x) (f y)) xs → Pairwise R (map f xs)
-  pairwise_map f R [] h = tt
-  pairwise_map f R (x ∷ xs) h = (every_map f (R (f x)) xs h.0, pairwise_map f R xs h.1)
+  pub pairwise_map : {B : Type 0} (f : A → B) (R : A → A → Type 0) (S : B → B → Type 0) → ((x y : A) → R x y → S (f x) (f y)) → (xs : List A) → Pairwise R xs → Pairwise S (map f xs)
+  pairwise_map f R S g [] h = tt
+  pairwise_map f R S g (x ∷ xs) h = (every_map f (S (f x)) xs (every_from (R x) (λ y. S (f x) (f y)) (g x) xs h.0), pairwise_map f R S g xs h.1)
 
   -- R holds pairwise in two lists joined, if it does in each and between each element of the first
   -- and each of the second
@@ -58,25 +49,23 @@ module _ {A : Type 0} where
   comparable [] ys zs p q = inl (ys, refl)
   comparable (x ∷ xs) [] zs p q = inr (x ∷ xs, refl)
   comparable (x ∷ xs) (y ∷ ys) [] p q = let e = p.1 in cc
-  comparable (x ∷ xs) (y ∷ ys) (z ∷ zs) p q = let a = p.1 in let b = q.1 in let hx : x ≡ z = cc in let hy : y ≡ z = cc in let tx : xs ++ p.0 ≡ zs = cc in let ty : ys ++ q.0 ≡ zs = cc in
-      let same : x ≡ y = cc in
-      ⊎_elim (λ (r : IsPrefix xs ys). inl (r.0, λ i. same i ∷ r.1 i)) (λ (r : IsPrefix ys xs). inr (r.0, λ i. sym same i ∷ r.1 i)) (comparable xs ys zs (p.0, tx) (q.0, ty))
+  comparable (x ∷ xs) (y ∷ ys) (z ∷ zs) p q = grind (arith, comparable xs ys zs)
 
 module _ {E : Type 0} where
   pub continues_same : (pass : ℕ) (xs : List (ℕ × E)) → Continues pass xs xs
   continues_same pass xs = ([], sym (append-nil xs), tt)
 
-  -- none of the entries that another pass signs names this one
-  signed_else : (pass other : ℕ) (es : List E) → other ≢ pass → AllByRecursion (λ (e : ℕ × E). e.0 ≢ pass) (signed other es)
-  signed_else pass other [] ne = tt
-  signed_else pass other (e ∷ es) ne = (ne, signed_else pass other es ne)
+  -- what holds of each entry that a pass signs holds of all signed entries
+  pub signed_all : (P : ℕ × E → Type 0) (pass : ℕ) (es : List E) → ((e : E) → P (pass, e)) → AllByRecursion P (signed pass es)
+  signed_all P pass [] each = tt
+  signed_all P pass (e ∷ es) each = (each e, signed_all P pass es each)
 
   -- a history that continues an old one for this pass still does after another pass has put entries
   pub continues_on : (pass other : ℕ) (old log new : List (ℕ × E)) (es : List E) → other ≢ pass → Continues pass old log → new ≡ log ++ signed other es → Continues pass old new
   continues_on pass other old log new es ne c is = (
     c.0 ++ signed other es,
     is ∙ (ap (λ l. l ++ signed other es) c.1 ∙ append_assoc old c.0 (signed other es)),
-    every_append (λ (e : ℕ × E). e.0 ≢ pass) c.0 (signed other es) c.2 (signed_else pass other es ne),
+    every_append (λ (e : ℕ × E). e.0 ≢ pass) c.0 (signed other es) c.2 (signed_all (λ (e : ℕ × E). e.0 ≢ pass) other es (λ e. ne)),
   )
 
   -- if one history continues what each of two passes has seen, one of them has seen a beginning of
@@ -95,8 +84,7 @@ module _ {E : Type 0} where
   -- a history continues what a pass had seen, and more entries are put after it: the pass's own
   -- entries are those that it had, and then those among the new ones
   pub own_grows : (pass : ℕ) (old found es : List (ℕ × E)) → Continues pass old found → put_by pass 1 (found ++ es) ≡ put_by pass 1 old ++ put_by pass (1 + length found) es
-  own_grows pass old found es c = named_append pass 1 found es ∙ ap (λ l. l ++ put_by pass (1 + length found) es)
-      (ap (put_by pass 1) c.1 ∙ (named_append pass 1 old c.0 ∙ (ap (λ l. put_by pass 1 old ++ l) (named_else pass (1 + length old) c.0 c.2) ∙ append-nil (put_by pass 1 old))))
+  own_grows pass old found es c = rw (named_append pass 1 found es, c.1, named_append pass 1 old c.0, named_else pass (1 + length old) c.0 c.2, append-nil) refl
 
   named_signed : (pass k : ℕ) (es : List E) → put_by pass k (signed pass es) ≡ placed k es
   named_signed pass k [] = refl
@@ -108,7 +96,3 @@ module _ {E : Type 0} where
 
   pub own_same : (pass : ℕ) (old new : List (ℕ × E)) → Continues pass old new → put_by pass 1 new ≡ put_by pass 1 old
   own_same pass old new c = ap (put_by pass 1) (sym (append-nil new)) ∙ (own_grows pass old new [] c ∙ append-nil (put_by pass 1 old))
-
-  pub names_signed : (n pass : ℕ) (es : List E) → 0 < pass → pass ≤ n → NamesUpTo n (signed pass es)
-  names_signed n pass [] low high = tt
-  names_signed n pass (e ∷ es) low high = ((low, high), names_signed n pass es low high)

@@ -2,7 +2,7 @@
 -- generated types and their variants, and lemmas of these crates and of std.
 pub use Rattle.std.proofs.Common.{List, Option, Some, [], add-zero, ap, append_assoc, arith, cond, eq-eqb, eqb, get_or, inl, inr, length, map, ne_eqb, refl, rules, set, subst, suc, sym, vec_capacity, vec_len, zero, ℕ, ⊎_elim, ◌%◌, ◌++◌, ◌+◌, ◌-◌, ◌<◌, ◌^◌, ◌∙◌, ◌∷◌, ◌≡◌, ◌≢◌, ◌≤◌, ◌⊎◌}
 pub use Rattle.std.proofs.lemmas.Grind.{common_steps}
-pub use Rattle.std.proofs.lemmas.List.{append-nil, map-append}
+pub use Rattle.std.proofs.lemmas.List.{append-nil, map-append, nil_from_length}
 pub use Rattle.std.proofs.lemmas.Simd.{map-map}
 pub use Rattle.std.specs.List.{AllByRecursion}
 pub use mathlib.Core.List.{IsPrefix}

@@ -1,6 +1,6 @@
 -- The release, which gives the value back.
-use Rattle.rd_lock.proofs.Prelude.{Adds, Allows, Continues, Facts, Holds, IsKept, KnowsOpening, Lock, LockRule, Me, MemberFits, NamesUpTo, Out, PassView, Place, Releases, Stage, StageFits, View, away, get_elem?, gives, with_put, home, homes_after, only, signed, single_slot, some, some-injective, ticket, view_of, ◌≡◌, ◌≢◌, ℕ, ◌+◌, ◌%◌, ◌^◌, ◌<◌, ◌≤◌, List, [], ◌∷◌, ◌++◌, sym, refl, ap, ◌∙◌, subst, arith, Some, length, Option}
-use Rattle.rd_lock.proofs.Lists.{one_of, every_append, continues_same, continues_on, names_signed}
+use Rattle.rd_lock.proofs.Prelude.{Adds, Allows, Continues, Facts, Holds, IsKept, KnowsOpening, Lock, LockRule, Me, MemberFits, NamesUpTo, Out, PassView, Place, Releases, View, get_elem?, gives, with_put, home, homes_after, only, signed, single_slot, some, some-injective, ticket, view_of, ◌≡◌, ◌≢◌, ℕ, ◌+◌, ◌%◌, ◌^◌, ◌<◌, ◌≤◌, List, [], ◌∷◌, ◌++◌, sym, refl, ap, ◌∙◌, subst, arith, Some, length, Option}
+use Rattle.rd_lock.proofs.Lists.{one_of, every_append, continues_same, continues_on, signed_all}
 use Rattle.rd_lock.proofs.Keeps.{allowed, moved, Owed, still}
 use Rattle.rd_lock.proofs.Looks.{others_fit, one_seat, newest_served}
 
@@ -21,13 +21,6 @@ module _ {T E O : Type 0} (lock : Lock T E O) where
     one_seat = λ one. absurd (ne (one_seat lock f id j p q one mine h));
   }
 
-  -- the pass that put still fits
-  putter_suits : (f : Facts T E) (id : ℕ) (x : T) (p : PassView E O) → MemberFits lock f id p → MemberFits lock (done f x) id (with_put (history x) (f.served + 1) p)
-  putter_suits f id x p h = grind (arith, continues_same)
-
-  done_stays : (f : Facts T E) (id j : ℕ) (x : T) → j ≢ id → f.taker f.served ≡ id → f.place ≡ away id → (s : Stage E) → StageFits lock f j s → StageFits lock (done f x) j s
-  done_stays f id j x ne mine is s h = grind arith
-
   gives_back : (id : ℕ) (p : PassView E O) (t : ℕ) (log : List (ℕ × E)) (x : T) (es : List E) (f : Facts T E) (views : List (View E O)) → history x ≡ log ++ signed p.pass es → origin x ≡ p.origin → IsKept lock f views
       → get_elem? views id ≡ some (view_of (p ∷ []) (Holds t log))
       → Owed lock id (view_of (p ∷ []) (Holds t log), (0, Some x) ∷ []) 0 (λ n. (n + 1) % 2 ^ 64) (Releases history origin (view_of (p ∷ []) (Holds t log), (0, Some x) ∷ [])) f views
@@ -43,9 +36,9 @@ module _ {T E O : Type 0} (lock : Lock T E O) where
         tt,
         subst (λ (l : Place T). homes_after (single_slot l) ((0, Some x) ∷ []) gives ≡ single_slot (home x)) (sym stage.3) refl,
         moved lock f g views id v w kept at (omega arith) limit
-            (subst (NamesUpTo seats) (sym more) (every_append (λ (y : ℕ × E). (0 < y.0) × (y.0 ≤ seats)) f.log (signed p.pass es) kept.names (names_signed seats p.pass es number.0 number.1)))
-            (record { members = (putter_suits f id x p mine, tt); apart = (tt, tt); stage = tt; alone = tt }) refl refl
-            (λ j u ne there h. others_fit lock f g j u (λ q. done_suits f id j x es p q mine ne more) (done_stays f id j x ne here stage.3) h)
+            (subst (NamesUpTo seats) (sym more) (every_append (λ (y : ℕ × E). (0 < y.0) × (y.0 ≤ seats)) f.log (signed p.pass es) kept.names (signed_all (λ (y : ℕ × E). (0 < y.0) × (y.0 ≤ seats)) p.pass es (λ e. number))))
+            (record { members = (grind (arith, continues_same), tt); apart = (tt, tt); stage = tt; alone = tt }) refl refl
+            (λ j u ne there h. others_fit lock f g j u (λ q. done_suits f id j x es p q mine ne more) (let away_is = stage.3 in λ s fit. grind arith) h)
             (λ u low high. still (λ z. ticket z.stage ≡ some u) views id (f.taker u) v w at (λ e. let same : t ≡ u = some-injective t u e in absurd (omega arith)) (kept.each_ticket u (omega arith) high))
             (refl, root_is ∙ mine.knows_opening.1),
         record {

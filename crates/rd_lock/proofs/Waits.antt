@@ -1,5 +1,5 @@
 -- Loads of the word `served` by a pass that waits.
-use Rattle.rd_lock.proofs.Prelude.{◌≡◌, ℕ, List, [], ◌∷◌, sym, refl, ap, ◌∙◌, subst, arith, length, Option, Allows, Facts, Holds, IsKept, Lock, LockRule, Me, MemberFits, PassView, Polls, Stage, StageFits, View, Waits, ℕ_discrete, after_served, away, dite, get_elem?, home, in_hand, with_served_seen, only, set_here, some, ticket, view_of}
+use Rattle.rd_lock.proofs.Prelude.{◌≡◌, ℕ, List, [], ◌∷◌, sym, refl, ap, ◌∙◌, subst, arith, length, Option, Allows, Facts, Holds, IsKept, Lock, LockRule, Me, PassView, Polls, Stage, StageFits, View, Waits, ℕ_discrete, after_served, away, dite, get_elem?, in_hand, with_served_seen, only, set_here, some, ticket, view_of}
 use Rattle.rd_lock.proofs.Lists.{inside}
 use Rattle.rd_lock.proofs.Keeps.{allowed, moved, Owed, single, still, takes_home, unmoved}
 use Rattle.rd_lock.proofs.Looks.{others_fit, served_suits, newest_served, served_kept}
@@ -11,12 +11,6 @@ module _ {T E O : Type 0} (lock : Lock T E O) where
   abbrev taken : Facts T E → ℕ → Facts T E
   taken f id = record { next = f.next; served = f.served; log = f.log; owner = f.owner; taker = f.taker; place = away id }
 
-  taken_suits : (f : Facts T E) (id j : ℕ) (p : PassView E O) → MemberFits lock f j p → MemberFits lock (taken f id) j p
-  taken_suits f id j p h = record { owned = h.owned; numbered = h.numbered; knows_opening = h.knows_opening; continues = h.continues; words = h.words; one_seat = h.one_seat }
-
-  taken_stays : (f : Facts T E) (id j : ℕ) (x : T) → f.place ≡ home x → (s : Stage E) → StageFits lock f j s → StageFits lock (taken f id) j s
-  taken_stays f id j x is s h = grind arith
-
   served_takes : (id : ℕ) (p : PassView E O) (f : Facts T E) (views : List (View E O)) → IsKept lock f views → get_elem? views id ≡ some (view_of (p ∷ []) (Waits f.served))
       → Owed lock id (view_of (p ∷ []) (Waits f.served), []) 0 (λ n. n) (Polls history origin (view_of (p ∷ []) (Waits f.served), [])) f views
   served_takes id p f views kept at = let v : View E O = view_of (p ∷ []) (Waits f.served) in let fits = kept.each_view id v at in let there = at_home lock f views f.place kept refl (λ k u here holds. let theirs = subst (StageFits lock f k) holds (kept.each_view k u here).stage in let mine = fits.stage in grind arith) in let x : T = there.0 in
@@ -24,8 +18,8 @@ module _ {T E O : Type 0} (lock : Lock T E O) where
       let g : Facts T E = taken f id in let mine = fits.stage in let suits = served_suits lock f id p kept.order fits.members.0 in
       takes_home lock id v 0 (λ n. n) (Polls history origin (v, [])) f g views w x there.1 refl refl
       (moved lock f g views id v w kept at kept.order kept.limit kept.names
-      (record { members = (taken_suits f id id (with_served_seen f.served p) suits, tt); apart = (tt, tt); stage = (refl, mine.1, mine.2, refl, there.2); alone = (with_served_seen f.served p, refl) }) refl refl
-      (λ j u ne here h. others_fit lock f g j u (taken_suits f id j) (taken_stays f id j x there.1) h)
+      (record { members = (grind arith, tt); apart = (tt, tt); stage = (refl, mine.1, mine.2, refl, there.2); alone = (with_served_seen f.served p, refl) }) refl refl
+      (λ j u ne here h. others_fit lock f g j u (λ q fit. grind arith) (let home_is = there.1 in λ s fit. grind arith) h)
       (λ t low high. still (λ u. ticket u.stage ≡ some t) views id (f.taker t) v w at (λ e. e) (kept.each_ticket t low high))
       (w, set_here views id w (inside views id v at), (λ i. Holds f.served (there.2 i))))
       (record { newest = newest_served lock f views id v kept fits; served = λ is. (x, (found lock f id x p at_home fits.members.0, tt), refl); waits = λ ne. absurd (ne refl) })

@@ -1,10 +1,6 @@
 use Rattle.rd_lock.proofs.Prelude.{◌≡◌, sym, subst, arith, map-map, AreAll, IsClosedOver, me}
-use Rattle.rd_lock.proofs.Lists.{every_from}
 use Rattle.rd_lock.proofs.PassLists.{of_each}
 use Rattle.rd_lock.proofs.locks.TicketLock.close.Goals as goal
-
-pub close_table-closed-requires-clause-own : goal.close_table-closed-requires-clause-own
-close_table-closed-requires-clause-own g c = grind (arith, every_from)
 
 pub returns-then-served-next-clause-err : goal.returns-then-served-next-clause-err
 returns-then-served-next-clause-err g c = let e = c.close_table-closed.ensures.ended _ _ _ c.word-served.ensures c.word-next.ensures c.take-slot.ensures.value in let order = e.order in let differ = c.if-served-next.true in (omega arith, e.limit)
@@ -25,5 +21,4 @@ returns-clause-ok g c = let e = c.close_table-closed.ensures.ended _ _ _ c.word-
     subst (λ value. IsClosedOver c.args.self c.args.passes.items (g.T.Recorded.history value)) same (record { names = v.3; continues = of_each me _ c.args.passes.items v.4 })
 
 pub returns-clause-rooted : goal.returns-clause-rooted
-returns-clause-rooted g c = let e = c.close_table-closed.ensures.ended _ _ _ c.word-served.ensures c.word-next.ensures c.take-slot.ensures.value in let v = e.value c.if-served-next.false in
-    let found = v.1 in let is = c.in-Some.is in let same : v.0 ≡ c.in-Some.value = cc in rw (← same) v.2
+returns-clause-rooted g c = let e = c.close_table-closed.ensures.ended _ _ _ c.word-served.ensures c.word-next.ensures c.take-slot.ensures.value in let v = e.value c.if-served-next.false in grind arith

@@ -1,4 +1,4 @@
-use Rattle.rd_lock.proofs.Prelude.{rules, arith, lock_of}
+use Rattle.rd_lock.proofs.Prelude.{rules, lock_of}
 use Rattle.rd_lock.proofs.Looks.{looks_next}
 use Rattle.rd_lock.proofs.Draws.{draws}
 use Rattle.rd_lock.proofs.locks.TicketLock.take.Goals as goal
@@ -7,8 +7,4 @@ pub load-ticket-requires : goal.load-ticket-requires
 load-ticket-requires g c = (search rules, search rules, looks_next (lock_of g.T.Recorded.history g.T.Recorded.origin _ _) _ _ c.args.pass.now.seat.me)
 
 pub compare_exchange-next-requires : goal.compare_exchange-next-requires
-compare_exchange-next-requires g c = let pass = c.draws.pass in let i = c.draws.invariant in (
-  search rules,
-  search rules,
-  draws (lock_of g.T.Recorded.history g.T.Recorded.origin _ _) _ _ pass.seat.me c.draws.ticket pass.alone i.out pass.hand (omega arith),
-)
+compare_exchange-next-requires g c = search (rules, draws)

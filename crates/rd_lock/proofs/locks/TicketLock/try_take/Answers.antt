@@ -7,11 +7,7 @@ pub load-served-requires : goal.load-served-requires
 load-served-requires g c = (search rules, search rules, looks_served (lock_of g.T.Recorded.history g.T.Recorded.origin _ _) _ _ c.args.pass.now.seat.me)
 
 pub compare_exchange-next-requires : goal.compare_exchange-next-requires
-compare_exchange-next-requires g c = let pass = c.args.pass.now in (
-  search rules,
-  search rules,
-  tries (lock_of g.T.Recorded.history g.T.Recorded.origin _ _) _ _ pass.seat.me c.load-served.new.seat.me c.load-served.result pass.alone c.requires.out pass.hand c.load-served.ensures.2 (omega arith),
-)
+compare_exchange-next-requires g c = search (rules, tries)
 
 pub exchange-found-requires : goal.exchange-found-requires
 exchange-found-requires g c = let won = c.compare_exchange-next.ensures.2.won (omega arith) in (search rules, (Some won.0, search rules))
