@@ -1,22 +1,13 @@
 -- What one more call makes of a history, and of the room of its list.
-use Rattle.rd_desk.proofs.Prelude.{BookState, Call, Command, IsCapacity, IsLeftBy, IsLegal, IsObeyed, Refusal, book_state, Reply, viewer_entry, ∥∥₁_map, session_of, AreObeyed, ◌≡◌, ◌+◌, ◌*◌, ◌^◌, ◌⊎◌, inl, inr, max, suc, arith, Ok, Err, OnOk, OnErr, ℕ, List, [], ◌∷◌, ◌++◌, refl, sym, ap, map, ◌∙◌, subst, Result, journal}
+use Rattle.rd_desk.proofs.Prelude.{BookState, Call, Command, IsCapacity, IsLeftBy, IsLegal, IsObeyed, Refusal, book_state, Reply, viewer_entry, ∥∥₁_map, session_of, ◌≡◌, ◌+◌, ◌*◌, ◌^◌, ◌⊎◌, inl, inr, max, suc, arith, Ok, Err, OnOk, OnErr, ℕ, List, [], ◌∷◌, ◌++◌, sym, ap, map-append, ◌∙◌, subst, Result, journal}
 use Rattle.rd_marks.specs.declared.books.Book.{Book}
 use Rattle.rd_marks.proofs.Headlines.{book_runs}
+use Rattle.rd_marks.proofs.ObeyLemmas.{one_more_obeyed}
 use Rattle.std.proofs.lemmas.Nat.{pow_pos}
-
--- the commands of these entries, done one after another, have the recorded answers and lead to
--- `last`
-abbrev Obeys : BookState → List (ℕ × Call) → BookState → Type 0
-Obeys b es last = AreObeyed b (map (λ e. e.1.command) es) (map (λ e. e.1.answer) es) last
-
-one_more : (viewer : ℕ) (b m t : BookState) (es : List (ℕ × Call)) (c : Command) (answer : Result Reply Refusal)
-    → Obeys b es m → IsObeyed m c (record { answer = answer; state = t }) → Obeys b (es ++ viewer_entry viewer c answer ∷ []) t
-one_more viewer b m t [] c answer h k = (t, subst (λ (s : BookState). IsObeyed s c (record { answer = answer; state = t })) h k, refl)
-one_more viewer b m t (e ∷ es) c answer h k = (h.0, h.1, one_more viewer h.0 m t es c answer h.2 k)
 
 pub nothing_yet : {R : ℕ} (b : BookState) (book : Book R) (es : List (ℕ × Call)) → es ≡ [] → book_state book ≡ b → IsLeftBy b es book
 nothing_yet b book es none same = ∣ record {
-  answered = subst (λ (xs : List (ℕ × Call)). Obeys b xs (book_state book)) (sym none) same;
+  answered = rw none same;
   start = ap (λ (s : BookState). s.session.start) same;
   is_run = book_runs book;
 } ∣₁
@@ -27,9 +18,7 @@ pub one_recorded : {R : ℕ} (viewer : ℕ) (b : BookState) (before after : Book
     → (book_state after).session.start ≡ (book_state before).session.start → new ≡ old ++ viewer_entry viewer c answer ∷ [] → IsLeftBy b new after
 one_recorded viewer b before after old new c answer h k start is =
     ∥∥₁_map h (λ l. record {
-      answered =
-          subst (λ (xs : List (ℕ × Call)). Obeys b xs (book_state after)) (sym is)
-          (one_more viewer b (book_state before) (book_state after) old c answer l.answered k);
+      answered = rw (is, map-append, map-append) (one_more_obeyed b (book_state before) (book_state after) _ _ c answer l.answered k);
       start = start ∙ l.start;
       is_run = book_runs after;
     })

@@ -11,7 +11,6 @@ use Rattle.atomic_table.specs.contracts.send_lease.SendLease as SendLease
 use Rattle.atomic_table.proofs.Sent.{seat_keyless, shares_keyless}
 use Rattle.atomic_table.proofs.Rights.{right_send}
 use Rattle.std.specs.contracts.alloc.Global as Heap
-use Rattle.std.specs.contracts.option.Option as Option
 use Rattle.std.specs.contracts.impls.GlobalAllocator.TheImpl.{ghosts as heap_ghosts}
 use Rattle.rd_marks.specs.contracts.books.Book as Book
 use Rattle.rd_lock.specs.contracts.locks.TicketLock as TicketLock
@@ -45,15 +44,11 @@ lease_sync T = record { shared = λ d b o ν q. part_keyless (SendLease.the_row 
 pub table_sync : (S V K P : RattleType) (g : Ghosts P.Denot S.Denot V.Denot K.Denot) → IsSend S → IsSync (Table.the_field S V K P Heap.the_row g heap_ghosts).row
 table_sync S V K P g s = struct_sync (shape (Table.the_type S V K P Heap.the_row g heap_ghosts)) (shared_sync S V K P g s, (search sendable depth 20, (search sendable depth 20, (lease_sync _, (lease_sync _, (search (sendable, crosses) depth 20, tt))))))
 
--- what the slot of the lock holds may be sent
-pub kept_send : (R : RattleType) → IsSend (Option.the_row (BookWithHistory.the_row R))
-kept_send R = search (book_with_history_send, sendable, crosses) depth 60 fits 100000
-
 -- viewers in several threads may share a desk
 pub desk_sync : (R : RattleType) → IsSync (Desk.the_row R)
 desk_sync R = recorded_sync _ _ _ (Desk.the_type R).to_one
     (struct_sync (shape (Desk.the_type R)) (
       struct_sync (shape (TicketLock.the_type (BookWithHistory.the_row R) Call.the_row (Book.the_row R) (Recorded.ghosts R)))
-          (search (table_sync, kept_send) depth 60 fits 100000, tt),
+          (search (table_sync, book_with_history_send, sendable, crosses) depth 60 fits 100000, tt),
       tt,
     ))

@@ -1,11 +1,10 @@
-use Rattle.rd_desk.proofs.Prelude.{arith, subst, IsDone, IsJoined, common_steps}
-use Rattle.rd_desk.proofs.ChainLemmas.{one_more_pair}
+use Rattle.rd_desk.proofs.Prelude.{arith, subst, IsDone, IsJoined, all_zipped_more, common_steps}
 use Rattle.rd_desk.proofs.threads.join_all.Goals as goal
 use Rattle.rd_desk.proofs.threads.join_all.Goals.{in-Err, in-Ok}
 
 pub loop-handle-preserved : goal.loop-handle-preserved
 loop-handle-preserved g c = record {
-  are_joined = rw c.push_reserved.ensures.items (one_more_pair (IsJoined g.G.Gate.takes g.G.Gate.told) c.loop-handle.yielded c.loop-handle.dones.items c.in-Some.handle c.match-handle.done c.loop-handle.invariant.are_joined
+  are_joined = rw c.push_reserved.ensures.items (all_zipped_more (IsJoined g.G.Gate.takes g.G.Gate.told) c.loop-handle.yielded c.loop-handle.dones.items c.in-Some.handle c.match-handle.done c.loop-handle.invariant.are_joined
       (elim c.match-handle.branch [
         | in-Err w ↦ λ gate viewer started. rw w.done-is (rw w.in-Err.is at started)
         | in-Ok w ↦ λ gate viewer started. let s = rw w.in-Ok.is at started in let T = g.G.Gate.takes in let U = g.G.Gate.told in let h = w.in-Ok.handle.promise in let r = w.join-done.result in

@@ -1,5 +1,5 @@
-use Rattle.rd_desk.proofs.Prelude.{◌∙◌, ap, arith, length, subst, sym, map-id, AllZip, IsRoomFor, IsStarted, YieldsList-end, YieldsList-from_vec, YieldsList-from_zip, YieldsList-turn, common_steps, sendable}
-use Rattle.rd_desk.proofs.ChainLemmas.{one_more_pair, pair_at, with_each, of_firsts}
+use Rattle.rd_desk.proofs.Prelude.{◌∙◌, ap, arith, length, subst, sym, map-id, AllZip, IsRoomFor, IsStarted, YieldsList-end, YieldsList-from_vec, YieldsList-from_zip, YieldsList-turn, all_zipped_more, common_steps, sendable}
+use Rattle.rd_desk.proofs.ChainLemmas.{pair_at, with_each, of_firsts}
 use Rattle.rd_desk.proofs.threads.start_all.Goals as goal
 use Rattle.rd_desk.proofs.threads.start_all.Goals.{in-Ok, in-Err}
 
@@ -20,7 +20,7 @@ spawn_with-requires-after_bounds g c κs within =
 
 pub loop-pass-preserved : goal.loop-pass-preserved
 loop-pass-preserved g c = record {
-  are_started = rw c.push_reserved.ensures.items (one_more_pair (λ pair. IsStarted g.G.Gate.takes g.G.Gate.told c.args.gate.now pair.0) c.loop-pass.yielded c.loop-pass.started.items ((c.in-Some.pass, c.in-Some.commands), c.in-Some.room) c.match-handle.start c.loop-pass.invariant.are_started
+  are_started = rw c.push_reserved.ensures.items (all_zipped_more (λ pair. IsStarted g.G.Gate.takes g.G.Gate.told c.args.gate.now pair.0) c.loop-pass.yielded c.loop-pass.started.items ((c.in-Some.pass, c.in-Some.commands), c.in-Some.room) c.match-handle.start c.loop-pass.invariant.are_started
       (elim c.match-handle.branch [
         | in-Ok w ↦ let is = w.in-Ok.ensures.ok in rw w.start-is (ap (λ q. q.gate.value) is ∙ c.of.ensures, ap (λ q. q.pass.value) is ∙ c.of-in-loop-pass.ensures, ap (λ q. q.commands.value) is ∙ c.of-in-loop-pass-2.ensures)
         | in-Err w ↦ rw w.start-is (rw w.in-Err.ensures.err at w.spawn_with.ensures)

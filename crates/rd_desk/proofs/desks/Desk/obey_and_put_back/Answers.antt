@@ -4,15 +4,9 @@ use Rattle.rd_desk.proofs.PassLemmas.{recorded_by}
 use Rattle.rd_desk.proofs.desks.Desk.obey_and_put_back.Goals as goal
 
 pub put_back-requires-clause-value : goal.put_back-requires-clause-value
-put_back-requires-clause-value g c = let found = entries c.args.kept.history in let new = entries c.record-answer.new.self.history in let pass = c.args.pass.now in record {
-  rooted = c.record-answer.ensures.opened ∙ c.requires.taken.rooted;
-  held = (
-    c.requires.taken.held.0,
-    found,
-    c.requires.taken.held.2,
-    (recorded_by (opened_state c.args.self.now) (number pass) (seen pass) found new c.args.command pass c.record-answer.result (rw c.number.ensures at c.record-answer.ensures.recorded)).0,
-  );
-}
+put_back-requires-clause-value g c =
+    let by = recorded_by (opened_state c.args.self.now) _ (seen c.args.pass.now) _ _ _ c.args.pass.now c.record-answer.result (rw c.number.ensures at c.record-answer.ensures.recorded) in
+    record { rooted = c.record-answer.ensures.opened ∙ c.requires.taken.rooted; held = (c.requires.taken.held.0, _, c.requires.taken.held.2, by.0) }
 
 pub returns-clause-outcome : goal.returns-clause-outcome
 returns-clause-outcome g c = let found = entries c.args.kept.history in let new = entries c.record-answer.new.self.history in let pass = c.args.pass.now in
@@ -24,5 +18,4 @@ returns-clause-outcome g c = let found = entries c.args.kept.history in let new 
     }
 
 pub returns-clause-waits : goal.returns-clause-waits
-returns-clause-waits g c = let pass = c.args.pass.now in
-    (recorded_by (opened_state c.args.self.now) (number pass) (seen pass) (entries c.args.kept.history) (entries c.record-answer.new.self.history) c.args.command pass c.record-answer.result (rw c.number.ensures at c.record-answer.ensures.recorded)).1
+returns-clause-waits g c = (recorded_by (opened_state c.args.self.now) _ (seen c.args.pass.now) _ _ _ c.args.pass.now c.record-answer.result (rw c.number.ensures at c.record-answer.ensures.recorded)).1
