@@ -1,11 +1,10 @@
 -- The words that several proofs of the crate use: definitions of this crate and of those below,
 -- generated types and their variants, and lemmas of these crates and of std.
 pub use denote.Param.{number as number_of}
-pub use Rattle.rd_cell.proofs.Prelude.{AllByRecursion, AllZip, AllZip-long, Appends, Bool, Err, Global, IfErr, IsErrAnd, List, None, Ok, OnOk, Option, Result, Some, Vec, [], add-one, ap, append-nil, append_assoc, arith, crosses, drop, drop-cons, drop_of_length-le, false, get_or, length, length-map, map, map-append, nil_from_length, refl, sendable, subst, suc, sym, take, true, zero, ℕ, ∥∥₁_map, ◌++◌, ◌+◌, ◌<◌, ◌^◌, ◌∙◌, ◌∷◌, ◌≡◌}
-pub use Rattle.rd_marks.proofs.Prelude.{BookState, book_state}
-pub use Rattle.rd_script.proofs.Prelude.{Book, Command, Says, TakesBeginning, commands_of, lines_of, text_of}
-pub use Rattle.rd_lock.proofs.Prelude.{Continues, NamesUpTo, next_seen, number, numbers, put_by, seen}
-pub use Rattle.rd_desk.proofs.Prelude.{Answer, Ghosts, IsChain, IsDone, IsLegal, IsNewViewer, IsNotBusy, IsViewerOf, KnowsAfterAsk, KnowsWords, Pass, SeesAfter, entries, opened_state, own_same}
+pub use Rattle.rd_cell.proofs.Prelude.{AllByRecursion, AllZip, AllZip-long, Bool, Err, Global, IfErr, List, None, Ok, OnOk, Option, Result, Some, Vec, [], add-one, ap, append-nil, append_assoc, arith, crosses, drop, drop-cons, drop_of_length-le, false, get_or, length, length-map, map, map-append, nil_from_length, refl, sendable, subst, suc, sym, take, zero, ℕ, ∥∥₁_map, ◌++◌, ◌+◌, ◌<◌, ◌^◌, ◌∙◌, ◌∷◌, ◌≡◌}
+pub use Rattle.rd_script.proofs.Prelude.{Book, BookState, Command, Says, book_state, commands_of, lines_of, text_of}
+pub use Rattle.rd_lock.proofs.Prelude.{Continues, next_seen, number, numbers, put_by, seen}
+pub use Rattle.rd_desk.proofs.Prelude.{Answer, Ghosts, IsChain, IsDone, IsNewViewer, IsNotBusy, IsViewerOf, KnowsAfterAsk, KnowsWords, Pass, SeesAfter, entries, opened_state, own_same}
 pub use Rattle.rd_desk.proofs.OwnCalls.{own_answered, own_refused}
 pub use Rattle.rd_desk.proofs.Sends.{book_with_history_send, desk_sync, seat_send}
 pub use Rattle.rd_desk.specs.declared.desks.Desk.{Desk}

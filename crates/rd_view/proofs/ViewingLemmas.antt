@@ -1,18 +1,14 @@
 -- What passes know after a chain of calls, and how the history that leaves the desk agrees with it.
-use Rattle.rd_view.proofs.Prelude.{◌≡◌, ◌∙◌, ◌^◌, ℕ, zero, suc, List, [], ◌∷◌, ◌++◌, Result, Ok, Err, IfErr, Option, Some, None, Vec, map, length, refl, sym, ap, subst, append_assoc, AllByRecursion, AllZip, Answer, AreAnswered, Book, BookState, BookWithHistory, Call, Command, Continues, Desk, Ghosts, Global, History, IsChain, IsNewViewer, IsNotBusy, IsDone, SeesAfter, IsViewerOf, KnowsAfterAsk, KnowsWords, LineFault, Pass, StaysEnded, TicketsEnded, AskedAll, append-nil, calls_of, commands_of, entries, map-append, put_by, next_seen, number, numbers, opened_state, own_answered, own_refused, own_same, seen}
+use Rattle.rd_view.proofs.Prelude.{◌≡◌, ◌∙◌, ◌^◌, ℕ, zero, suc, List, [], ◌∷◌, ◌++◌, Result, Ok, Err, IfErr, Option, Some, None, Vec, map, length, refl, ap, subst, append_assoc, AllByRecursion, AllZip, Answer, AreAnswered, Book, BookState, BookWithHistory, Call, Command, Continues, Desk, Ghosts, Global, History, IsChain, IsNewViewer, IsNotBusy, IsDone, SeesAfter, IsViewerOf, KnowsAfterAsk, KnowsWords, LineFault, Pass, StaysEnded, TicketsEnded, AskedAll, append-nil, calls_of, commands_of, entries, map-append, put_by, next_seen, number, numbers, opened_state, own_answered, own_refused, own_same, seen}
 
 module _ (opened : BookState) where
   -- after a chain of calls, the viewer's own calls have grown by those that were recorded
   chain_grew : (viewer : ℕ) (commands : List Command) (answers : List Answer) (old new : List (ℕ × Call)) → IsChain (SeesAfter opened viewer) old commands answers new
       → map (λ e. e.1) (put_by viewer 1 new) ≡ map (λ e. e.1) (put_by viewer 1 old) ++ calls_of commands answers
-  chain_grew viewer [] [] old new is = ap (λ es. map (λ e. e.1) (put_by viewer 1 es)) is ∙ sym (append-nil (map (λ e. e.1) (put_by viewer 1 old)))
+  chain_grew viewer [] [] old new is = rw (is, append-nil) refl
   chain_grew viewer (c ∷ commands) (Ok answer ∷ answers) old new is =
-      chain_grew viewer commands answers is.0 new is.2
-      ∙ ap (λ es. map (λ e. e.1) es ++ calls_of commands answers) (own_answered opened viewer old is.0 c answer is.1)
-      ∙ ap (λ es. es ++ calls_of commands answers) (map-append (λ e. e.1) (put_by viewer 1 old) _)
-      ∙ append_assoc (map (λ e. e.1) (put_by viewer 1 old)) (record { command = c; answer = answer } ∷ []) (calls_of commands answers)
-  chain_grew viewer (c ∷ commands) (Err refusal ∷ answers) old new is =
-      chain_grew viewer commands answers is.0 new is.2 ∙ ap (λ es. map (λ e. e.1) es ++ calls_of commands answers) (own_refused opened viewer old is.0 c refusal is.1)
+      rw (chain_grew viewer commands answers is.0 new is.2, own_answered opened viewer old is.0 c answer is.1, map-append, append_assoc) refl
+  chain_grew viewer (c ∷ commands) (Err refusal ∷ answers) old new is = rw (chain_grew viewer commands answers is.0 new is.2, own_refused opened viewer old is.0 c refusal is.1) refl
   chain_grew viewer _ _ old new is = absurd is
 
 module _ (R : ℕ) (K : Ghosts (BookWithHistory R) Call (Book R)) (desk : Desk R) where
@@ -70,8 +66,8 @@ module _ (R : ℕ) (K : Ghosts (BookWithHistory R) Call (Book R)) (desk : Desk R
       → AskedAll (opened_state desk) (entries history) n commands answers
   was_answered history n first last commands answers new is chain on =
       let all = of_chain n commands answers first last is chain in
-      let histories : IsChain (SeesAfter (opened_state desk) n) [] commands answers (seen last) = subst (λ before. IsChain (SeesAfter (opened_state desk) n) before commands answers (seen last)) new.has_seen all.1 in
-      let continues : Continues n (seen last) (entries history) = subst (λ k. Continues k (seen last) (entries history)) all.0 on in
+      let histories = rw new.has_seen at all.1 in
+      let continues = rw all.0 at on in
       record {
         seen = seen last;
         chain = histories;
@@ -80,11 +76,6 @@ module _ (R : ℕ) (K : Ghosts (BookWithHistory R) Call (Book R)) (desk : Desk R
         waits = all.2;
         ended = all.3;
       }
-
-  -- a viewer that asked nothing has no call in the history
-  asked_nothing : (history : History) (n : ℕ) (first last : ViewPass) → IsNewViewer desk first → number first ≡ n → last ≡ first → Continues (number last) (seen last) (entries history) → put_by n 1 (entries history) ≡ []
-  asked_nothing history n first last new is same on =
-      own_same n [] (entries history) (subst (λ k. Continues k [] (entries history)) (ap number same ∙ is) (subst (λ before. Continues (number last) before (entries history)) (ap seen same ∙ new.has_seen) on))
 
   -- all viewers from this number on were answered as `AreAnswered` says
   pub all_answered : (history : History) (n : ℕ) (work : List (ViewPass × Vec Command Global)) (dones : List Done) (said : List (Vec (Result Command LineFault) Global))
@@ -95,12 +86,10 @@ module _ (R : ℕ) (K : Ghosts (BookWithHistory R) Call (Book R)) (desk : Desk R
   all_answered history n [] [] (lines ∷ said) pairs new is read knows = cc
   all_answered history n (viewer ∷ work) (done ∷ dones) [] pairs new is read knows = cc
   all_answered history n (viewer ∷ work) ((pass, Some answers) ∷ dones) (lines ∷ said) pairs new is read knows =
-      let same : viewer.1.items ≡ commands_of lines.items = cc in (
-        subst (λ commands. AskedAll (opened_state desk) (entries history) n commands answers.items) same (was_answered history n viewer.0 pass viewer.1.items answers.items new.0 (cc) pairs.0.1 knows.0),
-        all_answered history (suc n) work dones said pairs.1 new.1 (cc) (cc) knows.1,
-      )
+      let same : commands_of lines.items ≡ viewer.1.items = cc in
+      (rw same (was_answered history n viewer.0 pass viewer.1.items answers.items new.0 (cc) pairs.0.1 knows.0), all_answered history (suc n) work dones said pairs.1 new.1 (cc) (cc) knows.1)
   all_answered history n (viewer ∷ work) ((pass, None) ∷ dones) (lines ∷ said) pairs new is read knows =
-      (asked_nothing history n viewer.0 pass new.0 (cc) pairs.0.1 knows.0, all_answered history (suc n) work dones said pairs.1 new.1 (cc) (cc) knows.1)
+      (let first : number viewer.0 ≡ n = cc in own_same n [] (entries history) (rw (pairs.0.1, first, new.0.has_seen) at knows.0), all_answered history (suc n) work dones said pairs.1 new.1 (cc) (cc) knows.1)
   all_answered history n _ _ said pairs new is read knows = absurd pairs
 
 -- there are n numbers from k on

@@ -1,4 +1,4 @@
-use Rattle.rd_view.proofs.Prelude.{AllByRecursion, AreAnswered, Continues, IsLegal, IsNewViewer, IsViewerOf, NamesUpTo, book_state, book_with_history_send, crosses, desk_sync, entries, length-map, number, number_of, opened_state, seat_send, seen, sendable, ∥∥₁_map, ◌≡◌, ◌∙◌, length, map, ap, sym, subst, arith}
+use Rattle.rd_view.proofs.Prelude.{book_state, book_with_history_send, crosses, desk_sync, length-map, number, number_of, opened_state, seat_send, sendable, ∥∥₁_map, ◌≡◌, ◌∙◌, length, map, ap, sym, arith}
 use Rattle.rd_desk.specs.contracts.recording.BookWithHistoryRecorded.TheImpl as Recorded
 use Rattle.rd_view.proofs.ViewingLemmas.{all_answered, new_may_ask, own_passes, length-numbers}
 use Rattle.rd_view.proofs.viewing.run_over_desk.Goals as goal
@@ -16,34 +16,23 @@ pub ask_viewers-requires-sync-G : goal.ask_viewers-requires-sync-G
 ask_viewers-requires-sync-G g c κs within = search (desk_sync, sendable, crosses) depth 60 fits 100000
 
 pub ask_viewers-requires-clause-own : goal.ask_viewers-requires-clause-own
-ask_viewers-requires-clause-own g c κs within =
-    new_may_ask _ _ c.in-Ok.desk c.in_ok-work.work.items (subst (AllByRecursion (IsNewViewer c.in-Ok.desk)) (sym c.in_ok-work.ensures.passes) c.in-Ok.ensures.ok.are_new)
+ask_viewers-requires-clause-own g c κs within = new_may_ask _ _ c.in-Ok.desk c.in_ok-work.work.items (rw c.in_ok-work.ensures.passes c.in-Ok.ensures.ok.are_new)
 
 pub close-requires : goal.close-requires
-close-requires g c = (
-  omega arith,
-  (
-    omega arith,
-    (
-      omega arith,
-      subst (AllByRecursion (IsViewerOf c.in-Ok.desk)) (sym c.in_ok-passes.ensures.passes) (own_passes _ _ c.in-Ok.desk c.in_ok-work.work.items c.in-Ok-ask_viewers.dones.items c.in-Ok-ask_viewers.ensures.ok),
-    ),
-  ),
-)
+close-requires g c =
+    let own = own_passes _ _ c.in-Ok.desk c.in_ok-work.work.items c.in-Ok-ask_viewers.dones.items c.in-Ok-ask_viewers.ensures.ok in
+    (omega arith, (omega arith, (omega arith, rw c.in_ok-passes.ensures.passes own)))
 
 pub returns-in-Ok-close-clause-ok : goal.returns-in-Ok-close-clause-ok
 returns-in-Ok-close-clause-ok g c =
     let desk = c.in-Ok.desk in
-    let history = c.in-Ok-close.history in
     let closed = c.in-Ok-close.ensures.ok in
     let opened = c.in-Ok.ensures.ok in
     let state : opened_state desk ≡ book_state c.args.book = ap book_state opened.rooted in
     let passes = c.in_ok-work.ensures.passes in (
-      subst (λ first. IsLegal first (entries history)) state (∥∥₁_map c.in-Ok-close.ensures.leaves (λ l. (_, _, l))),
-      subst (λ n. NamesUpTo n (entries history)) opened.counted closed.names,
-      subst (λ answered. AreAnswered (book_state c.args.book) (entries history) 1 c.args.said.now answered) (sym c.in_ok-passes.ensures.answered)
-          (subst (λ first. AreAnswered first (entries history) 1 c.args.said.now (map (λ done. done.1) c.in-Ok-ask_viewers.dones.items)) state
-          (all_answered g.row.N (Recorded.ghosts (number_of g.row.N)) desk history 1 c.in_ok-work.work.items c.in-Ok-ask_viewers.dones.items c.args.said.now c.in-Ok-ask_viewers.ensures.ok
-          (subst (AllByRecursion (IsNewViewer desk)) (sym passes) opened.are_new) (ap (map number) passes ∙ opened.numbered) c.in_ok-work.ensures.commands
-          (subst (AllByRecursion (λ pass. Continues (number pass) (seen pass) (entries history))) c.in_ok-passes.ensures.passes closed.continues))),
+      rw (← state) (∥∥₁_map c.in-Ok-close.ensures.leaves (λ l. (_, _, l))),
+      rw (← opened.counted) closed.names,
+      rw (c.in_ok-passes.ensures.answered, ← state)
+          (all_answered g.row.N (Recorded.ghosts (number_of g.row.N)) desk c.in-Ok-close.history 1 c.in_ok-work.work.items c.in-Ok-ask_viewers.dones.items c.args.said.now c.in-Ok-ask_viewers.ensures.ok
+          (rw passes opened.are_new) (ap (map number) passes ∙ opened.numbered) c.in_ok-work.ensures.commands (rw c.in_ok-passes.ensures.passes at closed.continues)),
     )
