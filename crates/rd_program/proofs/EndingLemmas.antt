@@ -1,6 +1,6 @@
 -- What a stream takes of a text that is handed over in two parts.
-use Rattle.std.proofs.Common.{◌≡◌, ◌∙◌, true, false, ℕ, List, ◌++◌, Option, Result, Ok, Err, sym, ap, subst, append_assoc}
-use Rattle.std.specs.Prelude.{MatchBool, OnOk, OnErr}
+use Rattle.std.proofs.Common.{◌≡◌, ◌∙◌, true, false, ℕ, List, ◌++◌, Option, Result, Ok, Err, sym, ap, append_assoc}
+use Rattle.std.specs.Prelude.{OnOk, OnErr}
 use Rattle.std.specs.Io.KnownBytes.{Appends}
 use Rattle.std.proofs.KnownBytes.{Appends-trans}
 use Rattle.rd_script.specs.declared.devices.sinks.WriteFault.{WriteFault}
@@ -8,17 +8,9 @@ use Rattle.rd_script.specs.Device.{TakesBeginning}
 use Rattle.rd_script.specs.Streams.{Stream}
 use Rattle.rd_program.specs.Endings.{Takes}
 
--- a stream that works takes the whole of a text
-takes_whole : (s : Stream) (text : List ℕ) → s.failed ≡ false → Appends s.before s.after text → Takes s text
-takes_whole s text works whole = subst (λ b. MatchBool b (TakesBeginning s.before s.after text) (Appends s.before s.after text)) (sym works) whole
-
--- a stream that fails takes a beginning of a text
-takes_beginning : (s : Stream) (text : List ℕ) → s.failed ≡ true → TakesBeginning s.before s.after text → Takes s text
-takes_beginning s text fails beginning = subst (λ b. MatchBool b (TakesBeginning s.before s.after text) (Appends s.before s.after text)) (sym fails) beginning
-
 -- a stream that failed in the first part of a text took a beginning of the whole text
 pub takes_front : (s : Stream) (front back : List ℕ) → s.failed ≡ true → TakesBeginning s.before s.after front → Takes s (front ++ back)
-takes_front s front back fails took = takes_beginning s (front ++ back) fails (record {
+takes_front s front back fails took = rw fails (record {
   part = took.part;
   took = took.took;
   begins = (took.begins.0 ++ back, sym (append_assoc took.part took.begins.0 back) ∙ ap (λ l. l ++ back) took.begins.1);
@@ -28,8 +20,8 @@ takes_front s front back fails took = takes_beginning s (front ++ back) fails (r
 -- the second, took the text as `Takes` says
 pub takes_both : (s : Stream) (mid : Option (List ℕ)) (front back : List ℕ) (r : Result (Unit {0}) WriteFault) → Appends s.before mid front
     → OnOk r (Appends mid s.after back) → OnErr r (TakesBeginning mid s.after back) → OnOk r (s.failed ≡ false) → OnErr r (s.failed ≡ true) → Takes s (front ++ back)
-takes_both s mid front back (Ok _) first ok err works fails = takes_whole s (front ++ back) works (Appends-trans s.before mid s.after front back first ok)
-takes_both s mid front back (Err _) first ok err works fails = takes_beginning s (front ++ back) fails (record {
+takes_both s mid front back (Ok _) first ok err works fails = rw works (Appends-trans s.before mid s.after front back first ok)
+takes_both s mid front back (Err _) first ok err works fails = rw fails (record {
   part = front ++ err.part;
   took = Appends-trans s.before mid s.after front err.part first err.took;
   begins = (err.begins.0, append_assoc front err.part err.begins.0 ∙ ap (λ l. front ++ l) err.begins.1);

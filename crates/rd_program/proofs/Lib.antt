@@ -1,3 +1,2 @@
 pub mod ProgramLemmas
 pub mod EndingLemmas
-pub mod ViewerLemmas

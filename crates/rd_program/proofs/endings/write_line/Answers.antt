@@ -1,7 +1,6 @@
-use Rattle.std.proofs.Common.{◌∙◌, ◌++◌, codes, subst, Err}
+use Rattle.std.proofs.Common.{codes, Err}
 use Rattle.rd_script.specs.Replies.{text_of}
 use Rattle.rd_script.specs.Streams.{sink_stream}
-use Rattle.rd_program.specs.Endings.{Takes}
 use Rattle.rd_program.proofs.EndingLemmas.{takes_both, takes_front}
 use Rattle.rd_program.proofs.endings.write_line.Goals as goal
 
@@ -13,6 +12,5 @@ returns-in_err-write_all g c =
 pub returns : goal.returns
 returns g c =
     let s = sink_stream g.K.Sink c.args.stream.now c.write_all-2.new.writer in
-    subst (λ back. Takes s (codes "lcrqdb: " ++ back)) (c.as_slice.ensures.value ∙ c.set_answer.ensures)
-    (takes_both s (g.K.Sink.contents c.write_all.new.writer) (codes "lcrqdb: ") c.as_slice.result.now c.write_all-2.result c.in_ok-write_all.ensures.ok
+    rw (c.as_slice.ensures.value, c.set_answer.ensures) at (takes_both s (g.K.Sink.contents c.write_all.new.writer) (codes "lcrqdb: ") c.as_slice.result.now c.write_all-2.result c.in_ok-write_all.ensures.ok
     c.write_all-2.ensures.ok c.write_all-2.ensures.err c.write_all-2.ensures.works c.write_all-2.ensures.fails)
