@@ -1,37 +1,25 @@
 -- The program's faults for clap's errors; and clap's clauses are exact for the program's command.
-use Rattle.std.proofs.Common.{◌≡◌, ◌∙◌, inl, inr, refl, sym, subst, ap, true, List, []}
-use Rattle.clap.specs.Simple.{App, HasMatchesOf, is_simple, subcommand_rows_of, with_subcommand}
+use Rattle.std.proofs.Common.{arith, ◌≡◌, inl, inr, refl, true, List, []}
+use Rattle.clap.specs.Simple.{App, HasMatchesOf, subcommand_rows_of, with_subcommand}
 use Rattle.clap.specs.Kinds.{HasKind}
 use Rattle.clap.specs.Faults.{fault_of, is_simple_and_free}
 use Rattle.clap.specs.Values.{kind_of}
 use Rattle.clap.specs.Walk.{Text}
 use Rattle.clap.specs.declared.error.Error.{Error}
 use Rattle.clap.specs.declared.error.kind.ErrorKind.{ErrorKind}
-use Rattle.clap.specs.declared.error.kind.ErrorKind.TheVariants as kind
 use Rattle.clap.specs.declared.parser.matches.ArgMatches.{ArgMatches}
 use Rattle.rd_command_line.specs.declared.requests.Options.{Options}
 use Rattle.rd_command_line.specs.Options.{fault_by, options_fault}
-use Rattle.rd_command_line.specs.CommandLine.{AreRings, BothNames, GivesFault, HasFault, GivesOptions, GivesSubcommand, GivesNoOptions, is_request, program_app}
-
--- clap's clauses on matches are exact for the program's command
-pub program_is_simple : (names : BothNames) → is_simple (program_app names) ≡ true
-program_is_simple names = refl
-
--- clap's clauses on faults are exact for the program's command
-pub program_is_free : (names : BothNames) → is_simple_and_free (program_app names) ≡ true
-program_is_free names = refl
+use Rattle.rd_command_line.specs.CommandLine.{AreRings, BothNames, GivesFault, HasFault, GivesOptions, GivesSubcommand, GivesNoOptions, program_app}
 
 -- an error whose kind clap finds in the words is a reason why they give no options
 GivesFault-fault_by : (words : List Text) (k : ErrorKind) (e : Error) → kind_of e ≡ k → HasFault words k → GivesFault words (fault_by k e)
-GivesFault-fault_by words kind.DisplayHelp e is fault = (ap is_request is, subst (HasFault words) (sym is) fault)
-GivesFault-fault_by words kind.DisplayVersion e is fault = (ap is_request is, subst (HasFault words) (sym is) fault)
-GivesFault-fault_by words kind.OutOfMemory e is fault = tt
-GivesFault-fault_by words _ e is fault = (ap is_request is, inl (subst (HasFault words) (sym is) fault))
+GivesFault-fault_by words k e is fault = grind arith
 
 -- the program's fault is a reason why the words give no options, for an error that says that memory
 -- ran out, or whose kind clap finds in the words
 GivesFault-options_fault : (words : List Text) (names : BothNames) (e : Error) → AreRings names → HasKind (fault_of (program_app names) words) e → GivesFault words (options_fault e)
-GivesFault-options_fault words names e rings (inl memory) = subst (λ k. GivesFault words (fault_by k e)) (sym memory) tt
+GivesFault-options_fault words names e rings (inl memory) = rw memory tt
 GivesFault-options_fault words names e rings (inr among) =
     GivesFault-fault_by words (kind_of e) e refl (record { names = names; rings = rings; among = among })
 
@@ -40,7 +28,7 @@ GivesFault-options_fault words names e rings (inr among) =
 pub GivesFault-error : (words : List Text) (app : App) (names : BothNames) (e : Error) → AreRings names → app ≡ program_app names
     → (is_simple_and_free app ≡ true → HasKind (fault_of app words) e) → GivesFault words (options_fault e)
 GivesFault-error words app names e rings is kinds =
-    GivesFault-options_fault words names e rings (subst (λ a. is_simple_and_free a ≡ true → HasKind (fault_of a words) e) is kinds (program_is_free names))
+    GivesFault-options_fault words names e rings ((rw is at kinds) refl)
 
 -- if matches of the program's command give these options, the words do
 pub Reads-matches : (words : List Text) (app : App) (names : BothNames) (m : ArgMatches) (o : Options) → AreRings names → app ≡ program_app names
@@ -48,8 +36,8 @@ pub Reads-matches : (words : List Text) (app : App) (names : BothNames) (m : Arg
 Reads-matches words app names m o rings is faultless matches tells = record {
   names = names;
   rings = rings;
-  faultless = subst (λ a. is_simple_and_free a ≡ true → fault_of a words ≡ []) is faultless (program_is_free names);
-  told = subst (λ met. GivesSubcommand met o) (subst (λ a. HasMatchesOf a words m) is matches (program_is_simple names)).1 tells;
+  faultless = (rw is at faultless) refl;
+  told = rw ((rw is at matches) refl).1 at tells;
 }
 
 -- if matches of the program's command give no options, the words give none
@@ -58,10 +46,10 @@ pub GivesNoOptions-matches : (words : List Text) (app : App) (names : BothNames)
 GivesNoOptions-matches words app names m rings is faultless matches nothing = record {
   names = names;
   rings = rings;
-  faultless = subst (λ a. is_simple_and_free a ≡ true → fault_of a words ≡ []) is faultless (program_is_free names);
-  nothing = λ o tells. nothing o (subst (λ met. GivesSubcommand met o) (sym (subst (λ a. HasMatchesOf a words m) is matches (program_is_simple names)).1) tells);
+  faultless = (rw is at faultless) refl;
+  nothing = λ o tells. nothing o (rw ((rw is at matches) refl).1 tells);
 }
 
 -- adding equal subcommands to equal commands gives equal commands
 pub added : (all old sub old' sub' : App) → all ≡ with_subcommand old sub.top → old ≡ old' → sub ≡ sub' → all ≡ with_subcommand old' sub'.top
-added all old sub old' sub' is same known = is ∙ ap (λ a. with_subcommand a sub.top) same ∙ ap (λ a. with_subcommand old' a.top) known
+added all old sub old' sub' is same known = rw (is, same, known) refl

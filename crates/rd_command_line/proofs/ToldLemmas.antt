@@ -1,6 +1,6 @@
 -- What the getters of clap's matches of a subcommand show about the rows.
-use Rattle.std.proofs.Common.{◌≡◌, ◌∙◌, ℕ, Bool, ◌<◌, ◌≤◌, List, Option, None, Some, refl, sym, ap, subst, codes, arith}
-use Rattle.std.specs.Prelude.{◌^◌, MatchOption, length, map, option_map, unwrap_or, ⊤}
+use Rattle.std.proofs.Common.{◌≡◌, ◌∙◌, ℕ, Bool, ◌<◌, ◌≤◌, List, Option, None, Some, refl, sym, ap, codes, arith}
+use Rattle.std.specs.Prelude.{◌^◌, length, map, option_map, unwrap_or}
 use Rattle.std.specs.Borrow.{Bor}
 use Rattle.std.proofs.lemmas.List.{length-map}
 use Rattle.std.specs.Str.Parse.{IsNumeral, digits_value, without_leading_plus}
@@ -8,7 +8,7 @@ use Rattle.clap.specs.Words.{all_of, first_of, first_value, found_of, matched_of
 use Rattle.clap.specs.declared.parser.matches.ArgMatches.{ArgMatches}
 use Rattle.clap.proofs.WalkLemmas.{first_value-rows, one_text-rows, raw_values-rows}
 use Rattle.rd_command_line.specs.declared.requests.Options.{Options}
-use Rattle.rd_command_line.specs.declared.requests.Options.TheVariants.{Run, View, Load}
+use Rattle.rd_command_line.specs.declared.requests.Options.TheVariants.{Run, View}
 use Rattle.rd_cell.specs.declared.limits.TheConstants.{MOST_ACTORS}
 use Rattle.rd_script.specs.declared.rings.Ring.{Ring}
 use Rattle.rd_command_line.specs.Options.{ring_text, flag_text}
@@ -16,7 +16,7 @@ use Rattle.rd_command_line.specs.CommandLine.{IsNumber, GivesWorld, GivesFile, G
 
 -- an option is not both none and something
 pub none_some : {X : Type 0} (o : Option X) (x : X) → o ≡ None → o ≡ Some x → ⊥
-none_some {X} o x none some = subst (λ (v : Option X). MatchOption v ⊤ (λ _. ⊥)) (sym none ∙ some) tt
+none_some o x none some = let same = sym none ∙ some in cc
 
 -- an option has at most one value
 pub some_same : {X : Type 0} (o : Option X) (x y : X) → o ≡ Some x → o ≡ Some y → x ≡ y
@@ -55,18 +55,13 @@ no_spelling m v given none actors ring tells = none ring (same_value m (codes "r
 pub no_number : (m : ArgMatches)
     → ((t : Text) → one_text (found_of m) (codes "actors") ≡ Some t → IsNumeral 10 (without_leading_plus t) × (digits_value 10 (without_leading_plus t) < 2 ^ 8) → ⊥)
     → (actors : ℕ) (ring : Ring) → GivesWorld (rows_of (found_of m)) actors ring → ⊥
-no_number m none actors ring tells =
-    let text = tells.counted.0 in
-    let few : digits_value 10 (without_leading_plus text) ≤ MOST_ACTORS = subst (λ n. n ≤ MOST_ACTORS) (sym tells.counted.2.1) tells.few in
-    none text (one_text-rows (found_of m) (codes "actors") ∙ tells.counted.1) (tells.counted.2.0, omega (arith, few))
+no_number m none actors ring tells = grind (arith, one_text-rows)
 
 -- with a number for `--actors` that is not from 1 to 16, the rows give no world
 pub out_of_range : (m : ArgMatches) (n : ℕ)
     → ((t : Text) → one_text (found_of m) (codes "actors") ≡ Some t → n ≡ digits_value 10 (without_leading_plus t))
     → ((1 ≤ n) → (n ≤ MOST_ACTORS) → ⊥) → (actors : ℕ) (ring : Ring) → GivesWorld (rows_of (found_of m)) actors ring → ⊥
-out_of_range m n read out actors ring tells =
-    let is : n ≡ actors = read tells.counted.0 (one_text-rows (found_of m) (codes "actors") ∙ tells.counted.1) ∙ tells.counted.2.1 in
-    out (subst (λ k. 1 ≤ k) (sym is) tells.some) (subst (λ k. k ≤ MOST_ACTORS) (sym is) tells.few)
+out_of_range m n read out actors ring tells = grind (arith, one_text-rows)
 
 -- a text that a getter gives is in the rows
 pub first_value_is : (m : ArgMatches) (id v : Text) → Some v ≡ first_value (found_of m) id → first_of id (rows_of (found_of m)) ≡ Some v
@@ -79,8 +74,7 @@ no_choice m v given none file trace tells = none trace (same_value m (codes "tra
 
 -- rows of `run` that give no file and no flag for the trace give no options
 pub no_run_file : (m : ArgMatches) → ((file : Text) (trace : Bool) → GivesFile (rows_of (found_of m)) file trace → ⊥) → (o : Options) → GivesRun (rows_of (found_of m)) o → ⊥
-no_run_file m none (Run file actors ring trace) tells = none file.now trace tells.0
-no_run_file m none _ tells = tells
+no_run_file m none o tells = grind arith
 
 -- rows of `run` that give no world give no options
 pub no_run_world : (m : ArgMatches) → ((actors : ℕ) (ring : Ring) → GivesWorld (rows_of (found_of m)) actors ring → ⊥) → (o : Options) → GivesRun (rows_of (found_of m)) o → ⊥
@@ -93,20 +87,12 @@ files_are m names given = sym (raw_values-rows (found_of m) (codes "files")) ∙
 
 -- rows of `view` without files give no options
 pub no_files : (m : ArgMatches) → None ≡ option_map raw_values (matched_of (found_of m) (codes "files")) → (o : Options) → GivesView (rows_of (found_of m)) o → ⊥
-no_files m none (View files actors ring) tells =
-    none_some (all_of (codes "files") (rows_of (found_of m))) (map (λ (file : Bor Text). file.now) files.items) (sym (raw_values-rows (found_of m) (codes "files")) ∙ sym none) tells.0
-no_files m none _ tells = tells
+no_files m none o tells = grind (arith, raw_values-rows)
 
 -- rows of `view` with an empty list of files give no options
 pub empty_files : (m : ArgMatches) (names : List (Bor Text)) → Some (map (λ (file : Bor Text). file.now) names) ≡ option_map raw_values (matched_of (found_of m) (codes "files")) → length names ≡ 0
     → (o : Options) → GivesView (rows_of (found_of m)) o → ⊥
-empty_files m names given empty (View files actors ring) tells =
-    let texts = λ (xs : List (Bor Text)). map (λ (file : Bor Text). file.now) xs in
-    let same : texts names ≡ texts files.items = some_same (all_of (codes "files") (rows_of (found_of m))) (texts names) (texts files.items) (files_are m (texts names) given) tells.0 in
-    let count : length names ≡ length files.items = sym (length-map names (λ (file : Bor Text). file.now)) ∙ ap length same ∙ length-map files.items (λ (file : Bor Text). file.now) in
-    let some = tells.1 in
-    absurd (omega (arith, count, empty, some))
-empty_files m names given empty _ tells = tells
+empty_files m names given empty o tells = grind (arith, raw_values-rows, length-map)
 
 -- rows of `view` that give no world give no options
 pub no_view_world : (m : ArgMatches) → ((actors : ℕ) (ring : Ring) → GivesWorld (rows_of (found_of m)) actors ring → ⊥) → (o : Options) → GivesView (rows_of (found_of m)) o → ⊥
@@ -115,5 +101,4 @@ no_view_world m none _ tells = tells
 
 -- rows of `load` that give no file and no flag for the trace give no options
 pub no_load_file : (m : ArgMatches) → ((file : Text) (trace : Bool) → GivesFile (rows_of (found_of m)) file trace → ⊥) → (o : Options) → GivesLoad (rows_of (found_of m)) o → ⊥
-no_load_file m none (Load file trace) tells = none file.now trace tells
-no_load_file m none _ tells = tells
+no_load_file m none o tells = grind arith

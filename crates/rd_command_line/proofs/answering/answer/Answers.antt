@@ -1,6 +1,6 @@
-use Rattle.std.proofs.Common.{inr}
+use Rattle.std.proofs.Common.{◌≡◌, inr, refl, Err}
 use Rattle.std.proofs.KnownBytes.{Keeps-refl}
-use Rattle.rd_command_line.proofs.AnsweringLemmas.{outcome_passed_up}
+use Rattle.rd_script.proofs.ResultLemmas.{passed_up}
 use Rattle.rd_command_line.proofs.answering.answer.Goals as goal
 
 pub returns-in_err-asked-clause-answers : goal.returns-in_err-asked-clause-answers
@@ -9,6 +9,6 @@ returns-in_err-asked-clause-answers g c =
     inr (
       fault,
       c.in_err-asked.ensures.err,
-      outcome_passed_up fault c.from_residual.result c.from_residual.ensures.1,
+      passed_up (λ outcome. outcome ≡ Err fault) fault c.from_residual.result c.from_residual.ensures.1 refl,
       ((Keeps-refl _, c.requires.input_works), (Keeps-refl _, c.requires.output_works)),
     )

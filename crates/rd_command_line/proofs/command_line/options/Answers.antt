@@ -1,43 +1,36 @@
-use Rattle.std.proofs.Common.{refl, ap, map, inr, subst}
-use Rattle.std.specs.Prelude.{IfSome, IsNone}
+use Rattle.std.proofs.Common.{refl, ap, inr}
 use Rattle.clap.proofs.TakesLemmas.{passed_up}
-use Rattle.clap.specs.Words.{subcommand_rows_of}
-use Rattle.rd_command_line.specs.declared.requests.Options.{Options}
 use Rattle.rd_command_line.specs.Options.{options_fault}
-use Rattle.rd_command_line.specs.CommandLine.{GivesFault, GivesSubcommand, is_request}
+use Rattle.rd_command_line.specs.CommandLine.{GivesFault, is_request}
 use Rattle.rd_command_line.proofs.OptionLemmas.{GivesFault-error, Reads-matches, GivesNoOptions-matches}
 use Rattle.rd_command_line.proofs.command_line.options.Goals as goal
 
 pub returns-in_err-matches-clause-err : goal.returns-in_err-matches-clause-err
 returns-in_err-matches-clause-err g c =
     let app = c.in_ok-command.ensures in
-    let words = map g.S.AsStr.text c.args.words.now in
     let error = c.in_err-matches.field-0.0 in
-    passed_up c.from_residual-in_err-matches.result (options_fault error) (GivesFault words) c.from_residual-in_err-matches.ensures.1
-    (GivesFault-error words _ app.0 error app.1 app.2 c.in_err-matches.ensures.kinds)
+    passed_up c.from_residual-in_err-matches.result (options_fault error) (GivesFault _) c.from_residual-in_err-matches.ensures.1
+    (GivesFault-error _ _ app.0 error app.1 app.2 c.in_err-matches.ensures.kinds)
 
 pub returns-in_default-clause-err : goal.returns-in_default-clause-err
 returns-in_default-clause-err g c =
     let app = c.in_ok-command.ensures in
-    let words = map g.S.AsStr.text c.args.words.now in
-    let nothing = subst (λ asked. IsNone asked → (o : Options) → GivesSubcommand (subcommand_rows_of c.in_ok-matches.matches) o → ⊥) c.in_default.is c.in_ok-options.ensures.none refl in (
+    let nothing = (rw c.in_default.is at c.in_ok-options.ensures.none) refl in (
       ap is_request c.in_ok-error.ensures.kind,
-      inr (GivesNoOptions-matches words _ app.0 c.in_ok-matches.matches app.1 app.2 c.in_ok-matches.ensures.kinds c.in_ok-matches.ensures.ok.2 nothing),
+      inr (GivesNoOptions-matches _ _ app.0 c.in_ok-matches.matches app.1 app.2 c.in_ok-matches.ensures.kinds c.in_ok-matches.ensures.ok.2 nothing),
     )
 
 pub returns-then-has_too_many_files-clause-err : goal.returns-then-has_too_many_files-clause-err
 returns-then-has_too_many_files-clause-err g c =
     let app = c.in_ok-command.ensures in
-    let words = map g.S.AsStr.text c.args.words.now in
-    let tells = subst (λ asked. IfSome asked (GivesSubcommand (subcommand_rows_of c.in_ok-matches.matches))) c.in-Some.is c.in_ok-options.ensures.some in (
+    let tells = rw c.in-Some.is at c.in_ok-options.ensures.some in (
       c.in-Some.options,
-      Reads-matches words _ app.0 c.in_ok-matches.matches _ app.1 app.2 c.in_ok-matches.ensures.kinds c.in_ok-matches.ensures.ok.2 tells,
+      Reads-matches _ _ app.0 c.in_ok-matches.matches _ app.1 app.2 c.in_ok-matches.ensures.kinds c.in_ok-matches.ensures.ok.2 tells,
       c.has_too_many_files.ensures.many c.if-has_too_many_files.true,
     )
 
 pub returns-clause-ok : goal.returns-clause-ok
 returns-clause-ok g c =
     let app = c.in_ok-command.ensures in
-    let words = map g.S.AsStr.text c.args.words.now in
-    let tells = subst (λ asked. IfSome asked (GivesSubcommand (subcommand_rows_of c.in_ok-matches.matches))) c.in-Some.is c.in_ok-options.ensures.some in
-    Reads-matches words _ app.0 c.in_ok-matches.matches _ app.1 app.2 c.in_ok-matches.ensures.kinds c.in_ok-matches.ensures.ok.2 tells
+    let tells = rw c.in-Some.is at c.in_ok-options.ensures.some in
+    Reads-matches _ _ app.0 c.in_ok-matches.matches _ app.1 app.2 c.in_ok-matches.ensures.kinds c.in_ok-matches.ensures.ok.2 tells

@@ -1,4 +1,4 @@
-use Rattle.std.proofs.Common.{rules, ap, map, Some, ◌∙◌, ◌≤◌, length, subst, sym}
+use Rattle.std.proofs.Common.{rules, ◌≤◌, length}
 use Rattle.rd_command_line.proofs.ToldLemmas.{empty_files, files_are, no_files, no_view_world}
 use Rattle.rd_command_line.proofs.command_line.view_from.Goals as goal
 
@@ -14,8 +14,5 @@ returns-then-is_empty-clause-none c = λ _. empty_files c.args.view.now c.in-Som
 pub returns-clause-some : goal.returns-clause-some
 returns-clause-some c =
     let same = c.in_ok-files.ensures.items in
-    let some : 1 ≤ length c.in-Some.files.now = search rules in (
-      files_are c.args.view.now _ c.in-Some.ensures ∙ ap (λ names. Some (map (λ name. name.now) names)) (sym same),
-      subst (λ names. 1 ≤ length names) (sym same) some,
-      c.in-Some-world_from.ensures.some,
-    )
+    let some : 1 ≤ length c.in-Some.files.now = search rules in
+    (rw same (files_are c.args.view.now _ c.in-Some.ensures), rw same some, c.in-Some-world_from.ensures.some)
