@@ -173,7 +173,7 @@ impl Actor {
         }
     }
 
-    /// Whether this is the record of an actor in no call.
+    /// Whether this is the idle record: equal to `Actor::idle()` in every word.
     pub fn is_idle(&self) -> bool
         ensures { IsTrue result ↔ (self.now ≡ idle) }
     {

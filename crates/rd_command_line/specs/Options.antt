@@ -49,7 +49,8 @@ fault_by _ error = Refused error
 abbrev pub options_fault : Error → OptionsFault
 options_fault error = fault_by (kind_of error) error
 
--- the fault is `Refused` with an error of this kind, or `NoMemory`
+-- the fault is a mistake in the words, `Refused` with an error of this kind; or it is `NoMemory`,
+-- with which any call may end
 abbrev pub IsMistake : ErrorKind → OptionsFault → Type 0
 IsMistake kind (Refused error) = kind_of error ≡ kind
 IsMistake kind (Shown error) = ⊥

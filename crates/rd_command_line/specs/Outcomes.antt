@@ -17,8 +17,8 @@ abbrev pub is_shown : Outcome → Bool
 is_shown (Err (Shown error)) = true
 is_shown _ = false
 
--- how the program ends after doing what it was asked, with this result: as `EndsAs` says, and
--- standard output, for which the flag says whether it had failed before, gets nothing more
+-- how the program ends with this result if standard output gets nothing more: status and standard
+-- error are as `EndsAs` says. The flag says whether standard output had failed before
 abbrev pub EndsDone : Result ℕ ProgramFault → ℕ → Bool → Stream → Stream → Type 0
 EndsDone done status had_failed output errors = EndsAs done status errors × GetsNothing had_failed output
 

@@ -268,7 +268,7 @@ fn load<'a>(alloc: Global) -> Result<Command<'a>, AllocError>
         .arg(trace(alloc))
 }
 
-/// Returns the required argument `file`, which help shows under this name.
+/// Returns the required argument `file`. Help shows it as `name`.
 fn file<'a>(alloc: Global, name: &'a str) -> Arg<'a>
     ensures { (rule_of result ≡ file_rule) × (result.global ≡ false) }
 {

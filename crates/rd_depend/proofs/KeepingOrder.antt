@@ -152,6 +152,8 @@ record Kept (s : Key → Reached) (xs : List Entry) (ps : List Numbered) : Type 
   taken : TakesAll xs (entries_of ps)
   order : AreAfterAll s ps
 
+-- if the order is kept with t, after x, and without p, which is like x, the first step left of its
+-- actor, and after all earlier steps on which it depends, then it is kept with x and p
 kept_more : (s t : Key → Reached) (x : Entry) (xs : List Entry) (ps qs : List Numbered) (p : Numbered) → Passes s x p.0 t → Ascends (ps ++ p ∷ qs) → AreAlike x p.1
     → IsAfterAll s x p.0 → HasNoneBy p.1.event.actor (entries_of ps) → Kept t xs (ps ++ qs) → Kept s (x ∷ xs) (ps ++ p ∷ qs)
 kept_more s t x xs ps qs p m ascends alike order none h =

@@ -78,7 +78,7 @@ slot_in (q ∷ qs) k = if key_eq k q then Some 0 else option_map (λ i. suc i) (
 abbrev pub packed : ℕ → SegName → ℕ → ℕ
 packed part s i = ((part * 256 + i) * 256 + s.maker) * 4294967296 + s.n
 
--- the number as which the key of a place is hashed
+-- the number as which the key of a place itself, `At`, is hashed
 abbrev pub place_number : Place → ℕ
 place_number place.QHead = 0
 place_number place.QTail = 1

@@ -200,8 +200,8 @@ impl<const R: usize> Book<R> {
         }
     }
 
-    /// Returns the number of bookmarks: at most `MOST_MARKS`, with different names, each at events
-    /// that can run from the session's start.
+    /// Returns the number of bookmarks, at most `MOST_MARKS`. Their names are different, and the
+    /// events of each can run from the session's start.
     pub fn marks(&self) -> u64
         ensures count { result ≡ length (book_state self.now).marks }
         ensures rules { KeepsRules (book_state self.now) }

@@ -29,12 +29,13 @@ AreNoNames count words fault.BadLine = length words ≡ count → list_all is_wo
 AreNoNames count words fault.BadName = (length words ≡ count) × (list_all is_word words ≡ true) × (list_all is_mark_name words ≡ false)
 AreNoNames count words fault.LineTooLong = ⊥
 
--- the words read as a place: they spell this place, or None means that they spell none
+-- what the words read as: the place that they spell, or None if they spell none
 abbrev pub ReadsPlace : List (List ℕ) → Option Place → Type 0
 ReadsPlace words (Some place) = AreArgumentsInRange (place_arguments place) × (words ≡ kind_text (kind_of place) ∷ argument_words (place_arguments place))
 ReadsPlace words None = (place : Place) → AreArgumentsInRange (place_arguments place) → words ≢ kind_text (kind_of place) ∷ argument_words (place_arguments place)
 
--- the words after a kind read as a place of this kind, or None means that they spell none
+-- what the words after a kind read as: the place of this kind that they spell, or None if they
+-- spell none
 abbrev pub ReadsKind : PlaceKind → List (List ℕ) → Option Place → Type 0
 ReadsKind kind words (Some place) = AreArgumentsInRange (place_arguments place) × (kind_of place ≡ kind) × (words ≡ argument_words (place_arguments place))
 ReadsKind kind words None = (place : Place) → AreArgumentsInRange (place_arguments place) → kind_of place ≡ kind → words ≢ argument_words (place_arguments place)

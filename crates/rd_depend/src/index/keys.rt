@@ -74,7 +74,7 @@ impl Key {
     }
 }
 
-/// Returns the number as which the key of a place is hashed.
+/// Returns the number as which the key of a place itself, `At`, is hashed.
 #[inline(always)]
 fn place_number(place: Place) -> u64
     ensures { result ≡ place_number place }

@@ -11,8 +11,8 @@ impl<const R: usize> Book<R> {
     ghost use Rattle.rd_marks.specs.Commands.{IsObeyed, step_counts};
     ghost use Rattle.rd_marks.specs.declared.commands.Command.TheVariants as command;
 
-    /// Undoes the live step of this number alone, and returns the numbers of live and undone steps
-    /// then. Fails as `Session::undo_at` does, and changes nothing then.
+    /// Undoes the `k`-th live step alone, counted from 1. Returns how many steps are live and how
+    /// many are undone afterwards. Fails as `Session::undo_at` does, and has then changed nothing.
     pub(super) fn answer_undo_at(&mut self, k: u64) -> Result<Reply, Refusal>
         ensures { IsObeyed (book_state self.old) (command.UndoAt k)
             (record { answer = result; state = book_state self.new }) }
@@ -22,9 +22,9 @@ impl<const R: usize> Book<R> {
         Ok(self.step_counts())
     }
 
-    /// Rolls back the live step of this number, which undoes its causal closure, and returns the
-    /// numbers of live and undone steps then. Fails as `Session::roll` does, and changes nothing
-    /// then.
+    /// Rolls back the `k`-th live step, counted from 1: undoes its causal closure. Returns how many
+    /// steps are live and how many are undone afterwards. Fails as `Session::roll` does, and has
+    /// then changed nothing.
     pub(super) fn answer_roll(&mut self, k: u64) -> Result<Reply, Refusal>
         ensures { IsObeyed (book_state self.old) (command.Roll k)
             (record { answer = result; state = book_state self.new }) }
@@ -34,8 +34,8 @@ impl<const R: usize> Book<R> {
         Ok(self.step_counts())
     }
 
-    /// Undoes the last `n` live steps, and returns the numbers of live and undone steps then. Fails
-    /// only if fewer steps are live, and changes nothing then.
+    /// Undoes the last `n` live steps. Returns how many steps are live and how many are undone
+    /// afterwards. Fails only if fewer steps are live, and has then changed nothing.
     pub(super) fn answer_back(&mut self, n: u64) -> Result<Reply, Refusal>
         ensures { IsObeyed (book_state self.old) (command.Back n)
             (record { answer = result; state = book_state self.new }) }
@@ -44,8 +44,8 @@ impl<const R: usize> Book<R> {
         self.counts_after(done)
     }
 
-    /// Makes the `n` steps again that were undone last, and returns the numbers of live and undone
-    /// steps then. Fails only if fewer steps are undone, and changes nothing then.
+    /// Makes the first `n` undone steps again. Returns how many steps are live and how many are
+    /// undone afterwards. Fails only if fewer steps are undone, and has then changed nothing.
     pub(super) fn answer_forward(&mut self, n: u64) -> Result<Reply, Refusal>
         ensures { IsObeyed (book_state self.old) (command.Forward n)
             (record { answer = result; state = book_state self.new }) }
