@@ -1,12 +1,12 @@
 -- Accesses that do not interfere commute.
-use Rattle.rd_cell.proofs.Prelude.{◌≡◌, ℕ, zero, suc, ◌+◌, Bool, true, false, if◌then◌else◌, inl, inr, refl, sym, ◌∙◌, ap, ap₂, subst, Option, Some, None, is_some, IfSome, Result, Ok, Err, IfOk, arith, cases_Bool, both_ways, or_parts, IfOk-at_ok, fun_ext, SegName, Cell, Content, Operation, Refusal, covers, some_covers, some_overlap, written, interfere, Contents, cell_of_halves, share, after_write_at, operand, Effect, effect, wrote_by, Performed, contents_after, number_made_from, number_made, effect_at, operate, make, perform, result_map}
-use Rattle.rd_cell.specs.declared.limits.TheConstants.{MOST_SEGMENTS}
+use Rattle.rd_cell.proofs.Prelude.{◌≡◌, ℕ, Bool, true, false, inl, inr, refl, sym, ◌∙◌, ap, subst, Option, Some, None, is_some, IfSome, Result, Ok, Err, IfOk, arith, cases_Bool, both_ways, or_parts, IfOk-at_ok, fun_ext, SegName, Cell, Content, Operation, Refusal, covers, some_covers, some_overlap, written, interfere, Contents, cell_of_halves, share, after_write_at, operand, Effect, effect, wrote_by, Performed, contents_after, number_made, effect_at, operate, make, perform, result_map}
 use Rattle.rd_cell.specs.declared.places.Place.{Place}
 use Rattle.rd_cell.specs.declared.places.Place.TheVariants as place
 use Rattle.rd_cell.specs.declared.contents.Content.TheVariants as content
 use Rattle.rd_cell.specs.declared.access.Access.{Access}
 use Rattle.rd_cell.specs.declared.access.Access.TheVariants.{NoPlace, At, Make}
-use Rattle.rd_cell.proofs.PlaceLemmas.{both_cover, written-covers, interfere-sym}
+use Rattle.rd_cell.proofs.PlaceLemmas.{both_cover, written-covers}
+use Rattle.rd_cell.proofs.CountLemmas.{number_made-same}
 
 -- Writes
 
@@ -50,10 +50,6 @@ operand-same p at at' same = grind arith
 abbrev pub interferes : Performed → Performed → Bool
 interferes d e = interfere d.place d.wrote e.place e.wrote
 
--- interference is symmetric
-pub interferes-sym : (d e : Performed) → interferes d e ≡ false → interferes e d ≡ false
-interferes-sym d e h = interfere-sym d.place e.place d.wrote e.wrote h
-
 -- the first access leaves every place that the second touched, if they don't interfere
 stays : (d e : Performed) (at : Contents) (r : Place) → interferes d e ≡ false → some_covers e.place r ≡ true
     → contents_after d at r ≡ at r
@@ -77,21 +73,6 @@ pub after_swap : (d e : Performed) (at : Contents) → interferes d e ≡ false
 after_swap d e at h = fun_ext (λ r. after_swap-at d e at r h)
 
 -- A maker's makings are independent of other makers
-
--- counting a maker's segments gives the same in two maps that have the same segments of the maker
-pub number_made_from-same : (more : ℕ) (at at' : Contents) (maker n : ℕ)
-    → ((k : ℕ) → is_some (at (place.Head (record { maker = maker; n = k }))) ≡ is_some (at' (place.Head (record { maker = maker; n = k }))))
-    → number_made_from more at maker n ≡ number_made_from more at' maker n
-unfolding number_made_from
-number_made_from-same zero at at' maker n same = refl
-number_made_from-same (suc more) at at' maker n same =
-    ap₂ (λ (t : Bool) (m : ℕ). if t then m else n) (same n) (number_made_from-same more at at' maker (n + 1) same)
-
-number_made-same : (at at' : Contents) (maker : ℕ)
-    → ((k : ℕ) → is_some (at (place.Head (record { maker = maker; n = k }))) ≡ is_some (at' (place.Head (record { maker = maker; n = k }))))
-    → number_made at maker ≡ number_made at' maker
-unfolding number_made
-number_made-same at at' maker same = number_made_from-same MOST_SEGMENTS at at' maker 0 same
 
 -- P holds of a place's content after an operation, if it held before, and holds of the place's share
 -- of what the operation writes, of which K holds

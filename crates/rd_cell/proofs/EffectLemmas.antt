@@ -1,5 +1,5 @@
 -- An effect that is known at some of the places, as an effect on all places.
-use Rattle.rd_cell.proofs.Prelude.{common_steps, ◌≡◌, true, false, Bool, inl, inr, sym, ◌∙◌, ap, Option, Some, None, Result, Ok, Err, IfOk, arith, cases_Bool, false_from_ne_true, both_ways, IfOk-at_ok, SegName, Wrote, Content, Operation, Refusal, is_of, place_eq, is_of_same_segment, covers, segment_of, some_covers, written, Contents, restore, operand, effect, Performed, operate, HasEffect, everywhere, Operates, OperatesOn, Restores, subst}
+use Rattle.rd_cell.proofs.Prelude.{Wrote, both_ways, false_from_ne_true, some_covers, common_steps, ◌≡◌, true, false, Bool, inl, inr, sym, ◌∙◌, Option, Some, None, Result, Ok, Err, IfOk, arith, cases_Bool, IfOk-at_ok, SegName, Content, Operation, Refusal, is_of, place_eq, is_of_same_segment, covers, segment_of, written, Contents, restore, operand, effect, Performed, operate, HasEffect, everywhere, Operates, OperatesOn, Restores, subst}
 use Rattle.rd_cell.specs.declared.places.Place.{Place}
 use Rattle.rd_cell.specs.declared.places.Wrote.TheVariants as wrote
 use Rattle.rd_cell.specs.declared.operations.Answer.{Answer}
@@ -33,10 +33,8 @@ lift looked_at p does does' done old new old' new' same place agrees h = record 
             sym (agrees.new_inside q e) ∙ h.leaves q e
             ∙ after_write-same (written h.performed.place h.performed.wrote) h.performed.given old old' q (agrees.old_inside q e)
         | inr e ↦
-            agrees.outside q e
-            ∙ sym (after_write-outside (written h.performed.place h.performed.wrote) h.performed.given old' q
-            (not_written h.performed.place h.performed.wrote q
-            (ap (λ (o : Option Place). some_covers o q) (IfOk-at_ok (λ (did : Performed). did.place ≡ Some p) h.performs place) ∙ agrees.not_covered q e)))
+            let touched = IfOk-at_ok (λ (did : Performed). did.place ≡ Some p) h.performs place in
+            agrees.outside q e ∙ sym (grind (arith, agrees.not_covered q e, after_write-outside, written-covers))
       ];
 }
 

@@ -1,5 +1,6 @@
 pub mod Prelude
 pub mod PlaceLemmas
+pub mod CountLemmas
 pub mod AccessLemmas
 pub mod ListLemmas
 pub mod CellLemmas

@@ -1,6 +1,14 @@
--- Reading a list after a write.
+-- Reading a list: within its length, and after a write.
 use Rattle.std.proofs.Math.Seq.{get_or-append_seam}
-use Rattle.rd_cell.proofs.Prelude.{◌≡◌, ◌≢◌, ℕ, suc, ◌<◌, ◌≤◌, arith, ◌++◌, Some, None, List, [], ◌∷◌, length, set, take, slice_get, slice_get_past, get_or-set_same, slice_get_cases, length-set, length-append, length-take, common_steps}
+use Rattle.rd_cell.proofs.Prelude.{◌≡◌, ◌≢◌, ℕ, suc, ◌<◌, ◌≤◌, arith, ◌++◌, Some, None, is_some, true, List, [], ◌∷◌, length, set, take, slice_get, slice_get_past, get_or-set_same, slice_get_cases, length-set, length-append, length-take, common_steps}
+
+-- every index below a list's length has an element
+pub slice_get-is_some : {X : Type 0} (xs : List X) (i : ℕ) → i < length xs → is_some (slice_get xs i) ≡ true
+slice_get-is_some xs i h = grind (arith, slice_get_cases)
+
+-- conversely, an index that has an element is below the list's length
+pub is_some-slice_get : {X : Type 0} (xs : List X) (i : ℕ) → is_some (slice_get xs i) ≡ true → i < length xs
+is_some-slice_get xs i h = grind (arith, slice_get_cases)
 
 -- the written position has the new element
 pub slice_get-set_same : {X : Type 0} (xs : List X) (i : ℕ) (x : X) → i < length xs → slice_get (set xs i x) i ≡ Some x

@@ -1,5 +1,5 @@
 -- Equality and overlap of places.
-use Rattle.rd_cell.proofs.Prelude.{◌≡◌, ℕ, true, false, ◌==◌, refl, eq-eqb, Option, Some, None, arith, and_from, or_left, or_right, SegName, Wrote, name_eq, is_of, is_of_cell, place_eq, covers, overlaps, some_covers, some_overlap, written, interfere}
+use Rattle.rd_cell.proofs.Prelude.{◌≡◌, ℕ, true, ◌==◌, refl, eq-eqb, Option, Some, None, arith, and_from, or_left, or_right, SegName, Wrote, name_eq, is_of, is_of_cell, place_eq, covers, overlaps, some_covers, some_overlap, written, interfere}
 use Rattle.rd_cell.specs.declared.places.Place.{Place}
 use Rattle.rd_cell.specs.declared.places.Place.TheVariants as place
 
@@ -70,5 +70,5 @@ pub written-covers : (p : Option Place) (w : Wrote) (q : Place) → some_covers 
 written-covers p w q h = grind arith
 
 -- interference is symmetric
-pub interfere-sym : (p q : Option Place) (v w : Wrote) → interfere p v q w ≡ false → interfere q w p v ≡ false
-interfere-sym p q v w h = grind arith
+pub interfere-sym : (p q : Option Place) (v w : Wrote) → interfere p v q w ≡ interfere q w p v
+interfere-sym p q v w = grind arith

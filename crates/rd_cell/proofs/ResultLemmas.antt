@@ -12,3 +12,7 @@ and_then_err r f e h first later = grind arith
 -- if `ok_or` gives a value, the option had it
 pub ok_or_ok : {T E : Type 0} (o : Option T) (e : E) (x : T) → ok_or o e ≡ Ok x → o ≡ Some x
 ok_or_ok o e x h = grind arith
+
+-- equal successes have equal values
+pub same_Ok : {T E : Type 0} (x y : T) → ◌≡◌ {A = Result T E} (Ok x) (Ok y) → x ≡ y
+same_Ok x y h = cc

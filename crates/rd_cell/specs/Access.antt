@@ -17,7 +17,7 @@ use Rattle.rd_cell.specs.declared.refusal.Refusal.{Refusal}
 use Rattle.rd_cell.specs.declared.refusal.Refusal.TheVariants as refusal
 use Rattle.rd_cell.specs.Places.{place_eq, written}
 use Rattle.rd_cell.specs.Contents.{Contents, share, after_write_at, restore, operand, holding}
-use Rattle.rd_cell.specs.Operations.{Effect, effect, wrote_by}
+use Rattle.rd_cell.specs.Operations.{Effect, effect, wrote_by, suits}
 use Rattle.rd_cell.specs.Results.{and_then, result_map}
 
 -- what an access did: its `place` and that place's `old` content, each none if there is none; its
@@ -77,6 +77,11 @@ abbrev pub perform : ℕ → ℕ → Contents → Access → Result Performed Re
 perform R actor at NoPlace = Ok no_access
 perform R actor at (At p op) = operate p op (operand at p)
 perform R actor at (Make x) = make (record { maker = actor; n = number_made at actor }) (holding R x)
+
+-- whether the operation of this access suits its place; true without an operation
+abbrev pub access_suits : Access → Bool
+access_suits (At p op) = suits p op
+access_suits _ = true
 
 -- an access took place: `performed` is what it did, `done` is what the entry of its step records,
 -- and each place at which we look has the content that the access leaves there

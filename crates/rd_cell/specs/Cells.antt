@@ -8,6 +8,10 @@ use Rattle.rd_cell.specs.declared.cells.Cell.{Cell}
 abbrev pub cell_eq : Cell → Cell → Bool
 cell_eq a b = beq a.safe b.safe && (a.idx == b.idx) && option_eq ◌==◌ a.val b.val
 
+-- the cell with these words
+abbrev pub cell_with : Bool → ℕ → Option ℕ → Cell
+cell_with safe idx val = record { safe = safe; idx = idx; val = val }
+
 -- cell u of a new segment, with this value or none: it is safe and has index u
 abbrev pub new_cell : ℕ → Option ℕ → Cell
-new_cell u val = record { safe = true; idx = u; val = val }
+new_cell u val = cell_with true u val

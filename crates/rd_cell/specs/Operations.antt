@@ -1,6 +1,7 @@
 -- What each operation does to one content.
-use Rattle.std.specs.Prelude.{ℕ, ◌+◌, Bool, true, false, not, ◌==◌, ◌&&◌, nat_lt, nat_le, if◌then◌else◌, Option, Some, None, Result, Ok, Err}
+use Rattle.std.specs.Prelude.{ℕ, ◌+◌, Bool, true, false, not, ◌==◌, ◌&&◌, nat_lt, nat_le, if◌then◌else◌, Option, Some, None, option_map, Result, Ok, Err}
 use Rattle.std.specs.Option.{option_eq}
+use Rattle.std.specs.Result.{result_ok}
 use Rattle.rd_cell.specs.declared.limits.TheConstants.{COUNTER_END, SLOTS}
 use Rattle.rd_cell.specs.declared.places.Place.{Place}
 use Rattle.rd_cell.specs.declared.contents.Content.{Content}
@@ -30,6 +31,14 @@ reads said = Ok (record { answer = said; writes = None })
 -- the effect of an operation that answers this and writes this content
 abbrev pub writes : Answer → Content → Result Effect Refusal
 writes said c = Ok (record { answer = said; writes = Some c })
+
+-- the answer of a compare-and-swap, by whether it won
+abbrev pub swap_answer : Bool → Answer
+swap_answer won = if won then answer.Won else answer.Lost
+
+-- which part of its place a compare-and-swap wrote: `written` if it won, else nothing
+abbrev pub swap_wrote : Bool → Wrote → Wrote
+swap_wrote won written = if won then written else wrote.Nothing
 
 -- the effect of a compare-and-swap: if it `won`, it writes this content, else it writes nothing
 abbrev pub swaps : Bool → Content → Result Effect Refusal
@@ -73,15 +82,16 @@ wrote_by old None = wrote.Nothing
 wrote_by (content.Cell old) (Some (content.Cell new)) = wrote_cell old new
 wrote_by old (Some new) = wrote.Place
 
+-- whether an operation only reads
+abbrev pub is_read : Operation → Bool
+is_read Read = true
+is_read ReadValue = true
+is_read ReadSafeAndIndex = true
+is_read _ = false
+
 -- the answer of an operation that is a read for this kind of content, else none
 abbrev pub read_answer : Operation → Content → Option Answer
-read_answer Read (content.Name s) = Some (answer.Found (content.Name s))
-read_answer Read (content.Number n) = Some (answer.Found (content.Number n))
-read_answer Read (content.Tail c n) = Some (answer.Found (content.Tail c n))
-read_answer Read (content.Next m) = Some (answer.Found (content.Next m))
-read_answer ReadValue (content.Val val) = Some (answer.Value val)
-read_answer ReadSafeAndIndex (content.Idx safe idx) = Some (answer.SafeAndIndex safe idx)
-read_answer _ _ = None
+read_answer op c = if is_read op then option_map (λ e. e.answer) (result_ok (effect op c)) else None
 
 -- whether an operation may be done on a segment: any may, except the array's fetch-and-add, which
 -- has another limit, and a compare-and-swap that would set the tail past 2^62. One that is not for

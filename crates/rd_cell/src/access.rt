@@ -1,10 +1,12 @@
 //! The one access of a step, and what the entry of the step records of it.
 
-ghost use Rattle.std.specs.Prelude.{◌≡◌, Some, if◌then◌else◌};
+ghost use Rattle.std.specs.Prelude.{◌≡◌, Some, None};
+ghost use Rattle.rd_cell.specs.Access.{done_of, no_access};
+ghost use Rattle.rd_cell.specs.Operations.{swap_answer, swap_wrote};
 
 use super::contents::Content;
 use super::operations::{Answer, Operation};
-use super::places::{Place, Wrote};
+use super::places::{Place, SegName, Wrote};
 
 /// The one access of a step.
 #[derive(Clone, Copy, Debug, PartialEq, Eq)]
@@ -33,6 +35,37 @@ pub struct Done {
 }
 
 impl Done {
+    /// Returns the record of a step without an access: no place, no content, the answer `Nothing`,
+    /// and nothing written.
+    pub fn of_no_access() -> Done
+        ensures { result ≡ done_of no_access }
+    {
+        Done {
+            place: None,
+            old: None,
+            answer: Answer::Nothing,
+            wrote: Wrote::Nothing,
+        }
+    }
+
+    /// Returns the record of the making of this segment: it wrote the whole of the segment, of
+    /// which nothing was there, and answered the name.
+    pub fn of_making(name: SegName) -> Done
+        ensures { result ≡ record {
+          place = Some (Place.Whole name);
+          old = None;
+          answer = Answer.Made name;
+          wrote = Wrote.Place;
+        } }
+    {
+        Done {
+            place: Some(Place::Whole(name)),
+            old: None,
+            answer: Answer::Made(name),
+            wrote: Wrote::Place,
+        }
+    }
+
     /// Returns the record of an operation: its place, the content that it found there, its answer,
     /// and which part of the place it wrote.
     pub fn at(place: Place, found: Content, answer: Answer, wrote: Wrote) -> Done
@@ -57,8 +90,8 @@ impl Done {
         ensures { result ≡ record {
           place = Some place;
           old = Some found;
-          answer = if won then Answer.Won else Answer.Lost;
-          wrote = if won then written else Wrote.Nothing;
+          answer = swap_answer won;
+          wrote = swap_wrote won written;
         } }
     {
         let (answer, wrote) = if won {

@@ -1,4 +1,4 @@
-//! Laws of contents: each is the contract of a function that does nothing.
+//! Laws of names and contents: each is the contract of a function that does nothing.
 
 ghost use Rattle.std.specs.Prelude.{◌≡◌, ℕ, true, Some, Ok};
 ghost use Rattle.rd_cell.specs.declared.cells.Cell.{Cell as Words};
@@ -6,8 +6,15 @@ ghost use Rattle.rd_cell.specs.declared.contents.Content.{Content};
 ghost use Rattle.rd_cell.specs.declared.operations.Operation.{Operation};
 ghost use Rattle.rd_cell.specs.declared.places.Place.{Place};
 ghost use Rattle.rd_cell.specs.declared.places.SegName.{SegName};
+ghost use Rattle.rd_cell.specs.declared.places.TheConstants.SegName.{ROOT};
 ghost use Rattle.rd_cell.specs.Contents.{Contents, is_cell, operand};
 ghost use Rattle.rd_cell.specs.Operations.{Effect, effect};
+ghost use Rattle.rd_cell.specs.Places.{root};
+
+/// The constant `ROOT` is the root of the definitions: segment 0 of maker 0.
+pub fn the_root_is_the_first_of_no_maker()
+    ensures { ROOT ≡ root }
+{}
 
 /// Reading a cell's place yields a cell, and whatever an operation writes over a cell is again a
 /// cell.

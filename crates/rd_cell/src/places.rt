@@ -2,8 +2,7 @@
 //! wrote.
 
 ghost use Rattle.std.specs.Prelude.{◌≡◌};
-ghost use Rattle.rd_cell.specs.declared.places.TheConstants.SegName.{ROOT};
-ghost use Rattle.rd_cell.specs.Places.{covers, is_array, is_of, is_of_cell, overlaps, root, segment_of, index_half, is_nothing, written};
+ghost use Rattle.rd_cell.specs.Places.{covers, is_array, is_of, is_of_cell, overlaps, segment_of, index_half, is_nothing, written};
 
 /// The name of a segment: (maker, n) is the segment that actor `maker` made as its n-th, counted
 /// from 0. The root is (0, 0).
@@ -172,9 +171,3 @@ fn is_of(name: SegName, place: Place) -> bool
         Place::QHead | Place::QTail | Place::ArrHead | Place::ArrTail | Place::ArrCell(_) => false,
     }
 }
-
-/// The constant `ROOT` is the root of the definitions: segment 0 of maker 0. The function does
-/// nothing: this law is its contract.
-pub fn the_root_is_the_first_of_no_maker()
-    ensures { ROOT ≡ root }
-{}
