@@ -1,12 +1,10 @@
 -- The content of each place of a segment, and what the segment's operations do.
-use Rattle.std.specs.Prelude.{◌≡◌, ℕ, Bool, ◌&&◌, nat_le, if◌then◌else◌, List, Option, Some, None, option_map, slice_get, Err}
+use Rattle.std.specs.Prelude.{◌≡◌, ℕ, Bool, ◌&&◌, nat_le, List, Option, Some, None, option_map, slice_get, Err}
 use Rattle.rd_ring.specs.Prelude.{COUNTER_END, Cell, SegName, Place, Wrote, Content, Operation, Answer, Refusal, is_of, Contents, operand, operate, Operates, Restores}
 use Rattle.rd_ring.specs.declared.segments.Segment.{Segment}
 use Rattle.rd_ring.specs.declared.parts.SegmentParts.{SegmentParts}
 use Rattle.rd_cell.specs.declared.places.Place.TheVariants as place
-use Rattle.rd_cell.specs.declared.places.Wrote.TheVariants as wrote
 use Rattle.rd_cell.specs.declared.contents.Content.TheVariants as content
-use Rattle.rd_cell.specs.declared.operations.Answer.TheVariants as answer
 
 -- the content of each place of a segment with these words; the segment's name in the place is
 -- ignored
@@ -52,11 +50,3 @@ RefusesAt place_of op old cause = (s : SegName) → operate (place_of s) op (ope
 -- places of the segment stayed as they were
 pub record RestoresAt {R : ℕ} (place_of : SegName → Place) (was : Content) (old new : Segment R) : Type 0 where
   pub named : (s : SegName) → Restores (is_of s) (place_of s) (Some was) (part old) (part new)
-
--- the answer of a compare-and-swap, by whether it won
-abbrev pub swap_answer : Bool → Answer
-swap_answer won = if won then answer.Won else answer.Lost
-
--- which part of its place a compare-and-swap wrote: `written` if it won, else nothing
-abbrev pub swap_wrote : Bool → Wrote → Wrote
-swap_wrote won written = if won then written else wrote.Nothing

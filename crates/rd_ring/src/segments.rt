@@ -1,7 +1,7 @@
 //! The segment and its operations.
 
 ghost use Rattle.std.specs.Prelude.{◌≡◌, ℕ, ◌<◌, ◌≤◌, ◌↔◌, true, false, Some, None, Err, IsSome, IsTrue, IfOk, IfErr, OnErr, option_map, slice_get, length};
-ghost use Rattle.rd_ring.specs.Prelude.{COUNTER_END, MOST_CELLS, SegName, Content, Add, Close, CasTail, CasNext, Cas2, root, fresh_segment, holding, new_cell, operand, wrote_cell};
+ghost use Rattle.rd_ring.specs.Prelude.{COUNTER_END, MOST_CELLS, SegName, Content, Add, Close, CasTail, CasNext, Cas2, root, fresh_segment, holding, new_cell, operand, swap_answer, swap_wrote, wrote_cell};
 ghost use Rattle.rd_cell.specs.declared.operations.Answer.TheVariants as Answer;
 ghost use Rattle.rd_cell.specs.declared.places.Wrote.TheVariants as Wrote;
 
@@ -24,7 +24,7 @@ pub struct Segment<const R: usize> {
 }
 
 impl<const R: usize> Segment<R> {
-    ghost use Rattle.rd_ring.specs.Segments.{part, part_from, counters_fit, head_count, tail_count, swap_answer, swap_wrote, OperatesAt, RefusesAt, RestoresAt};
+    ghost use Rattle.rd_ring.specs.Segments.{part, part_from, counters_fit, head_count, tail_count, OperatesAt, RefusesAt, RestoresAt};
 
     /// Returns a fresh segment: both counters are 0, it is open, no segment follows, and each cell
     /// is safe and empty, with its own number as its index.
