@@ -2,7 +2,6 @@
 -- there, and how it goes on.
 use Rattle.std.specs.Prelude.{ℕ, ◌+◌, ◌%◌, ◌^◌, ◌<◌, Bool, true, false, ◌==◌, ◌&&◌, ◌||◌, nat_lt, nat_le, if◌then◌else◌, Option, Some, None, is_some, is_none, Result, Ok, Err}
 use Rattle.std.specs.Bool.{beq}
-use Rattle.rd_cell.specs.declared.cells.Cell.{Cell}
 use Rattle.rd_cell.specs.declared.places.Place.TheVariants as place
 use Rattle.rd_cell.specs.declared.contents.ArrSlot.TheVariants as slot
 use Rattle.rd_cell.specs.declared.contents.Content.TheVariants as content
@@ -13,6 +12,7 @@ use Rattle.rd_cell.specs.declared.operations.Answer.{Answer}
 use Rattle.rd_cell.specs.declared.operations.Answer.TheVariants as answer
 use Rattle.rd_cell.specs.declared.refusal.Refusal.{Refusal}
 use Rattle.rd_cell.specs.declared.refusal.Refusal.TheVariants as refusal
+use Rattle.rd_cell.specs.Cells.{cell_with}
 use Rattle.rd_actor.specs.declared.actors.Act.{Act}
 use Rattle.rd_actor.specs.declared.actors.Act.TheVariants as act
 use Rattle.rd_actor.specs.declared.actors.Actor.{Actor}
@@ -32,10 +32,6 @@ value_to_put (Some (op.AEnq x)) = x
 value_to_put (Some op.Deq) = 0
 value_to_put (Some op.ADeq) = 0
 value_to_put None = 0
-
--- the cell with these words
-abbrev pub cell_with : Bool → ℕ → Option ℕ → Cell
-cell_with safe idx val = record { safe = safe; idx = idx; val = val }
 
 -- the access for which an actor at this control point asks, over rings of R cells, or the refusal
 -- if it has none

@@ -8,7 +8,8 @@ ghost use Rattle.std.specs.Prelude.{◌≡◌, ◌+◌, ◌%◌, ◌^◌, ◌<�
 ghost use Rattle.rd_cell.specs.declared.limits.TheConstants.{MOST_CELLS};
 ghost use Rattle.rd_cell.specs.declared.operations.Operation.TheVariants.{CasName, CasTail, Cas2, Swap};
 ghost use Rattle.rd_actor.specs.Actors.{idle};
-ghost use Rattle.rd_actor.specs.Table.{value_to_put, cell_with, need, need_at, IsRepresentable, IsRepresentableAt, after, after_at, pc_after_empty_pass, after_take, after_enqueue_reads_index, after_dequeue_reads_index, after_repair_check};
+ghost use Rattle.rd_cell.specs.Cells.{cell_with};
+ghost use Rattle.rd_actor.specs.Table.{value_to_put, need, need_at, IsRepresentable, IsRepresentableAt, after, after_at, pc_after_empty_pass, after_take, after_enqueue_reads_index, after_dequeue_reads_index, after_repair_check};
 
 use super::actors::{Act, Actor, Op, OpReply, Pc};
 use rd_cell::{Access, Answer, ArrSlot, Cell, Content, Operation, Place, Refusal, SegName};
