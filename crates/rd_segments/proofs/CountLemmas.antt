@@ -1,14 +1,11 @@
 -- The number of segments that a maker has made is the same in the map and in its list.
-use Rattle.rd_segments.proofs.Prelude.{◌≡◌, ℕ, zero, suc, ◌+◌, ◌<◌, ◌≤◌, true, false, inl, inr, ◌∙◌, ap, arith, List, Vec, Global, length, Option, is_some, slice_get, cases_lt, cond-true, cond-false, slice_get_past, MOST_SEGMENTS, SegName, Segment, ArrayParts, ListOf, by_number, part_of, count_in, count, contents_of, slice_get_cases, is_there, number_made_from, number_made}
+use Rattle.rd_segments.proofs.Prelude.{◌≡◌, ℕ, zero, suc, ◌+◌, ◌<◌, ◌≤◌, true, false, inl, inr, ◌∙◌, arith, List, Vec, Global, Option, is_some, slice_get, cases_lt, cond-true, cond-false, slice_get_past, MOST_SEGMENTS, SegName, Segment, ArrayParts, ListOf, by_number, part_of, count_in, count, contents_of, is_there, number_made_from, number_made}
+use Rattle.rd_cell.proofs.ListLemmas.{slice_get-is_some}
 use Rattle.rd_cell.specs.declared.places.Place.TheVariants as place
-
--- every position below a list's length has an element
-pub in_list : {X : Type 0} (xs : List X) (n : ℕ) → n < length xs → is_some (slice_get xs n) ≡ true
-in_list xs n h = elim (slice_get_cases xs n).1 [ inl w ↦ ap is_some w.2 | inr p ↦ absurd (omega (arith, p.0)) ]
 
 -- a number below the length of a maker's list has an element
 pub numbered_there : {X : Type 0} (o : Option (Vec X Global)) (n : ℕ) → n < count_in o → is_some (by_number o n) ≡ true
-numbered_there o n h = grind (arith, in_list)
+numbered_there o n h = grind (arith, slice_get-is_some)
 
 -- a number from the length of a maker's list on has no element
 pub numbered_absent : {X : Type 0} (o : Option (Vec X Global)) (n : ℕ) → count_in o ≤ n → is_some (by_number o n) ≡ false

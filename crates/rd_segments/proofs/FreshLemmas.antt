@@ -42,7 +42,9 @@ module _ {R : ℕ} where
   other_maker : (m n : ℕ) (s : Segment R) → (if name_eq root (record { maker = suc m; n = n }) then Some s else None) ≡ None
   other_maker m n s = grind arith
 
-  root_alone : (first : ListOf (Segment R)) (lists : List (ListOf (Segment R))) (s : Segment R) → first.items ≡ s ∷ [] → All (λ list. list.items ≡ []) lists → (m n : ℕ)
+  -- if the first list has just this segment and all others are empty, that segment is the root, and
+  -- there is no other
+  pub root_alone : (first : ListOf (Segment R)) (lists : List (ListOf (Segment R))) (s : Segment R) → first.items ≡ s ∷ [] → All (λ list. list.items ≡ []) lists → (m n : ℕ)
       → by_number (slice_get (first ∷ lists) m) n ≡ (if name_eq root (record { maker = m; n = n }) then Some s else None)
   root_alone first lists s one none m n = grind (arith, none_in)
 
@@ -59,9 +61,7 @@ module _ {R : ℕ} where
   no_lists makers e h = grind (arith, h.at root)
 
   only_first : (ss : List (Segment R)) (s : Segment R) → slice_get ss 0 ≡ Some s → slice_get ss 1 ≡ None → ss ≡ s ∷ []
-  only_first [] s one two = absurd (cc)
-  only_first (t ∷ []) s one two = let same : t ≡ s = cc in ap (λ x. x ∷ []) same
-  only_first (t ∷ u ∷ ss) s one two = absurd (cc)
+  only_first ss s one two = grind (arith, common_steps, slice_get_cases, only_one)
 
   no_first : (ss : List (Segment R)) → slice_get ss 0 ≡ None → ss ≡ []
   no_first [] h = refl

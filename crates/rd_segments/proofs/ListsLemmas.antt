@@ -1,5 +1,5 @@
 -- The makers' lists after a change of one segment.
-use Rattle.rd_segments.proofs.Prelude.{◌≡◌, ◌≢◌, ℕ, ◌+◌, ◌-◌, ◌<◌, ◌≤◌, true, ◌==◌, ◌&&◌, if◌then◌else◌, ◌⊎◌, sym, ◌∙◌, ap, arith, List, [], ◌∷◌, take, length, set, get_or, Option, Some, None, is_some, slice_get, eq-eqb, ne_eqb, Result, OnErr, OnOk, with_item, cond-true, cond-false, and_left, and_right, slice_get_past, slice_get-get_or, SegName, Place, root, name_eq, operand, slice_get-set_same, slice_get-set_other, Segment, ListOf, by_number, by_name, part_of, count, Changes, IsLengthened, spare_in, spare, and_from, slice_get_cases, slice_get_within, slice_get-push_same, slice_get-push_other, slice_get-take_same, slice_get-take_other, room_used, Err, Refusal, KeepsMakersRoom, UsesMakersRoom, ReturnsMakersRoom, AddsMakersRoom, makers_room}
+use Rattle.rd_segments.proofs.Prelude.{◌≡◌, ◌≢◌, ℕ, ◌+◌, ◌-◌, ◌<◌, ◌≤◌, true, if◌then◌else◌, ◌⊎◌, refl, ◌∙◌, ap, arith, List, take, length, set, get_or, Option, Some, None, is_some, slice_get, eq-eqb, ne_eqb, Result, OnErr, OnOk, with_item, cond-true, cond-false, and_left, and_right, slice_get_past, slice_get_read, slice_get-get_or, SegName, Place, operand, slice_get-set_same, slice_get-set_other, Segment, ListOf, by_number, by_name, part_of, count, Changes, IsLengthened, spare_in, spare, and_from, slice_get_cases, slice_get_within, slice_get-push_same, slice_get-push_other, slice_get-take_same, slice_get-take_other, room_used, Err, Refusal, KeepsMakersRoom, UsesMakersRoom, ReturnsMakersRoom, AddsMakersRoom, makers_room}
 use Rattle.std.specs.declared.alloc.AllocError.{AllocError}
 use Rattle.std.specs.Result.{is_ok}
 use Rattle.std.proofs.lemmas.List.{length-set}
@@ -55,27 +55,23 @@ maker_within makers name there = grind (arith, is_some, slice_get_past)
 pub segment_there : {R : ℕ} (o : Option (Segment R)) (p : Place) → is_some (operand (part_of o) p) ≡ true → is_some o ≡ true
 segment_there o p h = grind arith
 
--- the list read at a maker's number is that maker's
-pub list_read : {R : ℕ} (makers : List (ListOf (Segment R))) (m : ℕ) (list : ListOf (Segment R)) → m < length makers → list ≡ get_or makers m list → slice_get makers m ≡ Some list
-list_read makers m list within read = slice_get-get_or makers m list within ∙ ap Some (sym read)
-
 -- a segment is there if its number is below the length of its maker's list
 pub found_there : {R : ℕ} (makers : List (ListOf (Segment R))) (name : SegName) (m : ℕ) (list : ListOf (Segment R)) → m ≡ name.maker → m < length makers
     → list ≡ get_or makers m list → name.n < length list.items → is_some (by_name makers name) ≡ true
-found_there makers name m list is within read below = grind (arith, list_read, slice_get_cases)
+found_there makers name m list is within read below = grind (arith, slice_get-get_or, slice_get_cases)
 
 -- after one maker's list is replaced, that maker has the new list's room, and every other its own
 spare_replaced : {R : ℕ} (makers : List (ListOf (Segment R))) (m : ℕ) (list left : ListOf (Segment R)) → m < length makers → list ≡ get_or makers m list
     → (k : ℕ) → ((k ≡ m) × (spare (set makers m left) k ≡ spare_in (Some left)) × (spare makers k ≡ spare_in (Some list)))
     ⊎ ((k ≡ m → ⊥) × (spare (set makers m left) k ≡ spare makers k))
-spare_replaced makers m list left within read k = grind (arith, slice_get, slice_get-set_same, list_read, slice_get-set_other)
+spare_replaced makers m list left within read k = grind (arith, slice_get, slice_get-set_same, slice_get-get_or, slice_get-set_other)
 
 -- lengthening a maker's list adds the new segment under its name, and changes no other
 pub list_lengthened : {R : ℕ} (makers : List (ListOf (Segment R))) (maker m value : ℕ) (name : SegName) (list left : ListOf (Segment R)) → m ≡ maker → maker < length makers
     → list ≡ get_or makers m list → (h : IsLengthened maker value name list left) → Changes name (Some h.segment) makers (set makers m left)
 list_lengthened {R} makers maker m value name list left is within read h =
     let changed = list_changed makers maker (length list.items) list left (Some h.segment)
-    (list_read makers maker list within (read ∙ ap (λ (k : ℕ). get_or makers k list) is))
+    (slice_get_read makers (length makers) maker list refl within (read ∙ ap (λ (k : ℕ). get_or makers k list) is))
     (λ k ne. ap (λ xs. slice_get xs k) h.pushed ∙ slice_get-push_other list.items h.segment k ne)
     (ap (λ xs. slice_get xs (length list.items)) h.pushed ∙ slice_get-push_same list.items h.segment) in
     grind arith
@@ -83,7 +79,7 @@ list_lengthened {R} makers maker m value name list left is within read h =
 -- replacing a list by one with the same segments changes no segment
 pub list_same : {R : ℕ} (makers : List (ListOf (Segment R))) (maker m : ℕ) (list left : ListOf (Segment R)) → m ≡ maker → maker < length makers
     → list ≡ get_or makers m list → left.items ≡ list.items → (t : SegName) → by_name (set makers m left) t ≡ by_name makers t
-list_same makers maker m list left is within read same t = grind (arith, slice_get, slice_get-set_same, list_read, slice_get-set_other)
+list_same makers maker m list left is within read same t = grind (arith, slice_get, slice_get-set_same, slice_get-get_or, slice_get-set_other)
 
 -- The room after a list took another's place
 
@@ -109,7 +105,7 @@ spare_here makers maker m left is within = grind (arith, slice_get, slice_get-se
 pub reserved_adds : {R : ℕ} (makers : List (ListOf (Segment R))) (maker m more : ℕ) (list left : ListOf (Segment R)) (r : Result (Unit {0}) AllocError) → m ≡ maker
     → maker < length makers → list ≡ get_or makers m list → OnOk r (more ≤ spare_in (Some left)) → OnErr r (spare_in (Some list) < more)
     → spare_in (Some list) ≤ spare_in (Some left) → AddsMakersRoom r maker more (makers_room makers) (makers_room (set makers m left))
-reserved_adds makers maker m more list left r is within read ok err room = grind (arith, length-set, spare_here, list_read, spare_replaced)
+reserved_adds makers maker m more list left r is within read ok err room = grind (arith, length-set, spare_here, slice_get-get_or, spare_replaced)
 
 -- a maker whose count is above 0 has a list
 pub count_within : {R : ℕ} (makers : List (ListOf (Segment R))) (m : ℕ) → 0 < count makers m → m < length makers
@@ -120,18 +116,6 @@ pub last_taken : {R : ℕ} (makers : List (ListOf (Segment R))) (maker m : ℕ) 
     → list ≡ get_or makers m list → left.items ≡ take (length list.items - 1) list.items
     → Changes (record { maker = maker; n = count makers maker - 1 }) None makers (set makers m left)
 last_taken {R} makers maker m list left is within read items =
-    let found : slice_get makers maker ≡ Some list = list_read makers maker list within (read ∙ ap (λ (k : ℕ). get_or makers k list) is) in
+    let found : slice_get makers maker ≡ Some list = slice_get_read makers (length makers) maker list refl within (read ∙ ap (λ (k : ℕ). get_or makers k list) is) in
     let changed = list_changed makers maker (length list.items - 1) list left None found in
     grind (arith, slice_get-take_other, slice_get-take_same)
-
--- The lists of a fresh space
-
--- a list of one list of one segment has that segment at maker 0 and number 0, and no other
-first_at : {R : ℕ} (list : ListOf (Segment R)) (segment : Segment R) → list.items ≡ segment ∷ [] → (m n : ℕ)
-    → by_number (slice_get (list ∷ []) m) n ≡ (if (0 == m) && (0 == n) then Some segment else None)
-first_at list segment items m n = grind arith
-
--- a list of one list of one segment has that segment as the root, and no other
-pub first_list : {R : ℕ} (list : ListOf (Segment R)) (segment : Segment R) → list.items ≡ segment ∷ []
-    → (t : SegName) → by_name (list ∷ []) t ≡ (if name_eq root t then Some segment else None)
-first_list list segment items t = first_at list segment items t.maker t.n

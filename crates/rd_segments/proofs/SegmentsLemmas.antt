@@ -1,6 +1,6 @@
 -- The segments' places after a change of one segment.
-use Rattle.rd_segments.proofs.Prelude.{◌≡◌, ℕ, ◌-◌, ◌<◌, true, false, if◌then◌else◌, ◌∙◌, ap, arith, List, take, length, set, get_or, Option, Some, None, is_some, slice_get, Result, Ok, Err, IfOk, IfErr, OnErr, lt-ltb, vec_len, vec_capacity, common_steps, with_item, cases_Bool, cond-true, cond-false, SegName, Place, Content, Operation, Done, Refusal, name_eq, is_of, segment_of, Contents, operand, operate, everywhere, Operates, Makes, Restores, name_eq-refl, Agrees, operand_agrees, lift_operates, lift_restore, Segment, part, ListOf, by_name, segments_of, count, Changes, IsLengthened, spare, is_of_same_segment, holding, RefusesMaking, beside_is_of, not_covered_outside}
-use Rattle.rd_segments.proofs.ListsLemmas.{named_is, segment_written, list_read, list_lengthened, list_same, last_taken}
+use Rattle.rd_segments.proofs.Prelude.{◌≡◌, ℕ, ◌-◌, ◌<◌, true, false, if◌then◌else◌, refl, ◌∙◌, ap, arith, List, take, length, slice_get_read, set, get_or, Option, Some, None, is_some, slice_get, Result, Ok, Err, IfOk, IfErr, OnErr, lt-ltb, vec_len, vec_capacity, common_steps, with_item, cases_Bool, cond-true, cond-false, SegName, Place, Content, Operation, Done, Refusal, name_eq, is_of, segment_of, Contents, operand, operate, everywhere, Operates, Makes, Restores, name_eq-refl, Agrees, operand_agrees, lift_operates, lift_restore, Segment, part, ListOf, by_name, segments_of, count, Changes, IsLengthened, spare, is_of_same_segment, holding, RefusesMaking, beside_is_of, not_covered_outside}
+use Rattle.rd_segments.proofs.ListsLemmas.{named_is, segment_written, list_lengthened, list_same, last_taken}
 use Rattle.rd_cell.specs.declared.places.Place.TheVariants as place
 
 -- a segment's own places have the contents that the map has under its name
@@ -86,7 +86,7 @@ pub record ReadsList {R : ℕ} (makers : List (ListOf (Segment R))) (maker m : �
 
 -- the list that is read is the maker's
 list_found : {R : ℕ} (makers : List (ListOf (Segment R))) (maker m : ℕ) (list : ListOf (Segment R)) → ReadsList makers maker m list → slice_get makers maker ≡ Some list
-list_found makers maker m list h = list_read makers maker list h.within (h.list_is ∙ ap (λ (k : ℕ). get_or makers k list) h.maker_is)
+list_found makers maker m list h = slice_get_read makers (length makers) maker list refl h.within (h.list_is ∙ ap (λ (k : ℕ). get_or makers k list) h.maker_is)
 
 -- lengthening the list that was read makes the segment in the map
 pub makes_in : {R : ℕ} (makers : List (ListOf (Segment R))) (maker m value : ℕ) (list left : ListOf (Segment R)) → ReadsList makers maker m list

@@ -1,5 +1,5 @@
 -- The space's map after a change of its segments, of one of the queue's ends, or of the array.
-use Rattle.rd_segments.proofs.Prelude.{◌≡◌, ℕ, true, false, Bool, if◌then◌else◌, ap, List, Some, None, Result, Ok, Err, IfOk, OnErr, arith, fun_ext, SegName, Place, Content, Operation, Done, Refusal, root, name_eq, is_of, place_eq, segment_of, Contents, fresh_segment, operand, operate, everywhere, Operates, Agrees, lift_operates, lift_restore, Segment, ListOf, by_name, part_of, segments_of, IsFresh, ArrayParts, array_part, fresh_array, contents_of, fresh_space, is_array, restore, narrow, contents_by}
+use Rattle.rd_segments.proofs.Prelude.{◌≡◌, ℕ, true, false, Bool, if◌then◌else◌, ap, List, Some, None, Result, Ok, Err, IfOk, arith, fun_ext, SegName, Place, Content, Operation, Done, Refusal, root, name_eq, is_of, place_eq, segment_of, Contents, fresh_segment, operand, operate, everywhere, Operates, Agrees, lift_operates, lift_restore, Segment, ListOf, by_name, part_of, segments_of, IsFresh, ArrayParts, array_part, fresh_array, contents_of, fresh_space, is_array, restore, narrow, contents_by}
 use Rattle.rd_cell.specs.declared.places.Place.TheVariants as place
 
 -- Which places are the segments'
@@ -33,11 +33,6 @@ space_operates old new qhead qtail array name p op own (Ok done) h =
     (segments_agree (segments_of old) (segments_of new) qhead qtail (array_part array) p (own_of p name own))
     (narrow of_segments (operate p op (operand (segments_of old) p)) done (segments_of old) (segments_of new) h)
 
--- if an error leaves the segments' places, it leaves the space's
-pub unchanged_fields : {R : ℕ} (old new : List (ListOf (Segment R))) (qhead qtail : SegName) (array : ArrayParts) {T : Type 0} → (r : Result T Refusal)
-    → OnErr r (segments_of new ≡ segments_of old) → OnErr r (contents_of new qhead qtail array ≡ contents_of old qhead qtail array)
-unchanged_fields old new qhead qtail array r h = grind arith
-
 -- if the segments' places stay, so do the space's
 pub same_fields : {R : ℕ} (old new : List (ListOf (Segment R))) (qhead qtail : SegName) (array : ArrayParts) → segments_of new ≡ segments_of old
     → contents_of new qhead qtail array ≡ contents_of old qhead qtail array
@@ -68,11 +63,6 @@ pub array_operates : {R : ℕ} (makers : List (ListOf (Segment R))) (qhead qtail
     → IfOk r (λ done. Operates everywhere p op done (contents_of makers qhead qtail old) (contents_of makers qhead qtail new))
 array_operates makers qhead qtail old new p op own r h =
     let agrees = array_agrees makers qhead qtail old new p own in grind (arith, lift_operates, narrow)
-
--- if an error leaves the array, it leaves the space
-pub array_unchanged : {R : ℕ} (makers : List (ListOf (Segment R))) (qhead qtail : SegName) (old new : ArrayParts) {T : Type 0} → (r : Result T Refusal)
-    → OnErr r (array_part new ≡ array_part old) → OnErr r (contents_of makers qhead qtail new ≡ contents_of makers qhead qtail old)
-array_unchanged makers qhead qtail old new r h = grind arith
 
 -- a content put back in the array is put back in the space
 pub array_restored : {R : ℕ} (makers : List (ListOf (Segment R))) (qhead qtail : SegName) (old new : ArrayParts) (p : Place) (c : Content) → is_array p ≡ true

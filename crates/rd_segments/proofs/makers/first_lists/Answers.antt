@@ -1,5 +1,6 @@
+use Rattle.std.proofs.lemmas.List.Elements.{All-nil}
 use Rattle.rd_segments.proofs.Prelude.{◌≡◌, List, ◌++◌, ◌∷◌, [], ◌∙◌, ap, Segment, ListOf, by_name}
-use Rattle.rd_segments.proofs.ListsLemmas.{first_list}
+use Rattle.rd_segments.proofs.FreshLemmas.{root_alone}
 use Rattle.rd_segments.proofs.makers.first_lists.Goals as goal
 
 pub returns-clause-ok : goal.returns-clause-ok
@@ -12,5 +13,5 @@ returns-clause-ok g c =
     record {
       segment = c.fresh.result;
       fresh_parts = c.fresh.ensures;
-      at = λ t. c.loop.invariant.2 t ∙ ap (λ (xs : List (ListOf _)). by_name xs t) items ∙ first_list root c.fresh.result one t;
+      at = λ t. c.loop.invariant.2 t ∙ ap (λ (xs : List (ListOf _)). by_name xs t) items ∙ root_alone root [] c.fresh.result one (All-nil _) t.maker t.n;
     }

@@ -1,8 +1,7 @@
-use Rattle.std.proofs.Common.{refl, sym}
-use Rattle.rd_segments.proofs.Prelude.{contents_of, place_operates}
+use Rattle.rd_segments.proofs.Prelude.{ap, contents_by, contents_of, on_err_weaker, place_operates, refl, segments_of, sym}
 use Rattle.rd_cell.specs.declared.places.Place.TheVariants as place
 use Rattle.rd_cell.specs.declared.contents.Content.TheVariants as content
-use Rattle.rd_segments.proofs.SpaceLemmas.{space_operates, unchanged_fields, head_others, tail_others, array_operates, array_unchanged}
+use Rattle.rd_segments.proofs.SpaceLemmas.{space_operates, same_fields, head_others, tail_others, array_operates}
 use Rattle.rd_segments.proofs.space.Space.operate.Goals as goal
 
 pub returns-in-Some-clause-ok : goal.returns-in-Some-clause-ok
@@ -33,10 +32,10 @@ returns-in-None-clause-ok g c =
 
 pub returns-in-None-clause-unchanged : goal.returns-in-None-clause-unchanged
 returns-in-None-clause-unchanged g c =
-    array_unchanged c.args.self.now.makers.items c.args.self.now.qhead c.args.self.now.qtail c.args.self.now.array c.operate.new.self
-    c.operate.result c.operate.ensures.unchanged
+    let s = c.args.self.now in
+    on_err_weaker c.operate.result (ap (contents_by (segments_of s.makers.items) s.qhead s.qtail)) c.operate.ensures.unchanged
 
 pub returns-in-Some-clause-unchanged : goal.returns-in-Some-clause-unchanged
 returns-in-Some-clause-unchanged g c =
-    unchanged_fields c.args.self.now.makers.items c.operate_in.new.makers.items c.args.self.now.qhead c.args.self.now.qtail c.args.self.now.array
-    c.operate_in.result c.operate_in.ensures.unchanged
+    let s = c.args.self.now in
+    on_err_weaker c.operate_in.result (same_fields s.makers.items c.operate_in.new.makers.items s.qhead s.qtail s.array) c.operate_in.ensures.unchanged
