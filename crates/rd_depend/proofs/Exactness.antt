@@ -1,6 +1,6 @@
 -- If the first entry of one list and an entry of the same event that may come first in the other
 -- are taken out, the rests are equivalent exactly if the lists are.
-use Rattle.rd_depend.proofs.Prelude.{◌≡◌, ◌↔◌, ℕ, suc, ◌-◌, ◌≤◌, Bool, refl, sym, ◌∙◌, ap, subst, arith, List, [], ◌∷◌, ◌++◌, length, take, drop, length-drop, Ok, map-append, take_all, World, Stepped, step, Ran, run, IsFree, Event, Entry, IsEquivalent, events, IsRunFrom, runs_to, FirstStep, first_step, middle, as_stepped-same, goes_first, stands_in, DecidesEquivalence}
+use Rattle.rd_depend.proofs.Prelude.{◌≡◌, ◌↔◌, ℕ, suc, ◌-◌, ◌≤◌, Bool, refl, sym, ◌∙◌, ap, subst, arith, List, [], ◌∷◌, ◌++◌, length, take, drop, length-drop, Ok, map-append, take_all, World, Stepped, step, Ran, run, IsFree, Event, Entry, IsEquivalent, events, IsRunFrom, runs_to, FirstStep, first_step, middle, same_Ok, goes_first, stands_in, DecidesEquivalence}
 use Rattle.rd_depend.proofs.FirstOfActor.{MayComeFirst, one_place}
 
 -- an entry that depends on no earlier one can be made first, and the others then run on with the
@@ -78,7 +78,7 @@ pub runs_on : (w : World) (x : Entry) (xs ys left : List Entry) (first : FirstSt
 runs_on w x xs ys left first runs m =
     let to_front = front w m.earlier m.entry m.later (subst (λ (l : List Entry). IsRunFrom w l) m.stands runs) m.free in
     let same : record { world = to_front.after; entry = m.entry } ≡ record { world = first.after; entry = x } =
-    as_stepped-same _ _ (sym to_front.goes ∙ ap (step w) m.its_event ∙ first.goes) in
+    same_Ok _ _ (sym to_front.goes ∙ ap (step w) m.its_event ∙ first.goes) in
     record {
       same = ap (λ (s : Stepped). s.entry) same;
       runs = grind arith;
@@ -90,7 +90,7 @@ pub equivalent_first : (w : World) (x : Entry) (xs ys left : List Entry) (first 
 equivalent_first w x xs ys left first runs m = (
   λ h.
       let c = comes_first w x.event (events xs) ys runs h in
-      let there : c.stepped ≡ record { world = first.after; entry = x } = as_stepped-same _ _ (sym c.goes ∙ first.goes) in
+      let there : c.stepped ≡ record { world = first.after; entry = x } = same_Ok _ _ (sym c.goes ∙ first.goes) in
       subst (λ (s : Stepped). IsEquivalent s.world (events xs) (events left)) there
       (subst (λ (l : List Entry). IsEquivalent c.stepped.world (events xs) (events l)) (one_left x.event ys c.left left c.may m) c.on),
   λ h. stands_first w x first.after (events xs) ys left runs first.goes m h,

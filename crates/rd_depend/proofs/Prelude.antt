@@ -3,13 +3,14 @@
 pub use Rattle.rd_cell.proofs.Prelude.{Bool, Global, IfOk-weaker, IsOk, IsPartitionPoint-from_clause, IsPartitionedBy-leb, IsSome, IsTrue, List, MatchOption, None, Ok, OnOk, Option, Result, Some, Vec, [], and_from, and_parts, ap, apart_from_distinct, append-nil, append_assoc, arith, before_first, cases_Bool, cases_eq, common_steps, cond, cond-false, cond-true, covers, drop, drop-cons, drop-drop, drop_all, drop_of_length-le, enumerate_from, eq-eqb, eqb-false, eqb-true, false, false≢true, filter-append, find, find_at, get_or, if◌then◌else◌, index_half, inl, inr, is_err, is_nothing, is_some, last_or, le-ltb, leb, length, length-append, length-drop, length-map, length-take-le, list_any, list_any-append, lt-ltb, ltb-false, ltb-true, map, map-append, name_eq, nat_lt, nat_tests, ne_eqb, nil_from_length, not, option_and_then, option_map, option_map_or, option_to_list, or_cases, or_from, or_left, or_parts, or_right, position, position_from, position_or_len, prefix_len-le-length, prefix_len_is, refl, reverse, reverse-append, rules, segment_of, set, slice_get, slice_get-get_or, slice_get_past, some_covers, subst, suc, sym, take, take-append-drop, take-map, take_all, true, zero, ℕ, ◌&&◌, ◌*◌, ◌++◌, ◌+◌, ◌-◌, ◌/◌, ◌<◌, ◌==◌, ◌^◌, ◌||◌, ◌↔◌, ◌∙◌, ◌∷◌, ◌≡◌, ◌≢◌, ◌≤◌, ◌⊎◌}
 unfoldable pub use Rattle.rd_cell.proofs.Prelude.{IsDistinct}
 pub use Rattle.rd_step.proofs.Prelude.{IsEquivalent, IsFree, IsRunFrom, Place, Ran, Stepped, World, Wrote, closure, depends, depends_on_any, events, first_dependant, interfere, numbered, overlaps, run, run_entries, some_overlap, step, without, written}
+pub use Rattle.rd_cell.proofs.ResultLemmas.{same_Ok}
 pub use Rattle.rd_cell.proofs.ListLemmas.{slice_get-push_other, slice_get-push_same, slice_get-set_other, slice_get-set_same}
 pub use Rattle.rd_cell.proofs.PlaceLemmas.{both_cover, covers-refl, name_eq-refl, some_overlap-sym, written-covers}
 pub use Rattle.rd_cell.specs.declared.places.SegName.{SegName}
 pub use Rattle.rd_step.proofs.Commute.{commutes}
-pub use Rattle.rd_step.proofs.Equivalence.{as_ran-same, as_stepped-same, goes_first, ran_through, reflexive, run_events, stands_in, swapped_within}
-pub use Rattle.rd_step.proofs.Inverse.{ran_on, run-cons, undoes}
-pub use Rattle.rd_step.proofs.RunParts.{FirstStep, Middle, beginning, first_step, free_parts, middle, runs_to}
+pub use Rattle.rd_step.proofs.Equivalence.{goes_first, ran_through, reflexive, run_events, stands_in, swapped_within}
+pub use Rattle.rd_step.proofs.Inverse.{undoes}
+pub use Rattle.rd_step.proofs.RunParts.{FirstStep, Middle, beginning, first_step, free_parts, middle, ran_on, run-cons, runs_to}
 pub use Rattle.rd_step.proofs.Symmetry.{symmetric}
 pub use Rattle.rd_step.specs.Dependence.{AreLoneUndos, IsInClosure, closure_from, number_after}
 pub use Rattle.rd_step.specs.declared.entries.Entry.{Entry}

@@ -1,6 +1,6 @@
 -- Lists are equivalent exactly if one comes from the other by swapping neighbours that do not
 -- depend on each other.
-use Rattle.rd_depend.proofs.Prelude.{◌≡◌, ◌↔◌, false, refl, sym, ◌∙◌, ap, subst, List, [], ◌∷◌, ◌++◌, Ok, World, Ran, Stepped, run, step, Event, depends, symmetric, free_parts, IsFree, IsEquivalent, as_stepped-same, goes_first, as_ran-same, ran_through, reflexive, swapped_within, commutes, ran_on, run-cons, arith}
+use Rattle.rd_depend.proofs.Prelude.{◌≡◌, ◌↔◌, false, refl, sym, ◌∙◌, ap, subst, List, [], ◌∷◌, ◌++◌, Ok, World, Ran, Stepped, run, step, Event, depends, symmetric, free_parts, IsFree, IsEquivalent, same_Ok, goes_first, ran_through, reflexive, swapped_within, commutes, ran_on, run-cons, arith}
 use Rattle.rd_depend.specs.Reordering.{IsReordered}
 use Rattle.rd_depend.specs.Reordering.IsReordered.{unchanged, swapped}
 use Rattle.rd_depend.proofs.Converse.{equivalent_through}
@@ -66,10 +66,10 @@ goes_swapped : (w : World) (before : List Event) (e f : Event) (later : List Eve
     → GoesSwapped w before e f later u
 goes_swapped w before e f later b s u r g h k free runs =
     let t = ran_through w before e (f ∷ later) r runs in
-    let here : t.before ≡ b = as_ran-same _ _ (sym t.runs ∙ g) in
-    let one : t.one ≡ s = as_stepped-same _ _ (sym t.goes ∙ ap (λ (y : Ran). step y.world e) here ∙ h) in
+    let here : t.before ≡ b = same_Ok _ _ (sym t.runs ∙ g) in
+    let one : t.one ≡ s = same_Ok _ _ (sym t.goes ∙ ap (λ (y : Ran). step y.world e) here ∙ h) in
     let next = ran_on t.one.world f later t.rest t.goes_on in
-    let two : next.one ≡ u = as_stepped-same _ _ (sym next.goes ∙ ap (λ (y : Stepped). step y.world f) one ∙ k) in
+    let two : next.one ≡ u = same_Ok _ _ (sym next.goes ∙ ap (λ (y : Stepped). step y.world f) one ∙ k) in
     let on : run u.world later ≡ Ok next.rest = ap (λ (y : Stepped). run y.world later) (sym two) ∙ next.goes_on in
     let sq = commutes b.world e f s u h k free in
     let end : run sq.second.world later ≡ Ok next.rest = ap (λ (v : World). run v later) sq.same_world ∙ on in

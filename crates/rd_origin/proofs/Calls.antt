@@ -1,7 +1,7 @@
 -- Along a run, an actor that begins no other call stays in its call or becomes idle, and a cell
 -- into which nothing is put keeps its value or loses it.
 use Rattle.rd_origin.proofs.Prelude.{◌≡◌, ℕ, Bool, true, false, ◌==◌, ◌&&◌, inl, inr, sym, ◌∙◌, ap, subst, eqb-true, List, [], ◌∷◌, Option, Some, None, Ok, cond_both, and_parts, cond-true, Place, World, Stepped, step, Ran, run, Op, Event, Entry, took, events, is_call, puts_into, calls_by, Actor, after, beginning}
-use Rattle.rd_step.proofs.Equivalence.{as_ran-same}
+use Rattle.rd_cell.proofs.ResultLemmas.{same_Ok}
 use Rattle.rd_origin.proofs.Split.{NonePasses}
 use Rattle.rd_origin.proofs.Rows.{IsStill}
 use Rattle.rd_origin.proofs.Ops.{called, after_still, after_call}
@@ -48,7 +48,7 @@ pub stays_along : (P : World → Type 0) (test : Entry → Bool)
     → ((w : World) (e : Event) (s : Stepped) → step w e ≡ Ok s → test s.entry ≡ false → P w → P s.world) → (w v : World) (xs : List Entry)
     → run w (events xs) ≡ Ok (record { world = v; entries = xs }) → NonePasses test xs → P w → P v
 stays_along P test stays w v [] h none was =
-    subst P (ap (λ (y : Ran). y.world) (as_ran-same (record { world = w; entries = [] }) (record { world = v; entries = [] }) h)) was
+    subst P (ap (λ (y : Ran). y.world) (same_Ok (record { world = w; entries = [] }) (record { world = v; entries = [] }) h)) was
 stays_along P test stays w v (x ∷ xs) h none was =
     let first = beginning w x xs v h in
     stays_along P test stays first.after v xs first.rest none.1 (stays w x.event (record { world = first.after; entry = x }) first.goes none.0 was)

@@ -1,6 +1,9 @@
 -- Parts with a list for each maker, whose world is well-formed, have no flaw.
-use Rattle.rd_step.proofs.Prelude.{◌≡◌, ℕ, zero, suc, ◌≤◌, Bool, true, nat_lt, nat_le, ◌↔◌, inl, inr, refl, ◌∙◌, ap, subst, arith, List, [], ◌∷◌, length, slice_get, Option, Some, None, option_map, le-leb, ltb-true, eq-eqb, list_all, cases_lt, and_parts, and_from, MOST_ACTORS, MOST_SEGMENTS, COUNTER_END, SegName, Place, SegmentParts, counters_fit, by_number, by_name, count_in, count, ListOf, part_of_parts, each_segment, in_list, numbered_there, Actor, words_fit, Parts, numbered, Presence, place_fits, next_fits, names_fit, numbers_within, record_fits, actor_fits, is_actor, IsNumbered, AreMade, IsWellFormed, world_of_parts, has, indexes_fit, first_flaw, index_end, Content, can_hold, content_fits, segments_named_fit, index_within, subst₂}
-use Rattle.rd_step.proofs.Assembled.{NoFlaw, within, presence, numbered_below, assembled, lists_right}
+use Rattle.rd_step.proofs.Prelude.{is_some-slice_get, ◌≡◌, ℕ, zero, suc, ◌≤◌, Bool, true, nat_lt, nat_le, ◌↔◌, inl, inr, refl, ◌∙◌, ap, subst, arith, List, [], ◌∷◌, length, slice_get, Option, Some, None, option_map, le-leb, ltb-true, eq-eqb, list_all, cases_lt, and_parts, and_from, MOST_ACTORS, MOST_SEGMENTS, COUNTER_END, SegName, Place, SegmentParts, counters_fit, by_number, by_name, count_in, count, ListOf, part_of_parts, each_segment, slice_get-is_some, numbered_there, Actor, words_fit, Parts, numbered, Presence, place_fits, next_fits, names_fit, numbers_within, record_fits, actor_fits, is_actor, IsNumbered, AreMade, IsWellFormed, world_of_parts, has, indexes_fit, first_flaw, index_end, Content, can_hold, content_fits, segments_named_fit, index_within, subst₂}
+use Rattle.rd_step.proofs.Assembled.{NoFlaw, presence, numbered_below, assembled, lists_right}
+use Rattle.std.proofs.Common.{get_or}
+use Rattle.std.proofs.lemmas.List.Sums.{list_all-from_AllPass}
+use Rattle.std.proofs.lemmas.Option.{slice_get-get_or}
 use Rattle.rd_cell.specs.declared.places.Place.TheVariants as place
 use Rattle.rd_cell.specs.declared.contents.Content.TheVariants as content
 
@@ -12,8 +15,7 @@ unflawed {R} p f = grind arith
 -- A test that holds at each index holds of each element
 
 all_from : {X : Type 0} (test : X → Bool) (xs : List X) → ((i : ℕ) (x : X) → slice_get xs i ≡ Some x → test x ≡ true) → list_all test xs ≡ true
-all_from test [] h = refl
-all_from test (x ∷ xs) h = and_from (test x) (list_all test xs) (h 0 x refl) (all_from test xs (λ i y e. h (suc i) y e))
+all_from test xs h = list_all-from_AllPass test xs (λ i d below. h i (get_or xs i d) (slice_get-get_or xs i d below))
 
 each_from : {R : ℕ} (test : SegmentParts R → Bool) (makers : List (ListOf (SegmentParts R)))
     → ((s : SegName) (x : SegmentParts R) → by_name makers s ≡ Some x → test x ≡ true) → each_segment test makers ≡ true
@@ -25,7 +27,7 @@ each_from test makers h =
 
 few_actors : (xs : List Actor) → IsNumbered (is_actor (numbered xs)) → length xs ≤ MOST_ACTORS
 few_actors [] by_number = omega arith
-few_actors (x ∷ xs) by_number = by_number.to_most (suc (length xs)) (in_list (x ∷ xs) (length xs) (omega arith))
+few_actors (x ∷ xs) by_number = by_number.to_most (suc (length xs)) (slice_get-is_some (x ∷ xs) (length xs) (omega arith))
 
 -- maker 0's list has just the root
 one_root : {R : ℕ} (p : Parts R) → AreMade (is_actor (numbered p.actors.items)) (has p) → count p.segments.items 0 ≡ 1
@@ -98,7 +100,7 @@ pub accepted : (R : ℕ) (p : Parts R) → length p.segments.items ≡ suc (leng
 accepted R p lists formed =
     let made = segments_made p formed in
     unflawed p (record {
-      some_actors = le-leb 1 (length p.actors.items) (within p.actors.items 0 formed.numbered.first);
+      some_actors = le-leb 1 (length p.actors.items) (is_some-slice_get p.actors.items 0 formed.numbered.first);
       few_actors = le-leb (length p.actors.items) MOST_ACTORS (few_actors p.actors.items formed.numbered);
       lists = eq-eqb (length p.segments.items) (suc (length p.actors.items)) lists;
       one_root = eq-eqb (count p.segments.items 0) 1 (one_root p made);

@@ -1,5 +1,7 @@
 -- Parts without a flaw are a well-formed world.
-use Rattle.rd_step.proofs.Prelude.{◌≡◌, ℕ, zero, suc, ◌<◌, ◌≤◌, Bool, true, false, not, ◌==◌, ◌&&◌, nat_lt, nat_le, if◌then◌else◌, inl, inr, refl, sym, ◌∙◌, ap, subst, arith, List, [], ◌∷◌, length, slice_get, Option, Some, None, is_some, option_map, lt-ltb, leb-true, eqb-true, eq-eqb, list_all, cases_lt, and_parts, and_from, both_ways, slice_get_past, fun_ext, MOST_ACTORS, SLOTS, MOST_SEGMENTS, Cell, SegName, Place, ArrSlot, is_there, SegmentParts, counters_fit, by_number, by_name, count_in, count, Space, contents, ListOf, part_of_parts, contents_of_parts, each_segment, in_list, numbered_there, Actor, words_fit, Parts, Flaw, world_of_fields, numbered, Presence, belongs, place_fits, next_fits, names_fit, numbers_within, actor_fits, is_actor, IsNumbered, AreMade, IsWellFormed, world_of_parts, has, indexes_fit, first_flaw, index_end, part_from, numbered_absent, slice_get_cases}
+use Rattle.rd_step.proofs.Prelude.{is_some-slice_get, ◌≡◌, ℕ, suc, ◌<◌, ◌≤◌, Bool, true, false, not, ◌==◌, ◌&&◌, nat_lt, nat_le, if◌then◌else◌, refl, sym, ◌∙◌, ap, subst, arith, List, length, slice_get, Option, Some, None, is_some, option_map, lt-ltb, leb-true, eqb-true, eq-eqb, list_all, and_parts, and_from, both_ways, slice_get_past, fun_ext, MOST_ACTORS, SLOTS, MOST_SEGMENTS, Cell, SegName, Place, ArrSlot, is_there, SegmentParts, counters_fit, by_number, by_name, count_in, count, Space, contents, ListOf, part_of_parts, contents_of_parts, each_segment, slice_get-is_some, numbered_there, Actor, words_fit, Parts, Flaw, world_of_fields, numbered, Presence, belongs, place_fits, next_fits, names_fit, numbers_within, actor_fits, is_actor, IsNumbered, AreMade, IsWellFormed, world_of_parts, has, indexes_fit, first_flaw, index_end, part_from, numbered_absent, slice_get_cases}
+use Rattle.std.proofs.lemmas.List.Sums.{AllPass-from_list_all}
+use Rattle.std.proofs.lemmas.Option.{get_or_from_slice_get, slice_get_within}
 use Rattle.rd_cell.specs.declared.places.Place.TheVariants as place
 use Rattle.rd_cell.specs.declared.contents.Content.TheVariants as content
 
@@ -33,9 +35,7 @@ no_flaw {R} p h = grind (arith, not_first, nat_le, and_parts)
 -- A test that holds of each element holds at each index
 
 all_at : {X : Type 0} (test : X → Bool) (xs : List X) (i : ℕ) (x : X) → list_all test xs ≡ true → slice_get xs i ≡ Some x → test x ≡ true
-all_at test [] i x h k = cc
-all_at test (y ∷ xs) zero x h k = grind arith
-all_at test (y ∷ xs) (suc i) x h k = all_at test xs i x (and_parts (test y) (list_all test xs) h).1 k
+all_at test xs i x h k = grind (arith, AllPass-from_list_all test xs h i x, slice_get_within, get_or_from_slice_get)
 
 each_in : {R : ℕ} (test : SegmentParts R → Bool) (makers : List (ListOf (SegmentParts R))) (m n : ℕ) (o : Option (ListOf (SegmentParts R))) (s : SegmentParts R)
     → each_segment test makers ≡ true → slice_get makers m ≡ o → by_number o n ≡ Some s → test s ≡ true
@@ -47,12 +47,8 @@ each_at test makers t s h there = each_in test makers t.maker t.n (slice_get mak
 
 -- Which actors and which segments are there
 
--- the index of an element that is there is below the list's length
-pub within : {X : Type 0} (xs : List X) (n : ℕ) → is_some (slice_get xs n) ≡ true → n < length xs
-within xs n h = elim (cases_lt n (length xs)) [ inl lt ↦ lt | inr past ↦ absurd (cc (ap is_some (slice_get_past xs n past), h)) ]
-
 actors_numbered : (xs : List Actor) → 1 ≤ length xs → length xs ≤ MOST_ACTORS → IsNumbered (is_actor (numbered xs))
-actors_numbered xs some few = grind (arith, in_list, within)
+actors_numbered xs some few = grind (arith, slice_get-is_some, is_some-slice_get)
 
 -- a place that every segment has is there exactly if the segment is
 there_if : {R : ℕ} (o : Option (SegmentParts R)) (q : Place) → ((x : SegmentParts R) → is_some (part_from x q) ≡ true) → is_some (part_of_parts o q) ≡ is_some o
@@ -74,24 +70,18 @@ has_list : {R : ℕ} (makers : List (ListOf (SegmentParts R))) (m n : ℕ) → i
 has_list makers m n h = grind (arith, is_some, slice_get_past)
 
 segments_made : {R : ℕ} (p : Parts R) → NoFlaw p → AreMade (is_actor (numbered p.actors.items)) (has p)
-segments_made p f = grind (arith, numbered_there, slice_get, eqb-true, numbered_below, is_some, eq-eqb, has_list, few_in, and_from, nat_lt, in_list, lt-ltb)
+segments_made p f = grind (arith, numbered_there, slice_get, eqb-true, numbered_below, is_some, eq-eqb, has_list, few_in, and_from, nat_lt, slice_get-is_some, lt-ltb)
 
 -- Which places are there
 
 some_in : {X Y : Type 0} (f : X → Y) (xs : List X) (i n : ℕ) → length xs ≡ n → is_some (option_map f (slice_get xs i)) ≡ nat_lt i n
 some_in f xs i n len = grind (arith, slice_get_cases)
 
-and_false : (b : Bool) → false ≡ (b && false)
-and_false b = grind arith
-
-and_true : (b : Bool) → b ≡ (b && true)
-and_true b = grind arith
-
 value_there : (R : ℕ) (o : Option (SegmentParts R)) (s : SegName) (i : ℕ) → is_some (part_of_parts o (place.Val s i)) ≡ (nat_lt i R && is_some o)
-value_there R o s i = grind (arith, and_false, nat_lt, some_in, and_true)
+value_there R o s i = grind (arith, nat_lt, some_in)
 
 index_there : (R : ℕ) (o : Option (SegmentParts R)) (s : SegName) (i : ℕ) → is_some (part_of_parts o (place.Idx s i)) ≡ (nat_lt i R && is_some o)
-index_there R o s i = grind (arith, and_false, nat_lt, some_in, and_true)
+index_there R o s i = grind (arith, nat_lt, some_in)
 
 no_place : {R : ℕ} (o : Option (SegmentParts R)) (q : Place) → ((x : SegmentParts R) → part_from x q ≡ None) → is_some (part_of_parts o q) ≡ false
 no_place o q none = grind arith

@@ -1,5 +1,5 @@
 -- A step that does not depend on the one before it may go first.
-use Rattle.rd_step.proofs.Prelude.{◌≡◌, ◌≢◌, ℕ, false, ◌==◌, refl, sym, ◌∙◌, subst, Option, Some, Ok, arith, eqb-false, or_parts, Access, Performed, contents_after, perform, Actor, need, after, World, Event, Stepped, with_actor, step_outcome, step, depends, CommutingSquare, interferes, interferes-sym, perform_around, after_swap}
+use Rattle.rd_step.proofs.Prelude.{◌≡◌, ◌≢◌, ℕ, false, ◌==◌, refl, sym, ◌∙◌, subst, Option, Some, Ok, arith, eqb-false, or_parts, Access, Performed, contents_after, perform, Actor, need, after, World, Event, Stepped, with_actor, step_outcome, step, depends, CommutingSquare, interferes, interfere-sym, perform_around, after_swap}
 use Rattle.rd_step.proofs.Steps.{Took, took, step_of, with_actor-other}
 
 -- setting the records of two actors gives the same actors in either order
@@ -21,7 +21,7 @@ swapped w e f a b x y d k has_a needs_a does_a has_b needs_b does_b ne free =
     let had_b : w.actor f.actor ≡ Some b = sym (with_actor-other e.actor na.0 w.actor f.actor ne') ∙ has_b in
     let did_b : perform w.ring f.actor w.at y ≡ Ok k = sym (perform_around w.ring e.actor f.actor w.at (contents_after d w.at) x y d k ne does_a does_b free) ∙ does_b in
     let has_a' : with_actor f.actor nb.0 w.actor e.actor ≡ Some a = with_actor-other f.actor nb.0 w.actor e.actor ne ∙ has_a in
-    let did_a : perform w.ring e.actor (contents_after k w.at) x ≡ Ok d = perform_around w.ring f.actor e.actor w.at w.at y x k d ne' did_b does_a (interferes-sym d k free) ∙ does_a in
+    let did_a : perform w.ring e.actor (contents_after k w.at) x ≡ Ok d = perform_around w.ring f.actor e.actor w.at w.at y x k d ne' did_b does_a (interfere-sym k.place d.place k.wrote d.wrote ∙ free) ∙ does_a in
     let v' = step_outcome w f b k nb in
     let u' = step_outcome v'.world e a d na in
     let contents : contents_after d (contents_after k w.at) ≡ contents_after k (contents_after d w.at) = grind (arith, after_swap) in

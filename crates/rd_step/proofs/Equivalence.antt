@@ -1,19 +1,10 @@
 -- A step that depends on no earlier one may go first in its run, and equivalent lists of events
 -- reach one world.
-use Rattle.rd_step.proofs.Prelude.{◌≡◌, false, refl, sym, ◌∙◌, ap, subst, List, [], ◌∷◌, ◌++◌, Result, Ok, arith, Refusal, World, Event, Entry, Stepped, step, Ran, run, events, depends, IsFree, or_from, IsPermutation, IsPermutation-sym, IsPermutation-cons, IsPermutation-trans, IsPermutation-middle, IsIndependentOf, IsEquivalent, ReachesTheSame}
+use Rattle.rd_step.proofs.Prelude.{◌≡◌, false, refl, sym, ◌∙◌, ap, subst, List, [], ◌∷◌, ◌++◌, Ok, arith, World, Event, Entry, same_Ok, Stepped, step, Ran, run, events, depends, IsFree, or_from, IsPermutation, IsPermutation-sym, IsPermutation-cons, IsPermutation-trans, IsPermutation-middle, IsIndependentOf, IsEquivalent, ReachesTheSame}
 use Rattle.rd_step.proofs.Steps.{took}
 use Rattle.rd_step.proofs.Commute.{commutes}
 use Rattle.rd_step.proofs.Symmetry.{symmetric}
-use Rattle.rd_step.proofs.Inverse.{ran_on, run_on, run-cons}
-use Rattle.rd_step.proofs.RunParts.{free_parts}
-
--- equal successes have equal values
-
-pub as_ran-same : (r q : Ran) → ◌≡◌ {A = Result Ran Refusal} (Ok r) (Ok q) → r ≡ q
-as_ran-same r q h = cc
-
-pub as_stepped-same : (s u : Stepped) → ◌≡◌ {A = Result Stepped Refusal} (Ok s) (Ok u) → s ≡ u
-as_stepped-same s u h = cc
+use Rattle.rd_step.proofs.RunParts.{ran_on, run_on, run-cons, free_parts}
 
 -- The step of e after the run of `earlier`, and a run on from there, with e moved to the front
 
@@ -113,7 +104,7 @@ stands_through w e earlier later q t free = grind (arith, took, goes_first, run_
 pub stands_in : (w : World) (e : Event) (earlier later : List Event) (q : Ran) → run w (earlier ++ e ∷ later) ≡ Ok q
     → IsIndependentOf w e earlier → StandsIn w e earlier later q
 stands_in w e earlier later q h alone =
-    let t = ran_through w earlier e later q h in grind (arith, as_ran-same, as_stepped-same, stands_through)
+    let t = ran_through w earlier e later q h in grind (arith, stands_through)
 
 -- Equivalent lists
 
@@ -128,8 +119,8 @@ reach_the_same w (e ∷ es) fs r q h k same =
     run_on w e es (λ x. ReachesTheSame x q)
     (λ one ran goes goes_on.
     let s = stands_in w e same.earlier same.later q (ap (run w) (sym same.stands) ∙ k) same.independent in
-    let its : record { world = s.first.after; entry = s.x } ≡ one = as_stepped-same _ _ (sym s.first.goes ∙ goes) in
-    let stepped : same.stepped ≡ one = as_stepped-same _ _ (sym same.goes ∙ goes) in
+    let its : record { world = s.first.after; entry = s.x } ≡ one = same_Ok _ _ (sym s.first.goes ∙ goes) in
+    let stepped : same.stepped ≡ one = same_Ok _ _ (sym same.goes ∙ goes) in
     let others : Ran = record { world = q.world; entries = s.before ++ s.behind } in
     let rest = reach_the_same one.world es (same.earlier ++ same.later) ran others goes_on
     (subst (λ (y : Stepped). run y.world (same.earlier ++ same.later) ≡ Ok others) its s.first.runs)
@@ -192,7 +183,7 @@ neighbours_swapped w e f es s u r h k free l =
 pub swapped_within : (w : World) (before : List Event) (e f : Event) (later : List Event) (b : Ran) (s u : Stepped) (r : Ran) → run w before ≡ Ok b
     → step b.world e ≡ Ok s → step s.world f ≡ Ok u → depends s.entry u.entry ≡ false → run u.world later ≡ Ok r
     → IsEquivalent w (before ++ e ∷ f ∷ later) (before ++ f ∷ e ∷ later)
-swapped_within w [] e f later b s u r g h k free l = grind (arith, as_ran-same, neighbours_swapped)
+swapped_within w [] e f later b s u r g h k free l = grind (arith, neighbours_swapped)
 swapped_within w (d ∷ ds) e f later b s u r g h k free l =
     let ran = ran_on w d ds b g in
     after_one w d (ds ++ e ∷ f ∷ later) (ds ++ f ∷ e ∷ later) ran.one ran.goes

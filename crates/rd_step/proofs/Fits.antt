@@ -1,5 +1,6 @@
 -- Which accesses and answers fit. An actor whose record fits asks for an access that fits.
-use Rattle.rd_step.proofs.Prelude.{nat_lt, ◌≡◌, ℕ, Bool, true, not, ◌&&◌, nat_le, arith, Option, Some, IfOk, and_parts, SLOTS, COUNTER_END, SegName, Place, Access, NoPlace, At, Make, Answer, Operation, Add, AddArray, CasName, CasNext, CasTail, Cas2, is_array, Act, Actor, Pc, need, need_at, words_fit, Presence, names_fit, numbers_within, record_fits, actor_fits, index_end, subst, World, IsWellFormed, is_there}
+use Rattle.rd_step.proofs.Prelude.{nat_lt, ◌≡◌, ℕ, Bool, true, ◌&&◌, nat_le, arith, Option, Some, IfOk, and_parts, SLOTS, COUNTER_END, SegName, Place, Access, NoPlace, At, Make, Answer, Operation, AddArray, CasName, CasNext, Cas2, Act, Actor, Pc, need, need_at, words_fit, Presence, names_fit, numbers_within, record_fits, actor_fits, index_end, subst, World, IsWellFormed, is_there}
+use Rattle.rd_cell.specs.Operations.{suits}
 use Rattle.rd_cell.specs.declared.contents.Content.TheVariants as content
 use Rattle.rd_cell.specs.declared.operations.Answer.TheVariants as answer
 
@@ -48,15 +49,16 @@ actor_grows R there there' o more h = grind arith
 
 -- The access for which an actor asks
 
--- whether what an operation would write at this place fits
+-- whether the name or the index that an operation would write fits
+abbrev pub new_fits : ℕ → Presence → Operation → Bool
+new_fits R there (CasName old new) = there new
+new_fits R there (CasNext new) = there new
+new_fits R there (Cas2 old new) = nat_le new.idx (index_end R)
+new_fits R there _ = true
+
+-- whether an operation suits its place, and what it would write there fits
 abbrev pub op_fits : ℕ → Presence → Place → Operation → Bool
-op_fits R there p (CasName old new) = there new
-op_fits R there p (CasNext new) = there new
-op_fits R there p (CasTail old new) = nat_le new COUNTER_END
-op_fits R there p (Cas2 old new) = nat_le new.idx (index_end R)
-op_fits R there p Add = not (is_array p)
-op_fits R there p AddArray = is_array p
-op_fits R there p _ = true
+op_fits R there p op = suits p op && new_fits R there op
 
 -- whether an access fits: its operation does; true if it has none
 abbrev pub access_fits : ℕ → Presence → Access → Bool

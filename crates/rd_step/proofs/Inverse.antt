@@ -1,6 +1,6 @@
--- Putting back the words that an entry keeps gives the world before its step, and a step on which
--- no later one depends may be taken out of a run.
-use Rattle.rd_step.proofs.Prelude.{◌≡◌, ℕ, zero, suc, ◌+◌, ◌<◌, true, false, nat_lt, refl, sym, ◌∙◌, subst, arith, List, ◌∷◌, Option, Some, None, Ok, ltb-true, cond-false, cond_both, IfOk-at_ok, fun_ext, MOST_SEGMENTS, SegName, Place, Content, is_of, Contents, after_write, operand, restore, is_there, holding, Effect, Performed, contents_after, effect_at, number_made_from, is_cell_at, after_write-outside, Actor, after, World, Event, Stepped, with_actor, step, unstep, Ran, run, Presence, belongs, IsWellFormed, number_made, operand-covered, not_written}
+-- Putting back the words that an entry keeps gives the world before its step.
+use Rattle.rd_step.proofs.Prelude.{◌≡◌, ℕ, true, false, nat_lt, refl, sym, ◌∙◌, subst, arith, Option, Some, None, Ok, ltb-true, cond-false, cond_both, IfOk-at_ok, fun_ext, MOST_SEGMENTS, SegName, Place, Content, is_of, Contents, after_write, operand, restore, is_there, holding, Effect, Performed, contents_after, effect_at, is_cell_at, after_write-outside, Actor, after, World, Event, Stepped, with_actor, step, unstep, Presence, belongs, IsWellFormed, number_made, operand-covered, not_written}
+use Rattle.rd_cell.proofs.CountLemmas.{number_made-absent}
 use Rattle.rd_step.proofs.Halves.{nothing_there, bare_cell}
 use Rattle.rd_step.proofs.Steps.{took, each_access, making}
 use Rattle.rd_cell.specs.declared.places.Place.TheVariants as place
@@ -15,18 +15,6 @@ Bare at = (q : Place) → is_cell_at q ≡ true → at q ≡ None
 
 back-effect : (p : Place) (c : Content) (e : Effect) (at : Contents) → Bare at → operand at p ≡ Some c → PutsBack at (effect_at p c e)
 back-effect p c e at bare h q = grind (arith, cond_both, operand-covered, after_write-outside, not_written)
-
--- if counting ends before its bound, the number at which it ends names no segment that is there
-number_made_from-absent : (more : ℕ) (at : Contents) (m n : ℕ) → number_made_from more at m n < n + more
-    → is_there at (record { maker = m; n = number_made_from more at m n }) ≡ false
-unfolding number_made_from
-number_made_from-absent zero at m n h = absurd (omega arith)
-number_made_from-absent (suc more) at m n h = grind (arith, number_made_from-absent more at m (n + 1))
-
--- the segment that a maker below its limit makes next is not there
-pub number_made-absent : (at : Contents) (m : ℕ) → number_made at m < MOST_SEGMENTS → is_there at (record { maker = m; n = number_made at m }) ≡ false
-unfolding number_made
-number_made-absent at m h = number_made_from-absent MOST_SEGMENTS at m 0 h
 
 -- no place of a segment that is not there belongs to the world
 pub absent_place : (R : ℕ) (there : Presence) (s : SegName) (q : Place) → there s ≡ false → is_of s q ≡ true → belongs R there q ≡ false
@@ -55,26 +43,3 @@ undoes w e s formed h =
     let all = fun_ext contents in
     let actors = actor_back e.actor t.a next.0 w.actor t.has in
     subst (λ (x : Stepped). unstep x.world x.entry ≡ w) t.ends (λ i. record { ring = w.ring; at = all i; actor = actors i })
-
--- a run of at least one event, taken apart into its first step and the run of the others
-pub record RanOn (w : World) (e : Event) (es : List Event) (r : Ran) : Type 0 where
-  pub one : Stepped
-  pub goes : step w e ≡ Ok one
-  pub rest : Ran
-  pub goes_on : run one.world es ≡ Ok rest
-  pub joins : record { world = rest.world; entries = one.entry ∷ rest.entries } ≡ r
-
--- every run of at least one event can be taken apart so
-pub ran_on : (w : World) (e : Event) (es : List Event) (r : Ran) → run w (e ∷ es) ≡ Ok r → RanOn w e es r
-ran_on w e es r h = grind arith
-
--- P holds of a run of at least one event, if it holds of each first step with a run of the others
-pub run_on : (w : World) (e : Event) (es : List Event) (P : Ran → Type 0)
-    → ((s : Stepped) (rest : Ran) → step w e ≡ Ok s → run s.world es ≡ Ok rest → P (record { world = rest.world; entries = s.entry ∷ rest.entries }))
-    → (r : Ran) → run w (e ∷ es) ≡ Ok r → P r
-run_on w e es P each r h = let ran = ran_on w e es r h in subst P ran.joins (each ran.one ran.rest ran.goes ran.goes_on)
-
--- a step, followed by a run from the world after it, is a run
-pub run-cons : (w : World) (e : Event) (es : List Event) (s : Stepped) (r : Ran) → step w e ≡ Ok s → run s.world es ≡ Ok r
-    → run w (e ∷ es) ≡ Ok (record { world = r.world; entries = s.entry ∷ r.entries })
-run-cons w e es s r h k = grind arith

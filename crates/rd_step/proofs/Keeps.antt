@@ -5,7 +5,8 @@ use Rattle.rd_step.proofs.Steps.{each_step}
 use Rattle.rd_step.proofs.Fits.{op_fits, access_fits, record_grows, actor_grows, need_fits, Grows, fits_here}
 use Rattle.rd_step.proofs.Effects.{EffectFits, effect_fits}
 use Rattle.rd_step.proofs.Rows.{after_fits}
-use Rattle.rd_step.proofs.Making.{made-below, laid, laid_new, laid_grows, maker_is, laid_made, laid_places, laid_fits}
+use Rattle.rd_cell.proofs.CountLemmas.{made-below}
+use Rattle.rd_step.proofs.Making.{laid, laid_new, laid_grows, maker_is, laid_made, laid_places, laid_fits}
 use Rattle.rd_cell.specs.declared.places.Place.TheVariants as place
 use Rattle.rd_cell.specs.declared.operations.Answer.TheVariants as answer
 

@@ -2,6 +2,7 @@ pub mod Prelude
 pub mod PassedUp
 pub mod Steps
 pub mod Commute
+pub mod RunParts
 pub mod Halves
 pub mod Fits
 pub mod Effects
@@ -11,7 +12,6 @@ pub mod Inverse
 pub mod Keeps
 pub mod PutBack
 pub mod Removal
-pub mod RunParts
 pub mod Actors
 pub mod Starts
 pub mod WorldLemmas

@@ -1,21 +1,9 @@
 -- A making keeps a world well-formed: the new segment is its maker's next one, and just the places
 -- that belong to it are added.
-use Rattle.rd_step.proofs.Prelude.{◌≡◌, ℕ, zero, suc, ◌+◌, ◌<◌, ◌≤◌, Bool, true, false, not, nat_lt, inl, inr, ap, subst, arith, Some, is_some, cond-true, cond-false, MOST_SEGMENTS, SegName, Place, root, name_eq, Contents, is_there, after_write, holding, number_made_from, name_eq-true, belongs, place_fits, may_be_there, AreMade, number_made, ◌⊎◌}
+use Rattle.rd_step.proofs.Prelude.{◌≡◌, ℕ, suc, ◌<◌, Bool, true, false, not, nat_lt, inl, inr, ap, subst, arith, Some, is_some, cond-true, cond-false, MOST_SEGMENTS, SegName, Place, root, name_eq, Contents, is_there, after_write, holding, name_eq-true, belongs, place_fits, may_be_there, AreMade, ◌⊎◌}
 use Rattle.rd_step.proofs.Fits.{Grows}
 use Rattle.rd_cell.specs.declared.places.Place.TheVariants as place
 use Rattle.rd_cell.specs.declared.contents.Content.TheVariants as content
-
--- every number that counting passes names a segment that is there
-made_from-below : (more : ℕ) (at : Contents) (m n k : ℕ) → n ≤ k → k < number_made_from more at m n
-    → is_there at (record { maker = m; n = k }) ≡ true
-unfolding number_made_from
-made_from-below zero at m n k h l = absurd (omega arith)
-made_from-below (suc more) at m n k h l = grind (arith, made_from-below more at m (n + 1) k)
-
--- a segment whose number is below its maker's count is there
-pub made-below : (at : Contents) (m k : ℕ) → k < number_made at m → is_there at (record { maker = m; n = k }) ≡ true
-unfolding number_made
-made-below at m k h = made_from-below MOST_SEGMENTS at m 0 k (omega arith) h
 
 -- the contents after the making of segment s, which holds x
 abbrev pub laid : ℕ → SegName → ℕ → Contents → Contents

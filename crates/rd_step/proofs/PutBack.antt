@@ -4,7 +4,8 @@ use Rattle.rd_step.proofs.Prelude.{◌≡◌, ◌≢◌, ℕ, suc, ◌+◌, ◌<
 use Rattle.rd_step.proofs.Halves.{bare_cell, operand_fits}
 use Rattle.rd_step.proofs.Steps.{took, each_step, making}
 use Rattle.rd_step.proofs.Making.{laid_new, laid_other}
-use Rattle.rd_step.proofs.Inverse.{number_made-absent, absent_place}
+use Rattle.rd_cell.proofs.CountLemmas.{number_made-absent}
+use Rattle.rd_step.proofs.Inverse.{absent_place}
 use Rattle.rd_cell.specs.declared.places.Place.TheVariants as place
 
 -- Which places are there

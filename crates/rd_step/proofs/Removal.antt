@@ -3,8 +3,8 @@ use Rattle.rd_step.proofs.Prelude.{◌≡◌, ℕ, true, ◌==◌, refl, sym, �
 use Rattle.rd_step.proofs.Steps.{took, with_actor-same}
 use Rattle.rd_step.proofs.Commute.{commutes}
 use Rattle.rd_step.proofs.Keeps.{keeps}
-use Rattle.rd_step.proofs.Inverse.{undoes, run_on}
-use Rattle.rd_step.proofs.RunParts.{free_parts}
+use Rattle.rd_step.proofs.Inverse.{undoes}
+use Rattle.rd_step.proofs.RunParts.{run_on, free_parts}
 use Rattle.rd_step.proofs.PutBack.{stays_at, others_stay, entry_can}
 
 -- the last step of a run may be taken out

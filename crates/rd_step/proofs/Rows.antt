@@ -1,5 +1,5 @@
 -- An actor whose record fits goes on from an answer that fits to a record that fits, row by row.
-use Rattle.rd_step.proofs.Prelude.{◌≡◌, ℕ, Bool, true, nat_lt, refl, arith, Option, None, Ok, le-leb, SLOTS, ArrSlot, Access, Answer, root, Act, Actor, Pc, E1, E2, E3, E4, E8, E11, E12, E13, E14, Q4, Q5, Q11, Q13, A1, B1, B2, B3, idle, need, need_at, after_take, after_at, after, words_fit_at, Presence, record_fits, index_end, calling, Op}
+use Rattle.rd_step.proofs.Prelude.{◌≡◌, ℕ, true, refl, sym, subst, arith, Option, None, Ok, IfOk, le-leb, ArrSlot, Access, Answer, root, Act, Actor, Pc, E1, E2, E3, E4, E8, E11, E12, E13, E14, Q4, Q5, Q11, Q13, A1, B1, B2, B3, idle, need, need_at, after_take, after_at, after, words_fit_at, Presence, record_fits, index_end, calling, Op}
 use Rattle.rd_step.proofs.Fits.{PartsFit, parts_of, words_of, together, answer_fits, drew_slot}
 use Rattle.rd_cell.specs.declared.contents.Content.TheVariants as content
 use Rattle.rd_cell.specs.declared.operations.Answer.TheVariants as answer
@@ -32,19 +32,10 @@ swapped_out_fits : (R : ℕ) (there : Presence) (a : Actor) (slot : ArrSlot) →
     → record_fits R there (after_at R B2 a (answer.Found (content.Slot slot))).0 ≡ true
 swapped_out_fits R there a slot r f w = grind arith
 
--- whether the array has a slot for the position that the actor drew at A1 or B1
-abbrev drew_at : Pc → Answer → Bool
-drew_at A1 (answer.Found (content.Number u)) = nat_lt u SLOTS
-drew_at B1 (answer.Found (content.Number g)) = nat_lt g SLOTS
-drew_at _ _ = true
-
-drew_row : (R : ℕ) (a : Actor) (pc : Pc) (x : Access) (answer : Answer) → need_at R pc a ≡ Ok x → drew_slot x answer ≡ true → drew_at pc answer ≡ true
-drew_row R a pc x answer n d = grind arith
-
 -- each row leads to a record that fits
 after_at_fits : (R : ℕ) (there : Presence) (a : Actor) (pc : Pc) (answer : Answer) → there root ≡ true
     → answer_fits R there answer ≡ true → record_fits R there a ≡ true → PartsFit R there a → words_fit_at pc a ≡ true
-    → drew_at pc answer ≡ true → record_fits R there (after_at R pc a answer).0 ≡ true
+    → IfOk (need_at R pc a) (λ x. drew_slot x answer ≡ true) → record_fits R there (after_at R pc a answer).0 ≡ true
 after_at_fits R there a E2 (answer.Found (content.Next None)) r h whole f w d = moved R there a E4 f w
 after_at_fits R there a E3 answer r h whole f w d = moved R there a E1 f w
 after_at_fits R there a E8 answer.Won r h whole f w d = idle_record R there r
@@ -66,5 +57,5 @@ pub after_fits : (R : ℕ) (there : Presence) (a : Actor) (act : Act) (x : Acces
     → need R a act ≡ Ok x → answer_fits R there answer ≡ true → drew_slot x answer ≡ true → record_fits R there a ≡ true
     → record_fits R there (after R a act answer).0 ≡ true
 after_fits R there a act.Go x answer r n h d whole =
-    after_at_fits R there a a.pc answer r h whole (parts_of R there a whole) (words_of R there a whole) (drew_row R a a.pc x answer n d)
+    after_at_fits R there a a.pc answer r h whole (parts_of R there a whole) (words_of R there a whole) (subst (λ r. IfOk r (λ x. drew_slot x answer ≡ true)) (sym n) d)
 after_fits R there a act x answer r n h d whole = grind (arith, calling_fits)

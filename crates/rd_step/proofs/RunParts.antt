@@ -1,6 +1,28 @@
--- Runs with known entries, taken apart at their first step or at one in the middle.
-use Rattle.rd_step.proofs.Prelude.{◌≡◌, false, refl, ◌∙◌, List, [], ◌∷◌, ◌++◌, Result, Ok, Err, arith, Refusal, World, Entry, step, Ran, run, events, or_parts, depends, IsFree, list_any, run_entries, IsRunFrom}
-use Rattle.rd_step.proofs.Inverse.{run-cons}
+-- Runs taken apart at their first step or at one in the middle.
+use Rattle.rd_step.proofs.Prelude.{◌≡◌, false, refl, ◌∙◌, subst, List, [], ◌∷◌, ◌++◌, Result, Ok, Err, arith, Refusal, World, Event, Entry, Stepped, step, Ran, run, events, or_parts, depends, IsFree, list_any, run_entries, IsRunFrom}
+
+-- a run of at least one event, taken apart into its first step and the run of the others
+pub record RanOn (w : World) (e : Event) (es : List Event) (r : Ran) : Type 0 where
+  pub one : Stepped
+  pub goes : step w e ≡ Ok one
+  pub rest : Ran
+  pub goes_on : run one.world es ≡ Ok rest
+  pub joins : record { world = rest.world; entries = one.entry ∷ rest.entries } ≡ r
+
+-- every run of at least one event can be taken apart so
+pub ran_on : (w : World) (e : Event) (es : List Event) (r : Ran) → run w (e ∷ es) ≡ Ok r → RanOn w e es r
+ran_on w e es r h = grind arith
+
+-- P holds of a run of at least one event, if it holds of each first step with a run of the others
+pub run_on : (w : World) (e : Event) (es : List Event) (P : Ran → Type 0)
+    → ((s : Stepped) (rest : Ran) → step w e ≡ Ok s → run s.world es ≡ Ok rest → P (record { world = rest.world; entries = s.entry ∷ rest.entries }))
+    → (r : Ran) → run w (e ∷ es) ≡ Ok r → P r
+run_on w e es P each r h = let ran = ran_on w e es r h in subst P ran.joins (each ran.one ran.rest ran.goes ran.goes_on)
+
+-- a step, followed by a run from the world after it, is a run
+pub run-cons : (w : World) (e : Event) (es : List Event) (s : Stepped) (r : Ran) → step w e ≡ Ok s → run s.world es ≡ Ok r
+    → run w (e ∷ es) ≡ Ok (record { world = r.world; entries = s.entry ∷ r.entries })
+run-cons w e es s r h k = grind arith
 
 -- if none of a list's entries depends on x, neither its first one does nor any other
 pub free_parts : (x y : Entry) (ys : List Entry) → IsFree x (y ∷ ys) → (depends x y ≡ false) × IsFree x ys

@@ -1,9 +1,10 @@
 -- The code's world and its step, as the model's.
-use Rattle.rd_step.proofs.Prelude.{◌≡◌, ℕ, zero, suc, ◌-◌, ◌<◌, ◌≤◌, true, false, nat_lt, inl, inr, sym, ◌∙◌, ap, arith, List, length, set, slice_get, Option, Some, None, is_some, IsSome, IsTrue, is_ok, IsOk, Result, Ok, lt-ltb, le-ltb, leb-true, holding, cases_lt, cond-true, cond-false, COUNTER_END, MOST_SEGMENTS, MOST_CELLS, MOST_ACTORS, SegName, Place, Access, Make, Done, Refusal, Contents, is_there, perform, restore, everywhere, HasEffect, Space, contents, room, lists, Actor, OpReply, need, after, World, Event, with_actor, step, world_of_fields, numbered, makes, makes_segment, IsRefused, Presence, may_be_there, is_actor, IsWellFormed, IfOk-at_ok, number_made, Makes, RefusesMaking, making_count, counts, there_below, absent_from, in_list, IsRepresentable, IsLast, access_suits, made_at}
+use Rattle.rd_step.proofs.Prelude.{◌≡◌, ℕ, zero, suc, ◌-◌, ◌<◌, ◌≤◌, true, false, nat_lt, inl, inr, sym, ◌∙◌, ap, arith, List, length, set, slice_get, Option, Some, None, is_some, IsSome, IsTrue, is_ok, IsOk, Result, Ok, lt-ltb, le-ltb, leb-true, holding, cases_lt, cond-true, cond-false, COUNTER_END, MOST_SEGMENTS, MOST_CELLS, MOST_ACTORS, SegName, Place, Access, Make, Done, Refusal, Contents, is_there, perform, restore, everywhere, HasEffect, Space, contents, room, lists, Actor, OpReply, need, after, World, Event, with_actor, step, world_of_fields, numbered, makes, makes_segment, IsRefused, Presence, may_be_there, is_actor, IsWellFormed, IfOk-at_ok, number_made, Makes, RefusesMaking, making_count, counts, there_below, absent_from, slice_get-is_some, IsRepresentable, IsLast, made_at}
 use Rattle.rd_actor.proofs.Representable.{representable}
 use Rattle.rd_step.specs.declared.worlds.World.{World as CodeWorld}
 use Rattle.rd_step.proofs.Actors.{numbered-set, numbered-within}
 use Rattle.rd_step.proofs.Fits.{parts_of, words_of, access_fits, need_fits, fits_here}
+use Rattle.rd_cell.specs.Access.{access_suits}
 use Rattle.rd_cell.specs.declared.places.Place.TheVariants as place
 use Rattle.rd_cell.specs.declared.places.Wrote.TheVariants as wrote
 use Rattle.rd_cell.specs.declared.operations.Answer.TheVariants as answer
@@ -70,11 +71,11 @@ set_record xs (suc n) m a e h =
 pub actor_within : (xs : List Actor) (len : ℕ) → len ≡ length xs → (n : ℕ) → (IsSome (slice_get xs n) → n < len) × (n < len → IsSome (slice_get xs n))
 actor_within xs len e n = (
   (λ h. let l : suc n - 1 < length xs = numbered-within xs (suc n) h in omega arith),
-  (λ h. let l : n < length xs = omega arith in in_list xs n l),
+  (λ h. let l : n < length xs = omega arith in slice_get-is_some xs n l),
 )
 
 too_many : (xs : List Actor) → ((n : ℕ) → is_some (numbered xs n) ≡ true → n ≤ MOST_ACTORS) → MOST_ACTORS < length xs → ⊥
-too_many xs most many = let bad : suc MOST_ACTORS ≤ MOST_ACTORS = most (suc MOST_ACTORS) (in_list xs MOST_ACTORS many) in absurd (omega arith)
+too_many xs most many = let bad : suc MOST_ACTORS ≤ MOST_ACTORS = most (suc MOST_ACTORS) (slice_get-is_some xs MOST_ACTORS many) in absurd (omega arith)
 
 -- a well-formed world has at most 16 actors
 pub few_actors : (R : ℕ) (space : Space R) (xs : List Actor) → IsWellFormed (world_of_fields space xs) → length xs ≤ MOST_ACTORS

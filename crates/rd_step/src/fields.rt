@@ -7,13 +7,14 @@ ghost use Rattle.rd_segments.specs.Room.{room_returned, UsesMakersRoom, ReturnsM
 ghost use Rattle.rd_actor.specs.Actors.{idle};
 ghost use Rattle.rd_segments.specs.Space.{contents, lists, making_count, room, makers_room};
 ghost use Rattle.rd_step.specs.Step.{revert, with_actor, CanPutBack};
-ghost use Rattle.rd_step.specs.CodeWorldFields.{world_of_fields, access_suits};
+ghost use Rattle.rd_cell.specs.Access.{access_suits};
+ghost use Rattle.rd_step.specs.CodeWorldFields.{world_of_fields};
 ghost use Rattle.rd_step.specs.Lists.{numbered};
 ghost use Rattle.rd_step.specs.Room.{makes, IsRefused};
 
 use super::entries::made_at;
 use rd_actor::Actor;
-use rd_cell::{Access, Answer, Content, Done, Place, Refusal, Wrote};
+use rd_cell::{Access, Content, Done, Place, Refusal};
 use rd_segments::Space;
 
 /// Puts back an old record of one actor and, if a place is given, the old content of that place. A
@@ -113,27 +114,9 @@ pub fn perform<const R: usize>(
         (makers_room space.new) }
 {
     match access {
-        Access::NoPlace => Ok(nothing_done()),
+        Access::NoPlace => Ok(Done::of_no_access()),
         Access::At(place, operation) => space.operate(place, operation),
         Access::Make(value) => make(space, actor, value),
-    }
-}
-
-/// Returns what a step without an access records: no place, no content, the answer `Nothing`, and
-/// nothing written.
-fn nothing_done() -> Done
-    ensures { result ≡ record {
-      place = None;
-      old = None;
-      answer = Answer.Nothing;
-      wrote = Wrote.Nothing;
-    } }
-{
-    Done {
-        place: None,
-        old: None,
-        answer: Answer::Nothing,
-        wrote: Wrote::Nothing,
     }
 }
 
@@ -154,12 +137,7 @@ fn make<const R: usize>(space: &mut Space<R>, actor: u8, value: u64) -> Result<D
         (makers_room space.new) }
 {
     let name = space.make(actor, value)?;
-    Ok(Done {
-        place: Some(Place::Whole(name)),
-        old: None,
-        answer: Answer::Made(name),
-        wrote: Wrote::Place,
-    })
+    Ok(Done::of_making(name))
 }
 
 /// Whether all of these actors are idle, as they are before their first step and after their last

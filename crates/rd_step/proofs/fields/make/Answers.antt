@@ -1,5 +1,5 @@
 use Rattle.std.proofs.Common.{arith}
-use Rattle.rd_step.proofs.Prelude.{refl, contents, uses_passed_up, uses_too}
+use Rattle.rd_step.proofs.Prelude.{contents, uses_passed_up, uses_too}
 use Rattle.rd_step.proofs.PassedUp.{error_passed_up}
 use Rattle.rd_step.proofs.WorldLemmas.{makes_access, refuses_access}
 use Rattle.rd_step.proofs.fields.make.Goals as goal
@@ -11,7 +11,7 @@ returns-in_err-name-clause-err g c =
 
 pub returns-clause-ok : goal.returns-clause-ok
 returns-clause-ok g c =
-    makes_access c.args.space.now (contents c.make.new.self) c.args.actor c.args.value c.in_ok-name.name _ c.requires.counted c.in_ok-name.ensures.name c.in_ok-name.ensures.ok refl
+    makes_access c.args.space.now (contents c.make.new.self) c.args.actor c.args.value c.in_ok-name.name _ c.requires.counted c.in_ok-name.ensures.name c.in_ok-name.ensures.ok c.of_making.ensures
 
 pub returns-in_err-name-clause-room : goal.returns-in_err-name-clause-room
 returns-in_err-name-clause-room g c = grind (arith, uses_passed_up)
