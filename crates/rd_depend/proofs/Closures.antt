@@ -2,6 +2,7 @@
 -- and lone undos that remove the step remove all of the closure.
 use Rattle.rd_depend.proofs.Prelude.{nat_tests, list_any-append, ◌≡◌, ◌≢◌, ℕ, zero, suc, ◌+◌, ◌-◌, ◌<◌, ◌≤◌, ◌==◌, ◌||◌, inl, inr, Bool, true, false, nat_lt, if◌then◌else◌, refl, sym, ◌∙◌, ap, subst, arith, List, [], ◌∷◌, ◌++◌, length, take, drop, slice_get, Option, Some, None, eq-eqb, cond-true, AreLoneUndos, IsInClosure, closure_from, number_after, closure, position_from, cases_eq, depends, depends_on_any, false≢true, first_dependant, numbered, or_cases, or_left, or_right, Entry}
 use Rattle.rd_depend.proofs.IndexMoves.{number-is}
+use Rattle.std.proofs.lemmas.Option.{same_Some}
 use Rattle.rd_step.specs.Dependence.IsInClosure.{itself, dependant}
 
 -- The marks are closed
@@ -19,27 +20,24 @@ on_one-last xs y z = list_any-append (λ x. depends x z) xs (y ∷ []) ∙ ap (�
 still_covers : (d : Bool) (xs : List Entry) (x y : Entry) → Covers x xs → Covers x (if d then xs ++ y ∷ [] else xs)
 still_covers d xs x y c z h = grind (arith, on_one-last xs y z, c z h)
 
-some_same : {X : Type 0} (x y : X) → Some x ≡ Some y → x ≡ y
-some_same x y h = cc
-
 -- an entry that depends on x is marked, if the block before it covers x
 covered_is_marked : (xs ys : List Entry) (j : ℕ) (x y : Entry) → Covers x xs → slice_get ys j ≡ Some y → depends x y ≡ true
     → slice_get (closure_from xs ys) j ≡ Some true
 covered_is_marked xs (z ∷ ys) (suc j) x y c at h = grind (arith, still_covers, covered_is_marked (if depends_on_any xs z then xs ++ z ∷ [] else xs) ys j x y (still_covers (depends_on_any xs z) xs x z c) at h)
-covered_is_marked xs ys j x y c at h = grind (arith, some_same)
+covered_is_marked xs ys j x y c at h = grind (arith, same_Some)
 
 -- an entry that depends on an earlier marked one is marked
 dependant_is_marked : (xs ys : List Entry) (i j : ℕ) (x y : Entry) → i < j → slice_get (closure_from xs ys) i ≡ Some true → slice_get ys i ≡ Some x
     → slice_get ys j ≡ Some y → depends x y ≡ true → slice_get (closure_from xs ys) j ≡ Some true
 dependant_is_marked xs (z ∷ ys) (suc i) (suc j) x y low m at_i at_j h = grind (arith, dependant_is_marked (if depends_on_any xs z then xs ++ z ∷ [] else xs) ys i j x y (omega arith) m at_i at_j h)
-dependant_is_marked xs ys i j x y low m at_i at_j h = grind (arith, some_same, covered_is_marked, on_one-last, or_right)
+dependant_is_marked xs ys i j x y low m at_i at_j h = grind (arith, same_Some, covered_is_marked, on_one-last, or_right)
 
 marks_are_closed : (es : List Entry) (k i j : ℕ) (x y : Entry) → i < j → slice_get (closure es k) i ≡ Some true → slice_get es i ≡ Some x
     → slice_get es j ≡ Some y → depends x y ≡ true → slice_get (closure es k) j ≡ Some true
 marks_are_closed (e ∷ es) (suc (suc k)) (suc i) (suc j) x y low m at_i at_j h = grind (arith, marks_are_closed es (suc k) i j x y (omega arith) m at_i at_j h)
-marks_are_closed (e ∷ es) (suc zero) zero (suc j) x y low m at_i at_j h = grind (arith, some_same, covered_is_marked, or_left)
+marks_are_closed (e ∷ es) (suc zero) zero (suc j) x y low m at_i at_j h = grind (arith, same_Some, covered_is_marked, or_left)
 marks_are_closed (e ∷ es) (suc zero) (suc i) (suc j) x y low m at_i at_j h = grind (arith, dependant_is_marked)
-marks_are_closed (e ∷ es) (suc (suc k)) zero (suc j) x y low m at_i at_j h = let no : false ≡ true = some_same false true m in cc
+marks_are_closed (e ∷ es) (suc (suc k)) zero (suc j) x y low m at_i at_j h = let no : false ≡ true = same_Some false true m in cc
 marks_are_closed (e ∷ es) zero i j x y low m at_i at_j h = cc
 marks_are_closed es k i j x y low m at_i at_j h = grind arith
 
@@ -75,7 +73,7 @@ marked_is_member : (es : List Entry) (k p : ℕ) (xs ys : List Entry) (j q : ℕ
     → slice_get (closure_from xs ys) j ≡ Some true → IsInClosure es k q
 marked_is_member es k p xs [] j q e ms at h = cc
 marked_is_member es k p xs (y ∷ ys) zero q e ms at h =
-    ms q y (omega arith) (at 0 q y (omega arith) refl) (some_same (depends_on_any xs y) true h)
+    ms q y (omega arith) (at 0 q y (omega arith) refl) (same_Some (depends_on_any xs y) true h)
 marked_is_member es k p xs (y ∷ ys) (suc j) q e ms at h =
     marked_is_member es k (suc p) (if depends_on_any xs y then xs ++ y ∷ [] else xs) ys j q (omega arith)
     (one_more es k p xs y (depends_on_any xs y) refl ms (at 0 (suc p) y (omega arith) refl)) (λ i r z f g. at (suc i) r z (omega arith) g) h
@@ -93,7 +91,7 @@ marks_are_members (e ∷ es) (suc zero) zero h = itself
 marks_are_members (e ∷ es) (suc zero) (suc j) h =
     marked_is_member (e ∷ es) 1 1 (e ∷ []) es j (suc (suc j)) (omega arith)
     (λ q y low at d. dependant 1 q e y itself low refl at (sym (on_one-last [] e y) ∙ d)) (λ i q y f at. grind (arith, slice_get)) h
-marks_are_members (e ∷ es) (suc (suc k)) zero h = let no : false ≡ true = some_same false true h in cc
+marks_are_members (e ∷ es) (suc (suc k)) zero h = let no : false ≡ true = same_Some false true h in cc
 marks_are_members (e ∷ es) (suc (suc k)) (suc j) h = one_further e es (suc k) (suc j) (marks_are_members es (suc k) j h)
 
 pub marked_members : (es : List Entry) (k j : ℕ) → numbered (closure es k) j ≡ Some true → IsInClosure es k j
@@ -128,7 +126,7 @@ none_here d n o h = grind arith
 
 none_depends : (x : Entry) (n : ℕ) (ys : List Entry) (i : ℕ) (y : Entry) → position_from (depends x) n ys ≡ None → slice_get ys i ≡ Some y → depends x y ≡ false
 none_depends x n (z ∷ ys) (suc i) y none at = none_depends x (n + 1) ys i y (none_here (depends x z) n (position_from (depends x) (n + 1) ys) none).1 at
-none_depends x n ys i y h at = grind (arith, some_same, none_here)
+none_depends x n ys i y h at = grind (arith, same_Some, none_here)
 
 from_there : (es : List Entry) (m i : ℕ) → slice_get (drop m es) i ≡ slice_get es (m + i)
 from_there es zero i = let same : i ≡ 0 + i = omega arith in ap (λ (k : ℕ). slice_get es k) same

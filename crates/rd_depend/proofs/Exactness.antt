@@ -96,10 +96,6 @@ equivalent_first w x xs ys left first runs m = (
   λ h. stands_first w x first.after (events xs) ys left runs first.goes m h,
 )
 
-pub no_events : (rest : List Entry) → events rest ≡ [] → rest ≡ []
-no_events [] h = refl
-no_events (x ∷ xs) h = cc
-
 -- A common beginning
 
 -- after a common beginning of two runs: the rests of both run from the world there, and the runs

@@ -1,11 +1,10 @@
 -- An entry that depends on no earlier one is the first of its actor, so a list has at most one such
 -- entry of an event.
-use Rattle.rd_depend.proofs.Prelude.{◌≡◌, ℕ, refl, sym, ap, subst, List, [], ◌∷◌, ◌++◌, arith, rules, free_parts, IsFree, Event, Entry}
+use Rattle.rd_depend.proofs.Prelude.{AllByRecursion, ◌≡◌, ◌≢◌, ℕ, refl, sym, ap, subst, List, [], ◌∷◌, ◌++◌, arith, rules, free_parts, IsFree, Event, Entry}
 
 -- none of these entries is by this actor
 abbrev pub HasNoneBy : ℕ → List Entry → Type 0
-HasNoneBy n [] = Unit {0}
-HasNoneBy n (x ∷ xs) = (n ≡ x.event.actor → ⊥) × HasNoneBy n xs
+HasNoneBy n xs = AllByRecursion (λ (x : Entry). n ≢ x.event.actor) xs
 
 -- the list has an entry of this event that depends on no earlier one, and without it is `left`
 pub record MayComeFirst (e : Event) (entries left : List Entry) : Type 0 where

@@ -1,16 +1,17 @@
 -- The calls of an index, put together from their changes of its lists.
-use Rattle.rd_depend.proofs.Prelude.{◌≡◌, ℕ, suc, ◌+◌, ◌-◌, ◌<◌, ◌≤◌, Bool, true, false, ◌&&◌, ◌||◌, ◌==◌, if◌then◌else◌, List, [], ◌∷◌, ◌++◌, length, take, drop, Option, Some, slice_get, refl, sym, ap, subst, ◌∙◌, append_assoc, arith, length-append, eq-eqb, Result, IsOk, OnOk, is_err, rules, Entry, DependIndex, Home, Homes, Key, Table, Lists, list_at, spare_at, one_if, kept_in, spare_in, is_kept_in, AreReady, KeepsLists, Puts, TakesLast, HasLast, Touch, By, Under, touches, kept, spare, number_of, IsIndexOf, HasRoomFor, GivesRoom, UsesRoom, IsLast, homes_of, Adds, Keeps, EndsWith}
+use Rattle.rd_depend.proofs.Prelude.{◌≡◌, ℕ, zero, suc, ◌+◌, ◌-◌, ◌<◌, ◌≤◌, Bool, true, false, ◌==◌, if◌then◌else◌, List, [], ◌∷◌, ◌++◌, length, take, drop, Option, Some, slice_get, refl, sym, ap, subst, ◌∙◌, append_assoc, arith, length-append, eq-eqb, rules, Entry, DependIndex, Home, Homes, Key, Table, Lists, list_at, spare_at, cond, kept_in, spare_in, is_kept_in, IsReadyIfSome, KeepsLists, Puts, TakesLast, HasLast, Touch, By, Under, touches, kept, spare, count_by, IsIndexOf, HasRoomFor, GivesRoom, UsesRoom, homes_of, Adds, Keeps, EndsWith}
+use Rattle.rd_depend.proofs.Elements.{take-element, drop-element}
 use Rattle.rd_depend.proofs.IndexKeys.{is_home, is_in, under, separate}
-use Rattle.rd_depend.proofs.IndexPositions.{positions-push, positions-pop, number-append}
+use Rattle.rd_depend.proofs.IndexPositions.{positions-push, positions-pop, count_by-append, count_by-cons}
 
 -- what is ready stays ready if no list changes
-pub ready_kept : (t u : Table) (k : Option Key) (wrote : Bool) (slot : Option ℕ) → KeepsLists t u → AreReady t k wrote slot → AreReady u k wrote slot
+pub ready_kept : (t u : Table) (k : Option Key) (wrote : Bool) (slot : Option ℕ) → KeepsLists t u → IsReadyIfSome t k wrote slot → IsReadyIfSome u k wrote slot
 ready_kept t u k wrote slot keeps ready = grind arith
 
 -- what is ready under one key stays ready if a position is put under another
 pub ready_after : (t u : Table) (s : Option Key) (wrote : Bool) (h : Home) (p : ℕ) (slot : Option ℕ)
     → ((w : Bool) (q : Key) → s ≡ Some q → is_kept_in w wrote ≡ true → is_home h w q ≡ false)
-    → AreReady t s wrote slot → Puts h.key h.wrote p t u → AreReady u s wrote slot
+    → IsReadyIfSome t s wrote slot → Puts h.key h.wrote p t u → IsReadyIfSome u s wrote slot
 ready_after t u s wrote h p slot apart ready put = grind arith
 
 -- a list that has a last position keeps it if one is removed under another key
@@ -22,7 +23,7 @@ last_after t u s wrote h apart has took = grind arith
 pub adds : (old new : DependIndex) (x : Entry) (h : Homes) (one two : Table) (p actor : ℕ) → h ≡ homes_of x → actor ≡ x.event.actor → p ≡ old.len + 1
     → new.len ≡ old.len + 1
     → ((i : ℕ) → list_at new.by_actor.items i ≡ (if i == actor then list_at old.by_actor.items i ++ p ∷ [] else list_at old.by_actor.items i))
-    → ((i : ℕ) → spare_at old.by_actor.items i ≤ spare_at new.by_actor.items i + one_if (i == actor))
+    → ((i : ℕ) → spare_at old.by_actor.items i ≤ spare_at new.by_actor.items i + cond (i == actor) 1 0)
     → Puts h.place.key h.place.wrote p old.by_key one → Puts h.value.key h.value.wrote p one two → Puts h.segment.key h.segment.wrote p two new.by_key
     → Adds x old new
 adds old new x h one two p actor homes same is len lists_by room_by a b c = grind arith
@@ -31,12 +32,12 @@ adds old new x h one two p actor homes same is len lists_by room_by a b c = grin
 -- and has room for one more, and each other list is as before
 pub record Drops (x : Entry) (old new : DependIndex) : Type 0 where
   pub lists : (t : Touch) → kept new t ≡ (if touches t x then take (length (kept old t) - 1) (kept old t) else kept old t)
-  pub room : (t : Touch) → spare new t ≡ spare old t + one_if (touches t x)
+  pub room : (t : Touch) → spare new t ≡ spare old t + cond (touches t x) 1 0
   pub len : new.len + 1 ≡ old.len
 
 pub drops : (old new : DependIndex) (x : Entry) (h : Homes) (one two : Table) (actor : ℕ) → h ≡ homes_of x → actor ≡ x.event.actor → new.len + 1 ≡ old.len
     → ((i : ℕ) → list_at new.by_actor.items i ≡ (if i == actor then take (length (list_at old.by_actor.items i) - 1) (list_at old.by_actor.items i) else list_at old.by_actor.items i))
-    → ((i : ℕ) → spare_at new.by_actor.items i ≡ spare_at old.by_actor.items i + one_if (i == actor))
+    → ((i : ℕ) → spare_at new.by_actor.items i ≡ spare_at old.by_actor.items i + cond (i == actor) 1 0)
     → TakesLast h.place.key h.place.wrote old.by_key one → TakesLast h.value.key h.value.wrote one two
     → TakesLast h.segment.key h.segment.wrote two new.by_key → Drops x old new
 drops old new x h one two actor homes same len lists_by room_by a b c =
@@ -72,13 +73,13 @@ gives_room old new x drop_x = λ t. omega (arith, drop_x.room t)
 
 -- what the calls ask for
 
-pub last_touched : (old : DependIndex) (x : Entry) → IsLast old x → (t : Touch) → touches t x ≡ true → 1 ≤ length (kept old t)
+pub last_touched : (old : DependIndex) (x : Entry) → EndsWith old (x ∷ []) → (t : Touch) → touches t x ≡ true → 1 ≤ length (kept old t)
 last_touched old x last t h = grind (arith, positions-push, length-append)
 
 touched_in : (x : Entry) (h : Homes) → h ≡ homes_of x → (w : Bool) (q : Key) → is_in h w q ≡ true → touches (Under w q) x ≡ true
 touched_in x h homes w q e = under w q x ∙ ap (λ (g : Homes). is_in g w q) (sym homes) ∙ e
 
-pub last_under : (old : DependIndex) (x : Entry) (h : Homes) → h ≡ homes_of x → IsLast old x → (w : Bool) (q : Key) → is_in h w q ≡ true
+pub last_under : (old : DependIndex) (x : Entry) (h : Homes) → h ≡ homes_of x → EndsWith old (x ∷ []) → (w : Bool) (q : Key) → is_in h w q ≡ true
     → 1 ≤ length (kept_in old.by_key w q)
 last_under old x h homes last w q e = last_touched old x last (Under w q) (touched_in x h homes w q e)
 
@@ -88,67 +89,62 @@ spare_under old x h homes has w q e = has (Under w q) (touched_in x h homes w q 
 
 -- several entries
 
-take_more : (es : List Entry) (n : ℕ) (x : Entry) → slice_get es n ≡ Some x → take (suc n) es ≡ take n es ++ x ∷ []
-take_more (y ∷ ys) (suc n) x h = ap (λ (l : List Entry). y ∷ l) (take_more ys n x h)
-take_more es n x h = grind arith
-
-pub drop_one : (es : List Entry) (n : ℕ) (x : Entry) → slice_get es n ≡ Some x → drop n es ≡ x ∷ drop (suc n) es
-drop_one (y ∷ ys) (suc n) x h = drop_one ys n x h
-drop_one es n x h = grind arith
-
 -- what pushes have done after the first n entries: these are in the index, and have used their room
 -- at most
 pub record HasAdded (start now : DependIndex) (entries : List Entry) (n : ℕ) : Type 0 where
   pub index : (es : List Entry) → IsIndexOf start es → IsIndexOf now (es ++ take n entries)
-  pub room : (t : Touch) → spare start t ≤ spare now t + number_of (touches t) (take n entries)
+  pub room : (t : Touch) → spare start t ≤ spare now t + count_by (touches t) (take n entries)
 
 pub one_added : (start old new : DependIndex) (entries : List Entry) (n : ℕ) (x : Entry) → slice_get entries n ≡ Some x → HasAdded start old entries n
     → ((es : List Entry) → IsIndexOf old es → IsIndexOf new (es ++ x ∷ [])) → UsesRoom old new (x ∷ []) → HasAdded start new entries (n + 1)
 one_added start old new entries n x there was more used =
     let next : n + 1 ≡ suc n = omega arith in
-    let longer : take (n + 1) entries ≡ take n entries ++ x ∷ [] = ap (λ (m : ℕ). take m entries) next ∙ take_more entries n x there in
+    let longer : take (n + 1) entries ≡ take n entries ++ x ∷ [] = ap (λ (m : ℕ). take m entries) next ∙ take-element entries n x there in
     record {
       index = λ es is.
           let e : (es ++ take n entries) ++ x ∷ [] ≡ es ++ take (n + 1) entries = append_assoc es (take n entries) (x ∷ []) ∙ ap (λ (l : List Entry). es ++ l) (sym longer) in
           subst (λ (l : List Entry). IsIndexOf new l) e (more (es ++ take n entries) (was.index es is));
-      room = grind (arith, number-append);
+      room = λ t. omega (arith, ap (count_by (touches t)) longer, count_by-append (touches t) (take n entries) (x ∷ []), was.room t, used t);
     }
 
-number-among : (test : Entry → Bool) (es : List Entry) (n : ℕ) (x : Entry) → slice_get es n ≡ Some x → number_of test (take n es) + one_if (test x) ≤ number_of test es
-number-among test (y ∷ ys) (suc n) x h = omega (arith, number-among test ys n x h)
-number-among test es n x h = grind arith
+count_by-among : (test : Entry → Bool) (es : List Entry) (n : ℕ) (x : Entry) → slice_get es n ≡ Some x → count_by test (take n es) + cond (test x) 1 0 ≤ count_by test es
+count_by-among test (y ∷ ys) (suc n) x h = omega (arith, count_by-cons test y (take n ys), count_by-cons test y ys, count_by-among test ys n x h)
+count_by-among test (y ∷ ys) zero x h = grind (arith, count_by-cons test y ys)
+count_by-among test [] n x h = cc
 
 -- if there was room for all of the entries, there is room for the next one
 pub room_next : (start now : DependIndex) (entries : List Entry) (n : ℕ) (x : Entry) → slice_get entries n ≡ Some x → HasRoomFor start entries
     → HasAdded start now entries n → HasRoomFor now (x ∷ [])
-room_next start now entries n x there has was = record { lists = λ t. omega (arith, number-among (touches t) entries n x there, has.lists t, was.room t) }
+room_next start now entries n x there has was = record { lists = λ t. omega (arith, count_by-among (touches t) entries n x there, has.lists t, was.room t) }
 
 -- what pops have done with the entries after the first `left`: these are out of the index, and have
 -- given their room back
 pub record HasDropped (start now : DependIndex) (entries : List Entry) (left : ℕ) : Type 0 where
   pub index : (es : List Entry) → IsIndexOf start (es ++ entries) → IsIndexOf now (es ++ take left entries)
-  pub room : (t : Touch) → spare now t ≡ spare start t + number_of (touches t) (drop left entries)
+  pub room : (t : Touch) → spare now t ≡ spare start t + count_by (touches t) (drop left entries)
 
 pub last_left : (start now : DependIndex) (entries : List Entry) (left n : ℕ) (x : Entry) → left ≡ suc n → slice_get entries n ≡ Some x → EndsWith start entries
-    → HasDropped start now entries left → IsLast now x
+    → HasDropped start now entries left → EndsWith now (x ∷ [])
 last_left start now entries left n x next there ends was = record {
   before = ends.before ++ take n entries;
-  is = grind (arith, take_more, append_assoc);
+  is = grind (arith, take-element, append_assoc);
 }
 
 pub one_dropped : (start old new : DependIndex) (entries : List Entry) (left n : ℕ) (x : Entry) → left ≡ suc n → slice_get entries n ≡ Some x
     → HasDropped start old entries left → ((es : List Entry) → IsIndexOf old (es ++ x ∷ []) → IsIndexOf new es) → GivesRoom old new (x ∷ [])
     → HasDropped start new entries n
 one_dropped start old new entries left n x next there was left_out gives = record {
-  index = λ es is. left_out (es ++ take n entries) (grind (arith, take_more entries n x there, append_assoc, was.index es is));
-  room = grind (arith, drop_one);
+  index = λ es is. left_out (es ++ take n entries) (grind (arith, take-element entries n x there, append_assoc, was.index es is));
+  room = λ t.
+      omega (
+        arith,
+        ap (count_by (touches t)) (drop-element entries n x there),
+        count_by-cons (touches t) x (drop (suc n) entries),
+        ap (λ (m : ℕ). count_by (touches t) (drop m entries)) next,
+        was.room t,
+        gives t,
+      );
 }
 
-pub last_len : (old : DependIndex) (x : Entry) → IsLast old x → 1 ≤ old.len
+pub last_len : (old : DependIndex) (x : Entry) → EndsWith old (x ∷ []) → 1 ≤ old.len
 last_len old x last = omega (arith, length-append last.before (x ∷ []))
-
-pub ok_then : {X E : Type 0} (r : Result X E) (P : Type 0) → is_err r ≡ false → OnOk r P → P
-ok_then r h k p = grind arith
-
-pub not_refused : {X E : Type 0} (r : Result X E) → is_err r ≡ true → IsOk r → ⊥
-not_refused r h k = grind arith

@@ -1,7 +1,7 @@
 -- Removing the positions above a number from all lists leaves the index of the first entries.
-use Rattle.rd_depend.proofs.Prelude.{◌≡◌, ℕ, suc, ◌+◌, ◌<◌, Bool, nat_lt, List, [], ◌∷◌, take, drop, ap, arith, nat_tests, length-take-le, take-append-drop, Entry, DependIndex, AscendsFrom, before_first, Touch, positions_from, number_of, touches, IsAscending, kept, capacity, IsIndexOf, GivesRoom}
+use Rattle.rd_depend.proofs.Prelude.{◌≡◌, ℕ, suc, ◌+◌, ◌<◌, Bool, nat_lt, List, [], ◌∷◌, take, drop, ap, arith, nat_tests, length-take-le, take-append-drop, Entry, DependIndex, AscendsFrom, before_first, Touch, positions_from, count_by, touches, IsAscending, kept, capacity, IsIndexOf, GivesRoom}
 use Rattle.rd_depend.proofs.IndexLists.{front-cons}
-use Rattle.rd_depend.proofs.IndexPositions.{positions-ascend, number-append}
+use Rattle.rd_depend.proofs.IndexPositions.{positions-ascend, count_by-append}
 use Rattle.rd_depend.proofs.IndexFirst.{kept-ascends}
 use Rattle.rd_depend.proofs.IndexRoom.{room_stays}
 
@@ -26,4 +26,4 @@ cut_index old new n cuts len less es is = grind (arith, kept-ascends, positions-
 pub cut_room : (old new : DependIndex) (n : ℕ) → ((es : List Entry) → IsIndexOf old es → IsIndexOf new (take n es)) → ((t : Touch) → capacity new t ≡ capacity old t)
     → (es : List Entry) → IsIndexOf old es → GivesRoom old new (drop n es)
 cut_room old new n cuts stays es was = λ t.
-    omega (arith, room_stays old new es (take n es) was (cuts es was) stays t, ap (number_of (touches t)) (take-append-drop n es), number-append)
+    omega (arith, room_stays old new es (take n es) was (cuts es was) stays t, ap (count_by (touches t)) (take-append-drop n es), count_by-append (touches t) (take n es) (drop n es))

@@ -1,8 +1,9 @@
 -- The first dependant of a step, from the first later positions in the lists of its actor, its
 -- place and its segment.
 use Rattle.std.specs.Prelude.{unwrap_or}
-use Rattle.rd_depend.proofs.Prelude.{list_any, ◌≡◌, ℕ, suc, ◌+◌, ◌<◌, ◌≤◌, Bool, true, false, not, ◌||◌, ◌==◌, if◌then◌else◌, nat_lt, List, [], ◌∷◌, length, drop, Option, Some, None, refl, sym, ap, subst, ◌∙◌, arith, nat_tests, is_some, SegName, Place, some_overlap, is_nothing, written, interfere, Entry, Wrote, position_from, depends, depends_on_any, symmetric, DependIndex, At, In, is_under, is_under_some, own_key, value_key_of_place, whole_key, IsAscending, find, earlier, Touch, By, touched_or_written, is_value_written, touches, positions_from, positions, kept, IsIndexOf}
-use Rattle.rd_depend.proofs.IndexPositions.{positions-number, number-within, ascending}
+use Rattle.std.proofs.lemmas.List.Sums.{count_by-le-length}
+use Rattle.rd_depend.proofs.Prelude.{list_any, ◌≡◌, ℕ, suc, ◌+◌, ◌<◌, ◌≤◌, Bool, true, false, not, ◌||◌, ◌==◌, nat_lt, List, [], ◌∷◌, length, drop, Option, Some, None, refl, sym, ap, subst, ◌∙◌, arith, nat_tests, is_some, SegName, Place, some_overlap, is_nothing, written, interfere, Entry, Wrote, position_from, depends, depends_on_any, symmetric, DependIndex, At, In, is_under, is_under_some, own_key, value_key_of_place, whole_key, IsAscending, find, earlier, Touch, By, touched_or_written, is_value_written, touches, positions_from, positions, kept, IsIndexOf}
+use Rattle.rd_depend.proofs.IndexPositions.{positions-number, ascending}
 use Rattle.rd_cell.specs.declared.places.Place.TheVariants as place
 
 -- tests that agree on each entry give the same positions
@@ -40,7 +41,7 @@ earlier-first t u v h k es =
     (λ i. earlier (first-after t k es i) (first-after u k es i)) ∙ earlier-scanned t u v h (k + 1) (drop k es) ∙ sym (first-after v k es)
 
 -- a scan finds an entry exactly if one passes
-scanned-any : (test : Entry → Bool) (n : ℕ) (ys : List Entry) → is_some (position_from test n ys) ≡ list_any test ys
+pub scanned-any : (test : Entry → Bool) (n : ℕ) (ys : List Entry) → is_some (position_from test n ys) ≡ list_any test ys
 scanned-any test n [] = refl
 scanned-any test n (y ∷ ys) = grind (arith, scanned-any test (n + 1) ys)
 
@@ -77,7 +78,7 @@ pub kept-ascends : (index : DependIndex) (es : List Entry) → IsIndexOf index e
 kept-ascends index es is t = subst (λ (l : List ℕ). IsAscending l) (sym (is.lists t)) (ascending (touches t) es)
 
 pub kept-short : (index : DependIndex) (es : List Entry) → IsIndexOf index es → (t : Touch) → length (kept index t) < 131072
-kept-short index es is t = let few = index.few in grind (arith, positions-number, number-within)
+kept-short index es is t = let few = index.few in grind (arith, positions-number, count_by-le-length (touches t) es)
 
 -- a step depends on those of its actor, and on those that interfere with its access
 pub depends-some : (x y : Entry) (p : Place) → x.place ≡ Some p → depends x y ≡ (touches (By x.event.actor) y || interfere (Some p) x.wrote y.place y.wrote)

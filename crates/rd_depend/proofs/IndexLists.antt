@@ -1,8 +1,9 @@
 -- Ascending positions: the search for the first that is above a number, and what they become when
 -- one is moved.
-use Rattle.rd_depend.proofs.Prelude.{◌≡◌, ℕ, suc, ◌+◌, ◌-◌, ◌*◌, ◌/◌, ◌^◌, ◌<◌, ◌≤◌, ◌==◌, Bool, true, false, not, nat_lt, List, [], ◌∷◌, ◌++◌, length, get_or, map, drop, take, cond, if◌then◌else◌, ◌||◌, ◌≢◌, refl, sym, ap, ◌∙◌, arith, append_assoc, eqb-true, length-drop, subst, nat_tests, eqb-false, take_all, take-append-drop, AscendsFrom, IsAscending, before_first, contains, moved_position, position_or_len, turned, AreMoved, IsMoved, prefix_len_is, list_any-append, leb}
+use Rattle.rd_depend.proofs.Prelude.{◌≡◌, ℕ, suc, ◌+◌, ◌-◌, ◌*◌, ◌/◌, ◌^◌, ◌<◌, ◌≤◌, ◌==◌, Bool, true, false, not, nat_lt, List, [], ◌∷◌, ◌++◌, length, get_or, map, drop, take, cond, if◌then◌else◌, ◌||◌, ◌≢◌, refl, sym, ap, ◌∙◌, arith, append_assoc, eqb-true, length-drop, subst, nat_tests, eqb-false, take_all, take-append-drop, AscendsFrom, IsAscending, before_first, contains, moved_position, position_or_len, turned, IsMoved, prefix_len-le-length, prefix_len_is, list_any-append, leb}
 use Rattle.std.specs.List.Sorted.{IsNonDecreasingBy, IsPartitionPoint}
 use Rattle.std.proofs.Math.Nat.{pow-succ'}
+use Rattle.std.proofs.lemmas.List.Sums.{fails_before_first}
 
 -- positions that ascend from n also ascend from any lower start
 pub ascends_lower : (m n : ℕ) (ps : List ℕ) → m ≤ n → AscendsFrom n ps → AscendsFrom m ps
@@ -28,21 +29,15 @@ number-above n k ps i d h within le = grind arith
 
 -- a position above k is not before the first that is greater
 pub number-below : (k : ℕ) (ps : List ℕ) (i d : ℕ) → i < length ps → k < get_or ps i d → position_or_len (nat_lt k) ps ≤ i
-number-below k (p ∷ ps) (suc i) d within gt = grind (arith, nat_tests, number-below k ps i d (omega arith) gt)
-number-below k ps i d within gt = grind arith
-
--- there are no more positions before the first that is greater than there are
-number-within : (k : ℕ) (ps : List ℕ) → position_or_len (nat_lt k) ps ≤ length ps
-number-within k [] = omega arith
-number-within k (p ∷ ps) = grind (arith, nat_tests, number-within k ps)
+number-below k ps i d within gt = grind (arith, nat_tests, fails_before_first (nat_lt k) ps i d)
 
 -- if there are positions and the last is at most k, all are before the first that is greater
 pub number-all : (k : ℕ) (ps : List ℕ) (d : ℕ) → IsAscending ps → 1 ≤ length ps → get_or ps (length ps - 1) d ≤ k → length ps ≡ position_or_len (nat_lt k) ps
-number-all k ps d up some le = omega (arith, number-within k ps, number-above 0 k ps (length ps - 1) d up (omega arith) le)
+number-all k ps d up some le = omega (arith, prefix_len-le-length (λ p. not (nat_lt k p)) ps, number-above 0 k ps (length ps - 1) d up (omega arith) le)
 
 -- if there are no positions, none is before the first that is greater
 pub number-none : (k : ℕ) (ps : List ℕ) → length ps ≡ 0 → length ps ≡ position_or_len (nat_lt k) ps
-number-none k ps none = omega (arith, none, number-within k ps)
+number-none k ps none = omega (arith, none, prefix_len-le-length (λ p. not (nat_lt k p)) ps)
 
 -- half of a number below a power of two is below the next lower power
 pub halved : (round n : ℕ) → round < 17 → n < 2 ^ (17 - round) → n / 2 < 2 ^ (17 - (round + 1))
@@ -118,7 +113,7 @@ turned-has k n p (q ∷ qs) h = grind (arith, nat_tests, list_any-append, lowere
 -- if the positions from k up to n are turned and the others stay, k is moved to n
 pub moved : (k n start size : ℕ) (ps turns new : List ℕ) → 1 ≤ k → k ≤ n → (IsAscending ps → start ≡ position_or_len (nat_lt (k - 1)) ps)
     → (IsAscending (take (length ps - start) (drop start ps)) → size ≡ position_or_len (nat_lt n) (take (length ps - start) (drop start ps)))
-    → turns ≡ turned k n (take (start + size - start) (drop start ps)) → new ≡ take start ps ++ (turns ++ drop (start + size - start) (drop start ps)) → IsMoved k n ps new
+    → turns ≡ turned k n (take (start + size - start) (drop start ps)) → new ≡ take start ps ++ (turns ++ drop (start + size - start) (drop start ps)) → IsAscending ps → IsMoved k n ps new
 unfolding IsMoved
 moved k n start size ps turns new some order at until turn is up =
     let low = take start ps in
@@ -135,22 +130,22 @@ moved k n start size ps turns new some order at until turn is up =
     let long : start + size - start ≡ size = omega arith in
     let parts : turns ++ drop (start + size - start) rest ≡ turned k n mid ++ high =
     λ i. (turn ∙ ap (λ (j : ℕ). turned k n (take j rest)) long) i ++ drop (long i) rest in
-    subst (AreMoved k n ps) (sym (is ∙ (λ i. low ++ parts i))) (record {
-      ascends = within-append 0 (k - 1) low _ (omega arith) is_low (ascends_lower (suc (k - 1)) k _ (omega arith) (turned-ascends k n mid high some order is_mid is_high));
-      places = λ p.
+    subst (IsMoved k n ps) (sym (is ∙ (λ i. low ++ parts i))) (
+      within-append 0 (k - 1) low _ (omega arith) is_low (ascends_lower (suc (k - 1)) k _ (omega arith) (turned-ascends k n mid high some order is_mid is_high)),
+      λ p.
           list_any-append _ low (turned k n mid ++ high)
           ∙ (λ i. low-has 0 k n p low is_low some order i || (list_any-append (λ q. q == moved_position k n p) (turned k n mid) high ∙ (λ j. turned-has k n p mid is_mid j || high-has (suc n) k n p high is_high (omega arith) order j)) i)
           ∙ sym (list_any-append _ low (mid ++ high) ∙ ap (λ (b : Bool). contains low p || b) (list_any-append _ mid high))
-          ∙ ap (λ (l : List ℕ). contains l p) (ap (λ (l : List ℕ). low ++ l) (take-append-drop size rest) ∙ take-append-drop start ps);
-    })
+          ∙ ap (λ (l : List ℕ). contains l p) (ap (λ (l : List ℕ). low ++ l) (take-append-drop size rest) ∙ take-append-drop start ps),
+    )
 
 -- moving among no positions leaves none
 pub none_moved : (k n : ℕ) → IsMoved k n [] []
 unfolding IsMoved
-none_moved k n up = record { ascends = tt; places = λ p. refl }
+none_moved k n = (tt, λ p. refl)
 
 -- if all positions are below k, they are as before
-pub unmoved : (k n start : ℕ) (ps : List ℕ) → 1 ≤ k → k ≤ n → (IsAscending ps → start ≡ position_or_len (nat_lt (k - 1)) ps) → start ≡ length ps → IsMoved k n ps ps
+pub unmoved : (k n start : ℕ) (ps : List ℕ) → 1 ≤ k → k ≤ n → (IsAscending ps → start ≡ position_or_len (nat_lt (k - 1)) ps) → start ≡ length ps → IsAscending ps → IsMoved k n ps ps
 unmoved k n start ps some order at all =
     let none : length ps - start ≡ 0 = omega (arith, all) in
     let zero_long : start + 0 - start ≡ 0 = omega arith in

@@ -1,8 +1,9 @@
 -- Moving a position in all lists: the index is then that of the entries with that one moved, and
 -- has the same room.
-use Rattle.rd_depend.proofs.Prelude.{◌≡◌, ℕ, zero, suc, ◌+◌, ◌-◌, ◌<◌, ◌≤◌, ◌==◌, Bool, false, nat_lt, if◌then◌else◌, List, [], ◌∷◌, ◌++◌, length, slice_get, take, drop, Option, Some, None, refl, sym, ap, ◌∙◌, append_assoc, arith, length-append, length-drop, option_map_or, nat_tests, drop_of_length-le, length-take-le, take_all, take-append-drop, drop-drop, Entry, numbered, without, DependIndex, AscendsFrom, contains, moved_position, positions_from, positions, number_of, touches, Touch, kept, capacity, IsIndexOf, KeepsRoom, IsMoved, moved_to}
-use Rattle.rd_depend.proofs.IndexPositions.{positions-ascend, ascending, number-append}
-use Rattle.rd_depend.proofs.IndexChanges.{drop_one}
+use Rattle.rd_depend.proofs.Prelude.{◌≡◌, ℕ, zero, suc, ◌+◌, ◌-◌, ◌<◌, ◌≤◌, ◌==◌, Bool, false, nat_lt, if◌then◌else◌, List, [], ◌∷◌, ◌++◌, length, slice_get, take, drop, Option, Some, None, refl, sym, ap, subst, ◌∙◌, append_assoc, arith, length-append, length-drop, option_map_or, nat_tests, drop_of_length-le, length-take-le, take_all, take-append-drop, drop-drop, Entry, numbered, without, DependIndex, AscendsFrom, IsAscending, contains, moved_position, positions_from, positions, count_by, touches, Touch, kept, capacity, IsIndexOf, KeepsRoom, IsMoved, moved_to}
+use Rattle.rd_depend.proofs.IndexPositions.{positions-ascend, ascending, count_by-append, count_by-cons}
+use Rattle.rd_depend.proofs.Elements.{drop-element}
+use Rattle.rd_depend.proofs.IndexFirst.{kept-ascends}
 use Rattle.rd_depend.proofs.IndexRoom.{room_stays}
 
 -- a list cut before its k-th element, after it, and after its n-th
@@ -93,36 +94,42 @@ has-numbered test (suc j) es = let e : suc j ≡ 1 + j = omega arith in ap (cont
 
 positions-moved : (test : Entry → Bool) (k n : ℕ) (es : List Entry) (new : List ℕ) → 1 ≤ k → k ≤ n → Cut es k n → IsMoved k n (positions test es) new → new ≡ positions test (moved_to es k n)
 unfolding IsMoved
-positions-moved test k n es new some order c moves =
+positions-moved test k n es new some order c all =
     let to = moved_to es k n in
-    let all = moves (ascending test es) in
     let at : (p : ℕ) → numbered es p ≡ numbered to (moved_position k n p) = λ p.
     ap (λ (l : List Entry). numbered l p) c.is ∙ sym (at_moved c.low c.mid c.high c.x k n p c.before c.until) ∙ ap (λ (l : List Entry). numbered l (moved_position k n p)) (sym c.moved) in
-    same_ascending 0 0 new (positions test to) all.ascends (ascending test to) (λ q.
+    same_ascending 0 0 new (positions test to) all.0 (ascending test to) (λ q.
     let p = moved_from k n q in
     let e = there_and_back k n q some order in
-    ap (contains new) (sym e) ∙ all.places p ∙ has-numbered test p es ∙ ap (λ (o : Option Entry). option_map_or test o false) (at p)
+    ap (contains new) (sym e) ∙ all.1 p ∙ has-numbered test p es ∙ ap (λ (o : Option Entry). option_map_or test o false) (at p)
     ∙ sym (has-numbered test (moved_position k n p) to) ∙ ap (contains (positions test to)) e)
 
-number-moved : (test : Entry → Bool) (es : List Entry) (k n : ℕ) → Cut es k n → number_of test (moved_to es k n) ≡ number_of test es
-number-moved test es k n c = grind (arith, number-append)
+count_by-moved : (test : Entry → Bool) (es : List Entry) (k n : ℕ) → Cut es k n → count_by test (moved_to es k n) ≡ count_by test es
+count_by-moved test es k n c = grind (arith, count_by-append test, count_by-cons test)
 
 length-moved : (es : List Entry) (k n : ℕ) → Cut es k n → length (moved_to es k n) ≡ length es
 length-moved es k n c = grind (arith, length-append)
 
--- in each list position k was moved to n
+-- in each list that ascends, position k was moved to n
 abbrev MovesAll : ℕ → ℕ → DependIndex → DependIndex → Type 0
-MovesAll k n old new = (t : Touch) → IsMoved k n (kept old t) (kept new t)
+MovesAll k n old new = (t : Touch) → IsAscending (kept old t) → IsMoved k n (kept old t) (kept new t)
 
 pub moved_index : (old new : DependIndex) (k n : ℕ) → 1 ≤ k → k ≤ n → n ≤ old.len → MovesAll k n old new → new.len ≡ old.len → (es : List Entry) → IsIndexOf old es
     → IsIndexOf new (moved_to es k n)
-moved_index old new k n some order within moves len es is = grind (arith, cut, positions-moved, length-moved)
+moved_index old new k n some order within moves len es is =
+    let c = cut es k n some order (omega arith) in
+    record {
+      lists = λ t.
+          positions-moved (touches t) k n es (kept new t) some order c
+          (subst (λ (ps : List ℕ). IsMoved k n ps (kept new t)) (is.lists t) (moves t (kept-ascends old es is t)));
+      len = len ∙ is.len ∙ sym (length-moved es k n c);
+    }
 
 pub moved_room : (old new : DependIndex) (k n : ℕ) → 1 ≤ k → k ≤ n → n ≤ old.len → ((es : List Entry) → IsIndexOf old es → IsIndexOf new (moved_to es k n))
     → ((t : Touch) → capacity new t ≡ capacity old t) → (es : List Entry) → IsIndexOf old es → KeepsRoom old new
 moved_room old new k n some order within moves stays es is = λ t.
-    omega (arith, room_stays old new es (moved_to es k n) is (moves es is) stays t, number-moved (touches t) es k n (cut es k n some order (omega arith)))
+    omega (arith, room_stays old new es (moved_to es k n) is (moves es is) stays t, count_by-moved (touches t) es k n (cut es k n some order (omega arith)))
 
 -- an entry moved to the end of the list is removed and put last
 pub moved_last : (es : List Entry) (k n : ℕ) (x : Entry) → n ≡ length es → numbered es k ≡ Some x → moved_to es k n ≡ without es k ++ x ∷ []
-moved_last es k n x all h = grind (arith, take_all, drop_of_length-le, drop_one)
+moved_last es k n x all h = grind (arith, take_all, drop_of_length-le, drop-element)

@@ -1,7 +1,8 @@
 -- The positions of the entries that pass a test: in a list with one more entry, and in two lists
 -- joined.
-use Rattle.rd_depend.proofs.Prelude.{common_steps, append-nil, Entry, AscendsFrom, IsAscending, positions_from, positions, number_of, ◌≡◌, ℕ, ◌+◌, ◌-◌, ◌≤◌, Bool, if◌then◌else◌, List, [], ◌∷◌, ◌++◌, length, take, refl, ap, arith}
+use Rattle.rd_depend.proofs.Prelude.{common_steps, cond, append-nil, Entry, AscendsFrom, IsAscending, positions_from, positions, count_by, ◌≡◌, ℕ, ◌+◌, ◌-◌, Bool, if◌then◌else◌, List, [], ◌∷◌, ◌++◌, length, take, refl, ap, arith}
 use Rattle.rd_depend.proofs.IndexLists.{ascends_lower}
+use Rattle.std.proofs.lemmas.List.Sums.{sum_by-append, sum_by-cons}
 
 -- the positions ascend
 pub positions-ascend : (test : Entry → Bool) (n : ℕ) (es : List Entry) → AscendsFrom n (positions_from test n es)
@@ -11,18 +12,18 @@ positions-ascend test n (x ∷ xs) = grind (arith, ascends_lower, positions-asce
 pub ascending : (test : Entry → Bool) (es : List Entry) → IsAscending (positions test es)
 ascending test es = ascends_lower 0 1 (positions test es) (omega arith) (positions-ascend test 1 es)
 
+-- the number of entries that pass
+
+pub count_by-cons : (test : Entry → Bool) (x : Entry) (xs : List Entry) → count_by test (x ∷ xs) ≡ cond (test x) 1 0 + count_by test xs
+count_by-cons test x xs = sum_by-cons (λ (y : Entry). cond (test y) 1 0) x xs
+
+pub count_by-append : (test : Entry → Bool) (xs ys : List Entry) → count_by test (xs ++ ys) ≡ count_by test xs + count_by test ys
+count_by-append test xs ys = sum_by-append (λ (y : Entry). cond (test y) 1 0) xs ys
+
 -- there are as many positions as entries that pass
-pub positions-number : (test : Entry → Bool) (n : ℕ) (es : List Entry) → length (positions_from test n es) ≡ number_of test es
+pub positions-number : (test : Entry → Bool) (n : ℕ) (es : List Entry) → length (positions_from test n es) ≡ count_by test es
 positions-number test n [] = refl
-positions-number test n (x ∷ xs) = grind (arith, positions-number test (n + 1) xs)
-
-pub number-within : (test : Entry → Bool) (es : List Entry) → number_of test es ≤ length es
-number-within test [] = omega arith
-number-within test (x ∷ xs) = grind (arith, number-within test xs)
-
-pub number-append : (test : Entry → Bool) (xs ys : List Entry) → number_of test (xs ++ ys) ≡ number_of test xs + number_of test ys
-number-append test [] ys = omega arith
-number-append test (x ∷ xs) ys = let rest = number-append test xs ys in omega arith
+positions-number test n (x ∷ xs) = grind (arith, count_by-cons test x xs, positions-number test (n + 1) xs)
 
 -- the positions in two lists joined
 pub positions-append : (test : Entry → Bool) (n m : ℕ) (xs ys : List Entry) → m ≡ n + length xs

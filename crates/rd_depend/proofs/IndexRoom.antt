@@ -1,6 +1,6 @@
 -- The room of an index, from the capacities of its lists.
-use Rattle.rd_depend.proofs.Prelude.{◌≡◌, ℕ, ◌+◌, ◌-◌, ◌≤◌, Bool, List, [], ◌∷◌, length, ◌∙◌, arith, Entry, DependIndex, Key, list_at, kept_in, capacity_at, Touch, touches, number_of, kept, capacity, spare, IsIndexOf, HasRoomFor, UsesRoom, capacity_in}
-use Rattle.rd_depend.proofs.IndexPositions.{positions-number}
+use Rattle.rd_depend.proofs.Prelude.{◌≡◌, ℕ, ◌+◌, ◌-◌, ◌<◌, ◌≤◌, Bool, true, cond, ap, List, [], ◌∷◌, length, arith, Entry, DependIndex, Key, list_at, kept_in, capacity_at, Touch, touches, count_by, kept, capacity, spare, IsIndexOf, HasRoomFor, UsesRoom, capacity_in}
+use Rattle.rd_depend.proofs.IndexPositions.{count_by-cons, positions-number}
 
 -- what holds of each actor's list and of each key's list holds of all lists
 pub each : (old new : DependIndex) (R : List ℕ → List ℕ → Type 0) → ((i : ℕ) → R (list_at old.by_actor.items i) (list_at new.by_actor.items i))
@@ -20,9 +20,13 @@ spare_is index t = grind arith
 
 -- if the capacities are as before, an index has as much more room as it has fewer positions
 pub room_stays : (old new : DependIndex) (es fs : List Entry) → IsIndexOf old es → IsIndexOf new fs → ((t : Touch) → capacity new t ≡ capacity old t)
-    → (t : Touch) → spare new t + number_of (touches t) fs ≡ spare old t + number_of (touches t) es
+    → (t : Touch) → spare new t + count_by (touches t) fs ≡ spare old t + count_by (touches t) es
 room_stays old new es fs was is stays t = grind (arith, spare_is, positions-number, fits)
+
+-- room for an entry and others is room for the entry
+pub room_for_first : (index : DependIndex) (x : Entry) (rest : List Entry) → HasRoomFor index (x ∷ rest) → (t : Touch) → touches t x ≡ true → 0 < spare index t
+room_for_first index x rest has t h = omega (arith, count_by-cons (touches t) x rest, has.lists t, ap {B = ℕ} (λ (b : Bool). cond b 1 0) h)
 
 -- room for an entry and others is room for the others once the entry has used its own
 pub room_left : (old new : DependIndex) (x : Entry) → UsesRoom old new (x ∷ []) → (rest : List Entry) → HasRoomFor old (x ∷ rest) → HasRoomFor new rest
-room_left old new x used rest has = record { lists = λ t. omega (arith, has.lists t, used t) }
+room_left old new x used rest has = record { lists = λ t. omega (arith, count_by-cons (touches t) x rest, has.lists t, used t) }

@@ -1,25 +1,34 @@
 -- The table of keys: which key has which index, and what a change of the lists means for the keys.
-use Rattle.rd_depend.proofs.Prelude.{nat_tests, slice_get-push_same, slice_get-push_other, Key, Table, key_eq, slot_in, key_eq-true, key_eq-refl, key_eq-sym, Lists, list_at, spare_at, one_if, list_of, capacity_of, lists_of, kept_in, spare_in, is_kept_in, IsReady, KeepsLists, Puts, TakesLast, Moves, capacity_at, IsMoved, ◌≡◌, ℕ, suc, ◌+◌, ◌-◌, ◌<◌, ◌≤◌, Bool, true, false, ◌&&◌, ◌==◌, if◌then◌else◌, List, [], ◌∷◌, ◌++◌, length, get_or, take, Option, Some, None, slice_get, position, Vec, refl, ap, subst, ◌∙◌, arith, eqb-true, eq-eqb, list_any, IsDistinct, apart_from_distinct, Global}
+use Rattle.rd_depend.proofs.Prelude.{nat_tests, slice_get-push_same, slice_get-push_other, Key, Table, key_eq, slot_in, key_eq-true, key_eq-refl, key_eq-sym, Lists, list_at, spare_at, cond, list_of, capacity_of, lists_of, kept_in, spare_in, is_kept_in, IsReady, KeepsLists, Puts, TakesLast, Moves, capacity_at, IsAscending, IsMoved, ◌≡◌, ℕ, suc, ◌+◌, ◌-◌, ◌<◌, ◌≤◌, Bool, true, false, ◌&&◌, ◌==◌, if◌then◌else◌, List, [], ◌∷◌, ◌++◌, length, get_or, take, Option, Some, None, slice_get, slice_get-get_or, option_map, Vec, refl, sym, ap, subst, ◌∙◌, arith, eqb-true, eq-eqb, list_any, IsDistinct, apart_from_distinct, Global}
 use Rattle.rd_depend.proofs.IndexLists.{none_moved}
+use Rattle.std.proofs.lemmas.List.Quantifiers.{position-Some}
 use Rattle.std.specs.Cmp.{both_ways}
 
 -- indices of keys
 
 -- the key is at its index
 pub slot-there : (keys : List Key) (k : Key) (i : ℕ) → slot_in keys k ≡ Some i → slice_get keys i ≡ Some k
-slot-there [] k i h = absurd cc
-slot-there (q ∷ qs) k i h = grind (arith, key_eq-true, slot-there qs k)
+unfolding slot_in
+slot-there keys k i h = let at = position-Some (key_eq k) keys i k h in slice_get-get_or keys i k at.0 ∙ ap Some (sym (key_eq-true k (get_or keys i k) at.1))
 
 pub slot-within : (keys : List Key) (k : Key) (i : ℕ) → slot_in keys k ≡ Some i → i < length keys
-slot-within [] k i h = absurd cc
-slot-within (q ∷ qs) k i h = grind (arith, slot-within qs k)
+unfolding slot_in
+slot-within keys k i h = (position-Some (key_eq k) keys i k h).0
+
+slot-nil : (k : Key) → slot_in [] k ≡ None
+unfolding slot_in
+slot-nil k = refl
+
+slot-cons : (q : Key) (qs : List Key) (k : Key) → slot_in (q ∷ qs) k ≡ (if key_eq k q then Some 0 else option_map suc (slot_in qs k))
+unfolding slot_in
+slot-cons q qs k = grind (arith, nat_tests)
 
 -- a key that is at an index has that index, since no key occurs twice
 own-slot : (ks : List Key) (j : ℕ) (d : Key) → IsDistinct key_eq ks → j < length ks → slot_in ks (get_or ks j d) ≡ Some j
 unfolding IsDistinct
 own-slot (q ∷ qs) (suc j) d s h =
-    grind (arith, key_eq-sym, apart_from_distinct key_eq (q ∷ qs) 0 (suc j) d s (omega arith) h, own-slot qs j d s.1 (omega arith))
-own-slot ks j d s h = grind (arith, key_eq-refl)
+    grind (arith, slot-cons, key_eq-sym, apart_from_distinct key_eq (q ∷ qs) 0 (suc j) d s (omega arith) h, own-slot qs j d s.1 (omega arith))
+own-slot ks j d s h = grind (arith, slot-cons, key_eq-refl)
 
 stands-slot : (keys : List Key) (k : Key) (i : ℕ) (d : Key) → IsDistinct key_eq keys → i < length keys → k ≡ get_or keys i d → slot_in keys k ≡ Some i
 stands-slot keys k i d distinct within at = ap (slot_in keys) at ∙ own-slot keys i d distinct within
@@ -48,11 +57,6 @@ slot-same keys k q i h = both_ways (is_slot i (slot_in keys q)) (key_eq q k) (to
         let one : q ≡ k = cc in
         subst (λ (x : Key). key_eq q x ≡ true) one (key_eq-refl q)
 
--- the set finds a key at its index
-pub position-slot : (keys : List Key) (k : Key) → position (key_eq k) keys ≡ slot_in keys k
-position-slot [] k = grind (arith, nat_tests)
-position-slot (q ∷ qs) k = grind (arith, position-slot qs k)
-
 -- the number of positions for which the list at an index has room left
 abbrev room_left : Lists → Option ℕ → ℕ
 room_left lists o = capacity_of lists o - length (list_of lists o)
@@ -73,7 +77,7 @@ spare_there t k w i slot h = subst (λ (o : Option ℕ). 0 < room_left (lists_of
 
 pub absent : (keys : List Key) (k : Key) → slot_in keys k ≡ None → list_any (key_eq k) keys ≡ false
 absent [] k h = refl
-absent (q ∷ qs) k h = grind (arith, absent qs k)
+absent (q ∷ qs) k h = grind (arith, slot-cons, absent qs k)
 
 -- the index, if there is one, else n if the bit is true
 abbrev or_slot : Option ℕ → Bool → ℕ → Option ℕ
@@ -82,8 +86,8 @@ or_slot None true n = Some n
 or_slot None false n = None
 
 slot_pushed : (keys : List Key) (k q : Key) → slot_in (keys ++ k ∷ []) q ≡ or_slot (slot_in keys q) (key_eq q k) (length keys)
-slot_pushed [] k q = grind arith
-slot_pushed (x ∷ xs) k q = grind (arith, slot_pushed xs k q)
+slot_pushed [] k q = grind (arith, slot-nil, slot-cons)
+slot_pushed (x ∷ xs) k q = grind (arith, slot-cons, slot_pushed xs k q)
 
 room_pushed : (keys : List Key) (k q : Key) (lists : Lists) (v : Vec ℕ Global) → length lists ≡ length keys
     → room_left lists (slot_in keys q) ≤ room_left (lists ++ v ∷ []) (slot_in (keys ++ k ∷ []) q)
@@ -102,8 +106,8 @@ slot_last keys new k n none h len = grind (arith, slot_pushed)
 pub puts : (old new : Table) (k : Key) (wrote : Bool) (p i : ℕ) → new.keys.keys ≡ old.keys.keys
     → ((j : ℕ) → list_at new.all.items j ≡ (if j == i then list_at old.all.items j ++ p ∷ [] else list_at old.all.items j))
     → ((j : ℕ) → list_at new.writes.items j ≡ (if wrote && (j == i) then list_at old.writes.items j ++ p ∷ [] else list_at old.writes.items j))
-    → ((j : ℕ) → spare_at old.all.items j ≤ spare_at new.all.items j + one_if (j == i))
-    → ((j : ℕ) → spare_at old.writes.items j ≤ spare_at new.writes.items j + one_if (wrote && (j == i)))
+    → ((j : ℕ) → spare_at old.all.items j ≤ spare_at new.all.items j + cond (j == i) 1 0)
+    → ((j : ℕ) → spare_at old.writes.items j ≤ spare_at new.writes.items j + cond (wrote && (j == i)) 1 0)
     → slot_in old.keys.keys k ≡ Some i → Puts (Some k) wrote p old new
 puts old new k wrote p i keys all writes room_all room_writes slot = record {
   lists = λ w q. let same = slot-same old.keys.keys k q i slot in grind arith;
@@ -114,15 +118,15 @@ puts old new k wrote p i keys all writes room_all room_writes slot = record {
 pub takes_last : (old new : Table) (k : Key) (wrote : Bool) (i : ℕ) → new.keys.keys ≡ old.keys.keys
     → ((j : ℕ) → list_at new.all.items j ≡ (if j == i then take (length (list_at old.all.items j) - 1) (list_at old.all.items j) else list_at old.all.items j))
     → ((j : ℕ) → list_at new.writes.items j ≡ (if wrote && (j == i) then take (length (list_at old.writes.items j) - 1) (list_at old.writes.items j) else list_at old.writes.items j))
-    → ((j : ℕ) → spare_at new.all.items j ≡ spare_at old.all.items j + one_if (j == i))
-    → ((j : ℕ) → spare_at new.writes.items j ≡ spare_at old.writes.items j + one_if (wrote && (j == i)))
+    → ((j : ℕ) → spare_at new.all.items j ≡ spare_at old.all.items j + cond (j == i) 1 0)
+    → ((j : ℕ) → spare_at new.writes.items j ≡ spare_at old.writes.items j + cond (wrote && (j == i)) 1 0)
     → slot_in old.keys.keys k ≡ Some i → TakesLast (Some k) wrote old new
 takes_last old new k wrote i keys all writes room_all room_writes slot = record {
   lists = λ w q. let same = slot-same old.keys.keys k q i slot in grind arith;
   room = λ w q. let same = slot-same old.keys.keys k q i slot in grind arith;
 }
 
-pub moves : (old new : Table) (k n : ℕ) → new.keys.keys ≡ old.keys.keys → ((i : ℕ) → IsMoved k n (list_at old.all.items i) (list_at new.all.items i))
-    → ((i : ℕ) → IsMoved k n (list_at old.writes.items i) (list_at new.writes.items i)) → ((i : ℕ) → capacity_at new.all.items i ≡ capacity_at old.all.items i)
+pub moves : (old new : Table) (k n : ℕ) → new.keys.keys ≡ old.keys.keys → ((i : ℕ) → IsAscending (list_at old.all.items i) → IsMoved k n (list_at old.all.items i) (list_at new.all.items i))
+    → ((i : ℕ) → IsAscending (list_at old.writes.items i) → IsMoved k n (list_at old.writes.items i) (list_at new.writes.items i)) → ((i : ℕ) → capacity_at new.all.items i ≡ capacity_at old.all.items i)
     → ((i : ℕ) → capacity_at new.writes.items i ≡ capacity_at old.writes.items i) → Moves k n old new
 moves old new k n keys all writes room_all room_writes = grind (arith, none_moved)

@@ -1,6 +1,7 @@
 -- The steps of one list keep the order of another list exactly if they may be taken out of that
 -- list one after another.
-use Rattle.rd_depend.proofs.Prelude.{common_steps, eqb-false, map-append, Entry, Key, Reached, is_under, last_blocking, taken_in, with_step, nothing_reached, AreAlike, Numbered, by_actor, all_left, with_steps, KeepsOrder, ◌≡◌, ◌≢◌, ℕ, ◌+◌, ◌<◌, ◌≤◌, Bool, true, false, ◌==◌, if◌then◌else◌, List, [], ◌∷◌, ◌++◌, length, map, refl, sym, ap, subst, ◌∙◌, arith, eqb-true, length-append, enumerate_from, filter-append}
+use Rattle.rd_depend.proofs.Prelude.{AllByRecursion, eqb-false, map-append, Entry, Key, Reached, is_under, last_blocking, taken_in, with_step, nothing_reached, AreAlike, Numbered, by_actor, all_left, with_steps, KeepsOrder, ◌≡◌, ◌≢◌, ℕ, ◌+◌, ◌<◌, ◌≤◌, Bool, true, false, ◌==◌, if◌then◌else◌, List, [], ◌∷◌, ◌++◌, length, map, refl, sym, ap, subst, ◌∙◌, arith, eqb-true, length-append, enumerate_from, filter-append}
+use Rattle.rd_depend.proofs.Elements.{all-append, all-parts, all-weaker, map-nil}
 use Rattle.rd_depend.proofs.FirstOfActor.{HasNoneBy}
 use Rattle.rd_depend.proofs.TouchedKeys.{wrote_under, wrote_touched, passed_at, in_order_at, in_order_from}
 use Rattle.rd_depend.proofs.TakingOut.{touched-alike, wrote-alike, alike-sym, AreApart, IsApartFrom, TakesAll, takes_out}
@@ -39,41 +40,25 @@ apart_before s t x y i j m h before actors = grind (arith, wrote_touched)
 abbrev entries_of : List Numbered → List Entry
 entries_of ps = map (λ (p : Numbered). p.1) ps
 
--- P holds of each step
-abbrev Each : (Numbered → Type 0) → List Numbered → Type 0
-Each P [] = Unit {0}
-Each P (p ∷ ps) = P p × Each P ps
-
-each-append : (P : Numbered → Type 0) (ps qs : List Numbered) → Each P ps → Each P qs → Each P (ps ++ qs)
-each-append h ps qs k g = grind (arith, common_steps)
-
-each-parts : (P : Numbered → Type 0) (ps qs : List Numbered) → Each P (ps ++ qs) → Each P ps × Each P qs
-each-parts P [] qs h = (tt, h)
-each-parts P (p ∷ ps) qs h = let rest = each-parts P ps qs h.1 in ((h.0, rest.0), rest.1)
-
-each-more : (P Q : Numbered → Type 0) (ps : List Numbered) → ((p : Numbered) → P p → Q p) → Each P ps → Each Q ps
-each-more P Q [] f h = tt
-each-more P Q (p ∷ ps) f h = (f p h.0, each-more P Q ps f h.1)
-
 -- each step has a greater number than the one before it
 abbrev Ascends : List Numbered → Type 0
 Ascends [] = Unit {0}
-Ascends (p ∷ ps) = Each (λ q. p.0 < q.0) ps × Ascends ps
+Ascends (p ∷ ps) = AllByRecursion (λ (q : Numbered). p.0 < q.0) ps × Ascends ps
 
 -- the steps before p and those after it in an ascending list
 record Around (ps : List Numbered) (p : Numbered) (qs : List Numbered) : Type 0 where
-  before : Each (λ q. q.0 < p.0) ps
-  later : Each (λ q. p.0 < q.0) qs
+  before : AllByRecursion (λ (q : Numbered). q.0 < p.0) ps
+  later : AllByRecursion (λ (q : Numbered). p.0 < q.0) qs
   rest : Ascends (ps ++ qs)
 
 around : (ps : List Numbered) (p : Numbered) (qs : List Numbered) → Ascends (ps ++ p ∷ qs) → Around ps p qs
 around [] p qs h = record { before = tt; later = h.0; rest = h.1 }
 around (r ∷ ps) p qs h =
     let a = around ps p qs h.1 in
-    let its = each-parts (λ q. r.0 < q.0) ps (p ∷ qs) h.0 in
-    record { before = (its.1.0, a.before); later = a.later; rest = (each-append (λ q. r.0 < q.0) ps qs its.0 its.1.1, a.rest) }
+    let its = all-parts (λ (q : Numbered). r.0 < q.0) ps (p ∷ qs) h.0 in
+    record { before = (its.1.0, a.before); later = a.later; rest = (all-append (λ (q : Numbered). r.0 < q.0) ps qs its.0 its.1.1, a.rest) }
 
-numbers-from : (P : ℕ → Type 0) (i : ℕ) (xs : List Entry) → ((j : ℕ) → i ≤ j → P j) → Each (λ q. P q.0) (enumerate_from i xs)
+numbers-from : (P : ℕ → Type 0) (i : ℕ) (xs : List Entry) → ((j : ℕ) → i ≤ j → P j) → AllByRecursion (λ (q : Numbered). P q.0) (enumerate_from i xs)
 numbers-from P i [] h = tt
 numbers-from P i (x ∷ xs) h = (h i (omega arith), numbers-from P (i + 1) xs (λ j l. h j (omega arith)))
 
@@ -131,17 +116,13 @@ nobody_left : (ps : List Numbered) → ((n : ℕ) → by_actor n ps ≡ []) → 
 nobody_left [] h = refl
 nobody_left (p ∷ ps) h = let e = h p.1.event.actor in grind arith
 
-no_entries : (ps : List Numbered) → entries_of ps ≡ [] → ps ≡ []
-no_entries [] h = refl
-no_entries (p ∷ ps) h = cc
-
 -- Where they keep the order they may be taken out
 
 -- each step comes after all earlier steps on which it depends
 abbrev AreAfterAll : (Key → Reached) → List Numbered → Type 0
-AreAfterAll s ps = Each (λ p. IsAfterAll s p.1 p.0) ps
+AreAfterAll s ps = AllByRecursion (λ (p : Numbered). IsAfterAll s p.1 p.0) ps
 
-all_apart : (s t : Key → Reached) (p : Numbered) (ps : List Numbered) → Passes s p.1 p.0 t → AreAfterAll t ps → Each (λ q. q.0 < p.0) ps
+all_apart : (s t : Key → Reached) (p : Numbered) (ps : List Numbered) → Passes s p.1 p.0 t → AreAfterAll t ps → AllByRecursion (λ (q : Numbered). q.0 < p.0) ps
     → HasNoneBy p.1.event.actor (entries_of ps) → IsApartFrom p.1 (entries_of ps)
 all_apart s t p [] m h before none = tt
 all_apart s t p (q ∷ ps) m h before none = (apart_before s t p.1 q.1 p.0 q.0 m h.0 before.0 none.0, all_apart s t p ps m h.1 before.1 none.1)
@@ -158,8 +139,8 @@ kept_more : (s t : Key → Reached) (x : Entry) (xs : List Entry) (ps qs : List 
     → IsAfterAll s x p.0 → HasNoneBy p.1.event.actor (entries_of ps) → Kept t xs (ps ++ qs) → Kept s (x ∷ xs) (ps ++ p ∷ qs)
 kept_more s t x xs ps qs p m ascends alike order none h =
     let its = passes-alike s t x p.1 p.0 alike m in
-    let before = each-parts _ ps qs (each-more _ (λ q. IsAfterAll s q.1 q.0) (ps ++ qs) (λ q g. after-before s t p.1 q.1 p.0 q.0 its g) h.order) in
-    let apart = all_apart s t p ps its (each-parts _ ps qs h.order).0 (around ps p qs ascends).before none in
+    let before = all-parts _ ps qs (all-weaker _ (λ (q : Numbered). IsAfterAll s q.1 q.0) (ps ++ qs) (λ q g. after-before s t p.1 q.1 p.0 q.0 its g) h.order) in
+    let apart = all_apart s t p ps its (all-parts _ ps qs h.order).0 (around ps p qs ascends).before none in
     let entry = λ (q : Numbered). q.1 in
     record {
       taken = (
@@ -167,7 +148,7 @@ kept_more s t x xs ps qs p m ascends alike order none h =
         takes_out (entries_of ps) p.1 (entries_of qs) (map-append entry ps (p ∷ qs)) alike apart (map-append entry ps qs),
         h.taken,
       );
-      order = each-append _ ps (p ∷ qs) before.0 (after-alike s x p.1 p.0 alike order, before.1);
+      order = all-append _ ps (p ∷ qs) before.0 (after-alike s x p.1 p.0 alike order, before.1);
     }
 
 kept : (s : Key → Reached) (xs : List Entry) (ps : List Numbered) → Ascends ps → KeepsOrder s xs (λ n. by_actor n ps) → Kept s xs ps
@@ -209,14 +190,13 @@ find (p ∷ ps) (x ∷ xs) y ys h =
     record { earlier = p ∷ f.earlier; step = f.step; later = f.later; stands = cc; before = cc; itself = f.itself; after = f.after }
 
 none_by : (y : Entry) (xs : List Entry) → IsApartFrom y xs → HasNoneBy y.event.actor xs
-none_by y [] h = tt
-none_by y (x ∷ xs) h = (h.0.actors, none_by y xs h.1)
+none_by y xs h = all-weaker (AreApart y) (λ (x : Entry). y.event.actor ≢ x.event.actor) xs (λ x apart. apart.actors) h
 
 still_after : (s t : Key → Reached) (y : Entry) (i : ℕ) (ps : List Numbered) → Passes s y i t → AreAfterAll s ps → IsApartFrom y (entries_of ps) → AreAfterAll t ps
 still_after s t y i [] m h apart = tt
 still_after s t y i (p ∷ ps) m h apart = (after-apart s t y p.1 i p.0 m h.0 apart.0, still_after s t y i ps m h.1 apart.1)
 
-later_after : (s t : Key → Reached) (y : Entry) (i : ℕ) (ps : List Numbered) → Passes s y i t → AreAfterAll s ps → Each (λ q. i < q.0) ps → AreAfterAll t ps
+later_after : (s t : Key → Reached) (y : Entry) (i : ℕ) (ps : List Numbered) → Passes s y i t → AreAfterAll s ps → AllByRecursion (λ (q : Numbered). i < q.0) ps → AreAfterAll t ps
 later_after s t y i [] m h later = tt
 later_after s t y i (p ∷ ps) m h later = (after-later s t y p.1 i p.0 m h.0 later.0, later_after s t y i ps m h.1 later.1)
 
@@ -227,8 +207,8 @@ taken_more s t x xs ps qs p m is order ascends alike apart on =
     let n = x.event.actor in
     let e : n ≡ p.1.event.actor = ap (λ e. e.actor) alike.event in
     let its = passes-alike s t x p.1 p.0 alike m in
-    let parts = each-parts _ ps (p ∷ qs) order in
-    let rest = each-append _ ps qs (still_after s t p.1 p.0 ps its parts.0 apart) (later_after s t p.1 p.0 qs its parts.1.1 (around ps p qs ascends).later) in (
+    let parts = all-parts _ ps (p ∷ qs) order in
+    let rest = all-append _ ps qs (still_after s t p.1 p.0 ps its parts.0 apart) (later_after s t p.1 p.0 qs its parts.1.1 (around ps p qs ascends).later) in (
       p,
       by_actor n (ps ++ qs),
       record {
@@ -241,7 +221,7 @@ taken_more s t x xs ps qs p m is order ascends alike apart on =
     )
 
 taken : (s : Key → Reached) (xs : List Entry) (ps : List Numbered) → Ascends ps → AreAfterAll s ps → TakesAll xs (entries_of ps) → KeepsOrder s xs (λ n. by_actor n ps)
-taken s [] ps ascends order h = λ n. ap (by_actor n) (no_entries ps h)
+taken s [] ps ascends order h = λ n. ap (by_actor n) (map-nil (λ (p : Numbered). p.1) ps h)
 taken s (x ∷ xs) ps ascends order h =
     let t = h.1 in
     let f = find ps t.earlier t.entry t.later t.stands in
@@ -254,8 +234,8 @@ taken s (x ∷ xs) ps ascends order h =
     (subst (λ (l : List Entry). IsApartFrom f.step.1 l) (sym f.before) (subst (λ (y : Entry). IsApartFrom y t.earlier) (sym f.itself) t.apart))
     (λ rest. taken (with_step s x f.step.0) xs (f.earlier ++ f.later) (around f.earlier f.step f.later asc).rest rest (subst (λ (l : List Entry). TakesAll xs l) left h.2)))
 
-at_first : (ps : List Numbered) → Each (λ p. 1 ≤ p.0) ps → AreAfterAll nothing_reached ps
-at_first ps h = each-more _ _ ps (λ p later k touched. grind arith) h
+at_first : (ps : List Numbered) → AllByRecursion (λ (p : Numbered). 1 ≤ p.0) ps → AreAfterAll nothing_reached ps
+at_first ps h = all-weaker _ _ ps (λ p later k touched. grind arith) h
 
 pub taken_kept : (xs ys : List Entry) → TakesAll xs ys → KeepsOrder nothing_reached xs (all_left ys)
 taken_kept xs ys h =

@@ -1,9 +1,10 @@
 -- Two steps of a run depend on each other exactly if they have one actor, or one of them wrote
 -- under a key where the other touched.
-use Rattle.rd_depend.proofs.Prelude.{common_steps, false≢true, or_cases, or_parts, SegName, Place, segment_of, some_overlap, is_nothing, written, name_eq-refl, some_overlap-sym, Entry, depends, Key, At, In, is_under, is_under_some, own_key, value_key_of_place, whole_key, ◌≡◌, Bool, true, false, ◌||◌, inl, inr, Option, Some, None, refl, sym, ◌∙◌, arith, ne_eqb, option_map}
+use Rattle.rd_depend.proofs.Prelude.{common_steps, false≢true, or_cases, or_parts, SegName, Place, segment_of, some_overlap, is_nothing, written, name_eq-refl, some_overlap-sym, Entry, depends, Key, At, In, is_under, is_under_some, own_key, value_key_of_place, whole_key, ◌≡◌, true, false, ◌||◌, inl, inr, Option, Some, None, refl, sym, ◌∙◌, arith, ne_eqb, option_map}
 use Rattle.rd_depend.proofs.IndexFirst.{overlaps_under, overlaps-keys}
-use Rattle.rd_depend.proofs.TakingOut.{AreApart}
+use Rattle.rd_depend.proofs.TakingOut.{AreApart, apart-sym}
 use Rattle.rd_depend.proofs.TouchedKeys.{wrote_under, is_whole_of}
+use Rattle.std.proofs.lemmas.Bool.{false_from_ne_true}
 use Rattle.rd_cell.specs.declared.places.Place.TheVariants as place
 
 -- a step at the whole of a segment wrote
@@ -56,17 +57,11 @@ never_meet x y p apart w h =
     by_whole None e d = cc
     by_whole (Some t) e d = apart.second (In t) (touched_in x p t w e) (made_it t y.place d)
 
-never : (b : Bool) → (b ≡ true → ⊥) → b ≡ false
-never b f = grind arith
-
 never_overlap : (x y : Entry) → AreApart x y → some_overlap (written x.place x.wrote) y.place ≡ false
-never_overlap x y apart = grind (arith, overlaps-keys, never, overlaps_under, never_meet)
-
-turned : (x y : Entry) → AreApart x y → AreApart y x
-turned x y h = grind arith
+never_overlap x y apart = grind (arith, overlaps-keys, false_from_ne_true, overlaps_under, never_meet)
 
 never_back : (x y : Entry) → AreApart x y → some_overlap x.place (written y.place y.wrote) ≡ false
-never_back x y apart = never _ (λ h. false≢true (sym (never_overlap y x (turned x y apart)) ∙ some_overlap-sym x.place (written y.place y.wrote) h))
+never_back x y apart = false_from_ne_true _ (λ h. false≢true (sym (never_overlap y x (apart-sym x y apart)) ∙ some_overlap-sym x.place (written y.place y.wrote) h))
 
 pub free_of_apart : (x y : Entry) → AreApart x y → depends x y ≡ false
 free_of_apart x y apart = λ i. ne_eqb x.event.actor y.event.actor apart.actors i || (never_overlap x y apart i || never_back x y apart i)

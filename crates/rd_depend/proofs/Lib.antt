@@ -1,4 +1,6 @@
 pub mod Prelude
+pub mod Elements
+pub mod Results
 mod CommonBeginning
 pub mod IndexLists
 pub mod IndexTable

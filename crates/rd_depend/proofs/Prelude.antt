@@ -1,6 +1,6 @@
 -- The words that several proofs of the crate use: definitions of this crate and of those below,
 -- generated types and their variants, and lemmas of these crates and of std.
-pub use Rattle.rd_cell.proofs.Prelude.{Bool, Global, IfOk-weaker, IsOk, IsPartitionPoint-from_clause, IsPartitionedBy-leb, IsSome, IsTrue, List, MatchOption, None, Ok, OnOk, Option, Result, Some, Vec, [], and_from, and_parts, ap, apart_from_distinct, append-nil, append_assoc, arith, before_first, cases_Bool, cases_eq, common_steps, cond, cond-false, cond-true, covers, drop, drop-cons, drop-drop, drop_all, drop_of_length-le, enumerate_from, eq-eqb, eqb-false, eqb-true, false, false≢true, filter-append, find, find_at, get_or, if◌then◌else◌, index_half, inl, inr, is_err, is_nothing, is_some, last_or, le-ltb, leb, length, length-append, length-drop, length-map, length-take-le, list_any, list_any-append, lt-ltb, ltb-false, ltb-true, map, map-append, name_eq, nat_lt, nat_tests, ne_eqb, nil_from_length, not, option_and_then, option_map, option_map_or, option_to_list, or_cases, or_from, or_left, or_parts, or_right, position, position_from, position_or_len, prefix_len-le-length, prefix_len_is, refl, reverse, reverse-append, rules, segment_of, set, slice_get, slice_get-get_or, slice_get_past, some_covers, subst, suc, sym, take, take-append-drop, take-map, take_all, true, zero, ℕ, ◌&&◌, ◌*◌, ◌++◌, ◌+◌, ◌-◌, ◌/◌, ◌<◌, ◌==◌, ◌^◌, ◌||◌, ◌↔◌, ◌∙◌, ◌∷◌, ◌≡◌, ◌≢◌, ◌≤◌, ◌⊎◌}
+pub use Rattle.rd_cell.proofs.Prelude.{AllByRecursion, Bool, Global, IfOk-weaker, IsOk, IsPartitionPoint-from_clause, IsPartitionedBy-leb, IsSome, IsTrue, List, MatchOption, None, Ok, OnOk, Option, Result, Some, Vec, [], and_from, and_parts, ap, apart_from_distinct, append-nil, append_assoc, arith, before_first, cases_Bool, cases_eq, common_steps, cond, cond-false, cond-true, count_by, covers, drop, drop-cons, drop-drop, drop_all, drop_of_length-le, enumerate_from, eq-eqb, eqb-false, eqb-true, false, false≢true, filter-append, find, find_at, get_or, if◌then◌else◌, index_half, inl, inr, is_err, is_nothing, is_some, last_or, le-ltb, leb, length, length-append, length-drop, length-map, length-take-le, list_any, list_any-append, lt-ltb, ltb-false, ltb-true, map, map-append, name_eq, nat_lt, nat_tests, ne_eqb, nil_from_length, not, option_and_then, option_map, option_map_or, option_to_list, or_cases, or_from, or_left, or_parts, or_right, position_from, position_or_len, prefix_len-le-length, prefix_len_is, refl, reverse, reverse-append, rules, segment_of, set, slice_get, slice_get-get_or, slice_get_past, some_covers, subst, suc, sym, take, take-append-drop, take-map, take_all, true, zero, ℕ, ◌&&◌, ◌*◌, ◌++◌, ◌+◌, ◌-◌, ◌/◌, ◌<◌, ◌==◌, ◌^◌, ◌||◌, ◌↔◌, ◌∙◌, ◌∷◌, ◌≡◌, ◌≢◌, ◌≤◌, ◌⊎◌}
 unfoldable pub use Rattle.rd_cell.proofs.Prelude.{IsDistinct}
 pub use Rattle.rd_step.proofs.Prelude.{IsEquivalent, IsFree, IsRunFrom, Place, Ran, Stepped, World, Wrote, closure, depends, depends_on_any, events, first_dependant, interfere, numbered, overlaps, run, run_entries, some_overlap, step, without, written}
 pub use Rattle.rd_cell.proofs.ResultLemmas.{same_Ok}
@@ -16,19 +16,20 @@ pub use Rattle.rd_step.specs.Dependence.{AreLoneUndos, IsInClosure, closure_from
 pub use Rattle.rd_step.specs.declared.entries.Entry.{Entry}
 pub use Rattle.rd_step.specs.declared.entries.Event.{Event}
 pub use Rattle.rd_depend.specs.Beginnings.{Begins, NeitherBegins}
-pub use Rattle.rd_depend.specs.Changes.{Adds, EndsWith, Keeps, homes_of}
-pub use Rattle.rd_depend.specs.ComparedSteps.{GoesOn, IsOutOfOrder, all_left, by_actor, left_of, reached_of, reached_or_nothing, with_first}
+pub use Rattle.rd_depend.specs.Changes.{Adds, Keeps, homes_of}
+pub use Rattle.rd_depend.specs.ComparedSteps.{GoesOn, IsOutOfOrder, all_left, by_actor, left_in, left_of, reached_of, reached_or_nothing, with_first}
 pub use Rattle.rd_depend.specs.Equivalence.{DecidesEquivalence}
-pub use Rattle.rd_depend.specs.Index.{By, GivesRoom, HasRoomFor, HasRoomInstead, IsIndexOf, IsLast, KeepsRoom, Touch, Under, UsesRoom, capacity, is_value_written, kept, number_of, positions, positions_from, spare, touched_or_written, touches}
+pub use Rattle.rd_depend.specs.Index.{By, EndsWith, GivesRoom, HasRoomFor, HasRoomInstead, IsIndexOf, KeepsRoom, Touch, Under, UsesRoom, capacity, kept, positions, positions_from, spare, touched_or_written, touches}
 unfoldable pub use Rattle.rd_depend.specs.KeepingOrder.{with_step}
 pub use Rattle.rd_depend.specs.KeepingOrder.{AreAlike, IsAfter, IsInOrder, KeepsOrder, Numbered, is_making, last_blocking, nothing_reached, taken_in, taken_in_under, with_steps}
-pub use Rattle.rd_depend.specs.KeyLaws.{key_eq-refl, key_eq-sym, key_eq-true}
-pub use Rattle.rd_depend.specs.Keys.{is_that, is_under, is_under_some, key_eq, own_key, place_key, segment_key, slot_in, value_key, value_key_of_place, whole_key}
+unfoldable pub use Rattle.rd_depend.specs.Keys.{slot_in}
 unfoldable pub use Rattle.rd_depend.specs.Lists.{IsMoved}
-pub use Rattle.rd_depend.specs.Lists.{AreMoved, AscendsFrom, IsAscending, contains, earlier, later, moved_position, turned}
+pub use Rattle.rd_depend.specs.KeyLaws.{key_eq-refl, key_eq-sym, key_eq-true}
+pub use Rattle.rd_depend.specs.Keys.{is_that, is_under, is_value_written, is_under_some, key_eq, own_key, place_key, segment_key, value_key, value_key_of_place, whole_key}
+pub use Rattle.rd_depend.specs.Lists.{AscendsFrom, IsAscending, contains, earlier, later, moved_position, turned}
 pub use Rattle.rd_depend.specs.Moved.{moved_to}
 pub use Rattle.rd_depend.specs.Sharing.{SharesPlace, either_wrote, is_of_map, wrote}
-pub use Rattle.rd_depend.specs.Tables.{AreReady, HasLast, IsReady, KeepsLists, Lists, Moves, Puts, TakesLast, capacity_at, capacity_in, capacity_of, is_kept_in, is_writes, items_of, kept_in, list_at, list_of, lists_of, one_if, spare_at, spare_in}
+pub use Rattle.rd_depend.specs.Tables.{HasLast, IsReady, IsReadyIfSome, KeepsLists, Lists, Moves, Puts, TakesLast, capacity_at, capacity_in, capacity_of, is_kept_in, is_writes, items_of, kept_in, list_at, list_of, lists_of, spare_at, spare_in}
 pub use Rattle.rd_depend.specs.Writers.{last_position, one_further, writes_to}
 pub use Rattle.rd_depend.specs.declared.index.DependIndex.{DependIndex}
 pub use Rattle.rd_depend.specs.declared.index.changing.Home.{Home}

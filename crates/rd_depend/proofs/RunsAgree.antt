@@ -1,8 +1,9 @@
 -- The events of two runs from one world are equivalent exactly if the entries of one may be taken
 -- out of the other.
-use Rattle.rd_depend.proofs.Prelude.{◌≡◌, true, false, refl, sym, ap, subst, List, [], ◌∷◌, ◌++◌, Ok, arith, list_any, or_from, depends, free_parts, World, step, IsFree, Entry, IsEquivalent, events, IsRunFrom, first_step, DecidesEquivalence}
+use Rattle.rd_depend.proofs.Prelude.{AllByRecursion, ◌≡◌, true, false, refl, sym, ap, subst, List, [], ◌∷◌, ◌++◌, Ok, arith, list_any, or_from, depends, free_parts, World, step, IsFree, Entry, IsEquivalent, events, IsRunFrom, first_step, DecidesEquivalence}
+use Rattle.rd_depend.proofs.Elements.{all-parts, map-nil}
 use Rattle.rd_depend.proofs.FirstOfActor.{MayComeFirst}
-use Rattle.rd_depend.proofs.Exactness.{comes_first, runs_on, equivalent_first, no_events}
+use Rattle.rd_depend.proofs.Exactness.{comes_first, runs_on, equivalent_first}
 use Rattle.rd_depend.proofs.TakingOut.{alike-same, IsApartFrom, Takes, TakesAll, takes_out}
 use Rattle.rd_depend.proofs.KeysMeet.{MakingWrote, apart_of_free, free_of_apart}
 
@@ -12,18 +13,13 @@ making_wrote : (w v : World) (x : Entry) → step w x.event ≡ Ok (record { wor
 making_wrote w v x k t e = grind arith
 
 abbrev AllMakingsWrote : List Entry → Type 0
-AllMakingsWrote [] = Unit {0}
-AllMakingsWrote (x ∷ xs) = MakingWrote x × AllMakingsWrote xs
+AllMakingsWrote xs = AllByRecursion MakingWrote xs
 
 makings_wrote : (w : World) (xs : List Entry) → IsRunFrom w xs → AllMakingsWrote xs
 makings_wrote w [] h = tt
 makings_wrote w (x ∷ xs) h =
     let first = first_step w x xs h in
     (making_wrote w first.after x first.goes, makings_wrote first.after xs first.rest)
-
-makings_before : (xs ys : List Entry) → AllMakingsWrote (xs ++ ys) → AllMakingsWrote xs
-makings_before [] ys h = tt
-makings_before (x ∷ xs) ys h = (h.0, makings_before xs ys h.1)
 
 -- Free and apart
 
@@ -40,15 +36,15 @@ all_free x (y ∷ ys) h = or_from (depends x y) (list_any (depends x) ys) (free_
 -- What is equivalent may be taken out, one step after another
 
 pub equivalent_taken : (w : World) (xs ys : List Entry) → IsRunFrom w xs → IsRunFrom w ys → IsEquivalent w (events xs) (events ys) → TakesAll xs ys
-equivalent_taken w [] ys runs_x runs_y h = no_events ys h
+equivalent_taken w [] ys runs_x runs_y h = map-nil (λ (y : Entry). y.event) ys h
 equivalent_taken w (x ∷ xs) ys runs_x runs_y h =
     let c = comes_first w x.event (events xs) ys runs_y h in
     let m = c.may in
     let first = first_step w x xs runs_x in
     let on = runs_on w x xs ys c.left first runs_y m in
-    let makings = makings_wrote w (m.earlier ++ m.entry ∷ m.later) (subst (λ (l : List Entry). IsRunFrom w l) m.stands runs_y) in (
+    let makings = all-parts MakingWrote m.earlier (m.entry ∷ m.later) (makings_wrote w (m.earlier ++ m.entry ∷ m.later) (subst (λ (l : List Entry). IsRunFrom w l) m.stands runs_y)) in (
       c.left,
-      takes_out m.earlier m.entry m.later m.stands (alike-same x m.entry (sym on.same)) (grind (arith, all_apart, makings_before)) m.leaves,
+      takes_out m.earlier m.entry m.later m.stands (alike-same x m.entry (sym on.same)) (all_apart m.entry m.earlier makings.1.0 makings.0 m.free) m.leaves,
       equivalent_taken first.after xs c.left first.rest on.runs ((equivalent_first w x xs ys c.left first runs_y m).0 h),
     )
 

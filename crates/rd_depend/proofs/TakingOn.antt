@@ -1,22 +1,11 @@
 -- Taking out is transitive: if one list can be taken out of a second, and the second out of a
 -- third, the first can be taken out of the third.
 use Rattle.rd_depend.proofs.Prelude.{◌≡◌, ◌⊎◌, inl, inr, List, [], ◌∷◌, ◌++◌, refl, sym, subst, ◌∙◌, append_assoc, arith, Entry, AreAlike}
-use Rattle.rd_depend.proofs.TakingOut.{AreApart, IsApartFrom, Takes, TakesAll, takes_out}
+use Rattle.rd_depend.proofs.Elements.{all-append, all-parts}
+use Rattle.rd_depend.proofs.TakingOut.{AreApart, apart-alike, IsApartFrom, Takes, TakesAll, takes_out}
 
 takes-alike : (x y : Entry) (entries left : List Entry) → AreAlike x y → Takes y entries left → Takes x entries left
 takes-alike x y entries left h t = grind (arith)
-
--- if two steps are apart, so are two steps like them
-apart-alike : (x y u v : Entry) → AreAlike x u → AreAlike y v → AreApart x y → AreApart u v
-apart-alike x y u v h g a = grind arith
-
-apart-append : (x : Entry) (ys zs : List Entry) → IsApartFrom x ys → IsApartFrom x zs → IsApartFrom x (ys ++ zs)
-apart-append x [] zs h g = g
-apart-append x (y ∷ ys) zs h g = (h.0, apart-append x ys zs h.1 g)
-
-apart-parts : (x : Entry) (ys zs : List Entry) → IsApartFrom x (ys ++ zs) → IsApartFrom x ys × IsApartFrom x zs
-apart-parts x [] zs h = (tt, h)
-apart-parts x (y ∷ ys) zs h = let rest = apart-parts x ys zs h.1 in ((h.0, rest.0), rest.1)
 
 -- Where a step stands in two lists joined
 
@@ -49,21 +38,21 @@ record TakesBoth (x y : Entry) (entries left : List Entry) : Type 0 where
 exchanged : (x y : Entry) (entries between left : List Entry) → AreApart y x → Takes x entries between → Takes y between left → TakesBoth y x entries left
 exchanged x y entries between left apart t u = elim (in_either t.earlier t.later u.earlier u.entry u.later (sym t.leaves ∙ u.stands)) [
   | inl f ↦
-      let parts = apart-parts t.entry u.earlier (u.entry ∷ f.middle) (subst (IsApartFrom t.entry) f.first t.apart) in
+      let parts = all-parts (AreApart t.entry) u.earlier (u.entry ∷ f.middle) (subst (IsApartFrom t.entry) f.first t.apart) in
       record {
         between = u.earlier ++ (f.middle ++ t.entry ∷ t.later);
         first = takes_out u.earlier u.entry (f.middle ++ t.entry ∷ t.later) (grind (arith, append_assoc)) u.alike u.apart refl;
         second =
             takes_out (u.earlier ++ f.middle) t.entry t.later (grind (arith, append_assoc)) t.alike
-            (apart-append t.entry u.earlier f.middle parts.0 parts.1.1) (grind (arith, append_assoc));
+            (all-append (AreApart t.entry) u.earlier f.middle parts.0 parts.1.1) (grind (arith, append_assoc));
       }
   | inr s ↦
-      let parts = apart-parts u.entry t.earlier s.middle (subst (IsApartFrom u.entry) s.first u.apart) in
+      let parts = all-parts (AreApart u.entry) t.earlier s.middle (subst (IsApartFrom u.entry) s.first u.apart) in
       record {
         between = (t.earlier ++ t.entry ∷ s.middle) ++ u.later;
         first =
             takes_out (t.earlier ++ t.entry ∷ s.middle) u.entry u.later (grind (arith, append_assoc)) u.alike
-            (apart-append u.entry t.earlier (t.entry ∷ s.middle) parts.0 (apart-alike y x u.entry t.entry u.alike t.alike apart, parts.1)) refl;
+            (all-append (AreApart u.entry) t.earlier (t.entry ∷ s.middle) parts.0 (apart-alike y x u.entry t.entry u.alike t.alike apart, parts.1)) refl;
         second = takes_out t.earlier t.entry (s.middle ++ u.later) (grind (arith, append_assoc)) t.alike t.apart (grind (arith, append_assoc));
       }
 ]

@@ -1,6 +1,6 @@
 -- Taking out is symmetric: if one list can be taken out of another, step by step, the other can be
 -- taken out of the one.
-use Rattle.rd_depend.proofs.Prelude.{◌≡◌, ◌≢◌, true, List, [], ◌∷◌, ◌++◌, refl, sym, ap, subst, arith, Entry, Key, is_under, AreAlike}
+use Rattle.rd_depend.proofs.Prelude.{AllByRecursion, ◌≡◌, ◌≢◌, true, List, [], ◌∷◌, ◌++◌, refl, sym, ap, subst, arith, Entry, Key, is_under, AreAlike}
 use Rattle.rd_depend.proofs.TouchedKeys.{wrote_under}
 
 -- Steps that are alike
@@ -28,12 +28,14 @@ pub record AreApart (x y : Entry) : Type 0 where
 
 -- the step x is apart from each of these
 abbrev pub IsApartFrom : Entry → List Entry → Type 0
-IsApartFrom x [] = Unit {0}
-IsApartFrom x (y ∷ ys) = AreApart x y × IsApartFrom x ys
+IsApartFrom x ys = AllByRecursion (AreApart x) ys
 
--- if two steps are apart, two steps like them are apart the other way round
-apart-turned : (x y u v : Entry) → AreAlike x u → AreAlike y v → AreApart x y → AreApart v u
-apart-turned x y u v h g a = grind arith
+pub apart-sym : (x y : Entry) → AreApart x y → AreApart y x
+apart-sym x y h = grind arith
+
+-- if two steps are apart, so are two steps like them
+pub apart-alike : (x y u v : Entry) → AreAlike x u → AreAlike y v → AreApart x y → AreApart u v
+apart-alike x y u v h g a = grind arith
 
 -- Taking out
 
@@ -66,7 +68,7 @@ put_back (q ∷ xs) ys zs x y alike apart h =
     let t = h.1 in (
       x ∷ h.0,
       takes_out (x ∷ t.earlier) t.entry t.later (ap (λ (l : List Entry). x ∷ l) t.stands) t.alike
-          (apart-turned y q x t.entry (alike-sym x y alike) t.alike apart.0, t.apart) (ap (λ (l : List Entry). x ∷ l) t.leaves),
+          (apart-sym x t.entry (apart-alike y q x t.entry (alike-sym x y alike) t.alike apart.0), t.apart) (ap (λ (l : List Entry). x ∷ l) t.leaves),
       put_back xs ys h.0 x y alike apart.1 h.2,
     )
 

@@ -1,7 +1,7 @@
 -- Whether one list begins with another.
 use Rattle.std.specs.Prelude.{◌≡◌, List, length, take}
 
--- the second list begins with the first one
+-- the second list begins with the first one: `IsPrefix` of the library, as a bare equation
 abbrev pub Begins : {X : Type 0} → List X → List X → Type 0
 Begins xs ys = take (length xs) ys ≡ xs
 

@@ -1,20 +1,19 @@
 -- How the calls of an index change its lists.
-use Rattle.std.specs.Prelude.{◌≡◌, ◌+◌, ◌≤◌, ◌<◌, not, if◌then◌else◌, List, [], ◌∷◌, ◌++◌}
+use Rattle.std.specs.Prelude.{◌≡◌, ◌+◌, ◌≤◌, ◌<◌, not, cond, if◌then◌else◌, [], ◌∷◌, ◌++◌}
 use Rattle.rd_step.specs.Prelude.{is_nothing}
 use Rattle.rd_step.specs.declared.entries.Entry.{Entry}
 use Rattle.rd_depend.specs.declared.index.DependIndex.{DependIndex}
 use Rattle.rd_depend.specs.declared.index.changing.Homes.{Homes}
 use Rattle.rd_depend.specs.declared.index.changing.Slots.{Slots}
-use Rattle.rd_depend.specs.Index.{Touch, touches, is_value_written, kept, spare, position_count, IsIndexOf}
-use Rattle.rd_depend.specs.Keys.{place_key, value_key, segment_key}
-use Rattle.rd_depend.specs.Tables.{spare_at, one_if}
-use Rattle.rd_depend.specs.Tables.{AreReady}
+use Rattle.rd_depend.specs.Index.{Touch, touches, kept, spare, position_count}
+use Rattle.rd_depend.specs.Keys.{place_key, value_key, segment_key, is_value_written}
+use Rattle.rd_depend.specs.Tables.{spare_at, IsReadyIfSome}
 
 -- the index got this entry at the next position: each list that is to keep it has that position at
 -- its end and lost room for at most one, and each other list is as before
 pub record Adds (x : Entry) (old new : DependIndex) : Type 0 where
   pub lists : (t : Touch) → kept new t ≡ (if touches t x then kept old t ++ (position_count old + 1) ∷ [] else kept old t)
-  pub room : (t : Touch) → spare old t ≤ spare new t + one_if (touches t x)
+  pub room : (t : Touch) → spare old t ≤ spare new t + cond (touches t x) 1 0
   pub len : position_count new ≡ position_count old + 1
 
 -- the lists and the number of positions are as before, and no list lost room
@@ -35,11 +34,6 @@ homes_of x = record {
 -- indices
 pub record IsReadyFor (index : DependIndex) (x : Entry) (homes : Homes) (slots : Slots) : Type 0 where
   pub actor : 0 < spare_at index.by_actor.items x.event.actor
-  pub place : AreReady index.by_key homes.place.key homes.place.wrote slots.place
-  pub value : AreReady index.by_key homes.value.key homes.value.wrote slots.value
-  pub segment : AreReady index.by_key homes.segment.key homes.segment.wrote slots.segment
-
--- the index is that of a list of entries that ends with these
-pub record EndsWith (index : DependIndex) (last : List Entry) : Type 0 where
-  pub before : List Entry
-  pub is : IsIndexOf index (before ++ last)
+  pub place : IsReadyIfSome index.by_key homes.place.key homes.place.wrote slots.place
+  pub value : IsReadyIfSome index.by_key homes.value.key homes.value.wrote slots.value
+  pub segment : IsReadyIfSome index.by_key homes.segment.key homes.segment.wrote slots.segment

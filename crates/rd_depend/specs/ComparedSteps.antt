@@ -1,10 +1,12 @@
 -- What the code keeps while it compares two runs: how far the steps of the first run reached in the
 -- second, and which steps of the second are left.
-use Rattle.std.specs.Prelude.{◌≡◌, ◌==◌, ℕ, if◌then◌else◌, List, ◌∷◌, Option, map, reverse, unwrap_or, filter}
+use Rattle.std.specs.Prelude.{◌≡◌, ◌==◌, ℕ, List, ◌∷◌, Option, Vec, map, reverse, unwrap_or, filter}
 use Rattle.std.specs.List.{enumerate_from}
+use Rattle.std.specs.declared.alloc.Global.{Global}
 use Rattle.indexmap.specs.IndexMap.{get}
 use Rattle.rd_step.specs.declared.entries.Entry.{Entry}
 use Rattle.rd_depend.specs.declared.index.keys.Key.{Key}
+use Rattle.rd_depend.specs.declared.keeping_order.NumberedStep.{NumberedStep}
 use Rattle.rd_depend.specs.declared.keeping_order.Reached.{Reached}
 use Rattle.rd_depend.specs.declared.keeping_order.ReachedByKey.{ReachedByKey}
 use Rattle.rd_depend.specs.declared.keeping_order.StepsByActor.{StepsByActor}
@@ -28,14 +30,18 @@ by_actor n ps = filter (λ p. n == p.1.event.actor) ps
 abbrev pub all_left : List Entry → ℕ → List Numbered
 all_left entries n = by_actor n (enumerate_from 1 entries)
 
--- the steps that are left of each actor, in the order of the run; the code keeps them in the
+-- the steps that these lists have for an actor, in the order of the run; each list has them in the
 -- reverse order
+abbrev pub left_in : List (Vec NumberedStep Global) → ℕ → List Numbered
+left_in lists n = reverse (map (λ p. (p.at, p.entry.now)) (list_at lists n))
+
+-- the steps that are left of each actor, in the order of the run
 abbrev pub left_of : StepsByActor → ℕ → List Numbered
-left_of steps n = reverse (map (λ p. (p.at, p.entry.now)) (list_at steps.steps.items n))
+left_of steps = left_in steps.steps.items
 
 -- the steps of each actor, with step p in front of those of actor n
 abbrev pub with_first : (ℕ → List Numbered) → ℕ → Numbered → ℕ → List Numbered
-with_first left n p m = if m == n then p ∷ left m else left m
+with_first left n p = with_steps left n (p ∷ left n)
 
 -- the next step of the actor of x in the second run, `step`, is like x and in order there; it was
 -- taken in under its keys, and `rest` is what is left of its actor

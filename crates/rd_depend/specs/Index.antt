@@ -2,15 +2,15 @@
 -- each place and each segment the positions of the entries that touched it. A second list has the
 -- positions of those that wrote there.
 use Rattle.std.specs.Prelude.{◌≡◌, ℕ, ◌+◌, ◌≤◌, Bool, true, false, ◌==◌, if◌then◌else◌, List, [], ◌∷◌, ◌++◌, length, Option, Some}
-use Rattle.rd_step.specs.Prelude.{Place, Wrote, written}
+use Rattle.std.specs.List.{count_by}
+use Rattle.rd_step.specs.Prelude.{Place, written}
 use Rattle.rd_step.specs.declared.entries.Entry.{Entry}
 use Rattle.rd_step.specs.Lists.{numbered}
 use Rattle.rd_depend.specs.declared.index.DependIndex.{DependIndex}
 use Rattle.rd_depend.specs.declared.index.keys.Key.{Key}
 use Rattle.rd_depend.specs.Keys.{is_under}
-use Rattle.rd_depend.specs.Tables.{list_at, capacity_at, one_if, spare_at}
+use Rattle.rd_depend.specs.Tables.{list_at, capacity_at, spare_at}
 use Rattle.rd_depend.specs.Tables.{kept_in, capacity_in, spare_in}
-use Rattle.rd_cell.specs.declared.places.Wrote.TheVariants as wrote
 
 -- what a list of positions is kept for: the steps of an actor, or the steps under a key, either all
 -- of them or, if the bit is true, only those that wrote there
@@ -29,11 +29,6 @@ abbrev pub touches : Touch → Entry → Bool
 touches (By a) x = a == x.event.actor
 touches (Under w k) x = is_under k (touched_or_written w x)
 
--- whether an access to a cell that wrote this part of it wrote the value half
-abbrev pub is_value_written : Wrote → Bool
-is_value_written wrote.Place = true
-is_value_written _ = false
-
 -- the positions of the entries that pass the test, if the first entry is at position n
 abbrev pub positions_from : (Entry → Bool) → ℕ → List Entry → List ℕ
 positions_from test n [] = []
@@ -42,12 +37,6 @@ positions_from test n (x ∷ xs) = if test x then n ∷ positions_from test (n +
 -- the positions of the entries that pass the test, counted from 1
 abbrev pub positions : (Entry → Bool) → List Entry → List ℕ
 positions test entries = positions_from test 1 entries
-
--- the number of entries that pass the test. This is `count_by` of std as a recursion, since proofs
--- compute it entry by entry
-abbrev pub number_of : (Entry → Bool) → List Entry → ℕ
-number_of test [] = 0
-number_of test (x ∷ xs) = one_if (test x) + number_of test xs
 
 -- the positions that the index keeps in the list for this actor or key
 abbrev pub kept : DependIndex → Touch → List ℕ
@@ -71,12 +60,12 @@ pub record IsIndexOf (index : DependIndex) (entries : List Entry) : Type 0 where
 
 -- each list has room for the positions of all of these entries that it is to keep
 pub record HasRoomFor (index : DependIndex) (entries : List Entry) : Type 0 where
-  pub lists : (t : Touch) → number_of (touches t) entries ≤ spare index t
+  pub lists : (t : Touch) → count_by (touches t) entries ≤ spare index t
 
 -- each list has room for the positions of all of the given entries that it is to keep, once the
 -- positions of the entries in `gone` are removed
 pub record HasRoomInstead (index : DependIndex) (gone given : List Entry) : Type 0 where
-  pub lists : (t : Touch) → number_of (touches t) given ≤ spare index t + number_of (touches t) gone
+  pub lists : (t : Touch) → count_by (touches t) given ≤ spare index t + count_by (touches t) gone
 
 -- each list has as much room as before
 abbrev pub KeepsRoom : DependIndex → DependIndex → Type 0
@@ -88,16 +77,16 @@ LosesNoRoom old new = (t : Touch) → spare old t ≤ spare new t
 
 -- these entries were removed, and each list has room for as many more positions as it kept of them
 abbrev pub GivesRoom : DependIndex → DependIndex → List Entry → Type 0
-GivesRoom old new gone = (t : Touch) → spare new t ≡ spare old t + number_of (touches t) gone
+GivesRoom old new gone = (t : Touch) → spare new t ≡ spare old t + count_by (touches t) gone
 
 -- each list lost room for at most as many positions as it keeps of the given entries
 abbrev pub UsesRoom : DependIndex → DependIndex → List Entry → Type 0
-UsesRoom old new given = (t : Touch) → spare old t ≤ spare new t + number_of (touches t) given
+UsesRoom old new given = (t : Touch) → spare old t ≤ spare new t + count_by (touches t) given
 
--- the index is that of a list whose last entry is this one
-pub record IsLast (index : DependIndex) (x : Entry) : Type 0 where
+-- the index is that of a list of entries that ends with these
+pub record EndsWith (index : DependIndex) (last : List Entry) : Type 0 where
   pub before : List Entry
-  pub is : IsIndexOf index (before ++ x ∷ [])
+  pub is : IsIndexOf index (before ++ last)
 
 -- the index is that of a list whose entry at position k is this one
 pub record IsHeld (index : DependIndex) (k : ℕ) (x : Entry) : Type 0 where

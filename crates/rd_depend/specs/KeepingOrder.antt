@@ -6,8 +6,7 @@ use Rattle.rd_cell.specs.Places.{is_nothing}
 use Rattle.rd_step.specs.declared.entries.Entry.{Entry}
 use Rattle.rd_depend.specs.declared.index.keys.Key.{Key}
 use Rattle.rd_depend.specs.declared.keeping_order.Reached.{Reached}
-use Rattle.rd_depend.specs.Index.{is_value_written}
-use Rattle.rd_depend.specs.Keys.{is_that, place_key, value_key, segment_key}
+use Rattle.rd_depend.specs.Keys.{is_that, place_key, value_key, segment_key, is_value_written}
 
 -- whether there is a place, and it is the whole of a segment, as for a making
 abbrev pub is_making : Option Place → Bool

@@ -1,9 +1,11 @@
 -- Keys: the places and segments for which lists of positions are kept. A step at a cell is kept
 -- under both of its halves.
-use Rattle.std.specs.Prelude.{ℕ, ◌+◌, ◌*◌, Bool, false, ◌||◌, List, [], ◌∷◌, Option, Some, None, suc, if◌then◌else◌, option_map, option_and_then}
+use Rattle.std.specs.Prelude.{ℕ, ◌+◌, ◌*◌, Bool, true, false, ◌||◌, List, Option, Some, None, option_map, option_and_then, position}
 use Rattle.rd_cell.specs.declared.places.SegName.{SegName}
 use Rattle.rd_cell.specs.declared.places.Place.{Place}
 use Rattle.rd_cell.specs.declared.places.Place.TheVariants as place
+use Rattle.rd_cell.specs.declared.places.Wrote.{Wrote}
+use Rattle.rd_cell.specs.declared.places.Wrote.TheVariants as wrote
 use Rattle.rd_cell.specs.Places.{name_eq, is_of, place_eq, index_half, root, named, segment_of}
 use Rattle.rd_depend.specs.declared.index.keys.Key.{Key}
 use Rattle.rd_depend.specs.declared.index.keys.Key.TheVariants.{At, In}
@@ -58,6 +60,11 @@ key_of_segment p = option_map In (named p)
 abbrev pub segment_key : Option Place → Option Key
 segment_key o = option_and_then key_of_segment o
 
+-- whether an access to a cell that wrote this part of it wrote the value half
+abbrev pub is_value_written : Wrote → Bool
+is_value_written wrote.Place = true
+is_value_written _ = false
+
 -- the key under which a search finds the steps at what a place names, except at the value half of a
 -- cell. The whole of a segment has the segment's key, a cell the key of its index half, and any
 -- other place its own
@@ -70,9 +77,8 @@ abbrev pub whole_key : Place → Option Key
 whole_key p = option_map (λ s. At (place.Whole s)) (segment_of p)
 
 -- the index of the first of these keys that is equal to this one; none if no key is
-abbrev pub slot_in : List Key → Key → Option ℕ
-slot_in [] k = None
-slot_in (q ∷ qs) k = if key_eq k q then Some 0 else option_map (λ i. suc i) (slot_in qs k)
+unfoldable pub slot_in : List Key → Key → Option ℕ
+slot_in keys k = position (key_eq k) keys
 
 -- the number of a part of a segment, made of the kind of part, the segment's name and an index
 abbrev pub packed : ℕ → SegName → ℕ → ℕ

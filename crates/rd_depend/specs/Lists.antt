@@ -23,13 +23,8 @@ abbrev pub contains : List ℕ → ℕ → Bool
 contains ps p = list_any (λ q. q == p) ps
 
 -- the new positions ascend, and are just what the old ones become when k is moved to n
-pub record AreMoved (k n : ℕ) (old new : List ℕ) : Type 0 where
-  pub ascends : IsAscending new
-  pub places : (p : ℕ) → contains new (moved_position k n p) ≡ contains old p
-
--- if the old positions ascend, the new ones are what they become when k is moved to n
 unfoldable pub IsMoved : ℕ → ℕ → List ℕ → List ℕ → Type 0
-IsMoved k n old new = IsAscending old → AreMoved k n old new
+IsMoved k n old new = IsAscending new × ((p : ℕ) → contains new (moved_position k n p) ≡ contains old p)
 
 -- each position, one less; but if the first is k, it goes to the end and becomes n
 abbrev pub turned : ℕ → ℕ → List ℕ → List ℕ

@@ -1,6 +1,6 @@
 -- Lists of positions, each known by its number; what the table of keys keeps in them; and how its
 -- calls change them.
-use Rattle.std.specs.Prelude.{◌≡◌, ℕ, ◌+◌, ◌-◌, ◌<◌, ◌≤◌, Bool, true, false, ◌&&◌, if◌then◌else◌, List, [], ◌∷◌, ◌++◌, length, take, Option, Some, None, Vec, slice_get, vec_capacity, nat_lt}
+use Rattle.std.specs.Prelude.{◌≡◌, ℕ, ◌+◌, ◌-◌, ◌<◌, ◌≤◌, Bool, true, false, ◌&&◌, cond, if◌then◌else◌, List, [], ◌∷◌, ◌++◌, length, take, Option, Some, None, Vec, slice_get, vec_capacity, nat_lt}
 use Rattle.std.specs.Option.{option_map_or}
 use Rattle.std.specs.List.{before_first}
 use Rattle.std.specs.declared.alloc.Global.{Global}
@@ -31,10 +31,6 @@ capacity_at lists i = option_map_or vec_capacity (slice_get lists i) 0
 -- the number of positions for which the list of this number has room left
 abbrev pub spare_at : Lists → ℕ → ℕ
 spare_at lists i = capacity_at lists i - length (list_at lists i)
-
--- the bit as a number: 1 if it is true, else 0
-abbrev pub one_if : Bool → ℕ
-one_if b = if b then 1 else 0
 
 -- the number of positions for which a list has room left
 abbrev pub spare_of : Vec ℕ Global → ℕ
@@ -88,20 +84,9 @@ pub record IsReady (t : Table) (k : Key) (wrote : Bool) (i : ℕ) : Type 0 where
 
 -- the key has this index, and its lists have room for the step; or there is neither a key nor an
 -- index
-abbrev pub AreReady : Table → Option Key → Bool → Option ℕ → Type 0
-AreReady t None wrote o = o ≡ None
-AreReady t (Some k) wrote o = (i : ℕ) × (o ≡ Some i) × IsReady t k wrote i
-
--- some key has this index, and its lists have room for the step
-pub record IsReadyAt (t : Table) (wrote : Bool) (i : ℕ) : Type 0 where
-  pub key : Key
-  pub is : IsReady t key wrote i
-
--- this is the index of some key whose lists have room for the step, or there is neither index nor
--- key
-pub record AreReadyAt (t : Table) (wrote : Bool) (o : Option ℕ) : Type 0 where
-  pub key : Option Key
-  pub is : AreReady t key wrote o
+abbrev pub IsReadyIfSome : Table → Option Key → Bool → Option ℕ → Type 0
+IsReadyIfSome t None wrote o = o ≡ None
+IsReadyIfSome t (Some k) wrote o = (i : ℕ) × (o ≡ Some i) × IsReady t k wrote i
 
 -- each of the key's lists that keep such a step has a position; this always holds without a key
 abbrev pub HasLast : Table → Option Key → Bool → Type 0
@@ -117,19 +102,19 @@ pub record KeepsLists (old new : Table) : Type 0 where
 -- room for at most one. The other lists are as before, and the keys have their old indices
 pub record Puts (k : Option Key) (wrote : Bool) (position : ℕ) (old new : Table) : Type 0 where
   pub lists : (w : Bool) (q : Key) → kept_in new w q ≡ (if is_kept_in w wrote && is_that q k then kept_in old w q ++ position ∷ [] else kept_in old w q)
-  pub room : (w : Bool) (q : Key) → spare_in old w q ≤ spare_in new w q + one_if (is_kept_in w wrote && is_that q k)
+  pub room : (w : Bool) (q : Key) → spare_in old w q ≤ spare_in new w q + cond (is_kept_in w wrote && is_that q k) 1 0
   pub slots : (q : Key) → slot_in new.keys.keys q ≡ slot_in old.keys.keys q
 
 -- those of the key's lists that keep the step lost their last position and have room for one more;
 -- the other lists are as before
 pub record TakesLast (k : Option Key) (wrote : Bool) (old new : Table) : Type 0 where
   pub lists : (w : Bool) (q : Key) → kept_in new w q ≡ (if is_kept_in w wrote && is_that q k then take (length (kept_in old w q) - 1) (kept_in old w q) else kept_in old w q)
-  pub room : (w : Bool) (q : Key) → spare_in new w q ≡ spare_in old w q + one_if (is_kept_in w wrote && is_that q k)
+  pub room : (w : Bool) (q : Key) → spare_in new w q ≡ spare_in old w q + cond (is_kept_in w wrote && is_that q k) 1 0
 
--- in each list k became n, if it was there, and the positions above k up to n became one less; the
--- capacities are as before
+-- in each list that ascends, k became n, if it was there, and the positions above k up to n became
+-- one less; the capacities are as before
 pub record Moves (k n : ℕ) (old new : Table) : Type 0 where
-  pub lists : (w : Bool) (q : Key) → IsMoved k n (kept_in old w q) (kept_in new w q)
+  pub lists : (w : Bool) (q : Key) → IsAscending (kept_in old w q) → IsMoved k n (kept_in old w q) (kept_in new w q)
   pub capacity : (w : Bool) (q : Key) → capacity_in new w q ≡ capacity_in old w q
 
 -- each list that ascends lost its positions above n; the capacities are as before

@@ -9,7 +9,7 @@
 ghost use Rattle.std.specs.Prelude.{◌≡◌, ◌≤◌, []};
 ghost use Rattle.rd_step.specs.Prelude.{MOST_STEPS};
 
-pub(crate) mod changing;
+mod changing;
 mod finding;
 pub(crate) mod keys;
 mod lists;

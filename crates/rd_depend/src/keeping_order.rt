@@ -14,8 +14,7 @@ ghost use Rattle.rd_depend.specs.KeepingOrder.{AreAlike, IsAfter, IsInOrder, las
 ghost use Rattle.rd_depend.specs.ComparedSteps.{all_left, left_of, reached_of, with_first};
 ghost use Rattle.rd_depend.specs.Tables.{list_at};
 
-use super::index::changing::{is_value_written, is_written, place_key, segment_key, value_key};
-use super::index::keys::Key;
+use super::index::keys::{Key, is_value_written, is_written, place_key, segment_key, value_key};
 use indexmap::IndexMap;
 use rd_cell::Place;
 use rd_step::Entry;

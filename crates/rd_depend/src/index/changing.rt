@@ -1,19 +1,16 @@
-//! The calls that change the index, and the keys under which it keeps an entry.
+//! The calls that change the index.
 
-ghost use Rattle.std.specs.Prelude.{◌≡◌, ◌+◌, ◌<◌, ◌≤◌, ◌++◌, ◌∷◌, [], length, take, drop, not, true, List, Some, IsOk, IfOk, OnOk, OnErr};
+ghost use Rattle.std.specs.Prelude.{◌≡◌, ◌+◌, ◌<◌, ◌≤◌, ◌++◌, ◌∷◌, [], length, take, drop, true, List, Some, IsOk, IfOk, OnOk, OnErr};
 ghost use Rattle.rd_step.specs.declared.entries.Entry.{Entry as SomeEntry};
 ghost use Rattle.rd_step.specs.Lists.{numbered, without};
-ghost use Rattle.rd_cell.specs.Places.{is_nothing};
-ghost use Rattle.rd_depend.specs.Keys.{place_key, value_key, segment_key};
-ghost use Rattle.rd_depend.specs.Index.{Touch, IsIndexOf, IsIndex, IsHeld, IsLast, HasRoomFor, GivesRoom, UsesRoom, KeepsRoom, LosesNoRoom, position_count, touches, spare, capacity, is_value_written};
-ghost use Rattle.rd_depend.specs.Changes.{Adds, Keeps, homes_of, IsReadyFor, EndsWith};
+ghost use Rattle.rd_depend.specs.Index.{Touch, IsIndexOf, IsIndex, IsHeld, EndsWith, HasRoomFor, GivesRoom, UsesRoom, KeepsRoom, LosesNoRoom, position_count, touches, spare, capacity};
+ghost use Rattle.rd_depend.specs.Changes.{Adds, Keeps, homes_of, IsReadyFor};
 ghost use Rattle.rd_depend.specs.Moved.{moved_to};
 
 use super::DependIndex;
-use super::keys::Key;
+use super::keys::{Key, is_value_written, is_written, place_key, segment_key, value_key};
 use super::lists::{grow, move_all, put_in, remove_above_in_all, reserve_in, take_last_in};
 use rd_cell::limits::MOST_STEPS;
-use rd_cell::{Place, Wrote};
 use rd_step::Entry;
 use std::alloc::AllocError;
 
@@ -121,7 +118,7 @@ impl DependIndex {
     /// Removes the last position, whose entry must be this one. The room that it had is free for
     /// the entry again. It takes no memory.
     pub fn pop(&mut self, entry: &Entry)
-        requires { IsLast self.old entry.now }
+        requires { EndsWith self.old (entry.now ∷ []) }
         ensures left { (es : List SomeEntry) → IsIndexOf self.old (es ++ entry.now ∷ [])
             → IsIndexOf self.new es }
         ensures room { GivesRoom self.old self.new (entry.now ∷ []) }
@@ -283,50 +280,5 @@ fn homes_of(entry: &Entry) -> Homes
             key: segment_key(entry.place),
             wrote,
         },
-    }
-}
-
-/// Returns the key of the place, if there is a place; for a cell, the key of its index half.
-pub(crate) fn place_key(place: Option<Place>) -> Option<Key>
-    ensures { result ≡ place_key place }
-{
-    match place {
-        None => None,
-        Some(place) => Some(Key::At(place.index_half())),
-    }
-}
-
-/// Returns the key of the value half of this place, if there is a place and it is a cell.
-pub(crate) fn value_key(place: Option<Place>) -> Option<Key>
-    ensures { result ≡ value_key place }
-{
-    match place {
-        Some(Place::Cell(name, index)) => Some(Key::At(Place::Val(name, index))),
-        _ => None,
-    }
-}
-
-/// Whether an access that wrote this part of its place wrote anything.
-pub(crate) fn is_written(wrote: Wrote) -> bool
-    ensures { result ≡ not (is_nothing wrote) }
-{
-    !wrote.is_nothing()
-}
-
-/// Whether an access to a cell that wrote this part of it wrote the value half.
-pub(crate) fn is_value_written(wrote: Wrote) -> bool
-    ensures { result ≡ is_value_written wrote }
-{
-    matches!(wrote, Wrote::Place)
-}
-
-/// Returns the key of the place's segment, if there is a place and it is in a segment or is the
-/// whole of one.
-pub(crate) fn segment_key(place: Option<Place>) -> Option<Key>
-    ensures { result ≡ segment_key place }
-{
-    match place {
-        None => None,
-        Some(place) => Key::of_segment(place),
     }
 }

@@ -14,8 +14,7 @@ ghost use Rattle.rd_depend.specs.Probes.{probe_count};
 ghost use Rattle.rd_depend.specs.Keys.{is_under_some};
 
 use super::DependIndex;
-use super::changing::{is_value_written, value_key};
-use super::keys::Key;
+use super::keys::{Key, is_value_written, value_key};
 use super::positions::Positions;
 use super::probes::Probes;
 use super::table::Among;

@@ -1,9 +1,9 @@
 //! Lists of positions, each known by its number, and changes of one list or of all.
 
-ghost use Rattle.std.specs.Prelude.{◌≡◌, ◌+◌, ◌-◌, ◌==◌, ◌&&◌, true, ◌<◌, ◌≤◌, ◌++◌, ◌∷◌, [], ℕ, IsOk, OnOk, length, map, nat_lt, take, vec_capacity, if◌then◌else◌};
+ghost use Rattle.std.specs.Prelude.{◌≡◌, ◌+◌, ◌-◌, ◌==◌, ◌&&◌, true, ◌<◌, ◌≤◌, ◌++◌, ◌∷◌, [], ℕ, IsOk, OnOk, length, map, nat_lt, take, vec_capacity, cond, if◌then◌else◌};
 ghost use Rattle.std.specs.List.{before_first, position_or_len};
 ghost use Rattle.rd_depend.specs.Lists.{IsAscending, IsMoved, turned};
-ghost use Rattle.rd_depend.specs.Tables.{one_if, list_at, capacity_at, spare_at, spare_of};
+ghost use Rattle.rd_depend.specs.Tables.{list_at, capacity_at, spare_at, spare_of};
 
 use std::alloc::{AllocError, Global};
 
@@ -100,7 +100,7 @@ pub(crate) fn put_in(lists: &mut Vec<Vec<u32>>, index: usize, position: u32)
         ≡ (if i == index then list_at lists.old.items i ++ position ∷ []
         else list_at lists.old.items i) }
     ensures room { (i : ℕ) → spare_at lists.old.items i
-        ≤ spare_at lists.new.items i + one_if (i == index) }
+        ≤ spare_at lists.new.items i + cond (i == index) 1 0 }
     ensures number { length lists.new.items ≡ length lists.old.items }
 {
     lists[index].push_reserved(position);
@@ -114,7 +114,7 @@ pub(crate) fn put_if(lists: &mut Vec<Vec<u32>>, wanted: bool, index: usize, posi
         ≡ (if wanted && (i == index) then list_at lists.old.items i ++ position ∷ []
         else list_at lists.old.items i) }
     ensures room { (i : ℕ) → spare_at lists.old.items i
-        ≤ spare_at lists.new.items i + one_if (wanted && (i == index)) }
+        ≤ spare_at lists.new.items i + cond (wanted && (i == index)) 1 0 }
     ensures number { length lists.new.items ≡ length lists.old.items }
 {
     if wanted {
@@ -129,7 +129,7 @@ pub(crate) fn take_last_in(lists: &mut Vec<Vec<u32>>, index: usize)
         ≡ (if i == index then take (length (list_at lists.old.items i) - 1)
         (list_at lists.old.items i) else list_at lists.old.items i) }
     ensures room { (i : ℕ) → spare_at lists.new.items i
-        ≡ spare_at lists.old.items i + one_if (i == index) }
+        ≡ spare_at lists.old.items i + cond (i == index) 1 0 }
     ensures number { length lists.new.items ≡ length lists.old.items }
 {
     let _last = lists[index].pop();
@@ -144,7 +144,7 @@ pub(crate) fn take_last_if(lists: &mut Vec<Vec<u32>>, wanted: bool, index: usize
         then take (length (list_at lists.old.items i) - 1) (list_at lists.old.items i)
         else list_at lists.old.items i) }
     ensures room { (i : ℕ) → spare_at lists.new.items i
-        ≡ spare_at lists.old.items i + one_if (wanted && (i == index)) }
+        ≡ spare_at lists.old.items i + cond (wanted && (i == index)) 1 0 }
     ensures number { length lists.new.items ≡ length lists.old.items }
 {
     if wanted {
@@ -158,7 +158,8 @@ pub(crate) fn take_last_if(lists: &mut Vec<Vec<u32>>, wanted: bool, index: usize
 pub(crate) fn move_all(lists: &mut Vec<Vec<u32>>, k: u32, n: u32)
     requires some { 1 ≤ k }
     requires order { k ≤ n }
-    ensures lists { (i : ℕ) → IsMoved k n (list_at lists.old.items i) (list_at lists.new.items i) }
+    ensures lists { (i : ℕ) → IsAscending (list_at lists.old.items i)
+        → IsMoved k n (list_at lists.old.items i) (list_at lists.new.items i) }
     ensures capacity { (i : ℕ) → capacity_at lists.new.items i ≡ capacity_at lists.old.items i }
     ensures number { length lists.new.items ≡ length lists.old.items }
 {
@@ -173,7 +174,7 @@ pub(crate) fn move_all(lists: &mut Vec<Vec<u32>>, k: u32, n: u32)
 fn move_among(positions: &mut [u32], k: u32, n: u32)
     requires some { 1 ≤ k }
     requires order { k ≤ n }
-    ensures { IsMoved k n positions.old positions.new }
+    ensures { IsAscending positions.old → IsMoved k n positions.old positions.new }
 {
     let start = count_up_to(positions, k - 1);
     if start == positions.len() {

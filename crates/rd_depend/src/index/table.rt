@@ -61,7 +61,7 @@ pub(crate) struct Table {
 impl Table {
     ghost use Rattle.std.specs.Prelude.{◌≤◌, Option, Some, Bool, true, IsOk, IfOk, IfSome, false, []};
     ghost use Rattle.rd_depend.specs.Keys.{slot_in};
-    ghost use Rattle.rd_depend.specs.Tables.{is_writes, kept_in, spare_in, is_kept_in, IsReady, IsReadyAt, AreReady, AreReadyAt, KeepsLists, Puts, HasLast, TakesLast, Moves, Cuts};
+    ghost use Rattle.rd_depend.specs.Tables.{is_writes, kept_in, spare_in, is_kept_in, IsReady, IsReadyIfSome, KeepsLists, Puts, HasLast, TakesLast, Moves, Cuts};
     ghost use Rattle.rd_depend.specs.declared.index.keys.Key.{Key as Kept};
 
     /// Returns a table without keys. It takes no memory.
@@ -129,7 +129,7 @@ impl Table {
         wrote: bool,
     ) -> Result<Option<usize>, AllocError>
         ensures same { KeepsLists self.old self.new }
-        ensures ready { IfOk result (AreReady self.new key wrote) }
+        ensures ready { IfOk result (IsReadyIfSome self.new key wrote) }
         ensures succeeds { ((w : Bool) (k : Kept) → key ≡ Some k → is_kept_in w wrote ≡ true
             → 0 < spare_in self.old w k) → IsOk result }
     {
@@ -201,8 +201,8 @@ impl Table {
     /// Puts a position at the end of the list at this index, and of the list of writes there if the
     /// step wrote. These lists must have room for it. Without an index it does nothing.
     pub(crate) fn put(&mut self, slot: Option<usize>, position: u32, wrote: bool)
-        requires { AreReadyAt self.old wrote slot }
-        ensures { (k : Option Kept) → AreReady self.old k wrote slot
+        requires { (k : Option Kept) × IsReadyIfSome self.old k wrote slot }
+        ensures { (k : Option Kept) → IsReadyIfSome self.old k wrote slot
             → Puts k wrote position self.old self.new }
     {
         if let Some(slot) = slot {
@@ -213,7 +213,7 @@ impl Table {
     /// Puts a position at the end of the list at this index, and of the list of writes there if the
     /// step wrote. A key must have this index, and these lists must have room for the position.
     fn put_at(&mut self, slot: usize, position: u32, wrote: bool)
-        requires { IsReadyAt self.old wrote slot }
+        requires { (k : Kept) × IsReady self.old k wrote slot }
         ensures { (k : Kept) → IsReady self.old k wrote slot
             → Puts (Some k) wrote position self.old self.new }
     {

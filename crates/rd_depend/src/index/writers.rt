@@ -11,8 +11,7 @@ ghost use Rattle.rd_depend.specs.Keys.{is_under_some};
 ghost use Rattle.rd_depend.specs.Writers.{last_position, writes_to};
 
 use super::DependIndex;
-use super::changing::value_key;
-use super::keys::Key;
+use super::keys::{Key, value_key};
 use super::positions::Positions;
 use super::probes::Probes;
 use super::table::Among;

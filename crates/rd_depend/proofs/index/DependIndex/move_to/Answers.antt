@@ -1,4 +1,4 @@
-use Rattle.rd_depend.proofs.Prelude.{refl, DependIndex, IsMoved}
+use Rattle.rd_depend.proofs.Prelude.{refl, DependIndex, IsAscending, IsMoved}
 use Rattle.rd_depend.proofs.IndexMoves.{moved_index, moved_room}
 use Rattle.rd_depend.proofs.IndexRoom.{each, each_capacity}
 use Rattle.rd_depend.proofs.index.DependIndex.move_to.Goals as goal
@@ -9,7 +9,7 @@ after c = let old = c.args.self.now in record { by_actor = c.move_all.new.lists;
 pub returns-clause-moved : goal.returns-clause-moved
 returns-clause-moved c = λ es is.
     let all = moved_index c.args.self.now (after c) c.args.k c.args.n c.requires.some c.requires.order c.requires.within
-    (each c.args.self.now (after c) (IsMoved c.args.k c.args.n) c.move_all.ensures.lists c.move_to.ensures.lists) refl es is in
+    (each c.args.self.now (after c) (λ ps qs. IsAscending ps → IsMoved c.args.k c.args.n ps qs) c.move_all.ensures.lists c.move_to.ensures.lists) refl es is in
     record { lists = all.lists; len = all.len }
 
 pub returns-clause-capacity : goal.returns-clause-capacity

@@ -1,5 +1,6 @@
 use Rattle.rd_depend.proofs.Prelude.{[], sym, ◌∙◌, arith, length-append, length-take-le, slice_get-get_or}
-use Rattle.rd_depend.proofs.IndexChanges.{one_added, room_next, ok_then, not_refused}
+use Rattle.rd_depend.proofs.IndexChanges.{one_added, room_next}
+use Rattle.rd_depend.proofs.Results.{ok_then, not_refused}
 use Rattle.rd_depend.proofs.index.DependIndex.push_some.Goals as goal
 
 pub push-requires : goal.push-requires

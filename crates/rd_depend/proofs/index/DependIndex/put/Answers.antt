@@ -4,15 +4,11 @@ use Rattle.rd_depend.proofs.IndexChanges.{adds, ready_after}
 use Rattle.rd_depend.proofs.index.DependIndex.put.Goals as goal
 
 pub put-requires : goal.put-requires
-put-requires c = record { key = c.args.homes.now.place.key; is = c.requires.ready.place }
+put-requires c = (c.args.homes.now.place.key, c.requires.ready.place)
 
 pub put-requires-2 : goal.put-requires-2
 put-requires-2 c =
-    let h = c.args.homes.now in
-    record {
-      key = h.value.key;
-      is = grind arith;
-    }
+    (c.args.homes.now.value.key, grind arith)
 
 pub put-requires-3 : goal.put-requires-3
 put-requires-3 c =
@@ -20,10 +16,7 @@ put-requires-3 c =
     let s = separate h c.args.entry.now c.requires.homes in
     let first = c.put.ensures h.place.key c.requires.ready.place in
     let second = c.put-2.ensures h.value.key (ready_after _ _ h.value.key h.value.wrote h.place _ c.args.slots.value (value_other h s) c.requires.ready.value first) in
-    record {
-      key = h.segment.key;
-      is = grind arith;
-    }
+    (h.segment.key, grind arith)
 
 pub returns : goal.returns
 returns c =

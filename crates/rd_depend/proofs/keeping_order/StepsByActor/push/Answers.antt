@@ -1,5 +1,5 @@
-use Rattle.rd_depend.proofs.Prelude.{ℕ, ◌≡◌, ◌<◌, ◌++◌, ◌∷◌, [], List, length, Vec, Global, get_or, ap, sym, ◌∙◌, arith, set, slice_get-get_or, NumberedStep, list_at, items_of}
-use Rattle.rd_depend.proofs.ComparedSteps.{left_in, pushed}
+use Rattle.rd_depend.proofs.Prelude.{ℕ, ◌≡◌, ◌<◌, ◌++◌, ◌∷◌, [], List, length, Vec, Global, get_or, ap, sym, ◌∙◌, arith, set, slice_get-get_or, NumberedStep, left_in, list_at, items_of}
+use Rattle.rd_depend.proofs.ComparedSteps.{pushed}
 use Rattle.rd_depend.proofs.keeping_order.StepsByActor.push.Goals as goal
 
 pub returns-clause-ok : goal.returns-clause-ok

@@ -3,7 +3,7 @@ use Rattle.std.proofs.lemmas.Bool.{false≢true}
 use Rattle.rd_step.specs.declared.entries.Entry.{Entry}
 use Rattle.rd_depend.specs.declared.index.DependIndex.{DependIndex}
 use Rattle.rd_depend.specs.Index.{HasRoomFor}
-use Rattle.rd_depend.proofs.IndexChanges.{drop_one}
+use Rattle.rd_depend.proofs.Elements.{drop-element}
 use Rattle.rd_depend.proofs.IndexRoom.{room_left}
 use Rattle.std.proofs.lemmas.Option.{slice_get-get_or}
 use Rattle.rd_depend_tests.proofs.tests.index.push_in_room.Goals as goal
@@ -11,7 +11,7 @@ use Rattle.rd_depend_tests.proofs.tests.index.push_in_room.Goals as goal
 -- room for the entries from one on, as room for that one and the rest
 room_from : (index : DependIndex) (es : List Entry) (n : ℕ) (x : Entry) → slice_get es n ≡ Some x → HasRoomFor index (drop n es)
     → HasRoomFor index (x ∷ drop (suc n) es)
-room_from index es n x there has = subst (λ (l : List Entry). HasRoomFor index l) (drop_one es n x there) has
+room_from index es n x there has = subst (λ (l : List Entry). HasRoomFor index l) (drop-element es n x there) has
 
 pub unreachable-requires : goal.unreachable-requires
 unreachable-requires c =

@@ -3,10 +3,10 @@ use Rattle.rd_depend.proofs.IndexTable.{puts, ready_room}
 use Rattle.rd_depend.proofs.index.table.Table.put_at.Goals as goal
 
 pub put_in-requires : goal.put_in-requires
-put_in-requires c = ready_room c.args.self.now c.requires.key c.args.wrote c.args.slot c.requires.is false refl
+put_in-requires c = ready_room c.args.self.now c.requires.0 c.args.wrote c.args.slot c.requires.1 false refl
 
 pub put_if-requires : goal.put_if-requires
-put_if-requires c = λ h. ready_room c.args.self.now c.requires.key c.args.wrote c.args.slot c.requires.is true h
+put_if-requires c = λ h. ready_room c.args.self.now c.requires.0 c.args.wrote c.args.slot c.requires.1 true h
 
 pub returns : goal.returns
 returns c = λ k r.
