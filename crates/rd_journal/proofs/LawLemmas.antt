@@ -1,9 +1,10 @@
 -- What the laws state: going back and forth, undoing steps out of their order and redoing them, and
 -- the old record and old content of an entry.
-use Rattle.rd_journal.proofs.Prelude.{◌≡◌, ℕ, sym, ◌∙◌, Ok, arith, length-append, length-drop, ◌-◌, ◌≤◌, refl, ap, List, [], ◌∷◌, ◌++◌, length, take, drop, None, Result, subst, get_or, ◌+◌, ◌<◌, append_assoc, drop-drop, drop-take, take-take, take-add, length-take-le, le-ltb, ltb-false, cond-false, take_at, drop_at, take-append-drop, Journal, IsRun, State, state_of, back, forward, length-map, first_dependant, Ran, step, unstep, Entry, IsTakenOut, taken_out, IsMovedLast, IsUndoneAlone, run_of, live_event, undo_at, and_then, Refusal, map-append, World, closure, closure_of, without_closure, Event, events, IsClosureLast, undone_where_true, roll, take-map, run, run_keeps, IsStepAfter, middle, nat_lt}
+use Rattle.rd_journal.proofs.Prelude.{◌≡◌, ℕ, suc, sym, ◌∙◌, Ok, arith, length-append, length-drop, ◌-◌, ◌≤◌, refl, ap, List, [], ◌∷◌, ◌++◌, length, take, drop, Some, None, slice_get-get_or, Result, subst, get_or, ◌+◌, ◌<◌, append_assoc, drop-drop, drop-take, take-take, take-add, length-take-le, le-ltb, ltb-false, cond-false, take_at, drop_at, take-append-drop, Journal, IsRun, State, state_of, back, forward, length-map, first_dependant, Ran, step, unstep, Entry, IsTakenOut, taken_out, IsMovedLast, IsUndoneAlone, run_of, live_event, undo_at, and_then, Refusal, map-append, World, closure, closure_of, without_closure, Event, events, IsClosureLast, undone_where_true, roll, take-map, run, run_keeps, IsStepAfter, middle, nat_lt}
 use Rattle.rd_journal.proofs.Runs.{as_ok, as_ok-same, step_event, grown}
-use Rattle.rd_journal.proofs.ListLemmas.{nth, drop_one_less, drop_before}
-use Rattle.rd_journal.proofs.LoneUndo.{IsNumber, from_it, may_undo_at, undo_at_goes}
+use Rattle.rd_journal.proofs.ListLemmas.{IsNumber, nth, from_it, drop_before}
+use Rattle.rd_depend.proofs.Elements.{around-element}
+use Rattle.rd_journal.proofs.LoneUndo.{may_undo_at, undo_at_goes}
 use Rattle.rd_journal.proofs.Calls.{is_live, went_through}
 use Rattle.rd_journal.proofs.Walks.{state_forward}
 use Rattle.rd_journal.proofs.RolledBack.{closure_last, reordered, marked-map, items_where_false-map}
@@ -136,8 +137,8 @@ closure_redone i j k n ri rk back on =
 pub step_after : (j : Journal) (k : ℕ) (x : Entry) → IsRun j → k < length j.live → x ≡ get_or j.live k x → IsStepAfter k j x
 step_after j k x runs low at =
     let xs = take k j.live in
-    let ys = drop (k + 1) j.live in
-    let cut : j.live ≡ xs ++ x ∷ ys = sym (take-append-drop k j.live) ∙ ap (λ (zs : List Entry). xs ++ zs) (drop_one_less j.live k x low at) in
+    let ys = drop (suc k) j.live in
+    let cut : j.live ≡ xs ++ x ∷ ys = around-element j.live k x (slice_get-get_or j.live k x low ∙ ap Some (sym at)) in
     let m = middle j.start xs x ys j.world (subst (λ (zs : List Entry). run j.start (events zs) ≡ Ok (record { world = j.world; entries = zs })) cut runs.live_ran) in
     let formed = run_keeps j.start (events xs) (record { world = m.before; entries = xs }) runs.well_formed m.ran in
     let words = keeps_old_words m.before x.event (record { world = m.after; entry = x }) formed m.goes in

@@ -1,6 +1,7 @@
 -- Undoing one live step alone, on which no later one depends, over whole journals.
-use Rattle.rd_journal.proofs.Prelude.{Bool, false, list_any, common_steps, map-append, take-map, drop-map, take-append-drop, depends, first_dependant, MOST_STEPS, Entry, position_from, WasStepped, IsTakenOut, Journal, IsRun, IsUndoneAlone, IsRunWithout, unless_depended, answer_at, state_of, undo_at, and_then, events, numbered, without, ◌≡◌, refl, ℕ, ◌+◌, ◌-◌, ◌<◌, ◌≤◌, ◌⊎◌, sym, ◌∙◌, ap, subst, arith, List, [], ◌∷◌, ◌++◌, length, take, drop, get_or, Some, None, Ok, Err, length-append}
-use Rattle.rd_journal.proofs.ListLemmas.{nth, drop_one_less}
+use Rattle.rd_journal.proofs.Prelude.{is_some, common_steps, map-append, take-map, drop-map, depends, first_dependant, MOST_STEPS, Entry, position_from, WasStepped, IsTakenOut, Journal, IsRun, IsUndoneAlone, IsRunWithout, unless_depended, answer_at, state_of, undo_at, and_then, events, numbered, without, ◌≡◌, ℕ, ◌+◌, ◌-◌, ◌<◌, ◌≤◌, ◌⊎◌, sym, ◌∙◌, ap, subst, arith, List, ◌∷◌, ◌++◌, length, take, drop, Some, None, Ok, Err, length-append}
+use Rattle.rd_depend.proofs.IndexFirst.{scanned-any}
+use Rattle.rd_journal.proofs.ListLemmas.{IsNumber, nth, from_it, around_it}
 use Rattle.rd_journal.proofs.Calls.{entry_missing, entry_found, event_of_entry}
 use Rattle.rd_journal.proofs.Finding.{numbered_in, scan_is}
 use Rattle.rd_journal.proofs.Runs.{may_take_out}
@@ -8,28 +9,9 @@ use Rattle.rd_cell.specs.declared.refusal.Refusal.TheVariants as refusal
 
 -- Dependence
 
--- a scan that finds nothing has passed over all entries
-none_is_free : (test : Entry → Bool) (n : ℕ) (ys : List Entry) → position_from test n ys ≡ None → list_any test ys ≡ false
-none_is_free test n [] h = refl
-none_is_free test n (y ∷ ys) h = grind (arith, none_is_free test (n + 1) ys)
-
--- the entry x is the k-th of the list, counted from 1
-pub record IsNumber (l : List Entry) (k : ℕ) (x : Entry) : Type 0 where
-  pub some : 1 ≤ k
-  pub within : k ≤ length l
-  pub here : x ≡ get_or l (k - 1) x
-
 -- the first dependant of the k-th entry is searched from the next position on
 first_behind : (l : List Entry) (k : ℕ) (x : Entry) → IsNumber l k x → first_dependant l k ≡ position_from (depends x) (k + 1) (drop k l)
 first_behind l k x at = scan_is x l k (numbered_in l k x at.some at.within at.here)
-
--- The list around its k-th entry
-
-pub from_it : (l : List Entry) (k : ℕ) (x : Entry) → IsNumber l k x → drop (k - 1) l ≡ x ∷ drop k l
-from_it l k x at = grind (arith, drop_one_less)
-
-around_it : (l : List Entry) (k : ℕ) (x : Entry) → IsNumber l k x → l ≡ take (k - 1) l ++ x ∷ drop k l
-around_it l k x at = sym (take-append-drop (k - 1) l) ∙ ap (λ (ys : List Entry). take (k - 1) l ++ ys) (from_it l k x at)
 
 -- The journal without it
 
@@ -52,7 +34,7 @@ pub may_undo_at : (old : Journal) (k : ℕ) (x : Entry) → IsNumber old.live k 
     → MayUndoAt old k x
 may_undo_at old k x at none runs =
     let may = may_take_out old.start old.world (take (k - 1) old.live) (drop k old.live) old.undone x (grind (arith, around_it))
-    (none_is_free (depends x) (k + 1) (drop k old.live) (grind (arith, first_behind))) in
+    (sym (scanned-any (depends x) (k + 1) (drop k old.live)) ∙ ap is_some (sym (first_behind old.live k x at) ∙ none)) in
     record {
       was = may.was;
       left = λ new start out moved.

@@ -1,9 +1,10 @@
 -- Rolling back a live step with all that depends on it, over whole journals.
-use Rattle.rd_journal.proofs.Prelude.{◌≡◌, ℕ, zero, suc, ◌+◌, ◌-◌, ◌≤◌, Bool, refl, sym, ◌∙◌, ap, arith, List, [], ◌∷◌, ◌++◌, length, take, drop, None, ◌<◌, ◌⊎◌, subst, Ok, Err, depends, first_dependant, closure_of, without_closure, items_where_true, items_where_false, closure_from, position_from, Entry, Journal, IsUndoneAlone, IsRolledBack, append_assoc, map-append, take-append-drop, World, run, run-cons, events, IsRun, IsWithoutClosure, roll_answer, IsSession, state_of, roll, middle}
+use Rattle.rd_journal.proofs.Prelude.{◌≡◌, ℕ, zero, suc, ◌+◌, ◌-◌, ◌≤◌, Bool, refl, sym, ◌∙◌, ap, arith, List, [], ◌∷◌, ◌++◌, length, take, drop, Some, None, slice_get-get_or, ◌<◌, ◌⊎◌, subst, Ok, Err, depends, first_dependant, closure_of, without_closure, items_where_true, items_where_false, closure_from, position_from, Entry, Journal, IsUndoneAlone, IsRolledBack, append_assoc, map-append, World, run, run-cons, events, IsRun, IsWithoutClosure, roll_answer, IsSession, state_of, roll, middle}
 use Rattle.rd_journal.proofs.Gathering.{cut_at, gathered_run}
 use Rattle.rd_journal.proofs.Finding.{numbered_in, scan_is}
 use Rattle.rd_journal.proofs.Runs.{runs_joined}
 use Rattle.rd_journal.proofs.ListLemmas.{nth, drop_one_less}
+use Rattle.rd_depend.proofs.Elements.{around-element}
 use Rattle.rd_journal.proofs.Calls.{entry_missing, entry_found, event_of_entry}
 use Rattle.rd_cell.specs.declared.refusal.Refusal.TheVariants as refusal
 
@@ -39,8 +40,7 @@ reordered_run s w l i low h =
     let c = cut_at l i x low found.1 in
     let xs = take i l in
     let ys = drop (suc i) l in
-    let one : i + 1 ≡ suc i = omega arith in
-    let around : l ≡ xs ++ x ∷ ys = sym (take-append-drop i l) ∙ ap (λ (zs : List Entry). xs ++ zs) (drop_one_less l i x low found.1 ∙ ap (λ (n : ℕ). x ∷ drop n l) one) in
+    let around : l ≡ xs ++ x ∷ ys = around-element l i x (slice_get-get_or l i x low ∙ ap Some (sym found.1)) in
     let m = middle s xs x ys w (subst (λ (zs : List Entry). run s (events zs) ≡ Ok (record { world = w; entries = zs })) around h) in
     let from = run-cons m.before x.event (events ys) (record { world = m.after; entry = x }) (record { world = w; entries = ys }) m.goes m.rest in
     let ms = closure_from (x ∷ []) ys in

@@ -1,7 +1,6 @@
 -- Runs and their entries: two runs joined, the first and the last step of a run, and journals that
 -- gain or lose a step.
-use Rattle.rd_journal.proofs.Prelude.{runs_to, run_joined, ◌≡◌, refl, sym, ◌∙◌, ap, subst, List, [], ◌∷◌, ◌++◌, Result, Ok, arith, ℕ, ◌-◌, ◌<◌, ◌≤◌, ◌⊎◌, length, take, drop, get_or, slice_get, option_map, Some, None, map-append, Refusal, World, Stepped, step, unstep, run, IsFree, IsWellFormed, Event, Entry, WasStepped, IsTakenOut, took, run-cons, run_keeps, middle, Journal, events, IsRun, IsRunFrom, append-nil, taken_out, take_more, slice_get-map, slice_get_past, slice_get-get_or, LeadsTo, numbered, run_entries}
-use Rattle.rd_journal.proofs.ListLemmas.{drop_one_less}
+use Rattle.rd_journal.proofs.Prelude.{runs_to, run_joined, ◌≡◌, refl, sym, ◌∙◌, ap, subst, List, [], ◌∷◌, ◌++◌, Result, Ok, arith, ℕ, ◌-◌, ◌<◌, ◌≤◌, ◌⊎◌, length, get_or, slice_get, option_map, Some, None, map-append, Refusal, World, Stepped, step, unstep, run, IsFree, IsWellFormed, Event, Entry, WasStepped, IsTakenOut, took, run-cons, run_keeps, middle, Journal, events, IsRun, IsRunFrom, append-nil, taken_out, slice_get-map, slice_get_past, slice_get-get_or, LeadsTo, numbered, run_entries}
 
 -- a result that is no refusal
 abbrev pub as_ok : {X : Type 0} → X → Result X Refusal
@@ -111,13 +110,6 @@ just_stepped w v e x formed goes =
     let its = step_event w e (record { world = v; entry = x }) goes in
     let may = may_step_back w v [] x (record { well_formed = formed; ran = ran_more w w v [] x refl (ap (step w) its ∙ goes) }) in
     record { was = may.was; back = led_nowhere w (unstep v x) may.left }
-
--- the first n elements are the first n - 1 and one more
-pub one_more : {X : Type 0} (xs : List X) (n : ℕ) (x : X) → 1 ≤ n → n ≤ length xs → x ≡ get_or xs (n - 1) x → take n xs ≡ take (n - 1) xs ++ x ∷ []
-one_more {X} xs n x some within here = grind (arith, take_more)
-
-pub one_before : {X : Type 0} (xs : List X) (n : ℕ) (x : X) → 1 ≤ n → n ≤ length xs → x ≡ get_or xs (n - 1) x → drop (n - 1) xs ≡ x ∷ drop n xs
-one_before {X} xs n x some within here = grind (arith, drop_one_less)
 
 -- The event of an undone step
 

@@ -1,7 +1,8 @@
 //! Undoing the last live steps, and redoing the steps that were undone last.
 
-ghost use Rattle.std.specs.Prelude.{◌≡◌, ◌≤◌, length, Ok};
-ghost use Rattle.rd_journal.specs.Moves.{IsMovedBack, IsMovedForward};
+ghost use Rattle.std.specs.Prelude.{◌≡◌, ◌≤◌, length, take, Ok};
+ghost use Rattle.rd_journal.specs.Entries.{ahead_entries};
+ghost use Rattle.rd_journal.specs.Moves.{IsMovedBack, IsMovedForward, IsSwitched};
 ghost use Rattle.rd_journal.specs.State.{back, forward};
 
 use super::Session;
@@ -36,5 +37,18 @@ impl<const R: usize> Session<R> {
         step_all_again(&mut self.world, &self.entries.ahead(n as usize));
         self.entries.step_forward(n as usize);
         self.undone -= n as usize;
+    }
+
+    /// Makes the next `n` steps ahead again, after which no step is undone. At least `n` steps must
+    /// be ahead.
+    pub(super) fn redo_ahead(&mut self, n: usize)
+        requires within { n ≤ length (ahead_entries self.old.entries) }
+        ensures entries { IsSwitched (length (journal self.old).live)
+            (take n (ahead_entries self.old.entries)) (journal self.old) (journal self.new) }
+        ensures start { (journal self.new).start ≡ (journal self.old).start }
+        ensures along { GoesAlong self.old self.new }
+    {
+        self.undone = n;
+        self.redo_many(n as u64);
     }
 }

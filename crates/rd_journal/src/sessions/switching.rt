@@ -5,7 +5,6 @@ ghost use Rattle.std.specs.Prelude.{◌≡◌, ◌++◌, ◌+◌, ◌-◌, ◌<�
 ghost use Rattle.rd_step.specs.Prelude.{model, room as world_room};
 ghost use Rattle.rd_journal.specs.Journal.{events, IsRunFrom};
 ghost use Rattle.rd_journal.specs.Moves.{IsSwitched};
-ghost use Rattle.rd_journal.specs.Entries.{ahead_entries};
 ghost use Rattle.rd_journal.specs.Room.{room_returned_by, room_after_undoing, HasRoomForActors, LacksRoom, LacksRoomForMakings, LacksIndexRoom};
 ghost use Rattle.rd_journal.specs.State.{switch};
 
@@ -21,7 +20,7 @@ use rd_step::{Entry, World};
 const ACTOR_NUMBERS: usize = 256;
 
 impl<const R: usize> Session<R> {
-    ghost use Rattle.rd_journal.specs.Sessions.{journal, state, room, capacity, index, GoesAlong, KeepsItsSteps};
+    ghost use Rattle.rd_journal.specs.Sessions.{journal, state, room, capacity, index, KeepsItsSteps};
 
     /// Makes room for the given entries after the first `kept` live ones, and for the makings among
     /// them once the other live steps are undone. At least `kept` steps must be live, and at most
@@ -86,19 +85,6 @@ impl<const R: usize> Session<R> {
         step_all_again(&mut self.world, &self.entries.live().after(n));
         self.undone = 0;
         Ok(())
-    }
-
-    /// Makes the next `n` steps ahead again, after which no step is undone. At least `n` steps must
-    /// be ahead.
-    pub(super) fn redo_ahead(&mut self, n: usize)
-        requires within { n ≤ length (ahead_entries self.old.entries) }
-        ensures entries { IsSwitched (length (journal self.old).live)
-            (take n (ahead_entries self.old.entries)) (journal self.old) (journal self.new) }
-        ensures start { (journal self.new).start ≡ (journal self.old).start }
-        ensures along { GoesAlong self.old self.new }
-    {
-        self.undone = n;
-        self.redo_many(n as u64);
     }
 }
 

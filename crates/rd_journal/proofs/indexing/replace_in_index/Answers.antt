@@ -1,5 +1,4 @@
-use Rattle.rd_journal.proofs.Prelude.{arith, length-take-le, not_refused}
-use Rattle.rd_journal.proofs.RoomLemmas.{err_then}
+use Rattle.rd_journal.proofs.Prelude.{arith, err_then, length-take-le, not_refused}
 use Rattle.rd_journal.proofs.indexing.replace_in_index.Goals as goal
 
 pub fill_index-requires-clause-room : goal.fill_index-requires-clause-room

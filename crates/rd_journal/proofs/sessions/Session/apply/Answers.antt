@@ -1,7 +1,7 @@
-use Rattle.rd_journal.proofs.Prelude.{ℕ, Err, ◌≡◌, ◌∙◌, ◌<◌, List, [], ◌∷◌, ◌++◌, length, take, drop, inl, inr, refl, sym, ap, subst, arith, opened_with, append-nil, take_all, take-append-le, drop-append_seam, Entry, HasRoomInstead, kept_entries, model, room, MOST_STEPS, error_passed_up, fact_passed_up, ok_then, IsLengthened, whole_journal, live_entries, ahead_entries, journal}
+use Rattle.rd_journal.proofs.Prelude.{ℕ, Err, ◌≡◌, ◌∙◌, ◌<◌, List, [], ◌∷◌, ◌++◌, length, take, drop, inl, inr, refl, sym, ap, subst, arith, opened_with, append-nil, take_all, take-append-le, drop-append_seam, Entry, HasRoomInstead, kept_entries, model, room, MOST_STEPS, error_passed_up, fact_passed_up, err_then, ok_then, IsLengthened, whole_journal, live_entries, ahead_entries, journal}
 use Rattle.rd_journal.proofs.Ahead.{with_undone, is_session, none_taken}
 use Rattle.rd_journal.proofs.Calls.{apply_refused, apply_goes, longer_session, still, unchanged, said_of_state}
-use Rattle.rd_journal.proofs.RoomLemmas.{err_then, lacks_fewer, stepped_back}
+use Rattle.rd_journal.proofs.RoomLemmas.{lacks_fewer, stepped_back}
 use Rattle.rd_journal.proofs.EntryLemmas.{full_entries}
 use Rattle.rd_journal.proofs.Runs.{now_formed, just_stepped}
 use Rattle.rd_journal.proofs.sessions.Session.apply.Goals as goal

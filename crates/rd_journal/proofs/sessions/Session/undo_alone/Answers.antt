@@ -1,6 +1,7 @@
 use Rattle.rd_journal.proofs.Prelude.{ℕ, refl, ◌∙◌, List, ap, sym, subst, arith, length, opened_with, model, room, Entry, IsIndexOf, moved_to, kept_entries, IsUndoneAlone, whole_journal}
 use Rattle.rd_journal.proofs.Ahead.{out_undone}
-use Rattle.rd_journal.proofs.LoneUndo.{IsNumber, may_undo_at, taken_out_front, taken_out_few}
+use Rattle.rd_journal.proofs.ListLemmas.{IsNumber}
+use Rattle.rd_journal.proofs.LoneUndo.{may_undo_at, taken_out_front, taken_out_few}
 use Rattle.rd_journal.proofs.RoomLemmas.{given_back}
 use Rattle.rd_journal.proofs.sessions.Session.undo_alone.Goals as goal
 

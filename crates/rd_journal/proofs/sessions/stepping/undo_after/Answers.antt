@@ -1,5 +1,6 @@
 use Rattle.rd_journal.proofs.Prelude.{◌≡◌, ℕ, ◌+◌, ◌-◌, ◌≤◌, List, take, drop, sym, ap, subst, arith, take_all, drop_all, World, model, room, Entry, LeadsTo, room_returned_by}
-use Rattle.rd_journal.proofs.Runs.{one_more, one_before, may_step_back}
+use Rattle.rd_journal.proofs.ListLemmas.{IsNumber, up_to_it, from_it}
+use Rattle.rd_journal.proofs.Runs.{may_step_back}
 use Rattle.rd_journal.proofs.sessions.stepping.undo_after.Goals as goal
 
 pub loop-last-init : goal.loop-last-init
@@ -17,7 +18,7 @@ pub unstep-requires : goal.unstep-requires
 unstep-requires g c =
     let xs = c.args.steps.now in
     let n = c.loop-last.last in
-    let cut = one_more xs n c.at.result.now (omega (arith, c.loop-last.invariant.from)) c.loop-last.invariant.within c.at.ensures in
+    let cut = up_to_it xs n c.at.result.now (record { some = omega (arith, c.loop-last.invariant.from); within = c.loop-last.invariant.within; here = c.at.ensures }) in
     let leads = c.loop-last.invariant.leads c.requires.leads.0 c.requires.leads.1 in (
       omega (arith, c.loop-last.world.small),
       (may_step_back c.requires.leads.0 (model c.loop-last.world) (take (n - 1) xs) c.at.result.now
@@ -29,8 +30,9 @@ loop-last-preserved g c =
     let xs = c.args.steps.now in
     let n = c.loop-last.last in
     let x = c.at.result.now in
-    let cut = one_more xs n x (omega (arith, c.loop-last.invariant.from)) c.loop-last.invariant.within c.at.ensures in
-    let behind = one_before xs n x (omega (arith, c.loop-last.invariant.from)) c.loop-last.invariant.within c.at.ensures in
+    let at : IsNumber xs n x = record { some = omega (arith, c.loop-last.invariant.from); within = c.loop-last.invariant.within; here = c.at.ensures } in
+    let cut = up_to_it xs n x at in
+    let behind = from_it xs n x at in
     record {
       from = omega arith;
       within = omega (arith, c.loop-last.invariant.within);
