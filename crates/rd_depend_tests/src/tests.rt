@@ -7,6 +7,7 @@ mod index;
 use rd_cell::{Place, SegName, Wrote};
 use rd_depend::{depends, first_dependant};
 use rd_step::Entry;
+use std::alloc::Global;
 use std::process::Abort;
 use std::test::Fail;
 use test_kit::record;
@@ -20,11 +21,16 @@ const MADE: SegName = SegName { maker: 1, n: 0 };
 /// Another one of actor 1.
 const OTHER: SegName = SegName { maker: 1, n: 1 };
 
+/// The tails of the two.
+const TAIL: Option<Place> = Some(Place::Tail(MADE));
+
+const OTHER_TAIL: Option<Place> = Some(Place::Tail(OTHER));
+
 /// A read of the tail of a segment by an actor.
-const READS_TAIL: Access = (1, Some(Place::Tail(MADE)), Wrote::Nothing);
+const READS_TAIL: Access = (1, TAIL, Wrote::Nothing);
 
 /// A write of it by another actor.
-const WRITES_TAIL: Access = (2, Some(Place::Tail(MADE)), Wrote::Place);
+const WRITES_TAIL: Access = (2, TAIL, Wrote::Place);
 
 /// A call, which has no place.
 const CALLS: Access = (3, None, Wrote::Nothing);
@@ -33,28 +39,16 @@ const CALLS: Access = (3, None, Wrote::Nothing);
 const MAKES: Access = (1, Some(Place::Whole(MADE)), Wrote::Place);
 
 /// Pairs of accesses, and whether they depend on each other.
-const PAIRS: [(Access, Access, bool); 24] = [
+const PAIRS: &[(Access, Access, bool)] = &[
     (READS_TAIL, WRITES_TAIL, true),
-    (
-        READS_TAIL,
-        (2, Some(Place::Tail(MADE)), Wrote::Nothing),
-        false,
-    ),
-    (
-        WRITES_TAIL,
-        (3, Some(Place::Tail(MADE)), Wrote::Place),
-        true,
-    ),
+    (READS_TAIL, (2, TAIL, Wrote::Nothing), false),
+    (WRITES_TAIL, (3, TAIL, Wrote::Place), true),
     (
         READS_TAIL,
         (2, Some(Place::Head(MADE)), Wrote::Place),
         false,
     ),
-    (
-        READS_TAIL,
-        (2, Some(Place::Tail(OTHER)), Wrote::Place),
-        false,
-    ),
+    (READS_TAIL, (2, OTHER_TAIL, Wrote::Place), false),
     (
         READS_TAIL,
         (1, Some(Place::Head(OTHER)), Wrote::Nothing),
@@ -104,22 +98,27 @@ const LOSES: Access = (5, Some(Place::Cell(MADE, 3)), Wrote::Nothing);
 #[test]
 fn two_steps_depend_on_each_other_or_not(rt: HostRuntime) {
     for (a, b, wanted) in PAIRS {
-        assert_eq!(rt; depends(&record(a), &record(b)), wanted, "{a:?} and {b:?}");
-        assert_eq!(rt; depends(&record(b), &record(a)), wanted, "{b:?} and {a:?}");
+        compare_pair(&rt, *a, *b, *wanted);
+        compare_pair(&rt, *b, *a, *wanted);
     }
 }
 
+/// Compares whether an access depends on another one with what is wanted.
+fn compare_pair(rt: &impl Abort, a: Access, b: Access, wanted: bool) {
+    assert_eq!(rt; depends(&record(a), &record(b)), wanted, "{a:?} and {b:?}");
+}
+
 /// A run: a call, a read of a tail, a write of another one, a write of it, and a read of it again.
-const RUN: [Access; 5] = [
+const RUN: &[Access] = &[
     CALLS,
     READS_TAIL,
-    (2, Some(Place::Tail(OTHER)), Wrote::Place),
+    (2, OTHER_TAIL, Wrote::Place),
     WRITES_TAIL,
-    (4, Some(Place::Tail(MADE)), Wrote::Nothing),
+    (4, TAIL, Wrote::Nothing),
 ];
 
 /// Its steps by number, each with its first dependant.
-const FIRST: [(u64, Option<u64>); 5] = [
+const FIRST: &[(u64, Option<u64>)] = &[
     (1, None),
     (2, Some(4)),
     (3, Some(4)),
@@ -129,21 +128,24 @@ const FIRST: [(u64, Option<u64>); 5] = [
 
 /// Compares the first dependant of a step with what is wanted.
 fn compare(rt: &impl Abort, entries: &[Entry], k: u64, wanted: Option<u64>) {
-    if 1 <= k && k <= entries.len() as u64 {
-        assert_eq!(rt; first_dependant(entries, k), wanted, "at {k}");
-    } else {
-        panic!(rt; "there is no step {k}");
-    }
+    assert!(rt; 1 <= k && k <= entries.len() as u64, "there is no step {k}");
+    assert_eq!(rt; first_dependant(entries, k), wanted, "at {k}");
 }
 
 #[test]
 fn the_first_dependant_is_the_least_later_step(rt: HostRuntime) -> Result<(), Fail> {
-    let mut entries = Vec::new(rt.alloc());
-    for access in RUN {
-        entries.push(record(access))?;
-    }
+    let entries = recorded(rt.alloc(), RUN)?;
     for (k, wanted) in FIRST {
-        compare(&rt, &entries, k, wanted);
+        compare(&rt, &entries, *k, *wanted);
     }
     Ok(())
+}
+
+/// The entries of these accesses.
+fn recorded(alloc: Global, accesses: &[Access]) -> Result<Vec<Entry>, Fail> {
+    let mut entries = Vec::new(alloc);
+    for access in accesses {
+        entries.push(record(*access))?;
+    }
+    Ok(entries)
 }

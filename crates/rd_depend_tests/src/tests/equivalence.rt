@@ -67,7 +67,7 @@ const FIRST_THEN_SECOND: &str = "aenq 1 5, go 1 2, aenq 2 5, go 2 2";
 const SECOND_THEN_FIRST: &str = "aenq 2 5, go 2 2, aenq 1 5, go 1 2";
 
 /// Pairs of schedules, and whether they are equivalent.
-const PAIRS: [(&str, &str, bool); 16] = [
+const PAIRS: &[(&str, &str, bool)] = &[
     ("", "", true),
     ("", ONE_READ, false),
     (TWO_CALLS, TWO_CALLS, true),
@@ -101,23 +101,22 @@ fn two_schedules_are_equivalent_or_not(rt: HostRuntime) -> Result<(), Fail> {
     for (first, second, wanted) in PAIRS {
         let a = entries(rt.alloc(), first)?;
         let b = entries(rt.alloc(), second)?;
-        assert_eq!(rt;
-            are_equivalent(rt.alloc(), &a, &b)?,
-            wanted,
+        assert!(rt;
+            is_answered(rt.alloc(), &a, &b, *wanted)?,
             "{first} and {second}"
-        );
-        assert_eq!(rt;
-            are_equivalent(rt.alloc(), &b, &a)?,
-            wanted,
-            "{second} and {first}"
         );
     }
     Ok(())
 }
 
+/// Whether it is answered of two lists, in either order, that they are equivalent, or are not.
+fn is_answered(alloc: Global, a: &[Entry], b: &[Entry], wanted: bool) -> Result<bool, Fail> {
+    Ok(are_equivalent(alloc, a, b)? == wanted && are_equivalent(alloc, b, a)? == wanted)
+}
+
 /// The entries of this many steps of array enqueues, by four actors in turn, the first four in this
 /// order.
-fn turns(alloc: Global, steps: usize, first: [u8; 4]) -> Result<Vec<Entry>, Fail> {
+fn turns(alloc: Global, steps: usize, first: &[u8]) -> Result<Vec<Entry>, Fail> {
     let mut world = World::<4>::fresh(alloc, 4)?;
     let mut entries = Vec::new(alloc);
     for turn in 0..steps {
@@ -132,7 +131,7 @@ fn turns(alloc: Global, steps: usize, first: [u8; 4]) -> Result<Vec<Entry>, Fail
 }
 
 /// Two numbers of steps, and whether the runs of them that begin in another order are equivalent.
-const LONG: [(usize, usize, bool); 4] = [
+const LONG: &[(usize, usize, bool)] = &[
     (61, 61, true),
     (100, 100, true),
     (100, 98, false),
@@ -142,17 +141,11 @@ const LONG: [(usize, usize, bool); 4] = [
 #[test]
 fn long_lists_are_compared_where_memory_is_there(rt: HostRuntime) -> Result<(), Fail> {
     for (first, second, wanted) in LONG {
-        let a = turns(rt.alloc(), first, [1, 2, 3, 4])?;
-        let b = turns(rt.alloc(), second, [4, 3, 2, 1])?;
-        assert_eq!(rt;
-            are_equivalent(rt.alloc(), &a, &b)?,
-            wanted,
+        let a = turns(rt.alloc(), *first, &[1, 2, 3, 4])?;
+        let b = turns(rt.alloc(), *second, &[4, 3, 2, 1])?;
+        assert!(rt;
+            is_answered(rt.alloc(), &a, &b, *wanted)?,
             "{first}, {second}"
-        );
-        assert_eq!(rt;
-            are_equivalent(rt.alloc(), &b, &a)?,
-            wanted,
-            "{second}, {first}"
         );
     }
     Ok(())
@@ -227,7 +220,8 @@ fn is_equivalent(alloc: Global, a: &[Entry], b: &[Entry]) -> Result<bool, Fail> 
 #[test]
 fn drawn_runs_are_equivalent_where_the_definition_says_so(rt: HostRuntime) -> Result<(), Fail> {
     let mut draws = Draws { state: 1 };
-    let mut both_ways = (false, false);
+    let mut is_ever = false;
+    let mut is_always = true;
     for times in 0..DRAWN.0 {
         let mut events = drawn_events(rt.alloc(), &mut draws, DRAWN.1)?;
         let a = entries_of(rt.alloc(), &events)?;
@@ -235,8 +229,9 @@ fn drawn_runs_are_equivalent_where_the_definition_says_so(rt: HostRuntime) -> Re
         let b = entries_of(rt.alloc(), &events)?;
         let wanted = is_equivalent(rt.alloc(), &a, &b)?;
         assert_eq!(rt; are_equivalent(rt.alloc(), &a, &b)?, wanted, "pair {times}");
-        both_ways = (both_ways.0 || wanted, both_ways.1 || !wanted);
+        is_ever |= wanted;
+        is_always &= wanted;
     }
-    assert_eq!(rt; both_ways, (true, true));
+    assert!(rt; is_ever && !is_always);
     Ok(())
 }

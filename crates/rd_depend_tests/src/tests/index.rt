@@ -6,7 +6,7 @@ ghost use Rattle.rd_step.specs.declared.entries.Entry.{Entry as SomeEntry};
 ghost use Rattle.rd_depend.specs.Index.{IsIndexOf, HasRoomFor};
 ghost use Rattle.rd_depend.specs.Moved.{moved_to};
 
-use super::{Access, MADE, OTHER};
+use super::{Access, MADE, OTHER, recorded};
 use rd_cell::limits::MOST_STEPS;
 use rd_cell::{Place, Wrote, overlaps};
 use rd_depend::{DependIndex, Probes, depends, first_dependant};
@@ -35,12 +35,27 @@ impl Both {
         }
     }
 
+    /// These entries, pushed one by one.
+    fn of(alloc: Global, entries: &[Entry]) -> Result<Both, Fail> {
+        let mut both = Both::new(alloc);
+        both.push_each(entries)?;
+        Ok(both)
+    }
+
     /// Pushes an entry, or does nothing where there are 65,535.
     fn push(&mut self, entry: Entry) -> Result<(), Fail> {
         if self.entries.len() < MOST_STEPS {
             self.entries.reserve(1)?;
             self.index.push(&entry)?;
             self.entries.push_reserved(entry);
+        }
+        Ok(())
+    }
+
+    /// Pushes these entries one by one.
+    fn push_each(&mut self, entries: &[Entry]) -> Result<(), Fail> {
+        for entry in entries {
+            self.push(*entry)?;
         }
         Ok(())
     }
@@ -87,19 +102,16 @@ impl Both {
         Ok(Both { index, entries })
     }
 
-    /// Compares whether this entry depends on one of those after the first `n` with what a scan
-    /// finds.
-    fn compare_after(&self, rt: &impl Abort, n: usize, entry: &Entry) {
-        if n <= self.entries.len()
-            && self.entries.len() <= MOST_STEPS
-            && n as u64 <= self.index.len()
-        {
-            let found = self.index.depends_after(n as u64, entry);
-            assert_eq!(rt;
-                found,
-                depends_on_any(&self.entries[n..], entry),
-                "after {n}"
-            );
+    /// Compares whether each of these entries depends on one of those after the first `n` with what
+    /// a scan finds.
+    fn compare_after(&self, rt: &impl Abort, n: usize, entries: &[Entry]) {
+        let len = self.entries.len();
+        if n <= len && len <= MOST_STEPS && n as u64 <= self.index.len() {
+            for entry in entries {
+                let found = self.index.depends_after(n as u64, entry);
+                let wanted = depends_on_any(&self.entries[n..], entry);
+                assert!(rt; found == wanted, "after {n}");
+            }
         }
     }
 
@@ -147,7 +159,7 @@ impl Both {
     fn compare_writers(&self, rt: &impl Abort, n: usize) {
         for place in PLACES {
             if let Some(place) = place {
-                self.compare_writer(rt, n, place);
+                self.compare_writer(rt, n, *place);
             }
         }
     }
@@ -232,7 +244,7 @@ fn last_writer(entries: &[Entry], place: Place) -> Option<u64> {
 }
 
 /// Places of which some overlap.
-const PLACES: [Option<Place>; 20] = [
+const PLACES: &[Option<Place>; 20] = &[
     None,
     Some(Place::QHead),
     Some(Place::QTail),
@@ -324,28 +336,35 @@ fn the_index_finds_what_the_scan_finds(rt: HostRuntime) -> Result<(), Fail> {
 }
 
 /// The last entries of a long list and the first ones.
-const AT: [usize; 7] = [0, 1, 255, 256, 32_767, 65_533, 65_534];
+const AT: &[usize] = &[0, 1, 255, 256, 32_767, 65_533, 65_534];
 
 #[test]
 fn as_many_entries_as_there_may_be_are_found_by_few_probes(rt: HostRuntime) -> Result<(), Fail> {
     let mut both = Both::new(rt.alloc());
+    let entry = record((1, Some(Place::Tail(MADE)), Wrote::Place));
     for _ in 0..MOST_STEPS {
-        both.push(record((1, Some(Place::Tail(MADE)), Wrote::Place)))?;
+        both.push(entry)?;
     }
+    compare_at(&rt, &both);
     for at in AT {
-        assert!(rt; both.compare(&rt, at) <= 96);
-        both.compare_writers(&rt, at);
+        both.compare_writers(&rt, *at);
     }
     both.remove(0);
     both.pop();
-    for at in AT {
-        assert!(rt; both.compare(&rt, at) <= 96);
-    }
+    compare_at(&rt, &both);
     Ok(())
 }
 
+/// Compares the first dependants of the last entries of a long list and of the first ones, each
+/// found by few probes.
+fn compare_at(rt: &impl Abort, both: &Both) {
+    for at in AT {
+        assert!(rt; both.compare(rt, *at) <= 96);
+    }
+}
+
 /// Reads of a segment's cells by several actors, and a write of the whole of it between them.
-const WHOLE: [Access; 7] = [
+const WHOLE: &[Access] = &[
     (1, Some(Place::Cell(MADE, 0)), Wrote::Nothing),
     (2, Some(Place::Cell(MADE, 1)), Wrote::Nothing),
     (3, Some(Place::Whole(MADE)), Wrote::Place),
@@ -359,7 +378,7 @@ const WHOLE: [Access; 7] = [
 fn the_whole_of_a_segment_is_found_between_its_cells(rt: HostRuntime) -> Result<(), Fail> {
     let mut both = Both::new(rt.alloc());
     for access in WHOLE {
-        both.push(record(access))?;
+        both.push(record(*access))?;
         both.compare_all(&rt);
     }
     for _ in 0..WHOLE.len() {
@@ -371,12 +390,10 @@ fn the_whole_of_a_segment_is_found_between_its_cells(rt: HostRuntime) -> Result<
 
 #[test]
 fn a_position_that_moved_is_found_where_the_scan_finds_it(rt: HostRuntime) -> Result<(), Fail> {
+    let entries = recorded(rt.alloc(), WHOLE)?;
     for k in 1..WHOLE.len() + 1 {
         for n in k..WHOLE.len() + 1 {
-            let mut both = Both::new(rt.alloc());
-            for access in WHOLE {
-                both.push(record(access))?;
-            }
+            let mut both = Both::of(rt.alloc(), &entries)?;
             both.move_to(k, n);
             both.compare_all(&rt);
         }
@@ -386,7 +403,7 @@ fn a_position_that_moved_is_found_where_the_scan_finds_it(rt: HostRuntime) -> Re
 
 #[test]
 fn entries_pushed_by_one_call_are_found(rt: HostRuntime) -> Result<(), Fail> {
-    let entries = WHOLE.map(record);
+    let entries = recorded(rt.alloc(), WHOLE)?;
     let mut both = Both::new(rt.alloc());
     for _ in 0..3 {
         both = both.push_all(&entries)?;
@@ -398,39 +415,31 @@ fn entries_pushed_by_one_call_are_found(rt: HostRuntime) -> Result<(), Fail> {
 
 #[test]
 fn an_entry_depends_on_one_behind_as_the_scan_finds(rt: HostRuntime) -> Result<(), Fail> {
-    let entries = WHOLE.map(record);
+    let entries = recorded(rt.alloc(), WHOLE)?;
     let both = Both::new(rt.alloc()).push_all(&entries)?;
     for n in 0..WHOLE.len() + 1 {
-        for entry in entries {
-            both.compare_after(&rt, n, &entry);
-        }
+        both.compare_after(&rt, n, &entries);
     }
     Ok(())
 }
 
 #[test]
 fn room_that_was_made_is_there_for_the_entries(rt: HostRuntime) -> Result<(), Fail> {
-    let entries = WHOLE.map(record);
+    let entries = recorded(rt.alloc(), WHOLE)?;
     let mut both = Both::new(rt.alloc());
     both.make_room(&entries)?;
     assert_eq!(rt; both.index.len(), 0);
-    for entry in entries {
-        both.push(entry)?;
-    }
+    both.push_each(&entries)?;
     both.compare_all(&rt);
     Ok(())
 }
 
 #[test]
 fn entries_with_room_are_not_refused_after_pops(rt: HostRuntime) -> Result<(), Fail> {
-    let entries = WHOLE.map(record);
+    let entries = recorded(rt.alloc(), WHOLE)?;
     for pops in 0..WHOLE.len() + 1 {
-        let mut both = Both::new(rt.alloc());
-        for entry in entries {
-            both.push(entry)?;
-        }
         let kept = WHOLE.len() - pops;
-        let len = both.push_after_pops(&entries, pops)?;
+        let len = Both::of(rt.alloc(), &entries)?.push_after_pops(&entries, pops)?;
         assert_eq!(rt; len, (kept + WHOLE.len()) as u64, "after {pops} pops");
     }
     Ok(())
