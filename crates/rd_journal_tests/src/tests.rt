@@ -18,6 +18,7 @@ use rd_cell::{Answer, Content, Place, Refusal, Wrote};
 use rd_journal::Session;
 use rd_step::Event;
 use std::process::Abort;
+use test_kit::go;
 
 /// One line of a run.
 #[derive(Clone, Copy)]
@@ -44,8 +45,8 @@ enum Line {
     /// This actor is at this control point.
     Stands(u8, Pc),
     /// The live step of this number was made by this actor at this place; it wrote this of it, and
-    /// was answered this.
-    Step(u64, u8, Place, Wrote, Answer),
+    /// was answered and replied this.
+    Step(u64, u8, Place, Wrote, Answer, Option<OpReply>),
     /// There is no live step of this number, and the refusal says so.
     NoStep(u64, Refusal),
 }
@@ -63,88 +64,56 @@ enum Move {
 /// line's index.
 fn play<const R: usize>(rt: &impl Abort, session: &mut Session<R>, run: &str, lines: &[Line]) {
     for i in 0..lines.len() {
-        play_line(rt, session, run, i, lines[i]);
+        assert!(rt; is_so(session, lines[i]), "{run}, line {i}");
     }
 }
 
-/// Plays the line of this index: does what it says, or looks whether it is so.
-fn play_line<const R: usize>(
-    rt: &impl Abort,
-    session: &mut Session<R>,
-    run: &str,
-    i: usize,
-    line: Line,
-) {
+/// Does what a line says, or looks at it, and answers whether it is so.
+fn is_so<const R: usize>(session: &mut Session<R>, line: Line) -> bool {
     match line {
-        Line::Act(actor, act) => {
-            let number = session.len() + 1;
-            assert_eq!(rt;
-                applied(session, actor, act),
-                Ok((number, None)),
-                "{run}, line {i}"
-            );
+        Line::Act(actor, act) => is_next(session, actor, act),
+        Line::Refused(actor, act, refusal) => applied(session, actor, act) == Err(refusal),
+        Line::Walk(actor, points, reply) => walk(session, actor, points) == Some(reply),
+        Line::Moves(to) => moved(session, to).is_ok(),
+        Line::Stays(to, refusal) => moved(session, to) == Err(refusal),
+        Line::At(live, undone) => is_at(session, live, undone),
+        Line::Is(place, content) => session.world().content(place) == Some(content),
+        Line::Gone(place) => session.world().content(place).is_none(),
+        Line::Actor(actor, words) => session.world().actor(actor) == Some(words),
+        Line::Stands(actor, pc) => stands(session, actor) == Some(pc),
+        Line::Step(k, actor, place, wrote, answer, reply) => {
+            let shown = (go(actor), Some(place), wrote, answer, reply);
+            shown_at(session, k) == Some(shown)
         }
-        Line::Refused(actor, act, refusal) => {
-            assert_eq!(rt;
-                applied(session, actor, act),
-                Err(refusal),
-                "{run}, line {i}"
-            );
-        }
-        Line::Walk(actor, points, reply) => {
-            assert_eq!(rt;
-                walk(session, actor, points),
-                Some(reply),
-                "{run}, line {i}"
-            );
-        }
-        Line::Moves(to) => assert_eq!(rt; moved(session, to), Ok(()), "{run}, line {i}"),
-        Line::Stays(to, refusal) => assert_eq!(rt;
-            moved(session, to),
-            Err(refusal),
-            "{run}, line {i}"
-        ),
-        Line::At(live, undone) => {
-            assert_eq!(rt;
-                (session.len(), session.undone_len()),
-                (live, undone),
-                "{run}, line {i}"
-            );
-        }
-        Line::Is(place, content) => {
-            assert_eq!(rt;
-                session.world().content(place),
-                Some(content),
-                "{run}, line {i}"
-            );
-        }
-        Line::Gone(place) => assert_eq!(rt;
-            session.world().content(place),
-            None,
-            "{run}, line {i}"
-        ),
-        Line::Actor(actor, words) => {
-            assert_eq!(rt;
-                session.world().actor(actor),
-                Some(words),
-                "{run}, line {i}"
-            );
-        }
-        Line::Stands(actor, pc) => assert_eq!(rt;
-            stands(session, actor),
-            Some(pc),
-            "{run}, line {i}"
-        ),
-        Line::Step(k, actor, place, wrote, answer) => {
-            let step = Some((actor, Some(place), wrote, answer));
-            assert_eq!(rt; step_of(session, k), step, "{run}, line {i}");
-        }
-        Line::NoStep(k, refusal) => assert_eq!(rt;
-            session.entry(k),
-            Err(refusal),
-            "{run}, line {i}"
-        ),
+        Line::NoStep(k, refusal) => session.entry(k) == Err(refusal),
     }
+}
+
+/// Whether this many steps are live, and this many undone.
+fn is_at<const R: usize>(session: &Session<R>, live: u64, undone: u64) -> bool {
+    session.len() == live && session.undone_len() == undone
+}
+
+/// Whether this act ends no call and is the step after the live ones.
+fn is_next<const R: usize>(session: &mut Session<R>, actor: u8, act: Act) -> bool {
+    let number = session.len() + 1;
+    applied(session, actor, act) == Ok((number, None))
+}
+
+/// An entry without its old words: its event, its place, what it wrote of it, and what it answered
+/// and replied.
+type Shown = (Event, Option<Place>, Wrote, Answer, Option<OpReply>);
+
+/// So much of the entry of the live step of this number.
+fn shown_at<const R: usize>(session: &Session<R>, k: u64) -> Option<Shown> {
+    let entry = session.entry(k).ok()?;
+    Some((
+        entry.event,
+        entry.place,
+        entry.wrote,
+        entry.answer,
+        entry.reply,
+    ))
 }
 
 /// Lets an actor do one act, and answers the step's number and what its call replied.
@@ -187,13 +156,4 @@ fn moved<const R: usize>(session: &mut Session<R>, to: Move) -> Result<(), Refus
 /// The control point where an actor is.
 fn stands<const R: usize>(session: &Session<R>, actor: u8) -> Option<Pc> {
     Some(session.world().actor(actor)?.pc)
-}
-
-/// Whose step this was, at which place, what it wrote of it, and what it was answered.
-fn step_of<const R: usize>(
-    session: &Session<R>,
-    k: u64,
-) -> Option<(u8, Option<Place>, Wrote, Answer)> {
-    let entry = session.entry(k).ok()?;
-    Some((entry.event.actor, entry.place, entry.wrote, entry.answer))
 }

@@ -108,14 +108,9 @@ fn agrees_all_along<const R: usize>(alloc: Global, actors: u8, seed: u64) -> Res
 #[test]
 fn a_rollback_takes_what_the_definition_takes(rt: HostRuntime) -> Result<(), Fail> {
     for seed in 1..5 {
-        assert!(rt;
-            agrees_all_along::<2>(rt.alloc(), 16, seed)?,
-            "16 actors, rings of 2, from {seed}"
-        );
-        assert!(rt;
-            agrees_all_along::<8>(rt.alloc(), 3, seed)?,
-            "3 actors, rings of 8, from {seed}"
-        );
+        let over_2 = agrees_all_along::<2>(rt.alloc(), 16, seed)?;
+        let over_8 = agrees_all_along::<8>(rt.alloc(), 3, seed)?;
+        assert!(rt; over_2 & over_8, "from {seed}: {over_2} {over_8}");
     }
     Ok(())
 }

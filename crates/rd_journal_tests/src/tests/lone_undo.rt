@@ -1,14 +1,15 @@
 //! Undoing single steps in the middle of worked runs, line by line; and a long run of which every
 //! step is undone that can be, in several orders, against the run of what remains, stepped afresh.
 
-use rd_actor::{Act, Actor, Op, OpReply, Pc};
+use super::{Line, is_at, play, shown_at};
+use rd_actor::{Act, Actor, Op, Pc};
 use rd_cell::{Answer, Cell, Content, Place, Refusal, SegName, Wrote};
 use rd_journal::Session;
-use rd_step::{Entry, Event, World};
+use rd_step::{Event, World};
 use std::alloc::Global;
 use std::process::Abort;
 use std::test::Fail;
-use test_kit::{drawn_event, event_in, go, next};
+use test_kit::{drawn_event, event_in, next};
 
 /// The first segment of the queue.
 const ROOT: SegName = SegName::ROOT;
@@ -65,47 +66,31 @@ pub(super) fn walk<const R: usize>(
     Ok(())
 }
 
-/// An entry without its old words: its event, its place, what it wrote of it, and what it answered
-/// and replied.
-pub(super) fn shown(entry: Entry) -> (Event, Option<Place>, Wrote, Answer, Option<OpReply>) {
-    (
-        entry.event,
-        entry.place,
-        entry.wrote,
-        entry.answer,
-        entry.reply,
-    )
-}
-
 /// An enqueue and a dequeue begin, and each reads a name.
 const TWO_CALLS: &str = "enq 1 7 -> 1 0, deq 2 -> 2 0, go 1 -> 3 0, go 2 -> 4 0";
+
+/// The first read is undone alone.
+const READ_UNDONE: &str = "undo 1 -> Depended(3), undo 3 -> 3 1";
+
+/// It is redone, and the last step.
+const READ_REDONE: &[Line] = &[Line::Step(
+    4,
+    1,
+    Place::QTail,
+    Wrote::Nothing,
+    Answer::Found(Content::Name(ROOT)),
+    None,
+)];
 
 #[test]
 fn a_step_in_the_middle_is_undone_and_redone_last(rt: HostRuntime) -> Result<(), Fail> {
     let mut session = Session::open(rt.alloc(), World::<4>::fresh(rt.alloc(), 4)?);
     walk(&rt, rt.alloc(), &mut session, TWO_CALLS)?;
-    walk(
-        &rt,
-        rt.alloc(),
-        &mut session,
-        "undo 1 -> Depended(3), undo 3 -> 3 1",
-    )?;
-    assert_eq!(rt;
-        session.world().actor(1),
-        Some(Actor::calling(Pc::E1, Op::Enq(7)))
-    );
+    walk(&rt, rt.alloc(), &mut session, READ_UNDONE)?;
+    let calling = Actor::calling(Pc::E1, Op::Enq(7));
+    assert!(rt; session.world().actor(1) == Some(calling));
     walk(&rt, rt.alloc(), &mut session, "redo -> 4 0")?;
-    let event = go(1);
-    assert_eq!(rt;
-        shown(session.entry(4)?),
-        (
-            event,
-            Some(Place::QTail),
-            Wrote::Nothing,
-            Answer::Found(Content::Name(ROOT)),
-            None,
-        )
-    );
+    play(&rt, &mut session, "the read is redone", READ_REDONE);
     Ok(())
 }
 
@@ -149,33 +134,50 @@ const MARKING_UNDONE: &str = "go 2 -> 29 0, undo 28 -> 28 1";
 /// marking reads the safe bit.
 const TAKEN: &str = "go 2 3 -> 31 0, undo 28 -> Depended(30)";
 
-/// The first cell of the root with a safe bit, holding 7.
-fn holding_7(safe: bool) -> Option<Content> {
-    Some(Content::Cell(Cell {
-        safe,
+/// The first cell of the root holds 7, and is safe.
+const IS_SAFE: Line = Line::Is(
+    Place::Cell(ROOT, 0),
+    Content::Cell(Cell {
+        safe: true,
         idx: 0,
         val: Some(7),
-    }))
-}
+    }),
+);
+
+/// It holds 7, and is marked unsafe.
+const IS_UNSAFE: Line = Line::Is(
+    Place::Cell(ROOT, 0),
+    Content::Cell(Cell {
+        safe: false,
+        idx: 0,
+        val: Some(7),
+    }),
+);
+
+/// The cell without the marking, and what the first dequeue read.
+const SAFE_AND_READ: &[Line] = &[
+    IS_SAFE,
+    Line::Step(
+        28,
+        2,
+        Place::Val(ROOT, 0),
+        Wrote::Nothing,
+        Answer::Value(Some(7)),
+        None,
+    ),
+];
 
 #[test]
 fn a_marking_is_undone_below_a_later_read_of_the_value(rt: HostRuntime) -> Result<(), Fail> {
-    let cell = Place::Cell(ROOT, 0);
     let mut session = Session::open(rt.alloc(), World::<2>::fresh(rt.alloc(), 4)?);
     walk(&rt, rt.alloc(), &mut session, MARKED)?;
     walk(&rt, rt.alloc(), &mut session, TAKEN)?;
     let mut session = Session::open(rt.alloc(), World::<2>::fresh(rt.alloc(), 4)?);
     walk(&rt, rt.alloc(), &mut session, MARKED)?;
     walk(&rt, rt.alloc(), &mut session, MARKING_UNDONE)?;
-    assert_eq!(rt; session.world().content(cell), holding_7(true));
-    let event = go(2);
-    let read = Some(Place::Val(ROOT, 0));
-    assert_eq!(rt;
-        shown(session.entry(28)?),
-        (event, read, Wrote::Nothing, Answer::Value(Some(7)), None)
-    );
+    play(&rt, &mut session, "the marking is undone", SAFE_AND_READ);
     walk(&rt, rt.alloc(), &mut session, "redo -> 29 0")?;
-    assert_eq!(rt; session.world().content(cell), holding_7(false));
+    play(&rt, &mut session, "it is redone", &[IS_UNSAFE]);
     Ok(())
 }
 
@@ -193,49 +195,46 @@ pub(super) const MADE_AGAIN_AND_LINKED: &str = "redo -> 28 0, go 2 -> 29 0, go 1
 /// The last step is undone, then the making on which it alone depended, then three more.
 const UNDOES_WITHOUT_MEMORY: &str = "undo -> 29 1, undo 28 -> 28 2, back 3 -> 25 5";
 
+/// The first segments that the first two actors make: the one that isn't linked, and the other.
+pub(super) const LOST: SegName = SegName { maker: 1, n: 0 };
+
+const LINKED: SegName = SegName { maker: 2, n: 0 };
+
+/// What is there with the second making and without the first.
+const ONE_MAKING: &[Line] = &[
+    Line::Is(
+        Place::Tail(ROOT),
+        Content::Tail {
+            closed: true,
+            count: 4,
+        },
+    ),
+    Line::Gone(Place::Whole(LOST)),
+    Line::Is(
+        Place::Cell(LINKED, 0),
+        Content::Cell(Cell {
+            safe: true,
+            idx: 0,
+            val: Some(10),
+        }),
+    ),
+];
+
+/// What is there with both and the link.
+const BOTH_MAKINGS: &[Line] = &[
+    Line::Step(30, 1, Place::Next(ROOT), Wrote::Nothing, Answer::Lost, None),
+    Line::Is(Place::Next(ROOT), Content::Next(Some(LINKED))),
+    Line::Is(Place::Whole(LOST), Content::Whole),
+];
+
 #[test]
 fn a_making_is_undone_alone_and_renames_no_other(rt: HostRuntime) -> Result<(), Fail> {
     let mut session = Session::open(rt.alloc(), World::<2>::fresh(rt.alloc(), 4)?);
-    let (lost, linked) = (SegName { maker: 1, n: 0 }, SegName { maker: 2, n: 0 });
     walk(&rt, rt.alloc(), &mut session, TWO_MAKINGS)?;
     walk(&rt, rt.alloc(), &mut session, FIRST_MAKING_UNDONE)?;
-    assert_eq!(rt;
-        session.world().content(Place::Tail(ROOT)),
-        Some(Content::Tail {
-            closed: true,
-            count: 4
-        })
-    );
-    assert_eq!(rt; session.world().content(Place::Whole(lost)), None);
-    let cell = Cell {
-        safe: true,
-        idx: 0,
-        val: Some(10),
-    };
-    assert_eq!(rt;
-        session.world().content(Place::Cell(linked, 0)),
-        Some(Content::Cell(cell))
-    );
+    play(&rt, &mut session, "one making", ONE_MAKING);
     walk(&rt, rt.alloc(), &mut session, MADE_AGAIN_AND_LINKED)?;
-    let event = go(1);
-    assert_eq!(rt;
-        shown(session.entry(30)?),
-        (
-            event,
-            Some(Place::Next(ROOT)),
-            Wrote::Nothing,
-            Answer::Lost,
-            None
-        )
-    );
-    assert_eq!(rt;
-        session.world().content(Place::Next(ROOT)),
-        Some(Content::Next(Some(linked)))
-    );
-    assert_eq!(rt;
-        session.world().content(Place::Whole(lost)),
-        Some(Content::Whole)
-    );
+    play(&rt, &mut session, "both makings", BOTH_MAKINGS);
     walk(&rt, rt.alloc(), &mut session, UNDOES_WITHOUT_MEMORY)?;
     Ok(())
 }
@@ -250,14 +249,15 @@ const NUMBERS: &str = "\
 fn a_number_that_no_step_has_is_refused(rt: HostRuntime) -> Result<(), Fail> {
     let mut session = Session::open(rt.alloc(), World::<4>::fresh(rt.alloc(), 4)?);
     walk(&rt, rt.alloc(), &mut session, NUMBERS)?;
-    let event = Event {
-        actor: 1,
-        act: Act::Enq(7),
-    };
-    assert_eq!(rt;
-        shown(session.entry(1)?),
-        (event, None, Wrote::Nothing, Answer::Nothing, None)
+    let act = Act::Enq(7);
+    let shown = (
+        Event { actor: 1, act },
+        None,
+        Wrote::Nothing,
+        Answer::Nothing,
+        None,
     );
+    assert!(rt; shown_at(&session, 1) == Some(shown));
     Ok(())
 }
 
@@ -296,8 +296,8 @@ fn same_segment(a: &World<2>, b: &World<2>, name: SegName) -> bool {
         Place::Cell(name, 0),
         Place::Cell(name, 1),
     ];
-    for place in places {
-        if a.content(place) != b.content(place) {
+    for place in &places {
+        if a.content(*place) != b.content(*place) {
             return false;
         }
     }
@@ -320,10 +320,13 @@ fn same_slot(a: &World<2>, b: &World<2>, i: u8) -> bool {
     a.content(Place::ArrCell(i)) == b.content(Place::ArrCell(i))
 }
 
+/// The ends of both queues.
+const ENDS: &[Place] = &[Place::QHead, Place::QTail, Place::ArrHead, Place::ArrTail];
+
 /// Whether two worlds of four actors are the same.
 pub(super) fn same_world(a: &World<2>, b: &World<2>) -> bool {
-    for place in [Place::QHead, Place::QTail, Place::ArrHead, Place::ArrTail] {
-        if a.content(place) != b.content(place) {
+    for place in ENDS {
+        if a.content(*place) != b.content(*place) {
             return false;
         }
     }
@@ -386,19 +389,24 @@ pub(super) const STEPS: u64 = 300;
 
 /// Long runs, each by the number that it begins with, and how far on the next step to be undone is:
 /// front to back, back to front, and by leaps.
-const ORDERS: [(u64, u64); 3] = [(1, 1), (2, 299), (3, 77)];
+const ORDERS: &[(u64, u64)] = &[(1, 1), (2, 299), (3, 77)];
 
 #[test]
 fn each_step_that_can_be_is_undone_alone_and_redone(rt: HostRuntime) -> Result<(), Fail> {
     for (seed, leap) in ORDERS {
-        let mut session = mixed_run(rt.alloc(), STEPS, seed)?;
+        let mut session = mixed_run(rt.alloc(), STEPS, *seed)?;
         for turn in 0..STEPS {
-            undo_and_redo(&rt, rt.alloc(), &mut session, turn * leap % STEPS + 1)?;
+            let k = turn.wrapping_mul(*leap) % STEPS + 1;
+            undo_and_redo(&rt, rt.alloc(), &mut session, k)?;
         }
-        assert_eq!(rt; (session.len(), session.undone_len()), (STEPS, 0));
-        assert!(rt; is_stepped_afresh(rt.alloc(), &session)?);
+        assert!(rt; is_whole(rt.alloc(), &session)?);
     }
     Ok(())
+}
+
+/// Whether all steps of a long run are live, and as they are if they are stepped afresh.
+fn is_whole(alloc: Global, session: &Session<2>) -> Result<bool, Refusal> {
+    Ok(is_at(session, STEPS, 0) && is_stepped_afresh(alloc, session)?)
 }
 
 /// Undoes steps alone, as many times as there are steps and more, each among this many last ones;
@@ -422,17 +430,16 @@ fn take_apart(
 }
 
 /// Among how many last steps the next one to be undone is.
-const SPREADS: [u64; 4] = [1, 3, 8, 40];
+const SPREADS: &[u64] = &[1, 3, 8, 40];
 
 #[test]
 fn steps_undone_alone_in_several_orders_are_redone(rt: HostRuntime) -> Result<(), Fail> {
     for spread in SPREADS {
-        let mut session = mixed_run(rt.alloc(), STEPS, spread)?;
-        let undone = take_apart(&rt, rt.alloc(), &mut session, spread)?;
+        let mut session = mixed_run(rt.alloc(), STEPS, *spread)?;
+        let undone = take_apart(&rt, rt.alloc(), &mut session, *spread)?;
         assert!(rt; 10 < undone, "among {spread}");
         session.forward(undone)?;
-        assert_eq!(rt; (session.len(), session.undone_len()), (STEPS, 0));
-        assert!(rt; is_stepped_afresh(rt.alloc(), &session)?);
+        assert!(rt; is_whole(rt.alloc(), &session)?);
     }
     Ok(())
 }

@@ -2,20 +2,33 @@
 //! against the run of what remains, stepped afresh.
 
 use super::lone_undo::{
-    FIRST_MAKING_UNDONE, MADE_AGAIN_AND_LINKED, TWO_MAKINGS, is_stepped_afresh, mixed_run,
-    same_world, shown, walk,
+    FIRST_MAKING_UNDONE, LOST, MADE_AGAIN_AND_LINKED, TWO_MAKINGS, is_stepped_afresh, mixed_run,
+    same_world, walk,
 };
+use super::{Line, is_at, play};
 use rd_cell::{Answer, Content, Place, Refusal, SegName, Wrote};
 use rd_journal::Session;
 use rd_step::World;
 use std::alloc::Global;
 use std::process::Abort;
 use std::test::Fail;
-use test_kit::go;
 
 /// One making is rolled back, with the link to its segment and the link that it made fail; the
 /// other making stays.
 const MAKING_ROLLED_BACK: &str = "roll 27 -> 27 3";
+
+/// What is there then: no link, and the other making as the last step.
+const OTHER_MAKING: &[Line] = &[
+    Line::Is(Place::Next(SegName::ROOT), Content::Next(None)),
+    Line::Step(
+        27,
+        1,
+        Place::Whole(LOST),
+        Wrote::Place,
+        Answer::Made(LOST),
+        None,
+    ),
+];
 
 /// All of it is redone; then two numbers that no step has.
 const REDONE: &str = "forward 3 -> 30 0, roll 31 -> NoSuchStep(30), roll 0 -> NoSuchStep(30)";
@@ -27,22 +40,7 @@ fn a_making_is_rolled_back_with_its_link(rt: HostRuntime) -> Result<(), Fail> {
     walk(&rt, rt.alloc(), &mut session, FIRST_MAKING_UNDONE)?;
     walk(&rt, rt.alloc(), &mut session, MADE_AGAIN_AND_LINKED)?;
     walk(&rt, rt.alloc(), &mut session, MAKING_ROLLED_BACK)?;
-    assert_eq!(rt;
-        session.world().content(Place::Next(SegName::ROOT)),
-        Some(Content::Next(None))
-    );
-    let event = go(1);
-    let made = SegName { maker: 1, n: 0 };
-    assert_eq!(rt;
-        shown(session.entry(27)?),
-        (
-            event,
-            Some(Place::Whole(made)),
-            Wrote::Place,
-            Answer::Made(made),
-            None,
-        )
-    );
+    play(&rt, &mut session, "the other making", OTHER_MAKING);
     walk(&rt, rt.alloc(), &mut session, REDONE)?;
     Ok(())
 }
@@ -61,7 +59,7 @@ fn roll_and_redo(
     assert_eq!(rt; session.len() + gone, STEPS, "at {k}");
     assert!(rt; is_stepped_afresh(alloc, session)?, "at {k}");
     session.forward(gone)?;
-    assert_eq!(rt; (session.len(), session.undone_len()), (STEPS, 0), "at {k}");
+    assert!(rt; is_at(session, STEPS, 0), "at {k}");
     assert!(rt; same_world(session.world(), whole.world()), "at {k}");
     assert!(rt; is_stepped_afresh(alloc, session)?, "at {k}");
     Ok(gone)
@@ -71,16 +69,16 @@ fn roll_and_redo(
 const STEPS: u64 = 100;
 
 /// Runs, each by the number that it begins with, and how far on the next step to be rolled back is.
-const ORDERS: [(u64, u64); 3] = [(1, 1), (2, 99), (3, 77)];
+const ORDERS: &[(u64, u64)] = &[(1, 1), (2, 99), (3, 77)];
 
 #[test]
 fn each_step_is_rolled_back_and_redone(rt: HostRuntime) -> Result<(), Fail> {
     for (seed, leap) in ORDERS {
-        let whole = mixed_run(rt.alloc(), STEPS, seed)?;
-        let mut session = mixed_run(rt.alloc(), STEPS, seed)?;
+        let whole = mixed_run(rt.alloc(), STEPS, *seed)?;
+        let mut session = mixed_run(rt.alloc(), STEPS, *seed)?;
         let mut most = 0;
         for turn in 0..STEPS {
-            let k = turn.wrapping_mul(leap) % STEPS + 1;
+            let k = turn.wrapping_mul(*leap) % STEPS + 1;
             let gone = roll_and_redo(&rt, rt.alloc(), &mut session, &whole, k)?;
             most = most.max(gone);
         }

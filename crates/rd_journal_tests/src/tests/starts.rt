@@ -1,6 +1,7 @@
 //! The world that a session was opened in, found from where the session is, and the events of
 //! undone steps by their numbers.
 
+use super::is_at;
 use super::lone_undo::{STEPS, is_stepped_afresh, mixed_run, same_world, walk};
 use rd_actor::Act;
 use rd_cell::Refusal;
@@ -34,11 +35,11 @@ fn the_start_is_the_world_that_was_opened(rt: HostRuntime) -> Result<(), Fail> {
 fn a_long_run_starts_in_the_fresh_world_and_stays(rt: HostRuntime) -> Result<(), Fail> {
     let fresh = World::<2>::fresh(rt.alloc(), 4)?;
     let mut session = mixed_run(rt.alloc(), STEPS, 1)?;
-    for k in [STEPS, 7] {
-        session.roll(k)?;
-        let left = (session.len(), session.undone_len());
+    for k in &[STEPS, 7] {
+        session.roll(*k)?;
+        let (live, undone) = (session.len(), session.undone_len());
         assert!(rt; starts_in(rt.alloc(), &session, &fresh)?, "at {k}");
-        assert_eq!(rt; (session.len(), session.undone_len()), left, "at {k}");
+        assert!(rt; is_at(&session, live, undone), "at {k}");
         assert!(rt; is_stepped_afresh(rt.alloc(), &session)?, "at {k}");
     }
     Ok(())

@@ -4,6 +4,7 @@
 ghost use Rattle.std.specs.Prelude.{◌≡◌, IfOk};
 ghost use Rattle.rd_journal.specs.Sessions.{journal};
 
+use super::is_at;
 use super::lone_undo::{STEPS, is_stepped_afresh, mixed_run};
 use rd_cell::Refusal;
 use rd_journal::Session;
@@ -40,10 +41,10 @@ fn a_session_goes_over_to_its_own_entries_and_to_none(rt: HostRuntime) -> Result
     let live = session.len();
     assert!(rt; live < STEPS);
     step_all_again(rt.alloc(), &mut session)?;
-    assert_eq!(rt; (session.len(), session.undone_len()), (live, 0));
+    assert!(rt; is_at(&session, live, 0));
     assert!(rt; is_stepped_afresh(rt.alloc(), &session)?);
     session.switch(0, &[])?;
-    assert_eq!(rt; (session.len(), session.undone_len()), (0, 0));
+    assert!(rt; is_at(&session, 0, 0));
     assert!(rt; is_stepped_afresh(rt.alloc(), &session)?);
     assert_eq!(rt; session.redo(), Err(Refusal::NothingToRedo));
     Ok(())
@@ -54,10 +55,10 @@ fn a_session_goes_along_its_steps_with_none_undone(rt: HostRuntime) -> Result<()
     let mut session = mixed_run(rt.alloc(), STEPS, 4)?;
     let live = session.len();
     session.go_along(0);
-    assert_eq!(rt; (session.len(), session.undone_len()), (0, 0));
+    assert!(rt; is_at(&session, 0, 0));
     assert_eq!(rt; session.redo(), Err(Refusal::NothingToRedo));
     session.go_along(live);
-    assert_eq!(rt; (session.len(), session.undone_len()), (live, 0));
+    assert!(rt; is_at(&session, live, 0));
     assert!(rt; is_stepped_afresh(rt.alloc(), &session)?);
     Ok(())
 }

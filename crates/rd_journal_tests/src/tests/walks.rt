@@ -1,6 +1,6 @@
 //! Walks up and down the first steps of the poised world of four actors, over rings of four cells.
 
-use super::{Line, Move, applied, play};
+use super::{Line, Move, play};
 use rd_actor::{Act, Pc};
 use rd_cell::{Content, Place, Refusal, SegName};
 use rd_journal::Session;
@@ -54,15 +54,17 @@ const BACK_AND_FORWARD: &[Line] = &[
 fn a_step_undone_and_redone_has_its_entry(rt: HostRuntime) -> Result<(), Fail> {
     let mut session = Session::open(rt.alloc(), World::<4>::poised(rt.alloc(), 4)?);
     play(&rt, &mut session, "nothing to undo", NOTHING_TO_UNDO);
-    assert_eq!(rt; applied(&mut session, 2, Act::Go), Ok((1, None)));
-    let record = session.entry(1);
-    assert!(rt; record.is_ok());
+    let record = session.entry(1)?;
     play(&rt, &mut session, "undo and redo", UNDO_AND_REDO);
-    assert_eq!(rt; session.entry(1), record);
+    assert!(rt; session.entry(1) == Ok(record));
     Ok(())
 }
 
-const NOTHING_TO_UNDO: &[Line] = &[Line::Stays(Move::Undo, Refusal::NothingToUndo(0))];
+const NOTHING_TO_UNDO: &[Line] = &[
+    Line::Stays(Move::Undo, Refusal::NothingToUndo(0)),
+    Line::Act(2, Act::Go),
+    Line::At(1, 0),
+];
 
 const UNDO_AND_REDO: &[Line] = &[
     Line::Moves(Move::Undo),

@@ -355,7 +355,7 @@ const BOTH_MAKE: &[Line] = &[
     Line::Is(Place::Cell(SECOND, 0), HOLDS_10),
     Line::Walk(2, &[Pc::E13], None),
     Line::Walk(1, &[Pc::E13], None),
-    Line::Step(30, 1, Place::Next(ROOT), Wrote::Nothing, Answer::Lost),
+    Line::Step(30, 1, Place::Next(ROOT), Wrote::Nothing, Answer::Lost, None),
     Line::Is(Place::Next(ROOT), Content::Next(Some(SECOND))),
     Line::Is(Place::Whole(FIRST), Content::Whole),
 ];
@@ -364,10 +364,10 @@ const BOTH_MAKE: &[Line] = &[
 /// over all the same.
 const LOSER_HELPS: &[Line] = &[
     Line::Walk(1, &[Pc::E1, Pc::E2, Pc::E3], None),
-    Line::Step(33, 1, Place::QTail, Wrote::Place, Answer::Won),
+    Line::Step(33, 1, Place::QTail, Wrote::Place, Answer::Won, None),
     Line::Is(Place::QTail, Content::Name(SECOND)),
     Line::Walk(2, &[Pc::E14], ENQUEUED),
-    Line::Step(34, 2, Place::QTail, Wrote::Nothing, Answer::Lost),
+    Line::Step(34, 2, Place::QTail, Wrote::Nothing, Answer::Lost, ENQUEUED),
     Line::Stands(1, Pc::E1),
 ];
 
