@@ -6,7 +6,8 @@ ghost use Rattle.rd_lock.specs.Locks.{number, IsHolding, IsOut, IsPassOf};
 ghost use Rattle.rd_lock.specs.Opening.{IsNewPass};
 
 use super::Numbers;
-use rd_lock::{Busy, Pass, TicketLock, TryTakeError};
+use rd_lock::{Busy, Pass, TICKETS, TicketLock, TryTakeError};
+use std::alloc::Global;
 use std::process::Abort;
 use std::sync::Wait;
 
@@ -31,6 +32,24 @@ pub(super) fn last_pass(
         panic!(rt; "too few passes")
     };
     pass
+}
+
+/// A lock of two passes that begins with this ticket, and the two.
+pub(super) fn opened(
+    rt: &impl Abort,
+    alloc: Global,
+    ticket: u64,
+) -> (TicketLock<Numbers>, Pass<Numbers>, Pass<Numbers>)
+    ensures first { IsPassOf result.0 result.1 × IsOut result.1 × (number result.1 ≡ 1) }
+    ensures second { IsPassOf result.0 result.2 × IsOut result.2 × (number result.2 ≡ 2) }
+{
+    assert!(rt; ticket <= TICKETS);
+    let Ok((lock, mut passes)) = TicketLock::open_at(alloc, Numbers::new(alloc), 2, ticket) else {
+        panic!(rt; "out of memory")
+    };
+    let second = last_pass(rt, &lock, &mut passes, ticket, 2);
+    let first = last_pass(rt, &lock, &mut passes, ticket, 1);
+    (lock, first, second)
 }
 
 /// Puts one more number and gives the value back.

@@ -9,42 +9,28 @@ use std::alloc::Global;
 use std::process::Abort;
 use std::sync::Wait;
 
-/// A close of a lock of three passes.
-#[derive(Clone, Copy)]
-struct Closing {
-    /// The first ticket.
-    first: u64,
-    /// How often the last pass takes and puts.
-    takes: u64,
-    /// Whether the last pass then takes once more and is dropped.
-    is_held: bool,
-    /// How many passes are handed in.
-    handed: usize,
-    /// The number of entries, or the words.
-    answer: Result<usize, Busy>,
-}
+/// A close of a lock of three passes: the first ticket, how often the last pass takes and puts, how
+/// many passes are handed in, and the number of entries. If the last pass then takes once more and
+/// is dropped, the words are in its place.
+type Closing = (u64, u64, usize, Result<usize, Busy>);
 
-/// A close of a lock that is free in the end.
-const fn free(first: u64, takes: u64, handed: usize, entries: usize) -> Closing {
-    Closing {
-        first,
-        takes,
-        is_held: false,
-        handed,
-        answer: Ok(entries),
-    }
-}
+/// The words where the last ticket is held.
+const LAST_WORDS: Busy = Busy {
+    next: TICKETS,
+    served: TICKETS - 1,
+};
 
-/// A close of a lock that is held in the end.
-const fn held(first: u64, takes: u64, handed: usize, served: u64, next: u64) -> Closing {
-    Closing {
-        first,
-        takes,
-        is_held: true,
-        handed,
-        answer: Err(Busy { next, served }),
-    }
-}
+const CLOSINGS: &[Closing] = &[
+    (0, 0, 0, Ok(0)),
+    (0, 2, 0, Ok(2)),
+    (5, 2, 1, Ok(2)),
+    (5, 3, 2, Ok(3)),
+    (TICKETS - 2, 2, 3, Ok(2)),
+    (0, 0, 0, Err(Busy { next: 1, served: 0 })),
+    (0, 2, 1, Err(Busy { next: 3, served: 2 })),
+    (5, 1, 2, Err(Busy { next: 7, served: 6 })),
+    (TICKETS - 1, 0, 2, Err(LAST_WORDS)),
+];
 
 /// Takes once more and is dropped, so that another's try is missed for good.
 fn keeps<R: Abort + Wait>(
@@ -94,48 +80,37 @@ fn hands_in(
 }
 
 /// Makes one close.
-fn closes<R: Abort + Wait>(rt: &R, alloc: Global, row: &Closing) {
-    assert!(rt; row.first <= TICKETS);
-    let Ok((lock, mut passes)) = TicketLock::open_at(alloc, Numbers::new(alloc), 3, row.first)
-    else {
+fn closes<R: Abort + Wait>(rt: &R, alloc: Global, row: Closing) {
+    let (ticket, takes, enough, answer) = row;
+    assert!(rt; ticket <= TICKETS);
+    let Ok((lock, mut passes)) = TicketLock::open_at(alloc, Numbers::new(alloc), 3, ticket) else {
         panic!(rt; "out of memory")
     };
-    let third = last_pass(rt, &lock, &mut passes, row.first, 3);
-    let mut second = last_pass(rt, &lock, &mut passes, row.first, 2);
-    let first = last_pass(rt, &lock, &mut passes, row.first, 1);
-    let third = works(rt, &lock, third, 3, row.takes);
+    let third = last_pass(rt, &lock, &mut passes, ticket, 3);
+    let mut second = last_pass(rt, &lock, &mut passes, ticket, 2);
+    let first = last_pass(rt, &lock, &mut passes, ticket, 1);
+    let third = works(rt, &lock, third, 3, takes);
     let mut handed = Vec::new(alloc);
-    if row.is_held {
-        keeps(rt, &lock, third, &mut second, row.answer);
+    if answer.is_err() {
+        keeps(rt, &lock, third, &mut second, answer);
     } else {
-        hands_in(rt, &lock, &mut handed, third, row.handed);
+        hands_in(rt, &lock, &mut handed, third, enough);
     }
-    hands_in(rt, &lock, &mut handed, second, row.handed);
-    hands_in(rt, &lock, &mut handed, first, row.handed);
-    assert!(rt; handed.len() == row.handed);
+    hands_in(rt, &lock, &mut handed, second, enough);
+    hands_in(rt, &lock, &mut handed, first, enough);
+    assert!(rt; handed.len() == enough);
     match lock.close(handed) {
         Ok(numbers) => {
-            assert!(rt; row.answer == Ok(numbers.entries.len()));
-            assert!(rt; has_all_in_order(&numbers, 3, row.takes));
+            assert!(rt; answer == Ok(numbers.entries.len()));
+            assert!(rt; has_all_in_order(&numbers, 3, takes));
         }
-        Err(words) => assert!(rt; row.answer == Err(words)),
+        Err(words) => assert!(rt; answer == Err(words)),
     }
 }
 
 #[test]
 fn a_close_gives_all_that_was_put_or_the_last_words(rt: HostRuntime) {
-    let rows = [
-        free(0, 0, 0, 0),
-        free(0, 2, 0, 2),
-        free(5, 2, 1, 2),
-        free(5, 3, 2, 3),
-        free(TICKETS - 2, 2, 3, 2),
-        held(0, 0, 0, 0, 1),
-        held(0, 2, 1, 2, 3),
-        held(5, 1, 2, 6, 7),
-        held(TICKETS - 1, 0, 2, TICKETS - 1, TICKETS),
-    ];
-    for row in &rows {
-        closes(&rt, rt.alloc(), row);
+    for row in CLOSINGS {
+        closes(&rt, rt.alloc(), *row);
     }
 }

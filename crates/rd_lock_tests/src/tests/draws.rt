@@ -5,7 +5,7 @@ ghost use Rattle.rd_lock.specs.Locks.{number, IsOut, IsPassOf};
 ghost use Rattle.std.specs.Thread.{IsSync};
 
 use super::Numbers;
-use super::calls::{has_all_in_order, last_pass, puts};
+use super::calls::{has_all_in_order, opened, puts};
 use crossbeam_utils::Backoff;
 use rd_lock::{Pass, TicketLock};
 use std::process::Abort;
@@ -77,11 +77,7 @@ fn draw_both<R: Abort + Threads + Wait + Sync>(
 
 #[test]
 fn who_loses_a_draw_draws_again(rt: HostRuntime) {
-    let Ok((lock, mut passes)) = TicketLock::open(rt.alloc(), Numbers::new(rt.alloc()), 2) else {
-        panic!(&rt; "out of memory")
-    };
-    let two = last_pass(&rt, &lock, &mut passes, 0, 2);
-    let one = last_pass(&rt, &lock, &mut passes, 0, 1);
+    let (lock, one, two) = opened(&rt, rt.alloc(), 0);
     let (one, two) = draw_both(&rt, &lock, one, two);
     let Ok(passes) = vec![in rt.alloc(); one, two] else {
         panic!(&rt; "out of memory")

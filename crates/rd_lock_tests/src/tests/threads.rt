@@ -95,7 +95,7 @@ fn four_threads_put_each_in_its_order(rt: HostRuntime) {
     let Ok(numbers) = lock.close(passes) else {
         panic!(&rt; "busy")
     };
-    assert_eq!(&rt; numbers.entries.len(), 4_000);
+    assert!(&rt; numbers.entries.len() == 4_000);
     for who in 1..5 {
         assert!(&rt; has_all_in_order(&numbers, who, TAKES));
     }
