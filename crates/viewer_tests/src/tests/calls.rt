@@ -2,7 +2,7 @@
 ghost use Rattle.std.specs.List.{AllByRecursion};
 ghost use Rattle.rd_desk.specs.Desks.{IsNewViewer, IsViewerOf};
 
-use rd_desk::{Desk, DeskPass};
+use rd_desk::{Answer, Desk, DeskPass};
 use rd_journal::Session;
 use rd_marks::Book;
 use rd_step::World;
@@ -32,4 +32,9 @@ pub(super) fn last_pass(
         panic!(rt; "too few passes")
     };
     pass
+}
+
+/// Compares the answer to the call of this number with what is wanted.
+pub(super) fn compare(rt: &impl Abort, call: u64, answer: Answer, wanted: Answer) {
+    assert_eq!(rt; answer, wanted, "call {call}");
 }

@@ -1,14 +1,14 @@
 //! A full history.
 
-use super::calls::{fresh, last_pass};
-use rd_cell::Refusal;
-use rd_desk::{Desk, DeskRefusal, MOST_CALLS};
+use super::calls::{compare, fresh, last_pass};
+use rd_desk::{Answer, Desk, DeskRefusal, MOST_CALLS};
 use rd_marks::{Command, Reply};
 
 /// No step is live.
-fn none_live() -> Result<Reply, Refusal> {
-    Ok(Reply::At { live: 0, undone: 0 })
-}
+const NONE_LIVE: Answer = Ok(Ok(Reply::At { live: 0, undone: 0 }));
+
+/// No call is recorded any more.
+const FULL: Answer = Err(DeskRefusal::HistoryFull);
 
 #[test]
 fn the_100_001st_call_finds_the_history_full(rt: HostRuntime) {
@@ -17,23 +17,18 @@ fn the_100_001st_call_finds_the_history_full(rt: HostRuntime) {
     };
     let mut pass = last_pass(&rt, &desk, &mut passes);
     for call in 0..MOST_CALLS {
-        assert_eq!(&rt;
+        compare(
+            &rt,
+            call as u64,
             desk.try_ask(&mut pass, Command::Len),
-            Ok(none_live()),
-            "call {call}"
+            NONE_LIVE,
         );
     }
-    assert_eq!(&rt;
-        desk.try_ask(&mut pass, Command::Len),
-        Err(DeskRefusal::HistoryFull)
-    );
-    assert_eq!(&rt;
-        desk.ask(&rt, &mut pass, Command::Enq(1, 7)),
-        Err(DeskRefusal::HistoryFull)
-    );
+    compare(&rt, 100_000, desk.try_ask(&mut pass, Command::Len), FULL);
+    let answer = desk.ask(&rt, &mut pass, Command::Enq(1, 7));
+    compare(&rt, 100_000, answer, FULL);
     let Ok((book, history)) = desk.close(Vec::new(rt.alloc())) else {
         panic!(&rt; "busy")
     };
-    assert_eq!(&rt; book.session().len(), 0);
-    assert_eq!(&rt; history.len(), 100_000);
+    assert!(&rt; book.session().len() == 0 && history.len() == 100_000);
 }

@@ -59,15 +59,20 @@ fn holds<R: Abort + Threads + Wait + Sync>(rt: &R, alloc: Global, held: u64) {
     let Ok(rans) = run_viewers(rt, alloc, &gate, work) else {
         panic!(rt; "out of memory")
     };
-    assert_eq!(rt; rans.len(), 2);
+    assert!(rt; rans.len() == 2);
     for i in 0..rans.len() {
-        let Ran::Answered { pass, answers } = &rans[i] else {
-            panic!(rt; "no thread")
-        };
-        let wanted = [Ok(Ok(Reply::Marks(i as u64 + 1)))];
-        assert_eq!(rt; *pass, i as u64 + 1);
-        assert!(rt; answers.as_slice() == wanted.as_slice(), "viewer {i}");
+        is_answered(rt, &rans[i], i as u64 + 1);
     }
+}
+
+/// Compares what a viewer was answered with its number.
+fn is_answered(rt: &impl Abort, ran: &Ran<u64>, viewer: u64) {
+    let Ran::Answered { pass, answers } = ran else {
+        panic!(rt; "no thread")
+    };
+    let wanted = [Ok(Ok(Reply::Marks(viewer)))];
+    let is_wanted = answers.as_slice() == wanted.as_slice();
+    assert!(rt; *pass == viewer && is_wanted, "viewer {viewer}");
 }
 
 #[test]

@@ -1,41 +1,32 @@
 //! Worked rows, in one thread.
 
-use super::calls::{fresh, last_pass};
+use super::calls::{compare, fresh, last_pass};
 use rd_actor::Act;
 use rd_cell::Refusal;
-use rd_desk::{Desk, History};
+use rd_desk::{Answer, Call, Desk, History};
 use rd_marks::{Command, Reply};
 use rd_step::Event;
 use std::process::Abort;
 
 /// The first step is made.
-fn first_step() -> Result<Reply, Refusal> {
-    Ok(Reply::Applied {
-        step: 1,
-        reply: None,
-    })
-}
+const FIRST_STEP: Result<Reply, Refusal> = Ok(Reply::Applied {
+    step: 1,
+    reply: None,
+});
 
 /// One step is live.
-fn one_live() -> Result<Reply, Refusal> {
-    Ok(Reply::At { live: 1, undone: 0 })
-}
+const ONE_LIVE: Result<Reply, Refusal> = Ok(Reply::At { live: 1, undone: 0 });
 
-/// The entry of this number is this viewer's call.
-fn has_entry(
+/// Compares the call of this number, which the viewer of this number made, with what is wanted.
+fn has_call(
     rt: &impl Abort,
     history: &History,
     number: u64,
-    viewer: u64,
     command: Command,
     answer: Result<Reply, Refusal>,
 ) {
-    let Some((who, call)) = history.call(number) else {
-        panic!(rt; "no call {number}")
-    };
-    assert_eq!(rt; who, viewer);
-    assert_eq!(rt; call.command, command);
-    assert_eq!(rt; call.answer, answer);
+    let call = Call { command, answer };
+    assert_eq!(rt; history.call(number), Some((number, call)));
 }
 
 #[test]
@@ -45,25 +36,22 @@ fn a_viewer_sees_what_another_did(rt: HostRuntime) {
     };
     let second = last_pass(&rt, &desk, &mut passes);
     let mut first = last_pass(&rt, &desk, &mut passes);
-    assert_eq!(&rt;
-        desk.ask(&rt, &mut first, Command::Enq(1, 7)),
-        Ok(first_step())
-    );
+    let answer = desk.ask(&rt, &mut first, Command::Enq(1, 7));
+    compare(&rt, 1, answer, Ok(FIRST_STEP));
     let (served, mut second, first) = desk.meet(second, first);
-    assert_eq!(&rt; served, 1);
-    assert_eq!(&rt; desk.try_ask(&mut second, Command::Len), Ok(one_live()));
+    assert!(&rt; served == 1);
+    let answer = desk.try_ask(&mut second, Command::Len);
+    compare(&rt, 2, answer, Ok(ONE_LIVE));
     let Ok(passes) = vec![in rt.alloc(); first, second] else {
         panic!(&rt; "out of memory")
     };
     let Ok((book, history)) = desk.close(passes) else {
         panic!(&rt; "busy")
     };
-    assert_eq!(&rt; book.session().len(), 1);
-    assert_eq!(&rt; history.len(), 2);
-    assert!(&rt; history.call(0).is_none());
-    has_entry(&rt, &history, 1, 1, Command::Enq(1, 7), first_step());
-    has_entry(&rt, &history, 2, 2, Command::Len, one_live());
-    assert!(&rt; history.call(3).is_none());
+    assert!(&rt; book.session().len() == 1 && history.len() == 2);
+    has_call(&rt, &history, 1, Command::Enq(1, 7), FIRST_STEP);
+    has_call(&rt, &history, 2, Command::Len, ONE_LIVE);
+    assert!(&rt; history.call(0).is_none() && history.call(3).is_none());
 }
 
 #[test]
@@ -72,27 +60,23 @@ fn one_viewer_waits_for_nobody(rt: HostRuntime) {
         panic!(&rt; "out of memory")
     };
     let mut pass = last_pass(&rt, &desk, &mut passes);
-    assert_eq!(&rt;
-        desk.try_ask(&mut pass, Command::Enq(1, 7)),
-        Ok(first_step())
-    );
-    let Ok(Ok(Reply::Step { number, entry })) = desk.try_ask(&mut pass, Command::Step(1)) else {
-        panic!(&rt; "no step")
-    };
-    assert_eq!(&rt; number, 1);
-    assert_eq!(&rt;
-        entry.event,
-        Event {
-            actor: 1,
-            act: Act::Enq(7)
-        }
-    );
+    let answer = desk.try_ask(&mut pass, Command::Enq(1, 7));
+    compare(&rt, 1, answer, Ok(FIRST_STEP));
+    is_first_step(&rt, desk.try_ask(&mut pass, Command::Step(1)));
     let Ok(passes) = vec![in rt.alloc(); pass] else {
         panic!(&rt; "out of memory")
     };
     let Ok((book, history)) = desk.close(passes) else {
         panic!(&rt; "busy")
     };
-    assert_eq!(&rt; book.session().len(), 1);
-    assert_eq!(&rt; history.len(), 2);
+    assert!(&rt; book.session().len() == 1 && history.len() == 2);
+}
+
+/// Compares a shown step with the first one.
+fn is_first_step(rt: &impl Abort, answer: Answer) {
+    let Ok(Ok(Reply::Step { number, entry })) = answer else {
+        panic!(rt; "no step")
+    };
+    let act = Act::Enq(7);
+    assert!(rt; number == 1 && entry.event == Event { actor: 1, act });
 }

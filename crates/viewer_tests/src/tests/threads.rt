@@ -3,7 +3,7 @@
 ghost use Rattle.std.specs.List.{AllByRecursion};
 ghost use Rattle.rd_desk.specs.Desks.{IsNewViewer, IsViewerOf};
 
-use super::calls::{fresh, last_pass};
+use super::calls::{compare, fresh, last_pass};
 use rd_desk::{Answer, Desk, DeskPass, History, Ran, run_viewers};
 use rd_marks::Command;
 use std::alloc::Global;
@@ -76,7 +76,7 @@ fn replays(rt: &impl Abort, alloc: Global, history: &History) {
         let Some((_, call)) = history.call(i as u64 + 1) else {
             panic!(rt; "no call {i}")
         };
-        assert_eq!(rt; call.answer, answers[i], "entry {i}");
+        compare(rt, i as u64 + 1, Ok(call.answer), Ok(answers[i]));
     }
 }
 
@@ -90,12 +90,15 @@ fn has_in_order(rt: &impl Abort, history: &History, viewer: u64, answers: &[Answ
         };
         if who == viewer {
             assert!(rt; call < answers.len());
-            assert_eq!(rt; made.command, command(viewer, call as u64));
-            assert_eq!(rt; answers[call], Ok(made.answer));
+            assert!(rt;
+                made.command == command(viewer, call as u64),
+                "call {number}"
+            );
+            compare(rt, number, answers[call], Ok(made.answer));
             call = call + 1;
         }
     }
-    assert_eq!(rt; call, answers.len());
+    assert!(rt; call == answers.len());
 }
 
 /// This many viewers ask this many commands each, in their own threads.
@@ -111,7 +114,7 @@ fn runs<R: Abort + Threads + Wait + Sync>(rt: &R, alloc: Global, viewers: u64, c
     let Ok((_, history)) = desk.close(Vec::new(alloc)) else {
         panic!(rt; "busy")
     };
-    assert_eq!(rt; Some(history.len()), viewers.checked_mul(calls));
+    assert!(rt; Some(history.len()) == viewers.checked_mul(calls));
     for ran in rans.as_slice() {
         let Ran::Answered { pass, answers } = ran else {
             panic!(rt; "no thread")
@@ -121,9 +124,12 @@ fn runs<R: Abort + Threads + Wait + Sync>(rt: &R, alloc: Global, viewers: u64, c
     replays(rt, alloc, &history);
 }
 
+/// How many viewers ask, and how many commands each.
+const RUNS: &[(u64, u64)] = &[(1, 200), (4, 50), (64, 20)];
+
 #[test]
 fn many_viewers_make_one_legal_history(rt: HostRuntime) {
-    for (viewers, calls) in [(1, 200), (4, 50), (64, 20)] {
-        runs(&rt, rt.alloc(), viewers, calls);
+    for (viewers, calls) in RUNS {
+        runs(&rt, rt.alloc(), *viewers, *calls);
     }
 }
