@@ -1,10 +1,12 @@
 """The tables of docs/MANUAL.md that say what a line is and how a reply begins.
 
-`FORMS` are the lines of a script and `PLACES` the places in them, each as the manual spells it, and
-`REPLIES` are the first words of the replies. Only Python's standard library is used.
+`FORMS` are the lines of a script, `QUERIES` those that ask, and `PLACES` the places in them, each as
+the manual spells it. `ANSWERED` are the lines of the table of replies, and `REPLIES` the first words
+of the replies. Only Python's standard library is used.
 """
 
 import re
+from collections.abc import Iterable
 
 from lcrq_tools.faults import Fault
 from lcrq_tools.program import TOP
@@ -12,11 +14,11 @@ from lcrq_tools.program import TOP
 PAGE = (TOP / "docs" / "MANUAL.md").read_text(encoding="utf-8")
 
 
-def quoted_in(head: str, column: int) -> list[str]:
-    """What is quoted in this column of each table whose head begins so."""
+def quoted_in(head: str, column: int, behind: str = "") -> list[str]:
+    """What is quoted in this column of each table whose head begins so and that is behind a text."""
     quoted: list[str] = []
     is_inside = False
-    for row in PAGE.splitlines():
+    for row in PAGE.partition(behind)[2].splitlines() if behind else PAGE.splitlines():
         is_inside = row.startswith(head) or is_inside and row.startswith("|")
         if is_inside:
             quoted += re.findall("`([^`]+)`", row.split("|")[column])
@@ -26,8 +28,22 @@ def quoted_in(head: str, column: int) -> list[str]:
 
 
 FORMS = quoted_in("| Line | Meaning |", 1)
+QUERIES = quoted_in("| Line | Meaning |", 1, "\n### Queries\n")
 PLACES = quoted_in("| PLACE | Is |", 1)
+ANSWERED = quoted_in("| After | Reply |", 1)
 REPLIES = {word for reply in quoted_in("| After | Reply |", 2) for word in re.findall("^[a-z]+", reply)}
+
+
+def line_of(form: str) -> str:
+    """A line of this form: `a` for a name, and 1 for any other word that the manual has in capitals."""
+    line = form.replace("PLACE", PLACES[0])
+    return re.sub("[A-Z]+", lambda word: "a" if word[0] == "NAME" else "1", line)
+
+
+def lines_beside(forms: Iterable[str], lines: Iterable[str]) -> list[str]:
+    """A line of each form with whose first word none of these lines begins."""
+    words = {line.split(" ")[0] for line in lines}
+    return [line_of(form) for form in forms if form.split(" ")[0] not in words]
 
 
 def refusals() -> dict[str, str]:

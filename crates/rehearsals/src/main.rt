@@ -30,7 +30,7 @@ const AMPLE: usize = 1_000_000;
 
 /// The command lines, in order. Where one opens a file, the script on the input differs from that
 /// in the file.
-const REHEARSALS: [Rehearsal; 31] = [
+const REHEARSALS: [Rehearsal; 30] = [
     Rehearsal {
         words: &[
             "run",
@@ -174,11 +174,6 @@ const REHEARSALS: [Rehearsal; 31] = [
             "--actors",
             "2",
         ],
-        input: "len\n",
-        room: AMPLE,
-    },
-    Rehearsal {
-        words: &["view", "each-command.script"],
         input: "len\n",
         room: AMPLE,
     },

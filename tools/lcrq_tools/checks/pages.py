@@ -9,7 +9,8 @@ named for it, is a fault too. So is a number on docs/PROVED.md or docs/ARCHITECT
 what `tools/definitions.py` gives: how many definitions and lines a guarantee reaches, and in which
 files. Such a fault names the right number, and --store puts it there. On every page a script of
 tools/ has to be there, and the check or measurement that it runs; .ci/run has to be the README's
-test command; and each link leads to a file and a heading that are there.
+test command; and each link leads to a file and a heading that are there. Each line of the manual's
+tables is in the help, and each keyword in its table of replies and in the rows that tests walk.
 
 The gate's programs see the files of their own folders alone. So the session of the README and the
 examples of the manual are in `examples/`, each a script beside its report, and the program
@@ -29,6 +30,7 @@ from pathlib import Path
 from typing import ParamSpec
 
 from lcrq_tools import manual, model
+from lcrq_tools.checks import command_rows
 from lcrq_tools.faults import Parser
 from lcrq_tools.look import contracts, definitions
 from lcrq_tools.named import named_in
@@ -384,9 +386,24 @@ def check_links() -> int:
     return 1 if faults else 0
 
 
+# ---- Commands ------------------------------------------------------------------------------------
+
+
+def check_commands() -> int:
+    """Prints what each list of commands has more or less than the manual's table of lines; returns the
+    exit status."""
+    faults = [f"{name}: {fault}" for name, fault in command_rows.lacking() if fault]
+    for fault in faults:
+        print(f"WRONG {fault}")
+    if not faults:
+        print(f"ok    the lists of {len(manual.FORMS)} lines")
+    return 1 if faults else 0
+
+
 def main() -> int:
     """Runs all checks of the pages; returns the exit status."""
     parser = Parser(__doc__, "python3 tools/check.py pages")
     parser.add_argument("--store", action="store_true", help="put the right numbers of definitions, files and lines")
     is_stored: bool = parser.parse_args().store
-    return max(check_blocks(), check_names(), check_tools(), check_numbers(is_stored), check_links())
+    checks = [check_blocks(), check_names(), check_tools(), check_numbers(is_stored), check_links(), check_commands()]
+    return max(checks)

@@ -16,6 +16,7 @@ from pathlib import Path
 from typing import IO
 
 from lcrq_tools import manual, program
+from lcrq_tools.checks import command_rows
 
 LESSONS = program.CRATES / "lessons" / "data"
 
@@ -293,9 +294,8 @@ def is_as_its_page_says(built: str, page: Path) -> bool:
 def help_fault(built: str) -> str:
     """Which lines and places the help of `run` leaves out or the manual does not have, or nothing."""
     _, text, _ = run(built, ["run", "--help"])
-    rows = text.partition("Lines of a script:\n")[2].partition("\n\n")[0].splitlines()
-    listed = {form for row in rows for form in row.split(maxsplit=1)[1].split(", ")}
-    return ", ".join(sorted(listed ^ {*manual.FORMS, *manual.PLACES}))
+    end = "".join(text.partition("Lines of a script:\n")[1:]).rstrip("\n")
+    return ", ".join(sorted(command_rows.listed_in(end) ^ {*manual.FORMS, *manual.PLACES}))
 
 
 def all_checks(built: str) -> Iterator[tuple[str, str]]:

@@ -5,6 +5,7 @@ import unittest
 from unittest import mock
 
 from lcrq_tools import manual, model
+from lcrq_tools.checks import command_rows
 from lcrq_tools.faults import Fault
 
 TABLE = """\
@@ -37,6 +38,18 @@ class Manual(unittest.TestCase):
         with mock.patch.object(manual, "PAGE", TABLE), self.assertRaisesRegex(Fault, "no table whose head begins"):
             manual.quoted_in("| PLACE | Is |", 1)
 
+    def test_a_table_behind_a_text_is_found_there(self) -> None:
+        with mock.patch.object(manual, "PAGE", TABLE + "### More\n\n| Line | Meaning |\n|---|---|\n| `len` | counts |\n"):
+            self.assertEqual(manual.quoted_in("| Line | Meaning |", 1, "### More\n"), ["len"])
+
+    def test_a_form_without_a_line_gets_one(self) -> None:
+        lines = manual.lines_beside(["undo K", "same NAME NAME", "show PLACE", "len"], ["undo", "len"])
+        self.assertEqual(lines, ["same a a", "show qhead"])
+
+    def test_each_query_is_a_line_of_the_page(self) -> None:
+        self.assertLess({*manual.QUERIES}, {*manual.FORMS})
+        self.assertIn("len", manual.QUERIES)
+
     def test_refusals_are_by_number(self) -> None:
         with mock.patch.object(manual, "PAGE", TABLE):
             self.assertEqual(manual.refusals(), {
@@ -55,6 +68,23 @@ class Manual(unittest.TestCase):
         self.assertTrue(all(re.match("[a-z]+", place) for place in manual.PLACES))
         self.assertLessEqual({"ok", "refused", "step", "at", "is", "actor"}, manual.REPLIES)
         self.assertEqual([*manual.refusals()], [str(number) for number in range(1, len(manual.refusals()) + 1)])
+
+
+class Commands(unittest.TestCase):
+    """The lists of commands in the code."""
+
+    def test_the_forms_of_a_help_are_read(self) -> None:
+        end = "Lines of a script:\n  steps   go A, starve A yes\n  places  qhead\n\n"
+        end += "The manual is docs/MANUAL.md in the repository of lcrqdb"
+        self.assertEqual(command_rows.listed_in(end), {"go A", "starve A yes", "qhead"})
+        for wrong in (end + ".", end.replace("\n\n", "\n"), end.replace("MANUAL", "NOWHERE")):
+            with self.assertRaises(Fault):
+                command_rows.listed_in(wrong)
+
+    def test_a_command_that_a_list_lacks_is_named(self) -> None:
+        self.assertEqual([fault for _, fault in command_rows.lacking()], ["", "", "", ""])
+        with mock.patch.object(manual, "FORMS", [*manual.FORMS, "last A"]):
+            self.assertEqual([fault for _, fault in command_rows.lacking()], ["last A", "last", "last", "last"])
 
 
 PAGE = model.PAGE.read_text(encoding="utf-8")

@@ -9,7 +9,7 @@ use rd_script::{ReadSource, WriteSink, lines, run};
 use std::alloc::Global;
 use std::process::Abort;
 use std::test::Fail;
-use test_kit::long_script;
+use test_kit::{KINDS, long_script};
 
 /// Runs a script over a fresh world of this many actors: no line is refused memory.
 fn has_memory<const R: usize>(
@@ -51,42 +51,7 @@ fn have_memory(rt: &impl Abort, alloc: Global, kinds: &[&str]) -> Result<(), Fai
 
 #[test]
 fn no_line_of_a_long_script_is_refused_memory(rt: HostRuntime) -> Result<(), Fail> {
-    have_memory(
-        &rt,
-        rt.alloc(),
-        &[
-            "enq A K",
-            "deq A",
-            "aenq A K",
-            "adeq A",
-            "starve A yes",
-            "starve A no",
-            "undo",
-            "undo K",
-            "roll K",
-            "back 2",
-            "redo",
-            "forward 2",
-            "mark nN",
-            "drop nN",
-            "goto nN",
-            "marks",
-            "markat K",
-            "same nN nN",
-            "origin K",
-            "writer qtail",
-            "writer cell 0.0 1",
-            "writer value 0.0 1",
-            "show index 0.0 K",
-            "show tail 0.0",
-            "show acell K",
-            "actor A",
-            "step K",
-            "len",
-            "hello",
-            "mark nN.",
-        ],
-    )
+    have_memory(&rt, rt.alloc(), KINDS)
 }
 
 #[test]

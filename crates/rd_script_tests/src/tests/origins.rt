@@ -7,6 +7,7 @@ use rd_marks::Reply;
 use rd_origin::Origin;
 use std::process::Abort;
 use std::test::Fail;
+use test_kit::NEARLY;
 
 /// Compares the line of each origin of what the sixth step took, its call and its put, with its
 /// text.
@@ -23,23 +24,7 @@ fn origins_are(rt: &impl Abort, rows: &[(Option<u64>, Option<u64>, &str)]) {
 
 #[test]
 fn lines_that_nearly_ask_for_a_step_are_bad(rt: HostRuntime) -> Result<(), Fail> {
-    over_fresh::<2>(
-        &rt,
-        rt.alloc(),
-        &[
-            ("origin 0\n", "refused 12 NoSuchStep 0\n"),
-            ("origin\n", "refused 22 BadLine\n"),
-            ("origin 01\n", "refused 22 BadLine\n"),
-            ("origin 1 2\n", "refused 22 BadLine\n"),
-            ("origins 1\n", "refused 22 BadLine\n"),
-            ("writer\n", "refused 22 BadLine\n"),
-            ("writer 1\n", "refused 22 BadLine\n"),
-            ("writer qhead \n", "refused 22 BadLine\n"),
-            ("writer cell 0.0\n", "refused 22 BadLine\n"),
-            ("writer acell 64\n", "refused 19 NoSuchPlace\n"),
-            ("writer acell 256\n", "refused 22 BadLine\n"),
-        ],
-    )
+    over_fresh::<2>(&rt, rt.alloc(), NEARLY)
 }
 
 #[test]

@@ -10,6 +10,7 @@ use rd_step::World;
 use std::alloc::Global;
 use std::process::Abort;
 use std::test::Fail;
+use test_kit::ASKED;
 
 /// A book over a fresh world of this many actors.
 pub fn fresh<const R: usize>(alloc: Global, actors: u8) -> Result<Book<R>, Refusal>
@@ -94,6 +95,11 @@ pub fn over_poised<const R: usize>(
 #[test]
 fn an_empty_script_has_an_empty_report(rt: HostRuntime) -> Result<(), Fail> {
     over_fresh::<4>(&rt, rt.alloc(), &[("", "")])
+}
+
+#[test]
+fn each_command_is_answered_as_the_manual_says(rt: HostRuntime) -> Result<(), Fail> {
+    over_fresh::<4>(&rt, rt.alloc(), ASKED)
 }
 
 #[test]

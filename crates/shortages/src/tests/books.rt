@@ -1,8 +1,9 @@
 //! Commands that are refused memory.
 
-use super::trials::on_trial;
+use super::trials::{Trial, on_trial};
 use std::alloc::Global;
 use std::process::Abort;
+use test_kit::ASKED;
 
 /// Two actors that race to put a new ring after a full one, over rings of two cells, and undos
 /// among their steps. Then bookmarks, calls on the array, and queries.
@@ -19,17 +20,36 @@ const STARVED: &str = "\
     enq 1 7\ngo 1\ngo 1\ngo 1\ndeq 2\ngo 2\ngo 2\ngo 2\ngo 2\ngo 2\ngo 1\ngo 1\ngo 1\nmark a\n\
     starve 1 yes\ngo 1\ngo 1\ngo 1\ngo 1\ngoto a\nstarve 1 no\ngo 1";
 
+/// Whether two books were answered the same, and are the same.
+fn are_alike(first: &mut Trial, second: &mut Trial) -> bool {
+    first.report.as_slice() == second.report.as_slice() && first.is_as(second)
+}
+
 /// A book obeys the lines whatever is refused to it, and so does another, which is answered the
 /// same and is the same then.
 fn are_obeyed(rt: &impl Abort, alloc: Global, lines: &str) -> bool {
     let mut first = on_trial(rt, alloc);
     let mut second = on_trial(rt, alloc);
     let obeyed = first.obeys_all(lines) && second.obeys_all(lines);
-    obeyed && first.report.as_slice() == second.report.as_slice() && first.is_as(&mut second)
+    obeyed && are_alike(&mut first, &mut second)
+}
+
+/// Two books obey a line of each command, one after the other, whatever is refused to them, and are
+/// answered the same and are the same then.
+fn is_each_obeyed(rt: &impl Abort, alloc: Global) -> bool {
+    let mut first = on_trial(rt, alloc);
+    let mut second = on_trial(rt, alloc);
+    for (line, _) in ASKED {
+        if !first.obeys(line.as_bytes()) || !second.obeys(line.as_bytes()) {
+            return false;
+        }
+    }
+    are_alike(&mut first, &mut second)
 }
 
 #[test]
 fn a_command_that_is_refused_memory_changes_nothing_and_is_then_answered_as_ever(rt: HostRuntime) {
     assert!(&rt; are_obeyed(&rt, rt.alloc(), RACE));
     assert!(&rt; are_obeyed(&rt, rt.alloc(), STARVED));
+    assert!(&rt; is_each_obeyed(&rt, rt.alloc()));
 }

@@ -71,8 +71,8 @@ impl Trial {
         true
     }
 
-    /// Obeys a line.
-    fn obeys(&mut self, line: &[u8]) -> bool {
+    /// Obeys a line, as `obeys_all` does.
+    pub(super) fn obeys(&mut self, line: &[u8]) -> bool {
         let seen = look(&mut self.book, &mut self.seen);
         let played = plays(&mut self.book, &[line], &mut self.report);
         played && (!self.report.ends_with(REFUSED) || self.obeys_again(line, seen))

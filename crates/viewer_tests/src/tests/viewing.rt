@@ -11,7 +11,7 @@ use std::process::Abort;
 use std::sync::Wait;
 use std::test::Fail;
 use std::thread::Threads;
-use test_kit::bytes_of;
+use test_kit::{ASKED, bytes_of};
 
 /// A book over the fresh world of four actors.
 fn fresh(alloc: Global) -> Result<Book<4>, Refusal> {
@@ -65,6 +65,19 @@ fn faulty_lines_between_commands_are_answered_in_place_and_not_asked(
         ],
         "viewer 1\nrefused 22 BadLine\nok 1\nrefused 17 BadName\nok 2\nrefused 22 BadLine\nviewer 2\nviewer 3\nrefused 1 NoActor\nrefused 22 BadLine\nhistory 3\n",
     )
+}
+
+#[test]
+fn each_kind_of_command_is_answered_in_a_view(rt: HostRuntime) -> Result<(), Fail> {
+    let mut script = String::new(rt.alloc());
+    let mut wanted = String::new(rt.alloc());
+    write!(wanted, "viewer 1\n")?;
+    for (line, reply) in ASKED {
+        write!(script, "{line}\n")?;
+        write!(wanted, "{reply}")?;
+    }
+    write!(wanted, "history {}\n", ASKED.len())?;
+    view_is(&rt, rt.alloc(), &[script.as_str()], wanted.as_str())
 }
 
 #[test]
