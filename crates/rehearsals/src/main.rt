@@ -2,12 +2,12 @@
 //! input, the output and the errors in memory.
 //!
 //! For each command line the status with which it ends is printed, and what is then on the two
-//! streams. Files are those of `data/`. The output was checked by hand, and the gate compares it
-//! with the stored `stdout`.
+//! streams, where `FORMS` stands for that constant of rd_script. Files are those of `data/`. The
+//! output was checked by hand, and the gate compares it with the stored `stdout`.
 #![tactic(auto)]
 
 use rd_command_line::perform;
-use rd_script::{ReadSource, WriteSink};
+use rd_script::{FORMS, ReadSource, WriteSink};
 use std::alloc::Global;
 use std::fs::Files;
 use std::io;
@@ -270,8 +270,8 @@ fn rehearse<R: Files + Threads + Wait + Print + Sync>(
         &mut WriteSink::new(&mut errors),
     );
     println!(rt; "  status: {}", status_text(status))?;
-    print_stream(rt, "output", &output)?;
-    print_stream(rt, "errors", &errors)
+    print_stream(rt, alloc, "output", &output)?;
+    print_stream(rt, alloc, "errors", &errors)
 }
 
 /// Returns the number, as a text, of a status with which the program may end.
@@ -288,14 +288,15 @@ fn status_text(status: ExitCode) -> &'static str {
 }
 
 /// Prints what a stream has taken, with the stream's name before each line.
-fn print_stream<R: Print>(rt: &R, name: &str, taken: &[u8]) -> io::Result<()> {
+fn print_stream<R: Print>(rt: &R, alloc: Global, name: &str, taken: &[u8]) -> io::Result<()> {
     if taken.is_empty() {
         return println!(rt; "  {name}: nothing");
     }
     let Ok(text) = str::from_utf8(taken) else {
         return println!(rt; "  {name}: no text");
     };
-    for line in text.lines() {
+    let shown = text.replace(alloc, FORMS, "FORMS")?;
+    for line in shown.lines() {
         println!(rt; "  {name}|{line}")?;
     }
     if text.ends_with('\n') {
