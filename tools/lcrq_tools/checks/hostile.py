@@ -129,13 +129,8 @@ SPELLED += ["show value 0.0 3", "show index 255.4294967295 255", "writer value 0
 SPELLED += ["show acell 63", "actor 1", "step 1", "len"]
 
 
-def line_of(form: str) -> str:
-    """A line of this form."""
-    return re.sub("[A-Z]+", lambda word: "a" if word[0] == "NAME" else "1", form)
-
-
 SPELLED += [
-    line_of(form) for form in FORMS if not any(form_of(form)[0].fullmatch(line.encode()) for line in SPELLED)
+    manual.line_of(form) for form in FORMS if not any(form_of(form)[0].fullmatch(line.encode()) for line in SPELLED)
 ]
 
 

@@ -36,7 +36,7 @@ from collections.abc import Callable, Iterable, Iterator, Sequence
 from pathlib import Path
 from typing import NamedTuple, Protocol
 
-from lcrq_tools import program
+from lcrq_tools import manual, program
 from lcrq_tools.faults import Parser
 from lcrq_tools.program import run
 
@@ -254,6 +254,7 @@ QUERIES += [f"show {kind} {name} {at}" for name in NAMES for kind in ("cell", "v
 QUERIES += [f"actor {number}" for number in (1, 2, 3, 4)]
 QUERIES += ["step 1", "step 7", "step 26", "step 28", "writer qtail", "writer tail 0.0", "writer cell 0.0 0"]
 QUERIES += ["writer value 0.0 0", "origin 7"]
+QUERIES += manual.lines_beside(manual.QUERIES, QUERIES)
 
 # up to the two makings of a ring after a full one, that of actor 1 last, and both actors' next
 # step: over rings of two cells
@@ -269,6 +270,7 @@ UNDOS += [("undo 1", "refused 13 Depended 2"), ("forward 5", "refused 11 Nothing
 MORE = ["mark a", "undo", "undo 28", "back 3", "forward 2", "mark b", "hello", "same a b", "deq 3", "go 3", "mark c"]
 MORE += ["same a c", "goto a", "starve 1 yes", "aenq 4 5", "go 4", "adeq 4", "goto c", "drop b", "goto b", "same c a"]
 MORE += ["back 30", "enq 4 5", "mark A", "roll 1"]
+MORE += manual.lines_beside(manual.FORMS, RACE + MORE + QUERIES)
 
 TRACE = b'{"actors":4,"events":[["enq",1,7],["go",1],["aenq",2,5],["deq",3],["go",3]],"ring":4,"version":1}\n'
 # a start by hand, whose actor makes the next ring, with live and undone events and two bookmarks
