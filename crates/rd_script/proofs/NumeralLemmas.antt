@@ -1,7 +1,12 @@
 -- Words that spell numbers, and the parts of a segment's name.
-use Rattle.rd_script.proofs.Prelude.{None, Some, ◌≡◌, ◌≢◌, ℕ, ◌^◌, ◌<◌, ◌==◌, ◌⊎◌, List, [], ◌∷◌, get_or, length, Option, IfSome, IfNone, Result, Ok, Err, ParsesUnsigned, parse_plain, numerals_by_value, tells_digits, decimal-digits_value, decimal_digit, first_decimal, parse-decimal, subst, arith, sym, ◌∙◌, ap, append_assoc, decimal, slice_split, join_with_byte, SegName, name_words, IsSegmentInRange}
+use Rattle.rd_script.proofs.Prelude.{None, Some, ◌≡◌, ◌≢◌, ℕ, ◌^◌, ◌<◌, ◌≤◌, ◌-◌, ◌==◌, ◌⊎◌, List, [], ◌∷◌, get_or, length, Option, IfSome, IfNone, Result, Ok, Err, ParsesUnsigned, parse_plain, numerals_by_value, tells_digits, decimal-digits_value, decimal_digit, first_decimal, parse-decimal, subst, arith, sym, ◌∙◌, ap, append_assoc, decimal, slice_split, join_with_byte, SegName, name_words, IsSegmentInRange}
 use Rattle.std.specs.Result.{result_ok}
 use Rattle.rd_script.proofs.SplitLemmas.{parts_of_join, join_of_parts, is_free_decimal}
+
+-- a word of a single digit spells that digit's value
+pub digit_spelled : (word : List ℕ) → length word ≡ 1 → 48 ≤ get_or word 0 0 → get_or word 0 0 < 58 → word ≡ decimal (get_or word 0 0 - 48)
+digit_spelled (d ∷ []) one low high = grind (arith, decimal_digit)
+digit_spelled _ one low high = grind arith
 
 -- the digits of a number don't begin with a plus sign, or with a zero before another byte
 pub begins_as_number : (n : ℕ) → n < 2 ^ 64 → (get_or (decimal n) 0 0 ≡ 43) ⊎ ((get_or (decimal n) 0 0 ≡ 48) × (1 < length (decimal n))) → ⊥

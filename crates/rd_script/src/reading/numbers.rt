@@ -2,7 +2,8 @@
 //! zeros, and a segment's name is two numbers with a full stop between them.
 //!
 //! A number has just one spelling. Std reads it; but std also accepts a plus sign and leading
-//! zeros, so words that begin with these are rejected first.
+//! zeros, so words that begin with these are rejected first. A single digit, as the number of an
+//! actor mostly is, needs no std.
 
 ghost use Rattle.std.specs.Prelude.{◌≡◌, ◌≢◌, ◌⊎◌, ℕ, ◌^◌, ◌<◌, [], ◌∷◌, true, false, get_or, length, map, IfSome, IfNone};
 ghost use Rattle.std.specs.Fmt.{decimal};
@@ -18,6 +19,9 @@ pub fn number_in(word: &[u8]) -> Option<u64>
     ensures spelled { IfSome result (λ n. word.now ≡ decimal n) }
     ensures unspelled { IfNone result ((n : ℕ) → n < 2 ^ 64 → word.now ≢ decimal n) }
 {
+    if let Some(number) = digit_in(word) {
+        return Some(number);
+    }
     if has_plus_or_leading_zero(word) {
         return None;
     }
@@ -25,6 +29,17 @@ pub fn number_in(word: &[u8]) -> Option<u64>
         return None;
     };
     digits.parse().ok()
+}
+
+/// Returns the number that a word of a single digit spells, or `None` for any other word.
+#[tactic(auto, using(crate::proofs::NumeralLemmas::digit_spelled))]
+fn digit_in(word: &[u8]) -> Option<u64>
+    ensures spelled { IfSome result (λ n. word.now ≡ decimal n) }
+{
+    match word {
+        [digit] if digit.is_ascii_digit() => Some(u64::from(*digit - b'0')),
+        _ => None,
+    }
 }
 
 /// Whether a word begins with a plus sign, or with a zero before another byte. No number is spelled

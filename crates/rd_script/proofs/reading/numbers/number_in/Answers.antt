@@ -5,8 +5,8 @@ use Rattle.rd_script.proofs.reading.numbers.number_in.Goals as goal
 pub returns-then-has_plus_or_leading_zero-clause-unspelled : goal.returns-then-has_plus_or_leading_zero-clause-unspelled
 returns-then-has_plus_or_leading_zero-clause-unspelled c n small e = begins_as_number n small (rw e at c.has_plus_or_leading_zero.ensures.yes c.if-has_plus_or_leading_zero.true)
 
-pub returns-in_default-clause-unspelled : goal.returns-in_default-clause-unspelled
-returns-in_default-clause-unspelled c n small e = c.in_default.ensures.cases.0 (rw e (IsUtf8-from_ascii (decimal n) (IsAscii-decimal n small)))
+pub returns-in_default-from_utf8-clause-unspelled : goal.returns-in_default-from_utf8-clause-unspelled
+returns-in_default-from_utf8-clause-unspelled c n small e = c.in_default-from_utf8.ensures.cases.0 (rw e (IsUtf8-from_ascii (decimal n) (IsAscii-decimal n small)))
 
 pub returns-clause-spelled : goal.returns-clause-spelled
 returns-clause-spelled c =
