@@ -2,7 +2,7 @@
 -- into which nothing is put keeps its value or loses it.
 use Rattle.rd_origin.proofs.Prelude.{◌≡◌, ℕ, Bool, true, false, ◌==◌, ◌&&◌, inl, inr, sym, ◌∙◌, ap, subst, eqb-true, List, [], ◌∷◌, Option, Some, None, Ok, cond_both, and_parts, cond-true, Place, World, Stepped, step, Ran, run, Op, Event, Entry, took, events, is_call, puts_into, calls_by, Actor, after, beginning}
 use Rattle.rd_cell.proofs.ResultLemmas.{same_Ok}
-use Rattle.rd_origin.proofs.Split.{NonePasses}
+use Rattle.rd_origin.specs.Positions.{HasNone}
 use Rattle.rd_origin.proofs.Rows.{IsStill}
 use Rattle.rd_origin.proofs.Ops.{called, after_still, after_call}
 use Rattle.rd_origin.proofs.Values.{HoldsOnly}
@@ -46,7 +46,7 @@ call_stays w e s n o goes h was =
 -- what every step that fails the test keeps, a run of such steps keeps
 pub stays_along : (P : World → Type 0) (test : Entry → Bool)
     → ((w : World) (e : Event) (s : Stepped) → step w e ≡ Ok s → test s.entry ≡ false → P w → P s.world) → (w v : World) (xs : List Entry)
-    → run w (events xs) ≡ Ok (record { world = v; entries = xs }) → NonePasses test xs → P w → P v
+    → run w (events xs) ≡ Ok (record { world = v; entries = xs }) → HasNone test xs → P w → P v
 stays_along P test stays w v [] h none was =
     subst P (ap (λ (y : Ran). y.world) (same_Ok (record { world = w; entries = [] }) (record { world = v; entries = [] }) h)) was
 stays_along P test stays w v (x ∷ xs) h none was =
@@ -55,10 +55,10 @@ stays_along P test stays w v (x ∷ xs) h none was =
 
 -- along a run in which an actor begins no other call, it stays in its call, or is idle
 pub call_stays_along : (n : ℕ) (o : Option Op) (w v : World) (xs : List Entry) → run w (events xs) ≡ Ok (record { world = v; entries = xs })
-    → NonePasses (calls_by n) xs → IsIn o (w.actor n) → IsIn o (v.actor n)
+    → HasNone (calls_by n) xs → IsIn o (w.actor n) → IsIn o (v.actor n)
 call_stays_along n o = stays_along (λ u. IsIn o (u.actor n)) (calls_by n) (λ w e s goes h was. call_stays w e s n o goes h was)
 
 -- along a run that puts nothing into a cell, the cell has its value, or none
 pub value_stays_along : (q : Place) (u : ℕ) (w v : World) (xs : List Entry) → run w (events xs) ≡ Ok (record { world = v; entries = xs })
-    → NonePasses (puts_into q) xs → HoldsOnly u w.at q → HoldsOnly u v.at q
+    → HasNone (puts_into q) xs → HoldsOnly u w.at q → HoldsOnly u v.at q
 value_stays_along q u = stays_along (λ v. HoldsOnly u v.at q) (puts_into q) (λ w e s goes h was. value_stays w e s q u goes h was)

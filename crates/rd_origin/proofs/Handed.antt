@@ -1,8 +1,9 @@
 -- A taken value is the argument of the call in which it was put.
-use Rattle.rd_origin.proofs.Prelude.{◌≡◌, ℕ, suc, ◌-◌, true, sym, ◌∙◌, ap, subst, append_assoc, List, ◌∷◌, ◌++◌, length, take, option_and_then, Some, Ok, arith, Place, Contents, World, Stepped, Ran, run, IsWellFormed, numbered, value_to_put, Event, Entry, events, puts_into, calls_by, argument, middle, last_position, call_of, origin_in, run_keeps, run_events, drop}
+use Rattle.rd_origin.proofs.Prelude.{◌≡◌, ℕ, suc, ◌-◌, true, sym, ◌∙◌, ap, subst, append_assoc, List, ◌∷◌, ◌++◌, length, take, take_at, option_and_then, Some, Ok, arith, Place, Contents, World, Stepped, Ran, run, IsWellFormed, numbered, value_to_put, Event, Entry, events, puts_into, calls_by, argument, middle, last_position, call_of, origin_in, run_keeps, run_events, drop}
 use Rattle.rd_step.proofs.Keeps.{keeps}
 use Rattle.rd_origin.specs.Laws.{IsHandedOver}
-use Rattle.rd_origin.proofs.Split.{at_seam, before_seam, apart, NonePasses, apart_at_last}
+use Rattle.rd_origin.proofs.Split.{at_seam, apart, apart_at_last}
+use Rattle.rd_origin.specs.Positions.{HasNone}
 use Rattle.rd_origin.proofs.Ops.{called, argued}
 use Rattle.rd_origin.proofs.Values.{held_at, HoldsOnly}
 use Rattle.rd_origin.proofs.Puts.{put}
@@ -33,7 +34,7 @@ seam_number : (xs before behind : List Entry) (x : Entry) (j : ℕ) → xs ≡ b
 seam_number xs before behind x j whole e = grind (arith, at_seam)
 
 seam_before : (xs before behind : List Entry) (x : Entry) (j : ℕ) → xs ≡ before ++ x ∷ behind → suc (length before) ≡ j → take (j - 1) xs ≡ before
-seam_before xs before behind x j whole e = grind (arith, before_seam)
+seam_before xs before behind x j whole e = ap (take (j - 1)) whole ∙ take_at before (x ∷ behind) (j - 1) (omega arith)
 
 same_value : (v u : ℕ) (at : Contents) (q : Place) → HoldsOnly v at q → held_at at q ≡ Some u → Some v ≡ Some u
 same_value v u at q h k = grind arith
@@ -44,8 +45,8 @@ same_value v u at q h k = grind arith
 -- call's argument
 argument_taken : (w v : World) (before between behind later : List Entry) (call put_there taken : Entry) (cell : Place) (value : ℕ) → IsWellFormed w
     → (let xs = before ++ call ∷ (between ++ put_there ∷ (behind ++ taken ∷ later)) in run w (events xs) ≡ Ok (record { world = v; entries = xs }))
-    → calls_by put_there.event.actor call ≡ true → NonePasses (calls_by put_there.event.actor) between → puts_into cell put_there ≡ true
-    → NonePasses (puts_into cell) behind → taken.place ≡ Some cell → taken.reply ≡ Some (op_reply.Value value) → argument call.event.act ≡ Some value
+    → calls_by put_there.event.actor call ≡ true → HasNone (calls_by put_there.event.actor) between → puts_into cell put_there ≡ true
+    → HasNone (puts_into cell) behind → taken.place ≡ Some cell → taken.reply ≡ Some (op_reply.Value value) → argument call.event.act ≡ Some value
 argument_taken w v before between behind later call put_there taken cell value formed ran calls no_call puts no_put place replies =
     let one = middle w before call (between ++ put_there ∷ (behind ++ taken ∷ later)) v ran in
     let two = middle one.after between put_there (behind ++ taken ∷ later) v one.rest in

@@ -1,26 +1,16 @@
 -- A list taken apart at a position, and at the last position that passes a test.
-use Rattle.rd_origin.proofs.Prelude.{numbered, sym, ◌<◌, ◌≡◌, ℕ, zero, suc, ◌-◌, Bool, true, false, refl, ap, ◌∙◌, List, [], ◌∷◌, ◌++◌, length, take, drop, slice_get, Option, Some, None, arith, last_position, one_further, IsGreatest, common_steps, take-append-drop, drop-cons, slice_get_cases}
+use Rattle.rd_depend.proofs.Elements.{around-element}
+use Rattle.rd_origin.specs.Positions.{HasNone}
+use Rattle.rd_origin.proofs.Prelude.{numbered, sym, ◌<◌, ◌≡◌, ℕ, zero, suc, ◌-◌, Bool, true, false, refl, ap, ◌∙◌, List, [], ◌∷◌, ◌++◌, length, take, drop, slice_get, Option, Some, None, arith, last_position, one_further, IsGreatest}
 
 -- the element after the first part of a list has the number after that part's length
 pub at_seam : {X : Type 0} (xs ys : List X) (x : X) → numbered (xs ++ x ∷ ys) (suc (length xs)) ≡ Some x
 at_seam {X} [] ys x = refl
 at_seam {X} (y ∷ xs) ys x = at_seam xs ys x
 
--- taking as many elements as the first part of a list has gives the first part
-pub before_seam : {X : Type 0} (xs ys : List X) → take (suc (length xs) - 1) (xs ++ ys) ≡ xs
-before_seam {X} xs ys = grind (arith, common_steps)
-
-apart_by : {X : Type 0} (xs : List X) (i : ℕ) (x : X) → slice_get xs i ≡ Some x → xs ≡ take i xs ++ x ∷ drop (suc i) xs
-apart_by {X} xs i x h = grind (arith, take-append-drop, drop-cons, slice_get_cases)
-
 -- a list can be taken apart at every element
 pub apart : {X : Type 0} (xs : List X) (k : ℕ) (x : X) → numbered xs k ≡ Some x → xs ≡ take (k - 1) xs ++ x ∷ drop k xs
-apart {X} xs k x h = let whole = apart_by xs (k - 1) x in grind (arith, whole)
-
--- no element of the list passes the test
-abbrev pub NonePasses : {X : Type 0} → (X → Bool) → List X → Type 0
-NonePasses test [] = Unit {0}
-NonePasses test (x ∷ xs) = (test x ≡ false) × NonePasses test xs
+apart {X} xs k x h = let whole = around-element xs (k - 1) x in grind (arith, whole)
 
 -- a list taken apart at its last element that passes the test
 pub record ApartAtLast {X : Type 0} (test : X → Bool) (xs : List X) (j : ℕ) : Type 0 where
@@ -30,13 +20,13 @@ pub record ApartAtLast {X : Type 0} (test : X → Bool) (xs : List X) (j : ℕ) 
   pub whole : xs ≡ before ++ element ∷ behind
   pub number : suc (length before) ≡ j
   pub passes : test element ≡ true
-  pub none : NonePasses test behind
+  pub none : HasNone test behind
 
 some_behind : (b : Bool) (n : Option ℕ) → one_further b n ≡ None → (b ≡ false) × (n ≡ None)
 some_behind b n h = grind arith
 
 -- if there is no last position, no element passes
-pub none_passes : {X : Type 0} (test : X → Bool) (xs : List X) → last_position test xs ≡ None → NonePasses test xs
+pub none_passes : {X : Type 0} (test : X → Bool) (xs : List X) → last_position test xs ≡ None → HasNone test xs
 none_passes {X} test [] h = tt
 none_passes {X} test (x ∷ xs) h =
     let both = some_behind (test x) (last_position test xs) h in
@@ -71,27 +61,22 @@ apart_at_last {X} test (x ∷ xs) j h = apart_on test x xs j (last_position test
 
 -- What the last position is
 
-none_at : {X : Type 0} (test : X → Bool) (xs : List X) (i : ℕ) (y : X) → NonePasses test xs → slice_get xs i ≡ Some y → test y ≡ false
+none_at : {X : Type 0} (test : X → Bool) (xs : List X) (i : ℕ) (y : X) → HasNone test xs → slice_get xs i ≡ Some y → test y ≡ false
 none_at {X} test [] i y h k = cc
 none_at {X} test (x ∷ xs) zero y h k = let same : x ≡ y = cc in ap test (sym same) ∙ h.0
 none_at {X} test (x ∷ xs) (suc i) y h k = none_at test xs i y h.1 k
 
-none_behind : {X : Type 0} (test : X → Bool) (before behind : List X) (x y : X) (i : ℕ) → NonePasses test behind → length before < i
+none_behind : {X : Type 0} (test : X → Bool) (before behind : List X) (x y : X) (i : ℕ) → HasNone test behind → length before < i
     → slice_get (before ++ x ∷ behind) i ≡ Some y → test y ≡ false
 none_behind {X} test [] behind x y zero h below k = absurd (omega (arith, below))
 none_behind {X} test [] behind x y (suc i) h below k = none_at test behind i y h k
 none_behind {X} test (b ∷ bs) behind x y zero h below k = absurd (omega (arith, below))
 none_behind {X} test (b ∷ bs) behind x y (suc i) h below k = none_behind test bs behind x y i h (omega (arith, below)) k
 
-none_numbered : {X : Type 0} (test : X → Bool) (before behind : List X) (x y : X) (i : ℕ) → NonePasses test behind → suc (length before) < i
+none_numbered : {X : Type 0} (test : X → Bool) (before behind : List X) (x y : X) (i : ℕ) → HasNone test behind → suc (length before) < i
     → numbered (before ++ x ∷ behind) i ≡ Some y → test y ≡ false
 none_numbered {X} test before behind x y i h below k = grind (arith, none_behind)
 
 -- the last position is the greatest
 pub is_greatest : {X : Type 0} (test : X → Bool) (xs : List X) (j : ℕ) → last_position test xs ≡ Some j → IsGreatest test xs j
 is_greatest {X} test xs j h = let a = apart_at_last test xs j h in grind (arith, at_seam, none_numbered)
-
--- if there is no last position, the test fails at every position
-pub has_none : {X : Type 0} (test : X → Bool) (xs : List X) → last_position test xs ≡ None → (i : ℕ) (y : X) → numbered xs i ≡ Some y → test y ≡ false
-has_none {X} test xs h zero y k = cc
-has_none {X} test xs h (suc i) y k = none_at test xs i y (none_passes test xs h) k

@@ -1,5 +1,6 @@
 -- Positions in a list, counted from 1.
 use Rattle.std.specs.Prelude.{◌≡◌, ℕ, ◌<◌, Bool, true, false, List, Some}
+use Rattle.std.specs.List.{AllByRecursion}
 use Rattle.rd_step.specs.Lists.{numbered}
 pub use Rattle.rd_depend.specs.Writers.{last_position, one_further}
 
@@ -12,4 +13,4 @@ pub record IsGreatest {X : Type 0} (test : X → Bool) (xs : List X) (j : ℕ) :
 
 -- no element of the list passes the test
 abbrev pub HasNone : {X : Type 0} → (X → Bool) → List X → Type 0
-HasNone {X} test xs = (i : ℕ) (y : X) → numbered xs i ≡ Some y → test y ≡ false
+HasNone {X} test xs = AllByRecursion (λ (x : X). test x ≡ false) xs

@@ -4,21 +4,77 @@ ghost use Rattle.std.specs.Prelude.{◌≡◌, ◌-◌, Bool, take, Some, None, 
 ghost use Rattle.std.specs.Fn.{FnReturnsAt};
 ghost use Rattle.rd_step.specs.Lists.{numbered};
 ghost use Rattle.rd_step.specs.declared.entries.Entry.{Entry as SomeEntry};
-ghost use Rattle.rd_origin.specs.Origins.{is_call, is_at, is_first_cell, puts_into, calls_by};
+ghost use Rattle.rd_step.specs.Prelude.{and_then};
+ghost use Rattle.rd_journal.specs.Sessions.{state};
+ghost use Rattle.rd_journal.specs.State.{run_of};
+ghost use Rattle.rd_origin.specs.Origins.{takes_value, put_of, call_of, origin_in, is_call, is_at, is_first_cell, puts_into, calls_by};
 ghost use Rattle.rd_origin.specs.Positions.{last_position};
 
-use rd_actor::{Act, Pc};
-use rd_cell::Place;
-use rd_journal::EntryList;
+use super::origins::Origin;
+use rd_actor::{Act, OpReply, Pc};
+use rd_cell::{Place, Refusal};
+use rd_journal::{EntryList, Session};
 use rd_step::Entry;
+
+/// Returns the origin of the value that the live step of this number, counted from 1, took. The put
+/// is the last step before it that put a value into the same cell or slot, and the call is the one
+/// in which this put was made; each is none if there is no such live step.
+///
+/// A put is a compare-and-swap by an enqueue that won a cell, a swap by an enqueue on the array, or
+/// the making of a segment, which puts its value into cell 0. Marking a cell unsafe leaves its
+/// value, and is no put. The search takes no memory, and makes at most one pass over the earlier
+/// steps, from the back.
+///
+/// # Errors
+///
+/// `NoSuchStep`, with the number of live steps, if `k` is 0 or above that number; `NotATake` if the
+/// step took no value.
+pub fn origin<const R: usize>(session: &Session<R>, k: u64) -> Result<Origin, Refusal>
+    ensures answer { result ≡ and_then (run_of (state session.now))
+        (λ ran. origin_in ran.entries k) }
+{
+    let taken = session.entry(k)?;
+    if !takes_value(taken.reply) {
+        return Err(Refusal::NotATake);
+    }
+    let steps = session.live();
+    let put = last_put(&steps, k, taken.place);
+    Ok(Origin {
+        call: last_call(&steps, put),
+        put,
+        take: k,
+    })
+}
+
+/// Whether a reply hands out a value. A step with such a reply is a take.
+fn takes_value(reply: Option<OpReply>) -> bool
+    ensures { result ≡ takes_value reply }
+{
+    matches!(reply, Some(OpReply::Value(_)))
+}
+
+/// Returns the number of the last step before step `k` that put a value into this cell or slot;
+/// none if no step did, or if no cell is given.
+fn last_put(steps: &EntryList, k: u64, cell: Option<Place>) -> Option<u64>
+    ensures { result ≡ put_of steps.now k cell }
+{
+    let cell = cell?;
+    last_below(steps, k, |step| puts_into(cell, step))
+}
+
+/// Returns the number of the last step before the step of this number in which the same actor began
+/// a call; none if there is no such call, no such step, or no number.
+fn last_call(steps: &EntryList, number: Option<u64>) -> Option<u64>
+    ensures { result ≡ call_of steps.now number }
+{
+    let number = number?;
+    let step = step_of(steps, number)?;
+    last_below(steps, number, |call| calls_by(step.event.actor, call))
+}
 
 /// Returns the greatest number below this one whose step passes the test; none if no such step
 /// does. It must be possible to call the test with any entry.
-pub(crate) fn last_below<F: Fn(&Entry) -> bool>(
-    steps: &EntryList,
-    below: u64,
-    test: F,
-) -> Option<u64>
+fn last_below<F: Fn(&Entry) -> bool>(steps: &EntryList, below: u64, test: F) -> Option<u64>
     requires { F.IsAlwaysCallable test }
     ensures { (passes : SomeEntry → Bool)
         → ((x : SomeEntry) (passed : Bool) → FnReturnsAt F.Fn test x passed → passed ≡ passes x)
@@ -36,7 +92,7 @@ pub(crate) fn last_below<F: Fn(&Entry) -> bool>(
 }
 
 /// Returns the entry of the step of this number, counted from 1, or none if there is no such step.
-pub(crate) fn step_of<'a>(steps: &EntryList<'a>, number: u64) -> Option<&'a Entry>
+fn step_of<'a>(steps: &EntryList<'a>, number: u64) -> Option<&'a Entry>
     ensures { MatchOption result (numbered steps.now number ≡ None)
         (λ step. numbered steps.now number ≡ Some step.now) }
 {
@@ -47,7 +103,7 @@ pub(crate) fn step_of<'a>(steps: &EntryList<'a>, number: u64) -> Option<&'a Entr
 }
 
 /// Whether the step put a value into this cell of a segment or slot of the array.
-pub(crate) fn puts_into(cell: Place, step: &Entry) -> bool
+fn puts_into(cell: Place, step: &Entry) -> bool
     ensures { result ≡ puts_into cell step.now }
 {
     match step.old_actor.pc {
@@ -80,7 +136,7 @@ fn is_first_cell(place: Option<Place>, cell: Place) -> bool
 }
 
 /// Whether this actor begins a call in the step.
-pub(crate) fn calls_by(actor: u8, step: &Entry) -> bool
+fn calls_by(actor: u8, step: &Entry) -> bool
     ensures { result ≡ calls_by actor step.now }
 {
     actor == step.event.actor && is_call(step.event.act)
