@@ -1,5 +1,6 @@
 //! The reply to a command that is not refused.
 
+use super::commands::Search;
 use super::names::MarkName;
 use rd_actor::{Actor, OpReply};
 use rd_cell::Content;
@@ -49,8 +50,8 @@ pub enum Reply {
     Same(bool),
     /// The origin of a value that was taken.
     Origin(Origin),
-    /// The number of the live step that last wrote a place, or `None` if none wrote it.
-    Writer(Option<u64>),
+    /// The number of the live step that a search found, or `None` if it found none.
+    Found(Search, Option<u64>),
     /// The content of a place.
     Content(Content),
     /// The record of an actor.

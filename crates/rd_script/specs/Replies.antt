@@ -8,6 +8,7 @@ use Rattle.rd_marks.specs.Names.{bytes_of}
 use Rattle.rd_marks.specs.declared.replies.Reply.{Reply}
 use Rattle.rd_marks.specs.declared.replies.Reply.TheVariants as reply
 use Rattle.rd_script.specs.declared.answers.AnyRefusal.{AnyRefusal}
+use Rattle.rd_script.specs.Grammar.{keyword_text, keyword_of_search}
 use Rattle.rd_script.specs.Texts.{spaced_number, yes_or_no}
 use Rattle.rd_script.specs.Contents.{content_words}
 use Rattle.rd_script.specs.Actors.{actor_words}
@@ -42,7 +43,7 @@ reply_words (reply.Marks count) = codes "marks" ++ spaced_number count
 reply_words (reply.Mark name len) = codes "mark " ++ bytes_of name ++ spaced_number len
 reply_words (reply.Same same) = codes "same " ++ yes_or_no same
 reply_words (reply.Origin origin) = origin_words origin
-reply_words (reply.Writer step) = number_or_none (codes "writer") step
+reply_words (reply.Found search step) = number_or_none (keyword_text (keyword_of_search search)) step
 reply_words (reply.Content content) = codes "is " ++ content_words content
 reply_words (reply.Actor actor) = actor_words actor
 reply_words (reply.Step number entry) = step_words number entry

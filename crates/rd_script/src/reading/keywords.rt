@@ -1,9 +1,17 @@
-//! Keywords: the first word of a line determines which kind of command the line spells. Also the
-//! forms of lines, as a help text lists them.
+//! Keywords: the first word of a line determines which kind of command the line spells, and how the
+//! words after it are read. Also the forms of lines, as a help text lists them.
 
-ghost use Rattle.std.specs.Prelude.{◌≡◌, ◌≢◌, IfSome, IfNone};
+ghost use Rattle.std.specs.Prelude.{◌≡◌, ◌≢◌, ◌≤◌, [], length, map, IfSome, IfNone};
 ghost use Rattle.rd_script.specs.declared.reading.keywords.Keyword.{Keyword as Word};
-ghost use Rattle.rd_script.specs.Grammar.{keyword_text};
+ghost use Rattle.rd_script.specs.Grammar.{keyword_text, keyword_of_search};
+ghost use Rattle.rd_script.specs.Reading.{ReadsCommand, ReadsNameless};
+
+use super::arguments::{
+    actor_and_choice, actor_and_value, byte_alone, name_alone, number_alone, two_names,
+};
+use super::places::place_in;
+use crate::faults::LineFault;
+use rd_marks::{Command, Search};
 
 /// The end of a help text: the forms of lines in six rows, and where the manual is.
 pub const FORMS: &str = "Lines of a script:\n  \
@@ -107,9 +115,19 @@ impl Keyword {
         None
     }
 
+    /// Returns the keyword of a search, with which its reply begins.
+    pub fn of_search(search: Search) -> Keyword
+        ensures { result ≡ keyword_of_search search }
+    {
+        match search {
+            Search::Writer => Keyword::Writer,
+        }
+    }
+
     /// Returns the text of the keyword.
     pub fn text(self) -> &'static [u8]
-        ensures { result.now ≡ keyword_text self }
+        ensures text { result.now ≡ keyword_text self }
+        ensures len { length result.now ≤ 7 }
     {
         match self {
             Keyword::Enq => b"enq",
@@ -136,5 +154,74 @@ impl Keyword {
             Keyword::Step => b"step",
             Keyword::Len => b"len",
         }
+    }
+}
+
+/// Returns the command that a keyword and the words after it spell. Fails with `BadLine` or
+/// `BadName`, as `command_in` does.
+#[tactic(auto, using(crate::proofs::NameReadLemmas::none_named))]
+pub fn read_command(keyword: Keyword, words: &[&[u8]]) -> Result<Command, LineFault>
+    ensures { ReadsCommand keyword (map (λ word. word.now) words.now) result }
+{
+    match keyword {
+        Keyword::Mark => Ok(Command::Mark(name_alone(words)?)),
+        Keyword::Drop => Ok(Command::DropMark(name_alone(words)?)),
+        Keyword::Goto => Ok(Command::GotoMark(name_alone(words)?)),
+        Keyword::Same => {
+            let (one, other) = two_names(words)?;
+            Ok(Command::Same(one, other))
+        }
+        _ => command_without_name(keyword, words).ok_or(LineFault::BadLine),
+    }
+}
+
+/// Returns the command that a keyword and the words after it spell, if names of bookmarks don't
+/// follow this keyword. `None` if they do, or if the words spell no command.
+fn command_without_name(keyword: Keyword, words: &[&[u8]]) -> Option<Command>
+    ensures { ReadsNameless keyword (map (λ word. word.now) words.now) result }
+{
+    Some(match keyword {
+        Keyword::Go => Command::Go(byte_alone(words)?),
+        Keyword::Enq => {
+            let (actor, value) = actor_and_value(words)?;
+            Command::Enq(actor, value)
+        }
+        Keyword::Deq => Command::Deq(byte_alone(words)?),
+        Keyword::ArrayEnq => {
+            let (actor, value) = actor_and_value(words)?;
+            Command::ArrayEnq(actor, value)
+        }
+        Keyword::ArrayDeq => Command::ArrayDeq(byte_alone(words)?),
+        Keyword::Starve => {
+            let (actor, choice) = actor_and_choice(words)?;
+            Command::Starve(actor, choice)
+        }
+        Keyword::Undo if words.is_empty() => Command::Undo,
+        Keyword::Undo => Command::UndoAt(number_alone(words)?),
+        Keyword::Roll => Command::Roll(number_alone(words)?),
+        Keyword::Back => Command::Back(number_alone(words)?),
+        Keyword::Redo => without_arguments(words, Command::Redo)?,
+        Keyword::Forward => Command::Forward(number_alone(words)?),
+        Keyword::Marks => without_arguments(words, Command::Marks)?,
+        Keyword::MarkAt => Command::MarkAt(number_alone(words)?),
+        Keyword::Origin => Command::Origin(number_alone(words)?),
+        Keyword::Writer => Command::Writer(place_in(words)?),
+        Keyword::Show => Command::Show(place_in(words)?),
+        Keyword::Actor => Command::Actor(byte_alone(words)?),
+        Keyword::Step => Command::Step(number_alone(words)?),
+        Keyword::Len => without_arguments(words, Command::Len)?,
+        Keyword::Mark | Keyword::Drop | Keyword::Goto | Keyword::Same => return None,
+    })
+}
+
+/// Returns this command, or `None` if there are words after its keyword.
+fn without_arguments(words: &[&[u8]], command: Command) -> Option<Command>
+    ensures some { IfSome result (λ c. (c ≡ command) × (map (λ word. word.now) words.now ≡ [])) }
+    ensures none { IfNone result (map (λ word. word.now) words.now ≢ []) }
+{
+    if words.is_empty() {
+        Some(command)
+    } else {
+        None
     }
 }

@@ -11,6 +11,7 @@ use super::contents::put_content;
 use super::numbers::{put_number, put_spaced, put_words_and_number, yes_or_no};
 use super::steps::{put_call_reply, put_step};
 use super::texts::{Text, put};
+use crate::reading::keywords::Keyword;
 use rd_actor::OpReply;
 use rd_marks::{EventReply, MarkName, Reply};
 use rd_origin::Origin;
@@ -38,7 +39,9 @@ pub fn put_reply(text: &mut Text, reply: &Reply)
             put(text, yes_or_no(same));
         }
         Reply::Origin(origin) => put_origin(text, origin),
-        Reply::Writer(step) => put_number_or_none(text, b"writer", step),
+        Reply::Found(search, step) => {
+            put_number_or_none(text, Keyword::of_search(search).text(), step);
+        }
         Reply::Content(content) => {
             put(text, b"is ");
             put_content(text, content);

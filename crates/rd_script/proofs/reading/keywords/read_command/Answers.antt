@@ -1,6 +1,6 @@
 use Rattle.std.proofs.Common.{arith}
 use Rattle.rd_script.proofs.NameReadLemmas.{names_refused}
-use Rattle.rd_script.proofs.reading.commands.read_command.Goals as goal
+use Rattle.rd_script.proofs.reading.keywords.read_command.Goals as goal
 
 pub returns-in_err-name_alone-in-Mark : goal.returns-in_err-name_alone-in-Mark
 returns-in_err-name_alone-in-Mark c = grind (arith, names_refused)
