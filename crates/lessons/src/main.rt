@@ -19,7 +19,7 @@ use std::sync::Wait;
 use std::thread::Threads;
 
 /// The lessons, in the order of reading: each has a page and a script of this name.
-const LESSONS: [&str; 16] = [
+const LESSONS: &[&str] = &[
     "01-one-enqueue-and-back",
     "02-empty-dequeue-repairs-tail",
     "03-refused-undo-names-dependant",
@@ -44,7 +44,7 @@ const GUIDE: &str = "guide";
 /// The session of README.md, the examples of docs/MANUAL.md, and two draws from the poised world:
 /// each has a script and a report of this name. The second part is whether it runs over the trace of
 /// this name.
-const SESSIONS: [(&str, bool); 7] = [
+const SESSIONS: &[(&str, bool)] = &[
     ("session", false),
     ("manual-1", false),
     ("manual-2", false),
@@ -55,7 +55,7 @@ const SESSIONS: [(&str, bool); 7] = [
 ];
 
 /// Mistakes in the guide's start: the text that is there, and the wrong text in its place.
-const MISTAKES: [(&str, &str); 6] = [
+const MISTAKES: &[(&str, &str)] = &[
     ("\"ring\": 2", "\"ring\": 4"),
     ("\"qtail\": [0, 0]", "\"qtail\": [1, 0]"),
     ("\"tail\": 2", "\"tail\": 4611686018427387905"),
@@ -102,37 +102,30 @@ const TRACE_END: &str = "```\n";
 /// Runs all lessons, the guide and the sessions, and prints a line for each. Fails if one is not as
 /// its page states.
 fn main(rt: HostRuntime) -> Result<ExitCode> {
-    let mut status = ExitCode::SUCCESS;
-    for name in LESSONS {
+    let mut all_right = true;
+    for &name in LESSONS {
         let right = is_as_its_page_says(&rt, rt.alloc(), name)?;
-        print_whether(&rt, name, right)?;
-        if !right {
-            status = ExitCode::FAILURE;
-        }
+        all_right &= print_whether(&rt, name, right)?;
     }
     let right = is_guide_as_it_says(&rt, rt.alloc())?;
-    print_whether(&rt, GUIDE, right)?;
-    if !right {
-        status = ExitCode::FAILURE;
-    }
-    for (name, over_trace) in SESSIONS {
+    all_right &= print_whether(&rt, GUIDE, right)?;
+    for &(name, over_trace) in SESSIONS {
         let right = is_as_its_report_says(&rt, rt.alloc(), name, over_trace)?;
-        print_whether(&rt, name, right)?;
-        if !right {
-            status = ExitCode::FAILURE;
-        }
+        all_right &= print_whether(&rt, name, right)?;
     }
-    Ok(status)
+    Ok(if all_right {
+        ExitCode::SUCCESS
+    } else {
+        ExitCode::FAILURE
+    })
 }
 
-/// Prints a line that states whether the replies are those of the page of this name.
-fn print_whether<R: Print>(rt: &R, name: &str, right: bool) -> Result<()> {
-    if right {
-        println!(rt; "{name}: as its page says")?;
-    } else {
-        println!(rt; "{name}: not as its page says")?;
-    }
-    Ok(())
+/// Prints a line that states whether the replies are those of the page of this name, and returns
+/// whether they are.
+fn print_whether<R: Print>(rt: &R, name: &str, right: bool) -> Result<bool> {
+    let word = if right { "as" } else { "not as" };
+    println!(rt; "{name}: {word} its page says")?;
+    Ok(right)
 }
 
 /// Whether the replies to a lesson's script are those of its page.
@@ -142,29 +135,60 @@ fn is_as_its_page_says<R: Files + Alloc<A = Global> + Threads + Wait + Sync>(
     name: &str,
 ) -> Result<bool> {
     let page = page_of(rt, alloc, name)?;
-    if page.contains(TWO_STARTS) {
-        let blocks = blocks_of_starts(rt, alloc, name)?;
-        return Ok(has_exactly(page.as_str(), blocks.as_slice()));
-    }
-    let mut blocks = Vec::new(alloc);
-    if page.contains(TWO_VIEWERS) {
-        blocks.push(table_of_viewers(rt, alloc, name)?)?;
-        return Ok(has_exactly(page.as_str(), blocks.as_slice()));
-    }
-    let script = fs::read_to_string(rt, format!(in alloc; "{name}.script")?.as_str())?;
-    let replies = if page.contains(TRACE) {
-        let trace = fs::read_to_string(rt, format!(in alloc; "{name}.trace")?.as_str())?;
-        if page.contains(TRACE_HEAD) {
-            blocks.push(block_of(alloc, &trace)?)?;
-        }
-        replies_over(alloc, &trace, &script)?
-    } else if page.contains(RING_OF_TWO) {
-        report_from_start(alloc, Ring::Two, &script, false)?
-    } else {
-        report_from_start(alloc, Ring::Four, &script, false)?
-    };
-    blocks.push(table_of(alloc, &script, &replies)?)?;
+    let blocks = blocks_of_lesson(rt, alloc, name, page.as_str())?;
     Ok(has_exactly(page.as_str(), blocks.as_slice()))
+}
+
+/// Returns the traces and the tables that a lesson's page must have, in order.
+fn blocks_of_lesson<R: Files + Alloc<A = Global> + Threads + Wait + Sync>(
+    rt: &R,
+    alloc: Global,
+    name: &str,
+    page: &str,
+) -> Result<Vec<String>> {
+    if page.contains(TWO_STARTS) {
+        return blocks_of_starts(rt, alloc, name);
+    }
+    if page.contains(TRACE) {
+        return blocks_over_trace(rt, alloc, name, page.contains(TRACE_HEAD));
+    }
+    let table = if page.contains(TWO_VIEWERS) {
+        table_of_viewers(rt, alloc, name)?
+    } else if page.contains(RING_OF_TWO) {
+        table_from_start(rt, alloc, Ring::Two, name)?
+    } else {
+        table_from_start(rt, alloc, Ring::Four, name)?
+    };
+    Ok(vec![in alloc; table]?)
+}
+
+/// Returns the table of a lesson over the run of its trace, after the trace if the page shows it.
+fn blocks_over_trace<R: Files + Alloc<A = Global>>(
+    rt: &R,
+    alloc: Global,
+    name: &str,
+    shows_trace: bool,
+) -> Result<Vec<String>> {
+    let trace = fs::read_to_string(rt, format!(in alloc; "{name}.trace")?.as_str())?;
+    let mut blocks = Vec::new(alloc);
+    if shows_trace {
+        blocks.push(block_of(alloc, &trace)?)?;
+    }
+    let script = format!(in alloc; "{name}.script")?;
+    push_run_over(rt, alloc, &mut blocks, &trace, script.as_str())?;
+    Ok(blocks)
+}
+
+/// Returns the table of a lesson over the fresh world with rings of this size.
+fn table_from_start<R: Files + Alloc<A = Global>>(
+    rt: &R,
+    alloc: Global,
+    ring: Ring,
+    name: &str,
+) -> Result<String> {
+    let script = fs::read_to_string(rt, format!(in alloc; "{name}.script")?.as_str())?;
+    let replies = report_from_start(alloc, ring, &script, false)?;
+    table_of(alloc, &script, &replies)
 }
 
 /// Reads the page of this name, and leaves out what the rows of its tables of lines say in words.
@@ -331,7 +355,7 @@ fn block_of(alloc: Global, trace: &str) -> Result<String> {
 /// Returns the table of mistakes in a trace, and the empty line after it.
 fn table_of_mistakes(alloc: Global, trace: &str) -> Result<String> {
     let mut table = String::from_str(alloc, MISTAKES_HEAD)?;
-    for (right, wrong) in MISTAKES {
+    for &(right, wrong) in MISTAKES {
         let answer = match trace.split_once(right) {
             None => String::new(alloc),
             Some((before, behind)) => {
