@@ -2,7 +2,7 @@
 //! closing; the calls are in `asking`.
 
 ghost use Rattle.std.specs.Prelude.{◌≡◌, ◌<◌, ◌≤◌, ◌^◌, map, IfOk, IfErr, IsOk};
-ghost use Rattle.rd_lock.specs.Histories.{AreAll, AreComparable};
+ghost use Rattle.rd_lock.specs.Lists.{AreAll, AreComparable};
 ghost use Rattle.std.specs.List.{AllByRecursion};
 ghost use Rattle.rd_lock.specs.Locks.{number as number_of, seen, served_seen, IsSamePass};
 ghost use Rattle.rd_lock.specs.Opening.{IsOpened, IsClosedOver, HasSeenUpTo};

@@ -1,5 +1,6 @@
 pub mod Prelude
 pub mod Lists
+pub mod Histories
 pub mod Facts
 pub mod Keeps
 pub mod Looks

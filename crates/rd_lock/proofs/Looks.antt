@@ -1,6 +1,7 @@
 -- Loads of the words, and views that change only in what their members know.
 use Rattle.rd_lock.proofs.Prelude.{AllByRecursion, Apart, ◌≡◌, ◌≢◌, ℕ, ◌^◌, ◌≤◌, List, map, set, sym, refl, ap, ◌∙◌, arith, Option, map-map, Allows, AreComparable, Facts, IsAloneAt, IsKept, IsNewestNext, IsNewestServed, LoadsNext, LoadsServed, Lock, LockRule, Me, MemberFits, Out, PassView, Stage, StageFits, View, ViewFits, after_next, after_served, get_elem?, with_next_seen, with_served_seen, numbers_of, some, ticket, view_of}
-use Rattle.rd_lock.proofs.Lists.{every_from, every_map, pairwise_map, pairwise_all, in_order}
+use Rattle.rd_lock.proofs.Lists.{every_from, every_map, pairwise_map, pairwise_all}
+use Rattle.rd_lock.proofs.Histories.{in_order}
 use Rattle.rd_lock.proofs.Keeps.{allowed, moved, place_still, still, unmoved}
 
 module _ {E O : Type 0} where

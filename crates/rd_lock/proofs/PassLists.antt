@@ -1,25 +1,16 @@
 -- Lists of passes, and the members of their seats.
-use Rattle.rd_lock.proofs.Prelude.{AllByRecursion, Ghosts, Lock, LockRule, Out, Pass, PassView, Splits, View, first_of_members, me, newcomer, newcomers, numbers, other_members, view_of, ◌≡◌, ℕ, zero, suc, ◌+◌, ◌-◌, ◌<◌, List, [], ◌∷◌, ◌++◌, map, sym, ap, ◌∙◌, subst, arith, append_assoc, map-append}
+use Rattle.rd_lock.proofs.Prelude.{length, refl, drop, take, Ghosts, Lock, LockRule, Out, Pass, PassView, Splits, View, me, newcomer, newcomers, numbers, view_of, ◌≡◌, ℕ, zero, suc, ◌+◌, ◌-◌, ◌<◌, List, [], ◌∷◌, ◌++◌, map, sym, ap, ◌∙◌, subst, arith, append_assoc, map-append}
 use Rattle.rd_lock.proofs.Lists.{one_of}
 use Rattle.rd_lock.proofs.Seats.{splits}
-
-module _ {A : Type 0} where
-  pub every_front : (P : A → Type 0) (xs ys : List A) → AllByRecursion P (xs ++ ys) → AllByRecursion P xs
-  every_front P [] ys h = tt
-  every_front P (x ∷ xs) ys h = (h.0, every_front P xs ys h.1)
-
-  pub every_back : (P : A → Type 0) (xs ys : List A) → AllByRecursion P (xs ++ ys) → AllByRecursion P ys
-  every_back P [] ys h = h
-  every_back P (x ∷ xs) ys h = every_back P xs ys h.1
-
-  -- what holds of each element of a mapped list holds of the image of each element
-  pub of_each : {B : Type 0} (f : A → B) (P : B → Type 0) (xs : List A) → AllByRecursion P (map f xs) → AllByRecursion (λ x. P (f x)) xs
-  of_each f P [] h = tt
-  of_each f P (x ∷ xs) h = (h.0, of_each f P xs h.1)
 
 pub numbers_more : (k n : ℕ) → numbers k (n + 1) ≡ numbers k n ++ (k + n) ∷ []
 numbers_more k zero = grind arith
 numbers_more k (suc n) = grind (arith, numbers_more (suc k) n)
+
+-- there are n numbers from k on
+pub length-numbers : (k n : ℕ) → length (numbers k n) ≡ n
+length-numbers k zero = refl
+length-numbers k (suc n) = ap suc (length-numbers (suc k) n)
 
 module _ {E O : Type 0} where
   -- while fewer passes than seats are handed out, the first seat has the next one
@@ -30,8 +21,8 @@ module _ {E O : Type 0} where
 module _ {T E O : Type 0} (lock : Lock T E O) where
   open lock use {history, origin, seats, root}
 
-  pub splits_it : (id : ℕ) (v : View E O) (p : PassView E O) (ps : List (PassView E O)) → v.stage ≡ Out → v.members ≡ p ∷ ps → Splits (LockRule lock) id v (view_of (other_members v.members) Out) (view_of (first_of_members v.members) Out)
-  splits_it id v p ps out is = subst (λ (x : View E O). Splits (LockRule lock) id x (view_of (other_members x.members) Out) (view_of (first_of_members x.members) Out)) (λ i. view_of (sym is i) (sym out i))
+  pub splits_it : (id : ℕ) (v : View E O) (p : PassView E O) (ps : List (PassView E O)) → v.stage ≡ Out → v.members ≡ p ∷ ps → Splits (LockRule lock) id v (view_of (drop 1 v.members) Out) (view_of (take 1 v.members) Out)
+  splits_it id v p ps out is = subst (λ (x : View E O). Splits (LockRule lock) id x (view_of (drop 1 x.members) Out) (view_of (take 1 x.members) Out)) (λ i. view_of (sym is i) (sym out i))
       (splits lock id p ps)
 
 module _ {T E O : Type 0} {K : Ghosts T E O} where

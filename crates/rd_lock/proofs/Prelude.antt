@@ -1,6 +1,6 @@
 -- The words that several proofs of the crate use: definitions of this crate and of those below,
 -- generated types and their variants, and lemmas of these crates and of std.
-pub use Rattle.std.proofs.Common.{List, Option, Some, [], add-zero, ap, append_assoc, arith, cond, eq-eqb, eqb, get_or, inl, inr, length, map, ne_eqb, refl, rules, set, subst, suc, sym, vec_capacity, vec_len, zero, ℕ, ⊎_elim, ◌%◌, ◌++◌, ◌+◌, ◌-◌, ◌<◌, ◌^◌, ◌∙◌, ◌∷◌, ◌≡◌, ◌≢◌, ◌≤◌, ◌⊎◌}
+pub use Rattle.std.proofs.Common.{drop, take, List, Option, Some, [], add-zero, ap, append_assoc, arith, cond, eq-eqb, eqb, get_or, inl, inr, length, map, ne_eqb, refl, rules, set, subst, suc, sym, vec_capacity, vec_len, zero, ℕ, ⊎_elim, ◌%◌, ◌++◌, ◌+◌, ◌-◌, ◌<◌, ◌^◌, ◌∙◌, ◌∷◌, ◌≡◌, ◌≢◌, ◌≤◌, ◌⊎◌}
 pub use Rattle.std.proofs.lemmas.Grind.{common_steps}
 pub use Rattle.std.proofs.lemmas.List.{append-nil, map-append, nil_from_length}
 pub use Rattle.std.proofs.lemmas.Simd.{map-map}
@@ -13,10 +13,11 @@ pub use Rattle.atomic_table.specs.Table.{Act, Allows, Final, Joins, Me, Seen, Sp
 pub use lib.ListN.{get_elem?}
 pub use native.Mathlib.Decide.{ℕ_discrete}
 pub use prog.Atomic.{either}
-pub use Rattle.rd_lock.specs.Histories.{Adds, AreAll, AreComparable, Continues, IsIn, NamesUpTo, Pairwise, numbers, only, placed, put_by, signed}
+pub use Rattle.rd_lock.specs.Histories.{Adds, Continues, NamesUpTo, placed, put_by, signed}
+pub use Rattle.rd_lock.specs.Lists.{AreAll, AreComparable, IsIn, Pairwise, numbers, only}
 pub use Rattle.rd_lock.specs.Locks.{IsOut, IsPassOf, IsSamePass, IsWaiting, me, next_seen, number, seen}
 pub use Rattle.rd_lock.specs.Opening.{IsClosedOver, IsEnded, IsEndedWith}
-pub use Rattle.rd_lock.specs.Rule.{Apart, Facts, HasPass, HasTicket, IsAloneAt, IsKept, IsPlaced, KnowsOpening, Lock, LockRule, MemberFits, Place, StageFits, ViewFits, away, first_of_members, home, in_hand, lock_of, newcomer, newcomers, numbers_of, opening_view, other_members, single_slot, ticket, view_of}
+pub use Rattle.rd_lock.specs.Rule.{Apart, Facts, HasPass, HasTicket, IsAloneAt, IsKept, IsPlaced, KnowsOpening, Lock, LockRule, MemberFits, Place, StageFits, ViewFits, away, home, in_hand, lock_of, newcomer, newcomers, numbers_of, opening_view, single_slot, ticket, view_of}
 pub use Rattle.rd_lock.specs.Steps.{Draws, IsFound, IsNewestNext, IsNewestServed, LoadsNext, LoadsServed, Polls, Releases, Tries, after_next, after_served, with_put, with_next_seen, with_served_seen}
 pub use Rattle.rd_lock.specs.declared.passes.Pass.{Pass}
 pub use Rattle.rd_lock.specs.declared.views.PassView.{PassView}

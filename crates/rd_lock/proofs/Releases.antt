@@ -1,6 +1,7 @@
 -- The release, which gives the value back.
 use Rattle.rd_lock.proofs.Prelude.{Adds, Allows, Continues, Facts, Holds, IsKept, KnowsOpening, Lock, LockRule, Me, MemberFits, NamesUpTo, Out, PassView, Place, Releases, View, get_elem?, gives, with_put, home, homes_after, only, signed, single_slot, some, some-injective, ticket, view_of, ◌≡◌, ◌≢◌, ℕ, ◌+◌, ◌%◌, ◌^◌, ◌<◌, ◌≤◌, List, [], ◌∷◌, ◌++◌, sym, refl, ap, ◌∙◌, subst, arith, Some, length, Option}
-use Rattle.rd_lock.proofs.Lists.{one_of, every_append, continues_same, continues_on, signed_all}
+use Rattle.rd_lock.proofs.Lists.{one_of, every_append}
+use Rattle.rd_lock.proofs.Histories.{continues_same, continues_on, signed_all}
 use Rattle.rd_lock.proofs.Keeps.{allowed, moved, Owed, still}
 use Rattle.rd_lock.proofs.Looks.{others_fit, one_seat, newest_served}
 

@@ -1,3 +1,4 @@
+pub mod Lists
 pub mod Histories
 pub mod Rule
 pub mod Steps

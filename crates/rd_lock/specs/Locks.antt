@@ -6,7 +6,8 @@ use Rattle.rd_lock.specs.declared.views.Stage.TheVariants.{Out, Waits, Holds}
 use Rattle.rd_lock.specs.declared.passes.Pass.{Pass}
 use Rattle.rd_lock.specs.declared.locks.TicketLock.{TicketLock}
 use Rattle.rd_lock.specs.declared.tickets.TryTakeError.{TryTakeError}
-use Rattle.rd_lock.specs.Histories.{only, put_by, signed, placed, Adds, Continues}
+use Rattle.rd_lock.specs.Lists.{only}
+use Rattle.rd_lock.specs.Histories.{put_by, signed, placed, Adds, Continues}
 use Rattle.rd_lock.specs.Rule.{KnowsOpening}
 
 module _ {T E O : Type 0} where

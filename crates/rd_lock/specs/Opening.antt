@@ -7,7 +7,8 @@ use Rattle.rd_lock.specs.declared.views.Recorded.{Ghosts}
 use Rattle.rd_lock.specs.declared.passes.Pass.{Pass}
 use Rattle.rd_lock.specs.declared.tickets.Busy.{Busy}
 use Rattle.rd_lock.specs.declared.locks.TicketLock.{TicketLock}
-use Rattle.rd_lock.specs.Histories.{AreAll, Continues, NamesUpTo, numbers}
+use Rattle.rd_lock.specs.Lists.{AreAll, numbers}
+use Rattle.rd_lock.specs.Histories.{Continues, NamesUpTo}
 use Rattle.rd_lock.specs.Rule.{Lock, numbers_of}
 use Rattle.std.specs.List.{AllByRecursion}
 use Rattle.rd_lock.specs.Locks.{number, seen, next_seen, served_seen, seats, opened_origin, IsOut, IsPassOf}

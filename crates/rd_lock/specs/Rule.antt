@@ -9,7 +9,8 @@ use Rattle.rd_lock.specs.declared.views.PassView.{PassView}
 use Rattle.rd_lock.specs.declared.views.View.{View}
 use Rattle.rd_lock.specs.declared.views.Stage.{Stage}
 use Rattle.rd_lock.specs.declared.views.Stage.TheVariants.{Out, Waits, Holds}
-use Rattle.rd_lock.specs.Histories.{Pairwise, IsIn, Continues, NamesUpTo}
+use Rattle.rd_lock.specs.Lists.{Pairwise, IsIn}
+use Rattle.rd_lock.specs.Histories.{Continues, NamesUpTo}
 use Rattle.std.specs.List.{AllByRecursion}
 
 -- what never changes of a lock: how the history and the origin of a value are read, the number of
@@ -61,16 +62,6 @@ module _ {E O : Type 0} where
   abbrev pub KnowsOpening : ℕ → O → PassView E O → Type 0
   KnowsOpening seats root p = (p.seats ≡ seats) × (p.origin ≡ root)
 
-  -- the list of the first member alone, if there is one
-  abbrev pub first_of_members : List (PassView E O) → List (PassView E O)
-  first_of_members [] = []
-  first_of_members (p ∷ ps) = p ∷ []
-
-  -- all members except the first
-  abbrev pub other_members : List (PassView E O) → List (PassView E O)
-  other_members [] = []
-  other_members (p ∷ ps) = ps
-
   -- no two members are the same pass
   abbrev pub Apart : List (PassView E O) → Type 0
   Apart ps = Pairwise (λ (p q : PassView E O). q.pass ≢ p.pass) ps
@@ -81,13 +72,9 @@ module _ {E O : Type 0} where
   IsAloneAt (Waits t) ps = (p : PassView E O) × (ps ≡ p ∷ [])
   IsAloneAt (Holds t found) ps = (p : PassView E O) × (ps ≡ p ∷ [])
 
-  -- the seat of this number has this view
-  abbrev pub HasView : List (View E O) → ℕ → View E O → Type 0
-  HasView views seat v = get_elem? views seat ≡ some v
-
   -- the seat of this number waits or holds by the ticket
   abbrev pub HasTicket : List (View E O) → ℕ → ℕ → Type 0
-  HasTicket views seat t = (v : View E O) × HasView views seat v × (ticket v.stage ≡ some t)
+  HasTicket views seat t = (v : View E O) × (get_elem? views seat ≡ some v) × (ticket v.stage ≡ some t)
 
   -- the pass numbers of these members
   abbrev pub numbers_of : List (PassView E O) → List ℕ
@@ -95,7 +82,7 @@ module _ {E O : Type 0} where
 
   -- the seat of this number has this pass as a member
   abbrev pub HasPass : List (View E O) → ℕ → ℕ → Type 0
-  HasPass views seat pass = (v : View E O) × HasView views seat v × IsIn pass (numbers_of v.members)
+  HasPass views seat pass = (v : View E O) × (get_elem? views seat ≡ some v) × IsIn pass (numbers_of v.members)
 
   -- what this pass knows of a lock that was just opened with this many seats, this origin and both
   -- words at `first`: it has seen no history
@@ -165,7 +152,7 @@ module _ {T E O : Type 0} (lock : Lock T E O) where
   -- with a seat that holds by the ticket `served`
   abbrev pub IsPlaced : Facts T E → List (View E O) → Place T → Type 0
   IsPlaced f views (home x) = (lock.history x ≡ f.log) × (lock.origin x ≡ lock.root)
-  IsPlaced f views (away seat) = (v : View E O) × HasView views seat v × (v.stage ≡ Holds f.served f.log)
+  IsPlaced f views (away seat) = (v : View E O) × (get_elem? views seat ≡ some v) × (v.stage ≡ Holds f.served f.log)
 
   -- the invariant of the lock, apart from what its words and its slot contain
   pub record IsKept (f : Facts T E) (views : List (View E O)) : Type 0 where
@@ -175,7 +162,7 @@ module _ {T E O : Type 0} (lock : Lock T E O) where
     -- each entry names a pass from 1 to the number of seats
     pub names : NamesUpTo lock.seats f.log
     -- what each seat knows agrees with the facts
-    pub each_view : (seat : ℕ) (v : View E O) → HasView views seat v → ViewFits f seat v
+    pub each_view : (seat : ℕ) (v : View E O) → get_elem? views seat ≡ some v → ViewFits f seat v
     -- each pass is a member of its seat
     pub each_pass : (pass : ℕ) → 0 < pass → pass ≤ lock.seats → HasPass views (f.owner pass) pass
     -- each ticket from `served` to below `next` belongs to its seat, which waits or holds by it

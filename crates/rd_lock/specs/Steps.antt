@@ -15,7 +15,8 @@ use Rattle.rd_lock.specs.declared.views.PassView.{PassView}
 use Rattle.rd_lock.specs.declared.views.View.{View}
 use Rattle.rd_lock.specs.declared.views.Stage.{Stage}
 use Rattle.rd_lock.specs.declared.views.Stage.TheVariants.{Out, Waits, Holds}
-use Rattle.rd_lock.specs.Histories.{Pairwise, Continues, AreComparable}
+use Rattle.rd_lock.specs.Lists.{Pairwise, AreComparable}
+use Rattle.rd_lock.specs.Histories.{Continues}
 use Rattle.std.specs.List.{AllByRecursion}
 use Rattle.rd_lock.specs.Rule.{view_of}
 

@@ -1,6 +1,6 @@
 //! The meeting of two passes, which puts what they have seen in order.
 ghost use Rattle.std.specs.Prelude.{◌≡◌, ◌≤◌};
-ghost use Rattle.rd_lock.specs.Histories.{AreComparable};
+ghost use Rattle.rd_lock.specs.Lists.{AreComparable};
 ghost use Rattle.rd_lock.specs.Locks.{seen, served_seen, IsOut, IsPassOf, IsSamePass};
 
 use super::locks::TicketLock;

@@ -1,7 +1,7 @@
 //! Opening a lock, and closing it.
 ghost use Rattle.std.specs.Prelude.{◌≡◌, ◌<◌, ◌≤◌, ◌^◌, [], map, IfOk, IfErr, IsOk};
 ghost use Rattle.rd_lock.specs.Opening.{IsOpened, IsClosedOver, HasSeenUpTo};
-ghost use Rattle.rd_lock.specs.Histories.{AreAll};
+ghost use Rattle.rd_lock.specs.Lists.{AreAll};
 ghost use Rattle.std.specs.List.{AllByRecursion};
 ghost use Rattle.rd_lock.specs.Locks.{number as number_of, opened_origin, seats as seats_of, IsPassOf, IsOut};
 

@@ -1,6 +1,6 @@
 //! Passes: a pass is one party's right to take the value of a lock.
 ghost use Rattle.std.specs.Prelude.{◌≡◌, length};
-ghost use Rattle.rd_lock.specs.Histories.{only};
+ghost use Rattle.rd_lock.specs.Lists.{only};
 ghost use Rattle.rd_lock.specs.Rule.{in_hand};
 
 use super::views::{Recorded, View};

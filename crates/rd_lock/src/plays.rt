@@ -70,10 +70,11 @@ impl<E, O> Join<View<E, O>> for Joins {
 pub struct Parts;
 
 impl<E, O> Split<View<E, O>> for Parts {
-    ghost use Rattle.rd_lock.specs.Rule.{view_of, first_of_members, other_members};
+    ghost use Rattle.std.specs.Prelude.{drop, take};
+    ghost use Rattle.rd_lock.specs.Rule.{view_of};
     ghost use Rattle.rd_lock.specs.declared.views.Stage.TheVariants.{Out};
 
-    ghost left = { λ v. view_of (other_members v.members) Out };
+    ghost left = { λ v. view_of (drop 1 v.members) Out };
 
-    ghost right = { λ v. view_of (first_of_members v.members) Out };
+    ghost right = { λ v. view_of (take 1 v.members) Out };
 }

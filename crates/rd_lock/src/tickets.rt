@@ -134,7 +134,7 @@ impl<T: Recorded> TicketLock<T> {
     ///
     /// The pass must be this lock's, and hold. The value must have the lock's origin, and the
     /// history with which the pass found it, followed by entries of this pass only.
-    #[tactic(auto, using(crate::proofs::Lists::own_signed))]
+    #[tactic(auto, using(crate::proofs::Histories::own_signed))]
     pub fn put_back(&self, pass: &mut Pass<T>, value: T)
         requires own { IsPassOf self.now pass.old }
         requires value { MayPutBack self.now pass.old value }

@@ -91,8 +91,3 @@ module _ (R : ℕ) (K : Ghosts (BookWithHistory R) Call (Book R)) (desk : Desk R
   all_answered history n (viewer ∷ work) ((pass, None) ∷ dones) (lines ∷ said) pairs new is read knows =
       (let first : number viewer.0 ≡ n = cc in own_same n [] (entries history) (rw (pairs.0.1, first, new.0.has_seen) at knows.0), all_answered history (suc n) work dones said pairs.1 new.1 (cc) (cc) knows.1)
   all_answered history n _ _ said pairs new is read knows = absurd pairs
-
--- there are n numbers from k on
-pub length-numbers : (k n : ℕ) → length (numbers k n) ≡ n
-length-numbers k zero = refl
-length-numbers k (suc n) = ap suc (length-numbers (suc k) n)

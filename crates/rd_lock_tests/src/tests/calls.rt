@@ -1,7 +1,7 @@
 //! The calls that the tests make, each with what it must answer.
 ghost use Rattle.std.specs.Prelude.{◌≡◌, ℕ, ◌-◌, ◌<◌, map};
 ghost use Rattle.std.specs.List.{AllByRecursion};
-ghost use Rattle.rd_lock.specs.Histories.{numbers};
+ghost use Rattle.rd_lock.specs.Lists.{numbers};
 ghost use Rattle.rd_lock.specs.Locks.{number, IsHolding, IsOut, IsPassOf};
 ghost use Rattle.rd_lock.specs.Opening.{IsNewPass};
 

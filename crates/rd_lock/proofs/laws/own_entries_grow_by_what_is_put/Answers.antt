@@ -1,4 +1,4 @@
-use Rattle.rd_lock.proofs.Lists.{own_grows, own_signed}
+use Rattle.rd_lock.proofs.Histories.{own_grows, own_signed}
 use Rattle.rd_lock.proofs.laws.own_entries_grow_by_what_is_put.Goals as goal
 
 pub returns-clause-named : goal.returns-clause-named

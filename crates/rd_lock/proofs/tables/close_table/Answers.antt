@@ -1,8 +1,8 @@
 use Rattle.rd_lock.proofs.Prelude.{◌≡◌, [], ◌∷◌, ◌++◌, map, sym, ap, ◌∙◌, subst, arith, map-append, AllByRecursion, IsEndedWith, IsOut, in_hand, lock_of, me}
 use Rattle.std.specs.Mem.Slots.{slots_items}
 use Rattle.rd_lock.proofs.Ends.{ends, ends_alone}
-use Rattle.rd_lock.proofs.Lists.{one_of}
-use Rattle.rd_lock.proofs.PassLists.{every_back, every_front, popped}
+use Rattle.rd_lock.proofs.Lists.{every_back, every_front, one_of}
+use Rattle.rd_lock.proofs.PassLists.{popped}
 use Rattle.rd_lock.proofs.Seats.{joins}
 use Rattle.rd_lock.proofs.tables.close_table.Goals as goal
 

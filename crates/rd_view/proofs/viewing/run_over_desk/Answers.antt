@@ -1,6 +1,7 @@
 use Rattle.rd_view.proofs.Prelude.{book_state, book_with_history_send, crosses, desk_sync, length-map, number, number_of, opened_state, seat_send, sendable, ∥∥₁_map, ◌≡◌, ◌∙◌, length, map, ap, sym, arith}
 use Rattle.rd_desk.specs.contracts.recording.BookWithHistoryRecorded.TheImpl as Recorded
-use Rattle.rd_view.proofs.ViewingLemmas.{all_answered, new_may_ask, own_passes, length-numbers}
+use Rattle.rd_lock.proofs.PassLists.{length-numbers}
+use Rattle.rd_view.proofs.ViewingLemmas.{all_answered, new_may_ask, own_passes}
 use Rattle.rd_view.proofs.viewing.run_over_desk.Goals as goal
 
 pub passes_with_commands-requires : goal.passes_with_commands-requires

@@ -1,5 +1,5 @@
 use Rattle.rd_lock.proofs.Prelude.{◌≡◌, sym, subst, arith, map-map, AreAll, IsClosedOver, me}
-use Rattle.rd_lock.proofs.PassLists.{of_each}
+use Rattle.rd_lock.proofs.Lists.{of_each}
 use Rattle.rd_lock.proofs.locks.TicketLock.close.Goals as goal
 
 pub returns-then-served-next-clause-err : goal.returns-then-served-next-clause-err

@@ -2,10 +2,10 @@ use Rattle.std.proofs.Common.{◌≡◌, ℕ, zero, suc, ◌+◌, ◌-◌, List,
 use Rattle.std.specs.List.{AllByRecursion}
 use Rattle.rd_lock.specs.declared.views.Recorded.{Ghosts}
 use Rattle.rd_lock.specs.declared.passes.Pass.{Pass}
-use Rattle.rd_lock.specs.Histories.{numbers}
+use Rattle.rd_lock.specs.Lists.{numbers}
 use Rattle.rd_lock.specs.Locks.{number}
 use Rattle.rd_lock.specs.Opening.{IsNewPass}
-use Rattle.rd_lock.proofs.PassLists.{every_back}
+use Rattle.rd_lock.proofs.Lists.{every_back}
 use Rattle.rd_lock_tests.proofs.tests.calls.last_pass.Goals as goal
 
 module _ {T E O : Type 0} {K : Ghosts T E O} where
