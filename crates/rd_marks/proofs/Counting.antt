@@ -168,7 +168,7 @@ module _ (ss : List Stretch) (rule : AreNested ss) where
               let m = mapped_contains (λ (m : MarkName × Node). m.1) ms p.0 p.1 in
               (m.0, m.1, grind (arith, take-take))
           | inl less ↦
-              let next : length (stretch_list ss i) ≤ shared_at ss (suc i) = omega (arith, needed i inside, less) in
+              let next : length (stretch_list ss i) ≤ shared_at ss (suc i) = omega (arith, needed i (omega arith) inside, less) in
               elim (cases_lt (suc i) (length ss)) [
                 | inr past ↦ absurd (omega (arith, shared_past ss (suc i) past, next, rule.some i inside))
                 | inl more ↦
@@ -229,7 +229,7 @@ greatest_bound (p ∷ ps) n = omega (arith, (greatest_one p ps n).0, greatest_bo
 module _ (ss : List Stretch) (rule : AreNested ss) (nodes : List Node) (needed : AreNeeded ss nodes) where
   count_bound : (n : ℕ) → n ≤ length ss → length (lists_to ss n) ≤ shared_at ss n + greatest_to nodes n
   count_bound zero h = omega arith
-  count_bound (suc n) h = omega (arith, count_bound n (omega (arith, h)), total ss rule n, lists_length ss n, needed n (omega (arith, h)))
+  count_bound (suc n) h = omega (arith, count_bound n (omega (arith, h)), total ss rule n, lists_length ss n, needed n (omega arith) (omega (arith, h)))
 
   pub count_bounded : entry_count ss ≤ sum_by (λ (p : Node). p.number) nodes
   count_bounded =

@@ -1,6 +1,8 @@
 -- The marks of a list of names with entries: looking one up, adding one and removing one.
-use Rattle.rd_marks.proofs.Prelude.{inr, is_ok, ◌⊎◌, ◌≢◌, suc, Result, Err, IsOk, IfErr, ne_eqb, ◌≡◌, ℕ, Bool, true, false, cond, map, refl, sym, ap, ◌∙◌, subst, List, [], ◌∷◌, ◌++◌, length, is_some, option_map, Option, Some, All, slice_get, arith, lookup, remove_entry, remove_key, All-cons, All-head, All-tail, Entry, Event, MarkName, mark_name_eq, eq-eqb, false≢true, get_or_from_slice_get, slice_get-map, slice_get_within, Refusal, World, MOST_MARKS, Begins, Mark, BookState, marked_events, mark, goto_mark, MakesSteps, AnswersSame, marks_of, events, Node, book_state, entries_in, LacksRoomFor, MayRefuseToGo, IsInPieces, Book, numbered, Ok}
+use Rattle.rd_marks.specs.declared.commands.Command.TheVariants.{GotoMark}
+use Rattle.rd_marks.proofs.Prelude.{inr, is_ok, ◌⊎◌, ◌≢◌, suc, Result, Err, IsOk, IfErr, ne_eqb, ◌≡◌, ℕ, Bool, true, false, cond, map, refl, sym, ap, ◌∙◌, subst, List, [], ◌∷◌, ◌++◌, length, is_some, option_map, Option, Some, All, slice_get, arith, lookup, remove_entry, remove_key, map-id, Entry, Event, MarkName, mark_name_eq, eq-eqb, false≢true, get_or_from_slice_get, slice_get-map, slice_get_within, Refusal, World, MOST_MARKS, Begins, Mark, BookState, marked_events, mark, goto_mark, MakesSteps, AnswersSame, marks_of, events, Node, book_state, entries_at, stretches_in, LacksRoomFor, MayRefuseAsGoing, AreInPieces, Book, numbered, Ok}
 use Rattle.std.proofs.lemmas.Map.Entries.{All-lookup}
+use Rattle.std.proofs.lemmas.Map.Views.{All-map-remove_entry}
 use Rattle.rd_cell.specs.declared.refusal.Refusal.TheVariants as refusal
 
 -- the mark with a name and the events of its entries
@@ -22,8 +24,7 @@ removed_mapped f test (m ∷ ms) = grind (arith, cond, removed_mapped f test ms)
 
 -- a fact about all entries holds of those that are left after a removal
 pub all_without : {K V : Type 0} (test : K → Bool) (P : K × V → Type 0) (ms : List (K × V)) → All P ms → All P (remove_entry test ms)
-all_without test P [] h = h
-all_without test P (m ∷ ms) h = grind (arith, cond, All-tail P m ms h, All-cons P m (remove_entry test ms) (All-head P m ms h) (all_without test P ms (All-tail P m ms h)))
+all_without test P ms h = subst (All P) (map-id (remove_entry test ms)) (All-map-remove_entry test (λ m. m) P ms (subst (All P) (sym (map-id ms)) h))
 
 pub all_found : {K V : Type 0} (test : K → Bool) (P : V → Type 0) (ms : List (K × V)) (v : V) → All (λ m. P m.1) ms → lookup test ms ≡ Some v → P v
 all_found test P ms v h found = rw found at (All-lookup P test ms h)
@@ -90,9 +91,9 @@ mark_too_many b name new h = rw (new, eq-eqb (length b.marks) MOST_MARKS h) refl
 pub mark_refused : {P : Type 0} (b : BookState) (name : MarkName) (refusal : Refusal) → mark b name ≡ Err refusal → IsOk (mark b name) → P
 mark_refused b name refusal h goes = absurd (false≢true (sym (ap is_ok h) ∙ goes))
 
--- a refusal with NoMemory on the way to a mark is one that `MayRefuseToGo` allows
-pub goto_lacks : {R : ℕ} {X : Type 0} (r : Result X Refusal) (b : Book R) (name : MarkName) (node : Node) → marked_events (book_state b).marks name ≡ Some (events (entries_in b.bookmarks node))
-    → IfErr r (λ cause. (cause ≡ refusal.NoMemory) × (LacksRoomFor b.session (events (entries_in b.bookmarks node)) ⊎ IsInPieces b.bookmarks node)) → IfErr r (MayRefuseToGo b name)
+-- a refusal with NoMemory on the way to a mark is one that `MayRefuseAsGoing` allows
+pub goto_lacks : {R : ℕ} {X : Type 0} (r : Result X Refusal) (b : Book R) (name : MarkName) (node : Node) → marked_events (book_state b).marks name ≡ Some (events (entries_at (stretches_in b.bookmarks) node))
+    → IfErr r (λ cause. (cause ≡ refusal.NoMemory) × (LacksRoomFor b.session (events (entries_at (stretches_in b.bookmarks) node)) ⊎ AreInPieces (stretches_in b.bookmarks) node)) → IfErr r (MayRefuseAsGoing b (GotoMark name))
 goto_lacks (Ok x) b name node its h = tt
 goto_lacks (Err cause) b name node its h = inr (h.0, record { node = node; its = its; lacks = h.1 })
 

@@ -11,17 +11,17 @@ pub use Rattle.indexmap.specs.IndexMap.{set_value_at, spare}
 pub use Rattle.rd_journal.proofs.Calls.{event_of_entry, is_live, opened_ring, went_through}
 pub use Rattle.rd_journal.specs.Sessions.{room}
 pub use Rattle.rd_journal.specs.declared.sessions.Session.{Session}
-pub use Rattle.rd_marks.specs.Book.{MayRefuseToGo, book_state, name_room, session_of}
+pub use Rattle.rd_marks.specs.Book.{MayRefuseAsGoing, book_state, name_room, session_of}
 pub use Rattle.rd_marks.specs.BookState.{AnswersMarkEvents, AnswersSame, BookState, MakesSteps, Mark, at_events, goto_mark, mark, mark_at, mark_events, marked_events, with_session}
-pub use Rattle.rd_marks.specs.Bookmarks.{IsInPieces, IsNodeIn, entries_in, here_in, lists_in, marks_of}
+pub use Rattle.rd_marks.specs.Bookmarks.{here_in, lists_in, marks_of, stretches_in}
 pub use Rattle.rd_marks.specs.BookmarksFields.{AreEntriesOfRun, AreRuns, IsKept, IsPruned, named_lists, nodes_of}
-pub use Rattle.rd_marks.specs.Changes.{IsGrown, IsLow, IsShrunk, KeepsItsSteps, Stays, shifted}
+pub use Rattle.rd_marks.specs.Changes.{after_insertion, after_removal, IsGrown, IsLow, IsShrunk, KeepsItsSteps, Stays, shifted}
 pub use Rattle.rd_marks.specs.Commands.{Answered, AreObeyed, IsEventAnswer, IsAsDefined, IsObeyed, NeedsNoMemory, answer_with, move_answer, step_counts}
 pub use Rattle.rd_marks.specs.Events.{as_event, as_reply}
 pub use Rattle.rd_marks.specs.NameBytes.{MOST_MARKS, MOST_NAME_BYTES, is_mark_name, is_name_byte}
 pub use Rattle.rd_marks.specs.Names.{bytes_of, mark_name_eq}
 pub use Rattle.rd_marks.specs.Rules.{GoThrough, HaveDifferentNames, KeepsRules, MarksGoThrough}
-pub use Rattle.rd_marks.specs.Stretches.{AreFresh, AreInPieces, AreNeeded, AreNeededFrom, AreNested, IsAlong, IsDeepest, IsEnd, IsOwn, IsWithin, continued, entry_count, entries_at, greatest_in, list_after, list_before, after_removal, needed_at, entries_in_stretch, after_insertion, shared_at, stretch_list}
+pub use Rattle.rd_marks.specs.Stretches.{AreFresh, AreInPieces, AreNeeded, AreNeededFrom, AreNested, IsAlong, IsDeepest, IsEnd, IsOwn, IsWithin, continued, entry_count, entries_at, greatest_in, list_after, list_before, needed_at, entries_in_stretch, shared_at, stretch_list}
 pub use Rattle.rd_marks.specs.declared.bookmarks.Bookmarks.{Bookmarks}
 pub use Rattle.rd_marks.specs.declared.books.Book.{Book}
 pub use Rattle.rd_marks.specs.declared.commands.Command.{Command}

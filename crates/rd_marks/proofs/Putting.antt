@@ -31,10 +31,6 @@ module _ (old new : List Stretch) (shift : Shift) where
   within_shifted ms h =
       All-map (λ (m : MarkName × Node). IsWithin new m.1) (λ (m : MarkName × Node). (m.0, shifted shift m.1)) ms (λ k d inside. (h k d inside).within)
 
--- if one fact about nodes implies another, it does so for the nodes of all names
-pub each : (P Q : Node → Type 0) (ms : List (MarkName × Node)) → ((p : Node) → P p → Q p) → All (λ (m : MarkName × Node). P m.1) ms → All (λ (m : MarkName × Node). Q m.1) ms
-each P Q ms f h = λ k d inside. f _ (h k d inside)
-
 -- No bookmark was added
 
 module _ (old new : List Stretch) (unchanged : KeepsItsSteps old new) where
@@ -43,7 +39,9 @@ module _ (old new : List Stretch) (unchanged : KeepsItsSteps old new) where
 
   pub kept_same : (ms es : List (MarkName × Node)) (here : Node) → es ≡ ms → IsKept old ms here
       → IsKept new es here × (named_lists new es ≡ named_lists old ms) × (entries_at new here ≡ entries_at old here)
-  kept_same ms es here its kept = grind (arith, its, kept, each, lists_same ms kept.within, unchanged.stays here kept.lies, unchanged.needed)
+  kept_same ms es here its kept =
+      let within : All (λ (m : MarkName × Node). IsWithin new m.1) ms = λ k d inside. (unchanged.stays _ (kept.within k d inside)).within in
+      grind (arith, its, kept, within, lists_same ms kept.within, unchanged.stays here kept.lies, unchanged.needed)
 
 -- A node whose events begin the live ones has the first live entries
 
@@ -119,7 +117,7 @@ module _ (w : World) (old new : List Stretch) (rule : AreNested old) (ms : List 
     (began : Begins (events live) steps) (at : Node) (within : IsWithin old at) (along : IsAlong old at.stretch at.number (events live))
     (grown : Grown) (grows : IsGrown old new at live grown) (name : MarkName) where
   stay : All (λ (m : MarkName × Node). Stays old new grown.shift m.1) ms
-  stay = each (IsWithin old) (Stays old new grown.shift) ms grows.stays kept.within
+  stay = λ k d inside. grows.stays _ (kept.within k d inside)
 
   -- the new node has the live entries
   its_entries : entries_at new grown.node ≡ live

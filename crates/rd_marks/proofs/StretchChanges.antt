@@ -87,8 +87,8 @@ module _ (old new : List Stretch) (j : ℕ) (s : Stretch) (change : IsInserted o
 
   -- a node at the end of the new list needs all of it
   pub needed_inserted : (ps : List Node) (n : ℕ) → length (stretch_list new j) ≤ n → AreNeeded old ps → AreNeeded new (with_node (map (after_insertion j) ps) j n)
-  needed_inserted ps n all needed i h =
-      needed_changed old new j 1 change.changed ps (with_node (map (after_insertion j) ps) j n) i h (λ k m. needed k m.inside)
+  needed_inserted ps n all needed i low h =
+      needed_changed old new j 1 change.changed ps (with_node (map (after_insertion j) ps) j n) i h (λ k m. needed k (omega arith) m.inside)
       (grind (arith, nat_tests, greatest-append j (map (after_insertion j) ps) (record { stretch = j; number = n } ∷ []), all))
       (λ k m. grind (arith, m.node, greatest_after_insertion k j ps (record { stretch = j; number = n } ∷ [])))
 
@@ -163,9 +163,9 @@ module _ (old new : List Stretch) (j : ℕ) (change : IsReplaced old new j) wher
       (λ k h l a. fresh k j h l (grind (arith, a, cut, length-take n (events (stretch_list old j)), take-take (suc (shared_at old k)) n (events (stretch_list old j)))))
 
   pub needed_appended : (ps : List Node) (n : ℕ) → length (stretch_list new j) ≤ n → AreNeeded old ps → AreNeeded new (with_node ps j n)
-  needed_appended ps n all needed i h =
+  needed_appended ps n all needed i low h =
       let both = λ (k : ℕ). greatest-append k ps (record { stretch = j; number = n } ∷ []) in
-      needed_changed old new j 0 change.changed ps (with_node ps j n) i h (λ k m. needed k m.inside) (grind (arith, nat_tests, both j, all)) (λ k m. grind (arith, m.node, both i))
+      needed_changed old new j 0 change.changed ps (with_node ps j n) i h (λ k m. needed k (omega arith) m.inside) (grind (arith, nat_tests, both j, all)) (λ k m. grind (arith, m.node, both i))
 
   pub needed_cut : (ps : List Node) → length (stretch_list new j) ≤ needed_at old ps j → AreNeededFrom (suc j) old ps → AreNeededFrom j new ps
   needed_cut ps all needed i low h = grind (arith, needed_changed old new j 0 change.changed ps ps i h, needed, all, low, change.changed.above (suc j) (suc j))

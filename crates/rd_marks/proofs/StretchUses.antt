@@ -19,8 +19,8 @@ all_there ss few at live within all = record {
   put = sym (append-nil (entries_at ss at)) ∙ (λ i. entries_at ss at ++ (sym (drop-length live) ∙ ap (λ (n : ℕ). drop n live) (sym all)) i);
   low = is_low ss few;
   stays = λ p is. record { within = is; same = refl };
-  needed = λ nodes needed i inside.
-      omega (arith, needed i inside, ap (greatest_in i) (ap (λ (ps : List Node). ps ++ at ∷ []) (map-id nodes)), greatest-append i nodes (at ∷ []));
+  needed = λ nodes needed i low inside.
+      omega (arith, needed i low inside, ap (greatest_in i) (ap (λ (ps : List Node). ps ++ at ∷ []) (map-id nodes)), greatest-append i nodes (at ∷ []));
 }
 
 -- the invariants of the new stretches, and what `IsGrown` states of them

@@ -11,7 +11,8 @@ use Rattle.rd_marks.specs.declared.commands.Command.TheVariants.{GotoMark}
 use Rattle.rd_marks.specs.declared.names.MarkName.{MarkName}
 use Rattle.rd_marks.specs.declared.stretches.Node.{Node}
 use Rattle.rd_marks.specs.BookState.{BookState, marked_events, goto_mark}
-use Rattle.rd_marks.specs.Bookmarks.{lists_in, marks_of, entries_in, kept_entry_count, IsInPieces}
+use Rattle.rd_marks.specs.Bookmarks.{lists_in, marks_of, stretches_in}
+use Rattle.rd_marks.specs.Stretches.{entries_at, AreInPieces}
 use Rattle.rd_cell.specs.declared.refusal.Refusal.TheVariants as refusal
 
 -- the state of a book: its session's state, and its marks with their events
@@ -26,25 +27,16 @@ session_of b = b.session
 abbrev pub name_room : {R : ℕ} → Book R → ℕ
 name_room b = spare b.bookmarks.names
 
--- the number of entries that a book keeps for its bookmarks
-abbrev pub mark_entry_count : {R : ℕ} → Book R → ℕ
-mark_entry_count b = kept_entry_count b.bookmarks
-
 -- the events of the mark of this name are those of a node (`its`), and going there may need memory
 -- (`lacks`): the session lacks room for the steps, or the node's entries lie in more than one
 -- stretch, so that a copy is needed
 pub record LacksRoomToGo {R : ℕ} (b : Book R) (name : MarkName) : Type 0 where
   pub node : Node
-  pub its : marked_events (book_state b).marks name ≡ Some (events (entries_in b.bookmarks node))
-  pub lacks : LacksRoomFor b.session (events (entries_in b.bookmarks node)) ⊎ IsInPieces b.bookmarks node
+  pub its : marked_events (book_state b).marks name ≡ Some (events (entries_at (stretches_in b.bookmarks) node))
+  pub lacks : LacksRoomFor b.session (events (entries_at (stretches_in b.bookmarks) node)) ⊎ AreInPieces (stretches_in b.bookmarks) node
 
--- the book may refuse to go to the mark with this cause: with the refusal of `goto_mark`, or with
--- NoMemory if it lacks room
-abbrev pub MayRefuseToGo : {R : ℕ} → Book R → MarkName → Refusal → Type 0
-MayRefuseToGo b name cause = (goto_mark (book_state b) name ≡ Err cause) ⊎ ((cause ≡ refusal.NoMemory) × LacksRoomToGo b name)
-
--- if the command goes to a mark, the book may refuse it with this cause; of other commands this
--- states nothing
+-- if the command goes to a mark, the book may refuse it with this cause: with the refusal of
+-- `goto_mark`, or with NoMemory if it lacks room. Of other commands this states nothing
 abbrev pub MayRefuseAsGoing : {R : ℕ} → Book R → Command → Refusal → Type 0
-MayRefuseAsGoing b (GotoMark name) cause = MayRefuseToGo b name cause
+MayRefuseAsGoing b (GotoMark name) cause = (goto_mark (book_state b) name ≡ Err cause) ⊎ ((cause ≡ refusal.NoMemory) × LacksRoomToGo b name)
 MayRefuseAsGoing b _ _ = Unit {0}

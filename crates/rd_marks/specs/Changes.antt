@@ -1,12 +1,22 @@
 -- How the nodes and their entries come through a change of the stretches.
-use Rattle.std.specs.Prelude.{◌≡◌, ℕ, suc, ◌<◌, ◌≤◌, ◌^◌, List, [], ◌∷◌, ◌++◌, map, drop, length}
+use Rattle.std.specs.Prelude.{◌≡◌, ◌==◌, if◌then◌else◌, nat_le, ℕ, suc, ◌-◌, ◌<◌, ◌≤◌, ◌^◌, List, [], ◌∷◌, ◌++◌, map, drop, length}
 use Rattle.rd_step.specs.declared.entries.Entry.{Entry}
 use Rattle.rd_marks.specs.declared.stretches.Node.{Node}
 use Rattle.rd_marks.specs.declared.stretches.Stretch.{Stretch}
 use Rattle.rd_marks.specs.declared.stretches.changes.Grown.{Grown}
 use Rattle.rd_marks.specs.declared.stretches.changes.Shift.{Shift}
 use Rattle.rd_marks.specs.declared.stretches.changes.Shift.TheVariants.{Same, Up, Down}
-use Rattle.rd_marks.specs.Stretches.{entries_at, needed_at, IsWithin, AreNeeded, AreNeededFrom, after_insertion, after_removal}
+use Rattle.rd_marks.specs.Stretches.{entries_at, needed_at, IsWithin, AreNeeded, AreNeededFrom}
+
+-- the node that has the same entries after a stretch was inserted with number j; a node without
+-- entries stays as it is
+abbrev pub after_insertion : ℕ → Node → Node
+after_insertion j p = if p.number == 0 then p else if nat_le j p.stretch then record { stretch = suc p.stretch; number = p.number } else p
+
+-- the node that has the same entries after the j-th stretch was removed, if the node had none of
+-- that stretch's own entries
+abbrev pub after_removal : ℕ → Node → Node
+after_removal j p = if nat_le j p.stretch then record { stretch = p.stretch - 1; number = p.number } else p
 
 -- the node after the stretches were renumbered
 abbrev pub shifted : Shift → Node → Node

@@ -1,7 +1,7 @@
 -- How the entries of the bookmarks are kept: by front coding. Each stretch stands for a list of
 -- entries: it keeps the number of entries that its list shares with the list of the stretch before
 -- it, and the entries after these.
-use Rattle.std.specs.Prelude.{◌≡◌, ◌==◌, if◌then◌else◌, ℕ, zero, suc, ◌+◌, ◌-◌, ◌<◌, ◌≤◌, nat_le, max, List, [], ◌∷◌, ◌++◌, length, take}
+use Rattle.std.specs.Prelude.{◌≡◌, ◌==◌, if◌then◌else◌, ℕ, zero, suc, ◌+◌, ◌<◌, ◌≤◌, max, List, [], ◌∷◌, ◌++◌, length, take}
 use Rattle.rd_step.specs.Prelude.{MOST_STEPS}
 use Rattle.rd_step.specs.Run.{events}
 use Rattle.rd_step.specs.declared.entries.Event.{Event}
@@ -84,27 +84,17 @@ greatest_in i (p ∷ ps) = max (entries_in_stretch i p) (greatest_in i ps)
 abbrev pub needed_at : List Stretch → List Node → ℕ → ℕ
 needed_at ss nodes i = max (shared_at ss (suc i)) (greatest_in i nodes)
 
--- every entry of every stretch's list is needed
-abbrev pub AreNeeded : List Stretch → List Node → Type 0
-AreNeeded ss nodes = (i : ℕ) → i < length ss → length (stretch_list ss i) ≤ needed_at ss nodes i
-
 -- every entry of the lists of the k-th stretch and of later ones is needed
 abbrev pub AreNeededFrom : ℕ → List Stretch → List Node → Type 0
 AreNeededFrom k ss nodes = (i : ℕ) → k ≤ i → i < length ss → length (stretch_list ss i) ≤ needed_at ss nodes i
 
+-- every entry of every stretch's list is needed
+abbrev pub AreNeeded : List Stretch → List Node → Type 0
+AreNeeded ss nodes = AreNeededFrom 0 ss nodes
+
 -- no stretch's list begins with the first n + 1 of these events
 abbrev pub IsDeepest : List Stretch → ℕ → List Event → Type 0
 IsDeepest ss n es = (i : ℕ) → i < length ss → IsAlong ss i (suc n) es → ⊥
-
--- the node that has the same entries after a stretch was inserted with number j; a node without
--- entries stays as it is
-abbrev pub after_insertion : ℕ → Node → Node
-after_insertion j p = if p.number == 0 then p else if nat_le j p.stretch then record { stretch = suc p.stretch; number = p.number } else p
-
--- the node that has the same entries after the j-th stretch was removed, if the node had none of
--- that stretch's own entries
-abbrev pub after_removal : ℕ → Node → Node
-after_removal j p = if nat_le j p.stretch then record { stretch = p.stretch - 1; number = p.number } else p
 
 -- the number of entries that the stretches keep, all together
 abbrev pub entry_count : List Stretch → ℕ

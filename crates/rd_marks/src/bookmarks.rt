@@ -41,7 +41,8 @@ pub(crate) struct Bookmarks {
 
 impl Bookmarks {
     ghost use Rattle.rd_marks.specs.Beginnings.{CountsBeginnings, NeedsNoEntry};
-    ghost use Rattle.rd_marks.specs.Bookmarks.{lists_in, marks_of, entries_in, kept_entry_count, here_in, IsNodeIn};
+    ghost use Rattle.rd_marks.specs.Bookmarks.{lists_in, marks_of, stretches_in, here_in};
+    ghost use Rattle.rd_marks.specs.Stretches.{entries_at, entry_count, IsWithin};
     ghost use Rattle.rd_marks.specs.BookmarksFields.{AreRuns};
     ghost use Rattle.rd_marks.specs.Names.{mark_name_eq};
 
@@ -71,7 +72,7 @@ impl Bookmarks {
     #[tactic(auto, using(crate::proofs::Counting::counts, crate::proofs::Putting::count_fits))]
     pub(crate) fn nodes(&self) -> usize
         ensures counts { CountsBeginnings (marks_of (lists_in self.now)) result }
-        ensures entries { result ≡ kept_entry_count self.now }
+        ensures entries { result ≡ entry_count (stretches_in self.now) }
     {
         self.stretches.entries()
     }
@@ -79,9 +80,9 @@ impl Bookmarks {
     /// Returns the node of the entries of the bookmark of this name, or `None` if no bookmark has
     /// this name.
     pub(crate) fn find(&self, name: &MarkName) -> Option<Node>
-        ensures found { option_map (λ node. entries_in self.now node) result
+        ensures found { option_map (entries_at (stretches_in self.now)) result
             ≡ lookup (mark_name_eq name.now) (lists_in self.now) }
-        ensures within { IfSome result (λ node. IsNodeIn self.now node) }
+        ensures within { IfSome result (IsWithin (stretches_in self.now)) }
     {
         match self.names.get(name) {
             None => None,
@@ -93,9 +94,9 @@ impl Bookmarks {
     /// there is none.
     #[tactic(auto, using(crate::proofs::MarkLemmas::at_steps))]
     pub(crate) fn at(&self, index: usize) -> Option<(MarkName, Node)>
-        ensures found { option_map (λ m. (m.0, entries_in self.now m.1)) result
+        ensures found { option_map (λ m. (m.0, entries_at (stretches_in self.now) m.1)) result
             ≡ slice_get (lists_in self.now) index }
-        ensures within { IfSome result (λ m. IsNodeIn self.now m.1) }
+        ensures within { IfSome result (λ m. IsWithin (stretches_in self.now) m.1) }
     {
         match self.names.get_index(index) {
             None => None,
@@ -106,8 +107,8 @@ impl Bookmarks {
     /// Returns the event of this number, counted from 1, among the entries of a node. `None` if the
     /// node has no such entry. The stretches must have the node's entries.
     pub(crate) fn event_at(&self, of: Node, n: u64) -> Option<Event>
-        requires { IsNodeIn self.now of }
-        ensures { result ≡ numbered (events (entries_in self.now of)) n }
+        requires { IsWithin (stretches_in self.now) of }
+        ensures { result ≡ numbered (events (entries_at (stretches_in self.now) of)) n }
     {
         self.stretches.event_at(of, n)
     }
@@ -119,8 +120,9 @@ impl Bookmarks {
     ///
     /// `AllocError` if memory was refused, which never happens if the node has no entries.
     pub(crate) fn events(&self, alloc: Global, of: Node) -> Result<Vec<Event>, AllocError>
-        requires { IsNodeIn self.now of }
-        ensures ok { IfOk result (λ list. list.items ≡ events (entries_in self.now of)) }
+        requires { IsWithin (stretches_in self.now) of }
+        ensures ok { IfOk result (λ list. list.items
+            ≡ events (entries_at (stretches_in self.now) of)) }
         ensures succeeds { of.number ≡ 0 → IsOk result }
     {
         self.stretches.events(alloc, of)
@@ -196,12 +198,13 @@ impl Bookmarks {
         one: Node,
         other: Node,
     ) -> Result<bool, AllocError>
-        requires one { IsNodeIn self.now one }
-        requires other { IsNodeIn self.now other }
-        ensures answer { IfOk result (DecidesEquivalence (entries_in self.now one)
-            (entries_in self.now other)) }
-        ensures memory { OnErr result (NeitherBegins (events (entries_in self.now one))
-            (events (entries_in self.now other))) }
+        requires one { IsWithin (stretches_in self.now) one }
+        requires other { IsWithin (stretches_in self.now) other }
+        ensures answer { IfOk result (DecidesEquivalence (entries_at (stretches_in self.now) one)
+            (entries_at (stretches_in self.now) other)) }
+        ensures memory { OnErr result (NeitherBegins
+            (events (entries_at (stretches_in self.now) one))
+            (events (entries_at (stretches_in self.now) other))) }
     {
         let shared = self.stretches.common(one, other);
         if shared == one.number || shared == other.number {

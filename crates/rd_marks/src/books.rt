@@ -3,11 +3,11 @@
 //! A bookmark keeps the entries of the steps that were live when it was set: the entries of a run
 //! from the session's start. Nothing outside this crate depends on that.
 //!
-//! The methods of a book are here. `books/obeying` does commands and answers queries, `books/moves`
-//! undoes and redoes, `books/bookmarks` does the commands on bookmarks, and `books/saving` has what
-//! saving and loading a book need.
+//! `books/obeying` does commands and answers queries, `books/moves` undoes and redoes,
+//! `books/marking` sets, drops and compares bookmarks and goes to them, and `books/saving` has what
+//! saving and loading a book need. The other methods of a book are here.
 
-mod bookmarks;
+mod marking;
 mod moves;
 mod obeying;
 mod saving;
@@ -18,13 +18,12 @@ ghost use Rattle.rd_step.specs.Run.{events};
 ghost use Rattle.rd_depend.specs.Beginnings.{Begins};
 ghost use Rattle.rd_journal.specs.Sessions.{state, track, MayRefuse};
 ghost use Rattle.rd_marks.specs.BookmarksFields.{AreRuns};
-ghost use Rattle.rd_marks.specs.Bookmarks.{lists_in, here_in};
+ghost use Rattle.rd_marks.specs.Bookmarks.{lists_in, stretches_in, here_in};
+ghost use Rattle.rd_marks.specs.Stretches.{entry_count};
 
 use super::bookmarks::Bookmarks;
-use super::names::MarkName;
 use super::replies::EventReply;
 use rd_cell::Refusal;
-use rd_cell::limits::MOST_MARKS;
 use rd_journal::Session;
 use rd_step::Event;
 use std::alloc::Global;
@@ -55,12 +54,11 @@ impl<const R: usize> Drop for Book<R> {
 }
 
 impl<const R: usize> Book<R> {
-    ghost use Rattle.rd_marks.specs.Beginnings.{CountsBeginnings, NeedsNoEntry};
-    ghost use Rattle.rd_marks.specs.Book.{book_state, session_of, name_room, mark_entry_count, MayRefuseToGo};
+    ghost use Rattle.rd_marks.specs.Beginnings.{CountsBeginnings};
+    ghost use Rattle.rd_marks.specs.Book.{book_state, session_of};
     ghost use Rattle.rd_marks.specs.Rules.{KeepsRules};
     ghost use Rattle.rd_marks.specs.Commands.{IsEventAnswer};
     ghost use Rattle.rd_marks.specs.Events.{as_reply};
-    ghost use Rattle.rd_marks.specs.BookState.{marked_events, mark, drop_mark, goto_mark, mark_at, MakesSteps, AnswersSame};
 
     /// Returns a book of this session, without bookmarks. It takes no memory.
     pub fn open(alloc: Global, session: Session<R>) -> Book<R>
@@ -104,102 +102,6 @@ impl<const R: usize> Book<R> {
         })
     }
 
-    /// Sets a bookmark of this name at the live steps, as the last one in the list of bookmarks.
-    ///
-    /// # Errors
-    ///
-    /// In this order: `MarkTaken` if a bookmark has this name; `TooManyMarks` if there are
-    /// `MOST_MARKS`; `NoMemory` if memory for its entries or its name was refused. `NoMemory` can't
-    /// happen if there is room for another name and either no step is live or some bookmark's steps
-    /// begin with the live ones. A refusal changes nothing.
-    pub fn mark(&mut self, name: MarkName) -> Result<(), Refusal>
-        ensures ok { OnOk result (mark (book_state self.old) name ≡ Ok (book_state self.new)) }
-        ensures err { IfErr result (λ refusal. (mark (book_state self.old) name ≡ Err refusal)
-            ⊎ ((refusal ≡ Refusal.NoMemory) × IsOk (mark (book_state self.old) name))) }
-        ensures succeeds { IsOk (mark (book_state self.old) name) → 0 < name_room self.old
-            → NeedsNoEntry (book_state self.old).marks (book_state self.old).session.live
-            → IsOk result }
-        ensures unchanged { OnErr result (book_state self.new ≡ book_state self.old) }
-    {
-        if self.bookmarks.find(&name).is_some() {
-            return Err(Refusal::MarkTaken);
-        }
-        if self.bookmarks.len() == MOST_MARKS {
-            return Err(Refusal::TooManyMarks);
-        }
-        match self.bookmarks.set(self.alloc, &self.session, name) {
-            Err(_) => Err(Refusal::NoMemory),
-            Ok(()) => Ok(()),
-        }
-    }
-
-    /// Drops the bookmark of this name. The others keep their order. It takes no memory, and the
-    /// room for names doesn't shrink.
-    ///
-    /// # Errors
-    ///
-    /// `NoMark` if no bookmark has this name. Nothing has changed then.
-    pub fn drop_mark(&mut self, name: MarkName) -> Result<(), Refusal>
-        ensures ok { OnOk result (drop_mark (book_state self.old) name ≡ Ok (book_state self.new)) }
-        ensures err { IfErr result (λ refusal. drop_mark (book_state self.old) name ≡ Err refusal) }
-        ensures room { name_room self.old ≤ name_room self.new }
-        ensures unchanged { OnErr result (book_state self.new ≡ book_state self.old) }
-    {
-        if self.bookmarks.drop(&name) {
-            Ok(())
-        } else {
-            Err(Refusal::NoMark)
-        }
-    }
-
-    /// Makes the steps of this bookmark the live ones, and leaves no undone step. The steps with
-    /// which both lists begin stay. The other live steps are undone, and the rest of the bookmark's
-    /// steps are made again.
-    ///
-    /// # Errors
-    ///
-    /// In this order: `NoMark` if no bookmark has this name; `NoMemory` if memory was refused for
-    /// the steps that are made again, or for a copy of their entries. `NoMemory` can't happen if
-    /// the live steps begin with the bookmark's. A refusal changes nothing.
-    #[tactic(auto, using(crate::proofs::MarkLemmas::goto_steps))]
-    pub fn goto_mark(&mut self, name: MarkName) -> Result<(), Refusal>
-        ensures ok { OnOk result (goto_mark (book_state self.old) name ≡ Ok (book_state self.new)) }
-        ensures err { IfErr result (λ refusal. (goto_mark (book_state self.old) name ≡ Err refusal)
-            ⊎ ((refusal ≡ Refusal.NoMemory) × MakesSteps (book_state self.old) name)) }
-        ensures memory { IfErr result (MayRefuseToGo self.old name) }
-        ensures unchanged { OnErr result (book_state self.new ≡ book_state self.old) }
-    {
-        let Some(node) = self.bookmarks.find(&name) else {
-            return Err(Refusal::NoMark);
-        };
-        self.bookmarks.go_to(self.alloc, &mut self.session, node)
-    }
-
-    /// Returns whether the steps of two bookmarks are causally equivalent: the two lists differ
-    /// only in the order of independent steps. Equivalent lists lead to the same world.
-    ///
-    /// # Errors
-    ///
-    /// `NoMark` if one of the bookmarks doesn't exist; `NoMemory` if memory for the comparison was
-    /// refused, which never happens if one list begins the other.
-    #[tactic(auto, using(crate::proofs::MarkLemmas::goto_steps))]
-    pub fn same(&self, one: MarkName, other: MarkName) -> Result<bool, Refusal>
-        ensures { AnswersSame (book_state self.now).session.start
-            (marked_events (book_state self.now).marks one)
-            (marked_events (book_state self.now).marks other) result }
-    {
-        let Some(one) = self.bookmarks.find(&one) else {
-            return Err(Refusal::NoMark);
-        };
-        let Some(other) = self.bookmarks.find(&other) else {
-            return Err(Refusal::NoMark);
-        };
-        match self.bookmarks.are_nodes_equivalent(self.alloc, one, other) {
-            Err(_) => Err(Refusal::NoMemory),
-            Ok(same) => Ok(same),
-        }
-    }
-
     /// Returns the number of bookmarks, at most `MOST_MARKS`. Their names are different, and the
     /// events of each can run from the session's start.
     pub fn marks(&self) -> u64
@@ -213,26 +115,8 @@ impl<const R: usize> Book<R> {
     /// bookmark. The book keeps this many entries for its bookmarks. It takes no memory.
     pub fn nodes(&self) -> u64
         ensures counts { CountsBeginnings (book_state self.now).marks result }
-        ensures entries { result ≡ mark_entry_count self.now }
+        ensures entries { result ≡ entry_count (stretches_in self.now.bookmarks) }
     {
         self.bookmarks.nodes() as u64
-    }
-
-    /// Returns the name of the bookmark of this number, counted from 1, and the number of steps
-    /// that were live when it was set.
-    ///
-    /// # Errors
-    ///
-    /// `NoMark` if `i` is not from 1 to the number of bookmarks.
-    pub fn mark_at(&self, i: u64) -> Result<(MarkName, u64), Refusal>
-        ensures { result ≡ mark_at (book_state self.now) i }
-    {
-        if i == 0 {
-            return Err(Refusal::NoMark);
-        }
-        match self.bookmarks.at(i as usize - 1) {
-            None => Err(Refusal::NoMark),
-            Some((name, node)) => Ok((name, node.number as u64)),
-        }
     }
 }

@@ -14,7 +14,7 @@ use rd_journal::Session;
 use std::alloc::Global;
 
 impl Bookmarks {
-    ghost use Rattle.rd_marks.specs.Bookmarks.{lists_in, entries_in, here_in, IsNodeIn, IsInPieces};
+    ghost use Rattle.rd_marks.specs.Bookmarks.{lists_in, stretches_in, here_in};
 
     /// Makes the steps of a node of these bookmarks the live ones, and leaves no undone step. The
     /// node's entries must be those of a run from the session's start, and the events of `here`
@@ -34,24 +34,25 @@ impl Bookmarks {
         session: &mut Session<R>,
         node: Node,
     ) -> Result<(), Refusal>
-        requires within { IsNodeIn self.old node }
-        requires run { AreEntriesOfRun (state session.old).start (entries_in self.old node) }
+        requires within { IsWithin (stretches_in self.old) node }
+        requires run { AreEntriesOfRun (state session.old).start
+            (entries_at (stretches_in self.old) node) }
         requires stands { Begins (events (here_in self.old)) (track session.old) }
         ensures ok { OnOk result (state session.new
             ≡ record {
               start = (state session.old).start;
-              live = events (entries_in self.old node);
+              live = events (entries_at (stretches_in self.old) node);
               undone = [];
             }) }
         ensures lists { lists_in self.new ≡ lists_in self.old }
         ensures stands { Begins (events (here_in self.new)) (track session.new) }
         ensures err { IfErr result (λ refusal. (refusal ≡ Refusal.NoMemory)
-            × (LacksRoomFor session.old (events (entries_in self.old node))
-            ⊎ IsInPieces self.old node)) }
-        ensures succeeds { Begins (events (entries_in self.old node)) (state session.old).live
-            → IsOk result }
-        ensures along { Begins (events (entries_in self.old node)) (events (here_in self.old))
-            → IsOk result }
+            × (LacksRoomFor session.old (events (entries_at (stretches_in self.old) node))
+            ⊎ AreInPieces (stretches_in self.old) node)) }
+        ensures succeeds { Begins (events (entries_at (stretches_in self.old) node))
+            (state session.old).live → IsOk result }
+        ensures along { Begins (events (entries_at (stretches_in self.old) node))
+            (events (here_in self.old)) → IsOk result }
         ensures unchanged { OnErr result (journal session.new ≡ journal session.old) }
     {
         if self.stretches.common(self.here, node) == node.number {

@@ -1,8 +1,7 @@
 //! Adding entries to the stretches, and removing entries that no node needs.
 
 ghost use Rattle.std.specs.Prelude.{◌≡◌, ◌↔◌, ◌<◌, ◌≤◌, ◌+◌, ◌++◌, suc, take, length, vec_capacity, IsTrue, OnOk, OnErr, IfOk, IsOk};
-ghost use Rattle.rd_marks.specs.Changes.{IsLow};
-ghost use Rattle.rd_marks.specs.Stretches.{after_insertion, after_removal};
+ghost use Rattle.rd_marks.specs.Changes.{after_insertion, after_removal, IsLow};
 ghost use Rattle.rd_step.specs.Prelude.{MOST_STEPS};
 ghost use Rattle.rd_step.specs.Run.{events};
 

@@ -1,4 +1,4 @@
-use Rattle.rd_marks.proofs.Prelude.{◌≡◌, ◌∙◌, ℕ, ◌≤◌, take, arith, fact_passed_up, NeitherBegins, DecidesEquivalence, Node, entries_in, IsNodeIn, events, IfOk-weaker, ◌⊎◌, Bool, ◌==◌, sym, ap, List, [], ◌∷◌, ◌++◌, length, drop, length-append, eqb-true, eq-eqb, take_all, World, IsEquivalent, Event, Entry, Begins, reflexive, runs_to, take_rest}
+use Rattle.rd_marks.proofs.Prelude.{◌≡◌, ◌∙◌, ℕ, ◌≤◌, take, arith, fact_passed_up, NeitherBegins, DecidesEquivalence, Node, entries_at, stretches_in, IsWithin, events, IfOk-weaker, ◌⊎◌, Bool, ◌==◌, sym, ap, List, [], ◌∷◌, ◌++◌, length, drop, length-append, eqb-true, eq-eqb, take_all, World, IsEquivalent, Event, Entry, Begins, reflexive, runs_to, take_rest}
 use Rattle.rd_marks.proofs.Starting.{entries_length, begins_shorter, event_length}
 use Rattle.rd_depend.proofs.Exactness.{right_behind}
 use Rattle.rd_marks.proofs.bookmarks.Bookmarks.are_nodes_equivalent.Goals.{After-common-shared, then-shared-one-via-then-shared-one, then-shared-one-via-else-shared-one+then-shared-other}
@@ -28,10 +28,10 @@ not_begun xs ys c most within apart h = grind (arith, event_length, begins_short
 
 -- where what two lists have in common is neither of them, neither begins the other
 apart : (c : After-common-shared) → (c.common-shared.result ≡ c.args.one.number → ⊥) → (c.common-shared.result ≡ c.args.other.number → ⊥)
-    → NeitherBegins (events (entries_in c.args.self.now c.args.one)) (events (entries_in c.args.self.now c.args.other))
+    → NeitherBegins (events (entries_at (stretches_in c.args.self.now) c.args.one)) (events (entries_at (stretches_in c.args.self.now) c.args.other))
 apart c not_one not_other =
-    let one = entries_in c.args.self.now c.args.one in
-    let other = entries_in c.args.self.now c.args.other in
+    let one = entries_at (stretches_in c.args.self.now) c.args.one in
+    let other = entries_at (stretches_in c.args.self.now) c.args.other in
     grind (arith, entries_length, not_one, not_other, c.common-shared.ensures.most, not_begun one other c.common-shared.result, not_begun other one c.common-shared.result)
 
 pub returns-then-shared-one-clause-answer : goal.returns-then-shared-one-clause-answer
@@ -49,8 +49,8 @@ pub returns-clause-answer : goal.returns-clause-answer
 returns-clause-answer c =
     let b = c.args.self.now in
     let said = c.common-shared.ensures in
-    let long = λ (p : Node) (is : IsNodeIn b p). entries_length b.stretches.list.items p is in
-    IfOk-weaker c.are_equivalent.result _ (DecidesEquivalence (entries_in b c.args.one) (entries_in b c.args.other)) (λ same decides. decided_behind _ _ c.args.one.number c.args.other.number
+    let long = λ (p : Node) (is : IsWithin (stretches_in b) p). entries_length b.stretches.list.items p is in
+    IfOk-weaker c.are_equivalent.result _ (DecidesEquivalence (entries_at (stretches_in b) c.args.one) (entries_at (stretches_in b) c.args.other)) (λ same decides. decided_behind _ _ c.args.one.number c.args.other.number
     c.common-shared.result
     (long c.args.one c.requires.one) (long c.args.other c.requires.other) said.alike said.first said.second same _ _ (c.deref.ensures.value ∙ c.in_ok-ones.ensures.ok)
     (c.deref-2.ensures.value ∙ c.in_ok-others.ensures.ok) decides)

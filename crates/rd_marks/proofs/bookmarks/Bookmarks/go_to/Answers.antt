@@ -1,14 +1,14 @@
-use Rattle.rd_marks.proofs.Prelude.{◌≡◌, ◌≤◌, [], ℕ, List, length, take, lit<, refl, subst, ap, ◌∙◌, arith, fact_passed_up, Event, Begins, state, track, Bookmarks, Node, here_in, entries_in, IsNodeIn, events, take-length}
+use Rattle.rd_marks.proofs.Prelude.{◌≡◌, ◌≤◌, [], ℕ, List, length, take, lit<, refl, subst, ap, ◌∙◌, arith, fact_passed_up, Event, Begins, state, track, Bookmarks, Node, here_in, entries_at, stretches_in, IsWithin, events, take-length}
 use Rattle.rd_marks.proofs.Here.{along_to}
 use Rattle.rd_marks.proofs.Starting.{begins_shorter, events_length}
 use Rattle.rd_marks.proofs.bookmarks.Bookmarks.go_to.Goals as goal
 
 -- the entries of the node begin the track
-on_track : (b : Bookmarks) (node : Node) (steps : List Event) (c : ℕ) → IsNodeIn b node → Begins (events (here_in b)) steps → c ≤ b.here.number
-    → take c (here_in b) ≡ take c (entries_in b node) → c ≡ node.number → (node.number ≤ length steps) × (take node.number steps ≡ events (entries_in b node))
+on_track : (b : Bookmarks) (node : Node) (steps : List Event) (c : ℕ) → IsWithin (stretches_in b) node → Begins (events (here_in b)) steps → c ≤ b.here.number
+    → take c (here_in b) ≡ take c (entries_at (stretches_in b) node) → c ≡ node.number → (node.number ≤ length steps) × (take node.number steps ≡ events (entries_at (stretches_in b) node))
 on_track b node steps c is stands first alike all =
     along_to b.stretches.list.items node b.here steps is b.kept.lies stands node.number refl (omega (arith, first, all))
-    (subst (λ (n : ℕ). take n (here_in b) ≡ take n (entries_in b node)) all alike)
+    (subst (λ (n : ℕ). take n (here_in b) ≡ take n (entries_at (stretches_in b) node)) all alike)
 
 pub go_along-requires : goal.go_along-requires
 go_along-requires g c = (
@@ -28,7 +28,7 @@ returns-in_err-switch_to-clause-unchanged g c = fact_passed_up c.from_residual.r
 pub returns-in_err-switch_to-clause-along : goal.returns-in_err-switch_to-clause-along
 returns-in_err-switch_to-clause-along g c = λ h.
     let b = c.args.self.now in
-    let es = events (entries_in b c.args.node) in
+    let es = events (entries_at (stretches_in b) c.args.node) in
     let short = begins_shorter es (events (here_in b)) h in
     let long = events_length b.stretches.list.items in
     grind (arith, h, short, long c.args.node c.requires.within, long b.here b.kept.lies, take-length es, c.common.ensures.second, c.common.ensures.most c.args.node.number, c.if-common-node.false)

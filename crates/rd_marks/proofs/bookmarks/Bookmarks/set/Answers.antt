@@ -1,7 +1,7 @@
-use Rattle.rd_marks.proofs.Prelude.{◌≡◌, ◌++◌, ◌∙◌, [], ◌∷◌, List, ap, arith, length-map, lookup-map_values, fact_passed_up, Entry, state, track, IsLow, lists_in, here_in, IsKept, named_lists, mark_name_eq, entries_at, IsWithin, events, option_map}
+use Rattle.rd_marks.proofs.Prelude.{◌≡◌, ◌++◌, ◌∙◌, [], ◌∷◌, List, ap, arith, length-map, lookup-map_values, fact_passed_up, Entry, state, track, lists_in, here_in, IsKept, named_lists, mark_name_eq, entries_at, events, option_map}
 use Rattle.rd_marks.proofs.Counting.{all_along}
 use Rattle.rd_marks.proofs.Here.{live_along, live_begin}
-use Rattle.rd_marks.proofs.Putting.{IsSet, each, is_set, kept_same}
+use Rattle.rd_marks.proofs.Putting.{IsSet, is_set, kept_same}
 use Rattle.rd_marks.proofs.bookmarks.Bookmarks.set.Given.{Over}
 use Rattle.rd_marks.proofs.bookmarks.Bookmarks.set.Goals.{After-here_after-self, In_err-grown}
 use Rattle.rd_marks.proofs.bookmarks.Bookmarks.set.Goals as goal
@@ -18,7 +18,7 @@ put-requires-clause-new g c =
 
 pub put-requires-clause-low : goal.put-requires-clause-low
 put-requires-clause-low g c =
-    rw c.reserve.ensures.entries (each (IsWithin c.args.self.now.stretches.list.items) IsLow c.args.self.now.names.entries c.in_ok-grown.ensures.ok.low c.args.self.now.kept.within)
+    rw c.reserve.ensures.entries (λ k d inside. c.in_ok-grown.ensures.ok.low _ (c.args.self.now.kept.within k d inside))
 
 pub here_after-self-requires : goal.here_after-self-requires
 here_after-self-requires g c = c.in_ok-grown.ensures.ok.low c.args.self.now.here c.args.self.now.kept.lies

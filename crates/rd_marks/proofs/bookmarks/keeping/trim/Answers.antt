@@ -1,9 +1,9 @@
-use Rattle.rd_marks.proofs.Prelude.{◌≡◌, arith, IsLow, nodes_of, needed_at, IsWithin}
-use Rattle.rd_marks.proofs.Putting.{each, pruned}
+use Rattle.rd_marks.proofs.Prelude.{◌≡◌, arith, nodes_of, needed_at}
+use Rattle.rd_marks.proofs.Putting.{pruned}
 use Rattle.rd_marks.proofs.bookmarks.keeping.trim.Goals as goal
 
 pub move_all-requires : goal.move_all-requires
-move_all-requires c = each (IsWithin c.args.stretches.now.list.items) IsLow c.args.names.now.entries c.shrink-shift.ensures.low c.requires.within
+move_all-requires c = λ k d inside. c.shrink-shift.ensures.low _ (c.requires.within k d inside)
 
 pub returns-clause-pruned : goal.returns-clause-pruned
 returns-clause-pruned c =

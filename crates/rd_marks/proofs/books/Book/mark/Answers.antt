@@ -1,4 +1,4 @@
-use Rattle.rd_marks.proofs.Prelude.{◌≡◌, ◌≢◌, ◌∙◌, inr, refl, sym, ap, is_some, List, Ok, length, arith, length-map, map-append, Mark, book_state, marked_events, lists_in, entries_in, marks_of, MOST_MARKS}
+use Rattle.rd_marks.proofs.Prelude.{◌≡◌, ◌≢◌, ◌∙◌, inr, refl, sym, ap, is_some, List, Ok, length, arith, length-map, map-append, Mark, book_state, marked_events, lists_in, entries_at, stretches_in, marks_of, MOST_MARKS}
 use Rattle.rd_marks.proofs.MarkLemmas.{mark_of, with_marks, found_at, mark_goes, mark_refused, mark_taken, mark_too_many}
 use Rattle.rd_marks.proofs.books.Book.mark.Given.{Over}
 use Rattle.rd_marks.proofs.books.Book.mark.Goals.{After-is_some}
@@ -6,7 +6,7 @@ use Rattle.rd_marks.proofs.books.Book.mark.Goals as goal
 
 -- whether there is a mark of this name is what the code tests
 found : (g : Over) (c : After-is_some g) → is_some (marked_events (book_state c.args.self.now).marks c.args.name) ≡ c.is_some.result
-found g c = found_at (entries_in c.args.self.now.bookmarks) c.args.name (lists_in c.args.self.now.bookmarks) c.find.result c.is_some.result c.find.ensures.found c.is_some.ensures
+found g c = found_at (entries_at (stretches_in c.args.self.now.bookmarks)) c.args.name (lists_in c.args.self.now.bookmarks) c.find.result c.is_some.result c.find.ensures.found c.is_some.ensures
 
 pub returns-then-is_some-clause-err : goal.returns-then-is_some-clause-err
 returns-then-is_some-clause-err g c = grind (arith, mark_taken, c.if-is_some.true, found g (goal.at.returns-then-is_some-clause-err g c).After-is_some)

@@ -1,4 +1,4 @@
-use Rattle.rd_marks.proofs.Prelude.{◌-◌, None, Some, refl, sym, arith, lists_in, entries_in}
+use Rattle.rd_marks.proofs.Prelude.{◌-◌, None, Some, refl, sym, arith, lists_in, entries_at, stretches_in}
 use Rattle.rd_marks.proofs.Starting.{events_length}
 use Rattle.rd_marks.proofs.MarkLemmas.{mark_there}
 use Rattle.rd_marks.proofs.books.Book.mark_at.Goals as goal
@@ -8,6 +8,6 @@ returns-in-None g c = rw (mark_there (lists_in c.args.self.now.bookmarks) c.args
 
 pub returns-in-Some : goal.returns-in-Some
 returns-in-Some g c =
-    let xs = entries_in c.args.self.now.bookmarks c.in-Some.node in
+    let xs = entries_at (stretches_in c.args.self.now.bookmarks) c.in-Some.node in
     let there = mark_there (lists_in c.args.self.now.bookmarks) c.args.i (c.args.i - 1) (Some (c.in-Some.name, xs)) (omega arith) (sym c.in-Some.ensures.found) in
     rw (there, events_length c.args.self.now.bookmarks.stretches.list.items c.in-Some.node c.in-Some.ensures.within) refl
