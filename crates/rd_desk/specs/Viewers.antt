@@ -26,7 +26,7 @@ module _ {P : Type 0} where
   -- another with these answers, and the gate takes the pass that it has then
   abbrev pub IsRan : {Z : Type 0} → (P → Type 0) → (P → Command → Answer → P → Type 0) → P × Vec Command Z → Ran P → Type 0
   IsRan takes told viewer outcome.NoMemory = Unit {0}
-  IsRan takes told viewer (outcome.Answered pass answers) = takes pass × IsChain told viewer.0 viewer.1.items answers.items pass
+  IsRan takes told viewer (outcome.Answered pass answers) = IsDone takes told viewer.0 viewer.1.items (pass, Some answers)
 
   -- how the run of a viewer ended, from what it gave back
   abbrev pub ran_of : P × Option (Vec Answer Global) → Ran P

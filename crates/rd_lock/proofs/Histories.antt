@@ -1,5 +1,5 @@
 -- Histories: what continues what a pass had seen, and whose entries are whose.
-use Rattle.rd_lock.proofs.Prelude.{AllByRecursion, AreComparable, Continues, IsPrefix, Pairwise, append-nil, nil_from_length, common_steps, get_elem?, put_by, only, placed, signed, some, some-injective, some-ne-none, ◌≡◌, ◌≢◌, ℕ, suc, ◌+◌, ◌<◌, ◌⊎◌, List, [], ◌∷◌, ◌++◌, map, length, sym, refl, ap, ◌∙◌, inl, inr, arith, append_assoc, add-zero, ne_eqb, eq-eqb}
+use Rattle.rd_lock.proofs.Prelude.{AllByRecursion, AreComparable, Continues, append-nil, put_by, placed, signed, ◌≡◌, ◌≢◌, ℕ, suc, ◌+◌, List, [], ◌∷◌, ◌++◌, length, sym, refl, ap, ◌∙◌, arith, append_assoc, add-zero, ne_eqb, eq-eqb}
 use Rattle.rd_lock.proofs.Lists.{every_append, comparable}
 
 module _ {E : Type 0} where

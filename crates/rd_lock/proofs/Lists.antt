@@ -1,5 +1,5 @@
 -- Facts about each element or each pair of elements of a list.
-use Rattle.rd_lock.proofs.Prelude.{AllByRecursion, AreComparable, Continues, IsPrefix, Pairwise, append-nil, nil_from_length, common_steps, get_elem?, put_by, only, placed, signed, some, some-injective, some-ne-none, ◌≡◌, ◌≢◌, ℕ, suc, ◌+◌, ◌<◌, ◌⊎◌, List, [], ◌∷◌, ◌++◌, map, length, sym, refl, ap, ◌∙◌, inl, inr, arith, append_assoc, add-zero, ne_eqb, eq-eqb}
+use Rattle.rd_lock.proofs.Prelude.{AllByRecursion, AreComparable, IsPrefix, Pairwise, nil_from_length, common_steps, get_elem?, only, some, some-injective, some-ne-none, ◌≡◌, ℕ, ◌+◌, ◌<◌, ◌⊎◌, List, [], ◌∷◌, ◌++◌, map, length, sym, refl, ap, inl, inr, arith}
 
 module _ {A : Type 0} where
   pub one_of : (xs : List A) (one : length xs ≡ 1) → xs ≡ only xs one ∷ []
