@@ -5,7 +5,7 @@ pub use Rattle.std.proofs.lemmas.Fmt.{IsAscii-decimal, decimal-digits_value, dec
 pub use Rattle.std.proofs.lemmas.Str.Parse.{numerals_by_value, parse_plain, tells_digits}
 pub use Rattle.std.specs.Str.Parse.{ParsesUnsigned}
 pub use Rattle.std.proofs.lemmas.Iterator.Splits.{YieldsList-from_slice_split}
-pub use Rattle.rd_cell.proofs.Prelude.{AllZip, Appends, Bool, Bor, Consumes, Decides-eqb, Err, IfNone, IfSome, IsAtEnd, IsErrAnd, IsOkAnd, IsUtf8-from_ascii, Keeps, List, None, Ok, Option, Result, Some, YieldsList, YieldsList-end, YieldsList-turn, [], and_parts, ap, append-nil, append_assoc, arith, codes, common_steps, decimal, drop, eq-eqb, false, flat_map-append, get_or, if◌then◌else◌, inl, inr, is_some, join_with_byte, length, length-append, length-drop, length-map, list_all, list_all-append, map, map-append, nat_eq, nat_tests, ne_eqb, nil_from_length, not, onto_first, refl, rules, slice_index_or, slice_split, strip_suffix_is, subst, suc, sym, take, take-add, take-append-drop, take_rest, tests, true, true≢false, unwrap_or, ℕ, ◌%◌, ◌++◌, ◌+◌, ◌-◌, ◌<◌, ◌==◌, ◌^◌, ◌∙◌, ◌∷◌, ◌≡◌, ◌≢◌, ◌≤◌, ◌⊎◌}
+pub use Rattle.rd_cell.proofs.Prelude.{AllZip, Appends, Bool, Bor, cond, count_by, Consumes, Decides-eqb, Err, IfNone, IfSome, IsAtEnd, IsErrAnd, IsOkAnd, IsUtf8-from_ascii, Keeps, List, None, Ok, Option, Result, Some, YieldsList, YieldsList-end, YieldsList-turn, [], and_parts, ap, append-nil, append_assoc, arith, codes, common_steps, decimal, drop, eq-eqb, false, flat_map-append, get_or, if◌then◌else◌, inl, inr, is_some, join_with_byte, length, length-append, length-drop, length-map, list_all, list_all-append, map, map-append, nat_eq, nat_tests, ne_eqb, nil_from_length, not, onto_first, refl, rules, slice_index_or, slice_split, strip_suffix_is, subst, suc, sym, take, take-add, take-append-drop, take_rest, tests, true, true≢false, unwrap_or, ℕ, ◌%◌, ◌++◌, ◌+◌, ◌-◌, ◌<◌, ◌==◌, ◌^◌, ◌∙◌, ◌∷◌, ◌≡◌, ◌≢◌, ◌≤◌, ◌⊎◌}
 pub use Rattle.rd_step.proofs.Prelude.{Place}
 pub use Rattle.rd_marks.proofs.Prelude.{AreObeyed, BookState, Refusal, as_reply, book_state, fact_passed_up, is_mark_name, is_name_byte, journal, session_of}
 pub use Rattle.rd_cell.specs.declared.places.SegName.{SegName}
@@ -17,7 +17,7 @@ pub use Rattle.rd_script.specs.Answers.{AnswersSaid, AreObeyedLines, commands_of
 pub use Rattle.rd_script.specs.Contents.{name_words}
 pub use Rattle.rd_script.specs.Device.{GivesByte, TakesBeginning}
 pub use Rattle.rd_script.specs.Grammar.{AreArgumentsInRange, Argument, Byte, Choice, IsArgumentInRange, IsSegmentInRange, Kind, Long, Name, Segment, argument_words, arguments_of, keyword_of, keyword_text, kind_of, kind_text, names_after, place_arguments, word_of}
-pub use Rattle.rd_script.specs.Lines.{Holds, IsOneLine, ReadsLast, ReadsPart, ended_lines_of, lines_of, with_first_byte}
+pub use Rattle.rd_script.specs.Lines.{Holds, IsOneLine, ParsedLine, ReadsLast, ReadsPart, ended_lines_of, lines_of}
 pub use Rattle.rd_script.specs.Reading.{AreNoNames, ReadsCommand}
 pub use Rattle.rd_script.specs.Replies.{LineAnswer, text_of}
 pub use Rattle.rd_script.specs.Script.{RanToEnd, RunsScript, StoppedAtRead, StoppedAtWrite}

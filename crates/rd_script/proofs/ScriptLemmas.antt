@@ -1,5 +1,5 @@
 -- A script that runs: the bytes that were given so far, their lines and their report.
-use Rattle.rd_script.proofs.Prelude.{◌≡◌, ◌≢◌, ◌⊎◌, ℕ, suc, map, ◌+◌, ◌-◌, ◌^◌, ◌≤◌, Bool, true, false, List, [], ◌∷◌, ◌++◌, length, Option, refl, sym, ◌∙◌, ap, arith, inl, inr, append_assoc, length-append, Result, Ok, Err, flat_map-append, length-map, session_of, one_more_obeyed, Unread, map-append, book_state, Command, LineFault, Says, ne_eqb, append-nil, nil_from_length, Consumes, Appends, IsAtEnd, TakesBeginning, with_first_byte, lines_of, ended_lines_of, IsOneLine, ReadsPart, AnswersSaid, AreObeyedLines, commands_of, line_answer, line_answers, report_of, Devices, Refusal, journal, AreObeyed, Book, Reply, BookState, LineAnswer, text_of, RanToEnd, StoppedAtRead, StoppedAtWrite, Consumes-nil, Consumes-trans, Appends-nil, Appends-trans}
+use Rattle.rd_script.proofs.Prelude.{◌≡◌, ◌≢◌, ◌⊎◌, ℕ, suc, map, ◌+◌, ◌-◌, ◌^◌, ◌≤◌, Bool, true, false, List, [], ◌∷◌, ◌++◌, length, Option, refl, sym, ◌∙◌, ap, arith, inl, inr, append_assoc, length-append, Result, Ok, Err, flat_map-append, length-map, session_of, one_more_obeyed, Unread, map-append, book_state, Command, LineFault, ParsedLine, Says, ne_eqb, append-nil, nil_from_length, Consumes, Appends, IsAtEnd, TakesBeginning, onto_first, lines_of, ended_lines_of, IsOneLine, ReadsPart, AnswersSaid, AreObeyedLines, commands_of, line_answer, line_answers, report_of, Devices, Refusal, journal, AreObeyed, Book, Reply, BookState, LineAnswer, text_of, RanToEnd, StoppedAtRead, StoppedAtWrite, Consumes-nil, Consumes-trans, Appends-nil, Appends-trans}
 use Rattle.std.proofs.lemmas.Slice.Zip.{all_zipped_more}
 use Rattle.rd_marks.specs.Headline.{Headline}
 use Rattle.rd_marks.proofs.Headlines.{book_runs}
@@ -17,7 +17,7 @@ ended-first (x ∷ xs) rest h = rw (ne_eqb x 10 h.0, ended-first xs rest h.1) re
 lines-last : (text : List ℕ) → IsOneLine text → text ≢ [] → lines_of text ≡ text ∷ []
 lines-last [] h n = absurd (n refl)
 lines-last (x ∷ []) h n = rw (ne_eqb x 10 h.0) refl
-lines-last (x ∷ y ∷ ys) h n = rw (ne_eqb x 10 h.0) (ap (with_first_byte x) (lines-last (y ∷ ys) h.1 (λ e. cc)))
+lines-last (x ∷ y ∷ ys) h n = rw (ne_eqb x 10 h.0) (ap (onto_first x) (lines-last (y ∷ ys) h.1 (λ e. cc)))
 
 ended-none : (text : List ℕ) → IsOneLine text → ended_lines_of text ≡ []
 ended-none [] h = refl
@@ -44,7 +44,7 @@ module _ (given line : List ℕ) (whole : IsWholeLines given) (is_one : IsOneLin
 pub ended-whole : (given : List ℕ) → IsWholeLines given → ended_lines_of given ≡ lines_of given
 ended-whole given whole = ap ended_lines_of (sym (append-nil given)) ∙ (whole.ended [] ∙ append-nil (lines_of given))
 
-commands_more : (said : List (Result Command LineFault)) (x : Result Command LineFault) → commands_of (said ++ x ∷ []) ≡ commands_of said ++ commands_of (x ∷ [])
+commands_more : (said : List ParsedLine) (x : ParsedLine) → commands_of (said ++ x ∷ []) ≡ commands_of said ++ commands_of (x ∷ [])
 commands_more [] x = refl
 commands_more (s ∷ said) x = grind (arith, commands_more said x)
 
@@ -53,12 +53,12 @@ answered_each b [] [] last h = refl
 answered_each b (c ∷ cs) (y ∷ ys) last h = ap suc (answered_each h.0 cs ys last h.2)
 answered_each b _ _ last h = absurd h
 
-answers_more : (said : List (Result Command LineFault)) (xs : List LineAnswer) (c : Command) (x : LineAnswer) → length xs ≡ length (commands_of said)
+answers_more : (said : List ParsedLine) (xs : List LineAnswer) (c : Command) (x : LineAnswer) → length xs ≡ length (commands_of said)
     → line_answers (said ++ Ok c ∷ []) (xs ++ x ∷ []) ≡ line_answers said xs ++ x ∷ []
 answers_more [] xs c x h = rw (nil_from_length xs h) refl
 answers_more (s ∷ said) xs c x h = grind (arith, answers_more said)
 
-faults_more : (said : List (Result Command LineFault)) (xs : List LineAnswer) (f : LineFault) → line_answers (said ++ Err f ∷ []) xs ≡ line_answers said xs ++ Err (Unread f) ∷ []
+faults_more : (said : List ParsedLine) (xs : List LineAnswer) (f : LineFault) → line_answers (said ++ Err f ∷ []) xs ≡ line_answers said xs ++ Err (Unread f) ∷ []
 faults_more [] xs f = refl
 faults_more (s ∷ said) xs f = grind (arith, faults_more said)
 
@@ -68,7 +68,7 @@ module _ {R : ℕ} (before : BookState) (lines : List (List ℕ)) (answers : Lis
   headed : (cs : List Command) (given : List (Result Reply Refusal)) → AreObeyed before cs given (book_state after) → Headline before cs given (book_state after) (journal (session_of after))
   headed cs given answered = record { answered = answered; start = start ∙ h.headline.start; is_run = book_runs after }
 
-  one_more_line : (said : Result Command LineFault) → Says line said → AnswersSaid (book_state book) said answer (book_state after)
+  one_more_line : (said : ParsedLine) → Says line said → AnswersSaid (book_state book) said answer (book_state after)
       → AreObeyedLines before (lines ++ line ∷ []) (answers ++ answer ∷ []) (book_state after) (journal (session_of after))
   one_more_line (Err fault) says is = record {
     said = h.said ++ Err fault ∷ [];
@@ -168,7 +168,7 @@ module _ {R : ℕ} (before : BookState) (book : Book R) (d : Devices) (n : ℕ) 
   stopped_endless most = stopped_in_line d.input.after d.input.failed [] tt (Consumes-nil _) (inr (omega (arith, g.enough, length-append g.given [])))
 
   -- one more line was read and done
-  module _ (line : List ℕ) (said : Result Command LineFault) (answer : LineAnswer) (says : Says line said) (after : Book R) (is : AnswersSaid (book_state book) said answer (book_state after)) (start : (book_state after).session.start ≡ (book_state book).session.start) where
+  module _ (line : List ℕ) (said : ParsedLine) (answer : LineAnswer) (says : Says line said) (after : Book R) (is : AnswersSaid (book_state book) said answer (book_state after)) (start : (book_state after).session.start ≡ (book_state book).session.start) where
     more : AreObeyedLines before (lines_of g.given ++ line ∷ []) (g.answers ++ answer ∷ []) (book_state after) (journal (session_of after))
     more = one_more_line before (lines_of g.given) g.answers book after g.obeyed start line answer said says is
 

@@ -9,8 +9,8 @@ use Rattle.rd_marks.specs.declared.replies.Reply.{Reply}
 use Rattle.rd_marks.specs.BookState.{BookState}
 use Rattle.rd_marks.specs.Commands.{IsObeyed}
 use Rattle.rd_marks.specs.Headline.{Headline}
-use Rattle.rd_script.specs.declared.faults.LineFault.{LineFault}
 use Rattle.rd_script.specs.declared.answers.AnyRefusal.TheVariants.{Refused, Unread}
+use Rattle.rd_script.specs.Lines.{ParsedLine}
 use Rattle.rd_script.specs.Spelling.{Says}
 use Rattle.rd_script.specs.Replies.{LineAnswer, text_of}
 
@@ -20,20 +20,20 @@ line_answer answer = result_map_both (λ reply. reply) Refused answer
 
 -- a line that spells this command, or has this fault, may be answered so and leave this state; a
 -- fault leaves the state as it was
-abbrev pub AnswersSaid : BookState → Result Command LineFault → LineAnswer → BookState → Type 0
+abbrev pub AnswersSaid : BookState → ParsedLine → LineAnswer → BookState → Type 0
 AnswersSaid s (Err fault) answer after = (answer ≡ Err (Unread fault)) × (after ≡ s)
 AnswersSaid s (Ok command) answer after =
     (given : Result Reply Refusal) × IsObeyed s command (record { answer = given; state = after }) × (answer ≡ line_answer given)
 
 -- the commands among what lines spell, in order
-abbrev pub commands_of : List (Result Command LineFault) → List Command
+abbrev pub commands_of : List ParsedLine → List Command
 commands_of [] = []
 commands_of (Ok command ∷ said) = command ∷ commands_of said
 commands_of (Err fault ∷ said) = commands_of said
 
 -- the answers to lines, in order: a fault gets its refusal, and a command the next of these
 -- answers. `AreObeyed` provides one answer for each command
-abbrev pub line_answers : List (Result Command LineFault) → List LineAnswer → List LineAnswer
+abbrev pub line_answers : List ParsedLine → List LineAnswer → List LineAnswer
 line_answers [] answers = []
 line_answers (Err fault ∷ said) answers = Err (Unread fault) ∷ line_answers said answers
 line_answers (Ok command ∷ said) (answer ∷ answers) = answer ∷ line_answers said answers
@@ -48,7 +48,7 @@ report_of answers = flat_map text_of answers
 -- keeps now
 pub record AreObeyedLines (before : BookState) (lines : List (List ℕ)) (answers : List LineAnswer) (after : BookState) (kept : Journal) : Type 0 where
   -- for each line, the command that it spells, or its fault
-  pub said : List (Result Command LineFault)
+  pub said : List ParsedLine
   pub says : AllZip Says lines said
   -- the book's answers to the commands
   pub given : List (Result Reply Refusal)

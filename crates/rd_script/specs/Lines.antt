@@ -1,24 +1,24 @@
 -- The lines of a text, and what the reading of one line does to its source and its buffer.
 use Rattle.std.specs.Prelude.{◌≡◌, ◌≢◌, ℕ, ◌+◌, ◌^◌, ◌<◌, ◌≤◌, ◌⊎◌, ◌==◌, if◌then◌else◌, Bool, true, List, [], ◌∷◌, ◌++◌, length, Option, Result, Ok, Err, MatchBool}
-use Rattle.std.specs.List.{AllByRecursion}
+use Rattle.std.specs.List.{AllByRecursion, onto_first}
 use Rattle.std.specs.Io.KnownBytes.{Consumes, IsAtEnd}
+use Rattle.rd_marks.specs.declared.commands.Command.{Command}
+use Rattle.rd_script.specs.declared.faults.LineFault.{LineFault}
 use Rattle.rd_script.specs.declared.reading.lines.Line.{Line}
 use Rattle.rd_script.specs.declared.reading.lines.Reading.{Reading}
 use Rattle.rd_script.specs.declared.reading.lines.Reading.TheVariants.{Ended, Last, End}
 use Rattle.rd_script.specs.declared.devices.sources.ReadFault.{ReadFault}
 use Rattle.rd_script.specs.Spelling.{most_line_bytes}
 
--- the lines with this byte added in front of the first one; if there is no line, the byte is a line
--- of its own
-abbrev pub with_first_byte : ℕ → List (List ℕ) → List (List ℕ)
-with_first_byte byte [] = (byte ∷ []) ∷ []
-with_first_byte byte (line ∷ lines) = (byte ∷ line) ∷ lines
+-- what a line spells: a command, or the line's fault
+abbrev pub ParsedLine : Type 0
+ParsedLine = Result Command LineFault
 
 -- the lines of a text, without their line feeds; the last one needs no line feed, unless it is
 -- empty
 abbrev pub lines_of : List ℕ → List (List ℕ)
 lines_of [] = []
-lines_of (byte ∷ bytes) = if byte == 10 then [] ∷ lines_of bytes else with_first_byte byte (lines_of bytes)
+lines_of (byte ∷ bytes) = if byte == 10 then [] ∷ lines_of bytes else onto_first byte (lines_of bytes)
 
 -- the lines with this byte added in front of the first one; if there is no line, still none
 abbrev pub ended_with_first_byte : ℕ → List (List ℕ) → List (List ℕ)

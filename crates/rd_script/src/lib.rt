@@ -25,7 +25,7 @@ pub use devices::sources::{ReadFault, ReadSource, Source};
 pub use faults::{LineFault, ScriptFault};
 pub use reading::commands::command_in;
 pub use reading::keywords::FORMS;
-pub use reading::whole_texts::lines;
+pub use reading::whole_texts::{ParsedLine, lines};
 pub use rings::Ring;
 pub use script::{run, write_answer};
 pub use writing::headings::{Heading, set_heading};

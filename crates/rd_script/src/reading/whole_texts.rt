@@ -11,13 +11,16 @@ use rd_cell::Refusal;
 use rd_marks::Command;
 use std::alloc::Global;
 
-/// Returns what each line of a text spells, in order: its command, or its fault. The last line
+/// What a line of a script spells: a command, or the line's fault.
+pub type ParsedLine = Result<Command, LineFault>;
+
+/// Returns what each line of a text spells, in order. The last line
 /// needs no line feed.
 ///
 /// # Errors
 ///
 /// `NoMemory` if memory for the list was refused, which never happens if the text is empty.
-pub fn lines(alloc: Global, text: &[u8]) -> Result<Vec<Result<Command, LineFault>>, Refusal>
+pub fn lines(alloc: Global, text: &[u8]) -> Result<Vec<ParsedLine>, Refusal>
     ensures ok { IfOk result (λ said. AllZip Says (lines_of text.now) said.items) }
     ensures err { IfErr result (λ refusal. refusal ≡ Refusal.NoMemory) }
     ensures succeeds { text.now ≡ [] → IsOk result }
