@@ -1,8 +1,8 @@
 -- The words that several proofs of the crate use: definitions of this crate and of those below,
 -- generated types and their variants, and lemmas of these crates and of std.
 pub use denote.Param.{number as number_of}
-pub use Rattle.rd_cell.proofs.Prelude.{AllByRecursion, AllZip, AllZip-long, Bool, Err, Global, IfErr, List, None, Ok, OnOk, Option, Result, Some, Vec, [], add-one, ap, append-nil, append_assoc, arith, crosses, drop, drop-cons, drop_of_length-le, false, get_or, length, length-map, map, map-append, nil_from_length, refl, sendable, subst, suc, sym, take, zero, ℕ, ∥∥₁_map, ◌++◌, ◌+◌, ◌<◌, ◌^◌, ◌∙◌, ◌∷◌, ◌≡◌}
-pub use Rattle.rd_script.proofs.Prelude.{Book, BookState, Command, Says, book_state, commands_of, lines_of, text_of}
+pub use Rattle.rd_cell.proofs.Prelude.{AllByRecursion, AllZip, AllZip-long, Bool, Err, Global, IfErr, List, None, Ok, OnOk, Option, Result, Some, Vec, [], ap, append-nil, append_assoc, arith, crosses, drop, drop_more, drop_of_length-le, false, length, length-map, map, map-append, nil_from_length, refl, sendable, subst, suc, sym, take, zero, ℕ, ∥∥₁_map, ◌++◌, ◌+◌, ◌<◌, ◌^◌, ◌∙◌, ◌∷◌, ◌≡◌}
+pub use Rattle.rd_script.proofs.Prelude.{Book, BookState, Command, ParsedLine, Says, book_state, commands_of, line_answers, lines_of, report_of, text_of}
 pub use Rattle.rd_lock.proofs.Prelude.{Continues, next_seen, number, numbers, put_by, seen}
 pub use Rattle.rd_desk.proofs.Prelude.{Answer, Ghosts, IsChain, IsDone, IsNewViewer, IsNotBusy, IsViewerOf, KnowsAfterAsk, KnowsWords, Pass, SeesAfter, entries, opened_state, own_same}
 pub use Rattle.rd_desk.proofs.OwnCalls.{own_answered, own_refused}
@@ -13,8 +13,7 @@ pub use Rattle.rd_desk.specs.declared.histories.Call.{Call}
 pub use Rattle.rd_desk.specs.declared.histories.History.{History}
 pub use Rattle.rd_desk.specs.declared.recording.BookWithHistory.{BookWithHistory}
 pub use Rattle.rd_script.specs.Headings.{heading_text}
-pub use Rattle.rd_script.specs.declared.faults.LineFault.{LineFault}
 pub use Rattle.rd_script.specs.declared.writing.headings.Heading.TheVariants.{Viewer}
-pub use Rattle.rd_view.specs.Reports.{replies_text, report_text, view_text, viewer_text}
+pub use Rattle.rd_view.specs.Reports.{desk_answer, view_text, viewer_text}
 pub use Rattle.rd_view.specs.Viewing.{AreAnswered, AreRead, IsUnviewed, IsViewed, StaysEnded, Views, ViewsScripts, AskedAll, calls_of, viewed_text}
 pub use Rattle.rd_view.specs.declared.faults.ViewFault.{ViewFault}

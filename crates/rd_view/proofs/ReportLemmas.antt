@@ -1,5 +1,5 @@
 -- The next part of a report, and of a view.
-use Rattle.rd_view.proofs.Prelude.{arith, OnOk, drop-cons, ◌≡◌, ◌∙◌, ℕ, List, ◌∷◌, ◌++◌, ◌+◌, ◌<◌, Result, sym, ap, append_assoc, length, drop, get_or, add-one, refl}
+use Rattle.rd_view.proofs.Prelude.{arith, OnOk, ◌≡◌, ◌∙◌, ℕ, List, ◌++◌, Result, sym, ap, append_assoc}
 
 -- if a text and the rest make up the whole, they still do after the rest's first part was appended
 pub one_part_more : (old new part left rest whole : List ℕ) → new ≡ old ++ part → left ≡ part ++ rest → old ++ left ≡ whole → new ++ rest ≡ whole
@@ -8,7 +8,3 @@ one_part_more old new part left rest whole put is all = ap (λ t. t ++ rest) put
 -- a part was appended, and then another by a call that may fail: if it succeeds, both were
 pub both_parts : {E : Type 0} (r : Result (Unit {0}) E) (old mid new front back : List ℕ) → mid ≡ old ++ front → OnOk r (new ≡ mid ++ back) → OnOk r (new ≡ old ++ (front ++ back))
 both_parts r old mid new front back one other = grind (arith, append_assoc)
-
--- the elements from a position on are the element there and those after it
-pub line_at : {A : Type 0} (xs : List A) (i : ℕ) (x : A) → i < length xs → x ≡ get_or xs i x → drop i xs ≡ x ∷ drop (i + 1) xs
-line_at xs i x within is = rw (add-one, drop-cons xs i x within, ← is) refl

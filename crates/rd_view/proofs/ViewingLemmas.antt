@@ -1,5 +1,5 @@
 -- What passes know after a chain of calls, and how the history that leaves the desk agrees with it.
-use Rattle.rd_view.proofs.Prelude.{◌≡◌, ◌∙◌, ◌^◌, ℕ, zero, suc, List, [], ◌∷◌, ◌++◌, Result, Ok, Err, IfErr, Option, Some, None, Vec, map, length, refl, ap, subst, append_assoc, AllByRecursion, AllZip, Answer, AreAnswered, Book, BookState, BookWithHistory, Call, Command, Continues, Desk, Ghosts, Global, History, IsChain, IsNewViewer, IsNotBusy, IsDone, SeesAfter, IsViewerOf, KnowsAfterAsk, KnowsWords, LineFault, Pass, StaysEnded, TicketsEnded, AskedAll, append-nil, calls_of, commands_of, entries, map-append, put_by, next_seen, number, numbers, opened_state, own_answered, own_refused, own_same, seen}
+use Rattle.rd_view.proofs.Prelude.{◌≡◌, ◌∙◌, ◌^◌, ℕ, suc, List, [], ◌∷◌, ◌++◌, Ok, Err, IfErr, Option, Some, None, Vec, map, length, refl, ap, subst, append_assoc, AllByRecursion, AllZip, Answer, AreAnswered, Book, BookState, BookWithHistory, Call, Command, Continues, Desk, Ghosts, Global, History, IsChain, IsNewViewer, IsNotBusy, IsDone, SeesAfter, IsViewerOf, KnowsAfterAsk, KnowsWords, ParsedLine, Pass, StaysEnded, TicketsEnded, AskedAll, append-nil, calls_of, commands_of, entries, map-append, put_by, next_seen, number, numbers, opened_state, own_answered, own_refused, own_same, seen}
 
 module _ (opened : BookState) where
   -- after a chain of calls, the viewer's own calls have grown by those that were recorded
@@ -15,10 +15,7 @@ module _ (R : ℕ) (K : Ghosts (BookWithHistory R) Call (Book R)) (desk : Desk R
   abbrev ViewPass : Type 0
   ViewPass = Pass (BookWithHistory R) Call (Book R) K
 
-  -- the gate's relations of this desk
-  abbrev takes : ViewPass → Type 0
-  takes pass = IsViewerOf desk pass
-
+  -- what the desk's gate tells
   abbrev told : ViewPass → Command → Answer → ViewPass → Type 0
   told pass command answer after = KnowsAfterAsk (opened_state desk) pass after command answer
 
@@ -46,17 +43,17 @@ module _ (R : ℕ) (K : Ghosts (BookWithHistory R) Call (Book R)) (desk : Desk R
   Done = ViewPass × Option (Vec Answer Global)
 
   abbrev Gives : ViewPass × Vec Command Global → Done → Type 0
-  Gives viewer done = IsDone takes told viewer.0 viewer.1.items done
+  Gives viewer done = IsDone (IsViewerOf desk) told viewer.0 viewer.1.items done
 
   -- the passes that come back are the desk's
-  pub own_passes : (work : List (ViewPass × Vec Command Global)) (dones : List Done) → AllZip Gives work dones → AllByRecursion takes (map (λ done. done.0) dones)
+  pub own_passes : (work : List (ViewPass × Vec Command Global)) (dones : List Done) → AllZip Gives work dones → AllByRecursion (IsViewerOf desk) (map (λ done. done.0) dones)
   own_passes [] [] pairs = tt
   own_passes (viewer ∷ work) ((pass, Some answers) ∷ dones) pairs = (pairs.0.0, own_passes work dones pairs.1)
   own_passes (viewer ∷ work) ((pass, None) ∷ dones) pairs = (pairs.0.0, own_passes work dones pairs.1)
   own_passes _ _ pairs = absurd pairs
 
   -- the passes of new viewers are passes of this desk
-  pub new_may_ask : (work : List (ViewPass × Vec Command Global)) → AllByRecursion (IsNewViewer desk) (map (λ viewer. viewer.0) work) → AllByRecursion (λ viewer. takes viewer.0) work
+  pub new_may_ask : (work : List (ViewPass × Vec Command Global)) → AllByRecursion (IsNewViewer desk) (map (λ viewer. viewer.0) work) → AllByRecursion (λ viewer. IsViewerOf desk viewer.0) work
   new_may_ask [] new = tt
   new_may_ask (viewer ∷ work) new = ((new.0.is_pass, new.0.is_out), new_may_ask work new.1)
 
@@ -78,7 +75,7 @@ module _ (R : ℕ) (K : Ghosts (BookWithHistory R) Call (Book R)) (desk : Desk R
       }
 
   -- all viewers from this number on were answered as `AreAnswered` says
-  pub all_answered : (history : History) (n : ℕ) (work : List (ViewPass × Vec Command Global)) (dones : List Done) (said : List (Vec (Result Command LineFault) Global))
+  pub all_answered : (history : History) (n : ℕ) (work : List (ViewPass × Vec Command Global)) (dones : List Done) (said : List (Vec ParsedLine Global))
       → AllZip Gives work dones → AllByRecursion (IsNewViewer desk) (map (λ viewer. viewer.0) work) → map number (map (λ viewer. viewer.0) work) ≡ numbers n (length said)
       → map (λ viewer. viewer.1.items) work ≡ map (λ lines. commands_of lines.items) said → AllByRecursion (λ pass. Continues (number pass) (seen pass) (entries history)) (map (λ done. done.0) dones)
       → AreAnswered (opened_state desk) (entries history) n said (map (λ done. done.1) dones)

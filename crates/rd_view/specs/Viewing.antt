@@ -13,10 +13,9 @@ use Rattle.rd_desk.specs.Histories.{Answer, entries, IsLegal}
 use Rattle.rd_desk.specs.Asking.{SeesAfter, IsNotBusy}
 use Rattle.rd_desk.specs.Viewers.{IsChain}
 use Rattle.std.specs.List.{AllByRecursion, AllZip}
-use Rattle.rd_script.specs.declared.faults.LineFault.{LineFault}
 use Rattle.rd_script.specs.Device.{TakesBeginning}
 use Rattle.rd_script.specs.Answers.{commands_of}
-use Rattle.rd_script.specs.Lines.{lines_of}
+use Rattle.rd_script.specs.Lines.{ParsedLine, lines_of}
 use Rattle.rd_script.specs.Spelling.{Says}
 use Rattle.rd_script.specs.Streams.{GetsNothing, Stream}
 use Rattle.rd_view.specs.declared.faults.ViewFault.{ViewFault}
@@ -24,7 +23,7 @@ use Rattle.rd_view.specs.declared.faults.ViewFault.TheVariants as view
 use Rattle.rd_view.specs.Reports.{view_text}
 
 -- for each script, these are the commands and the faults of its lines, in order
-abbrev pub AreRead : List (Vec ℕ Global) → List (Vec (Result Command LineFault) Global) → Type 0
+abbrev pub AreRead : List (Vec ℕ Global) → List (Vec ParsedLine Global) → Type 0
 AreRead scripts said = AllZip (λ script lines. AllZip Says (lines_of script.items) lines.items) scripts said
 
 -- the calls that a history records for these commands and answers: those that the desk did not
@@ -68,7 +67,7 @@ module _ (opened : BookState) (history : List (ℕ × Call)) where
 
   -- the viewers from this number on got these answers to the commands of their lines, with one list
   -- of lines and one of answers for each
-  abbrev pub AreAnswered : ℕ → List (Vec (Result Command LineFault) Global) → List (Option (Vec Answer Global)) → Type 0
+  abbrev pub AreAnswered : ℕ → List (Vec ParsedLine Global) → List (Option (Vec Answer Global)) → Type 0
   AreAnswered viewer [] [] = Unit {0}
   AreAnswered viewer (said ∷ others) (answered ∷ more) = IsAnswered viewer (commands_of said.items) answered × AreAnswered (suc viewer) others more
   AreAnswered viewer [] (answered ∷ more) = ⊥
@@ -77,13 +76,15 @@ module _ (opened : BookState) (history : List (ℕ × Call)) where
 module _ (opened : BookState) where
   -- the history is legal from the book that was opened, each of its entries names one of the
   -- viewers, and the viewers got these answers to the commands of these lines
-  abbrev pub IsViewed : List (Vec (Result Command LineFault) Global) → List (Option (Vec Answer Global)) → List (ℕ × Call) → Type 0
-  IsViewed said answered history = IsLegal opened history × NamesUpTo (length said) history × AreAnswered opened history 1 said answered
+  pub record IsViewed (said : List (Vec ParsedLine Global)) (answered : List (Option (Vec Answer Global))) (history : List (ℕ × Call)) : Type 0 where
+    pub legal : IsLegal opened history
+    pub named : NamesUpTo (length said) history
+    pub are_answered : AreAnswered opened history 1 said answered
 
   -- a view of these scripts with this history: what their lines spell, and the answers to the
   -- viewers, which agree with the history
   pub record Views (scripts : List (Vec ℕ Global)) (history : List (ℕ × Call)) : Type 0 where
-    pub said : List (Vec (Result Command LineFault) Global)
+    pub said : List (Vec ParsedLine Global)
     pub answered : List (Option (Vec Answer Global))
     pub are_read : AreRead scripts said
     pub is_viewed : IsViewed said answered history

@@ -7,5 +7,5 @@ mod reports;
 mod viewing;
 
 pub use faults::ViewFault;
-pub use reports::{ParsedLine, text_of_view};
+pub use reports::text_of_view;
 pub use viewing::view_scripts;

@@ -4,18 +4,15 @@
 //! The whole text is made in memory before any of it is handed to a writer. One buffer holds each
 //! line in turn, before it is appended to the text.
 
-ghost use Rattle.std.specs.Prelude.{◌≡◌, ◌++◌, length, IfOk, OnOk};
+ghost use Rattle.std.specs.Prelude.{◌≡◌, ◌++◌, length, map, IfOk, OnOk};
+ghost use Rattle.rd_script.specs.Answers.{line_answers, report_of};
 ghost use Rattle.rd_script.specs.Replies.{text_of};
-ghost use Rattle.rd_view.specs.Reports.{desk_answer, report_text, viewer_text, view_text};
+ghost use Rattle.rd_view.specs.Reports.{desk_answer, viewer_text, view_text};
 
 use rd_cell::Refusal;
 use rd_desk::{Answer, DeskRefusal};
-use rd_marks::Command;
-use rd_script::{AnyRefusal, Heading, LineAnswer, LineFault, Text, set_answer, set_heading};
+use rd_script::{AnyRefusal, Heading, LineAnswer, ParsedLine, Text, set_answer, set_heading};
 use std::alloc::{AllocError, Global};
-
-/// What a line of a script spells: a command, or the line's fault.
-pub type ParsedLine = Result<Command, LineFault>;
 
 /// Returns the text of a view: for each viewer in order its heading and the answers to its lines,
 /// and last the number of recorded calls. A viewer whose thread was not started has no answers: it
@@ -74,7 +71,8 @@ fn put_report(
     said: &[ParsedLine],
     answers: &[Answer],
 ) -> Result<(), AllocError>
-    ensures { OnOk result (text.new.items ≡ text.old.items ++ report_text said.now answers.now) }
+    ensures { OnOk result (text.new.items ≡ text.old.items
+        ++ report_of (line_answers said.now (map desk_answer answers.now))) }
 {
     let mut rest = answers;
     for command in said {

@@ -13,10 +13,10 @@ ghost use Rattle.rd_script.specs.Streams.{sink_stream};
 ghost use Rattle.rd_view.specs.Viewing.{AreRead, IsUnviewed, IsViewed, ViewsScripts};
 
 use super::faults::ViewFault;
-use super::reports::{ParsedLine, text_of_view};
+use super::reports::text_of_view;
 use rd_desk::{Answer, Desk, DeskPass, History, ask_viewers};
 use rd_marks::{Book, Command};
-use rd_script::{Sink, lines, write_all};
+use rd_script::{ParsedLine, Sink, lines, write_all};
 use std::alloc::{AllocError, Global};
 use std::sync::Wait;
 use std::thread::Threads;

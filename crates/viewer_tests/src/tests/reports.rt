@@ -3,8 +3,8 @@
 use rd_cell::Refusal;
 use rd_desk::Answer;
 use rd_marks::{Command, Reply};
-use rd_script::LineFault;
-use rd_view::{ParsedLine, text_of_view};
+use rd_script::{LineFault, ParsedLine};
+use rd_view::text_of_view;
 use std::alloc::{AllocError, Global};
 use std::process::Abort;
 use std::test::Fail;

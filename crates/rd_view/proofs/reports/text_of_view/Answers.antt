@@ -1,5 +1,5 @@
-use Rattle.rd_view.proofs.Prelude.{◌≡◌, ◌∙◌, ◌+◌, ◌++◌, arith, ap, refl, sym, subst, drop, drop_of_length-le, view_text, viewer_text}
-use Rattle.rd_view.proofs.ReportLemmas.{line_at, one_part_more}
+use Rattle.rd_view.proofs.Prelude.{◌≡◌, ◌∙◌, ◌+◌, ◌++◌, arith, ap, refl, sym, subst, drop, drop_more, drop_of_length-le, view_text, viewer_text}
+use Rattle.rd_view.proofs.ReportLemmas.{one_part_more}
 use Rattle.rd_view.proofs.reports.text_of_view.Goals as goal
 
 pub loop-i-preserved : goal.loop-i-preserved
@@ -9,7 +9,7 @@ loop-i-preserved c =
     let i = c.loop-i.i in
     let put = subst (λ xs. c.put_viewer.new.text.items ≡ c.loop-i.text.items ++ viewer_text (i + 1) xs c.index-answered-i.result) c.as_slice.ensures.value c.in_ok-put_viewer.ensures in
     let here : view_text (i + 1) (drop i said) (drop i answered) c.args.calls ≡ viewer_text (i + 1) c.index-said-i.result.items c.index-answered-i.result ++ view_text (i + 1 + 1) (drop (i + 1) said) (drop (i + 1) answered) c.args.calls =
-    rw (line_at said i c.index-said-i.result (omega arith) c.index-said-i.is, line_at answered i c.index-answered-i.result (omega (arith, c.requires)) c.index-answered-i.is) refl in
+    rw (drop_more said i c.index-said-i.result (omega arith), ← c.index-said-i.is, drop_more answered i c.index-answered-i.result (omega (arith, c.requires)), ← c.index-answered-i.is) refl in
     one_part_more c.loop-i.text.items c.put_viewer.new.text.items (viewer_text (i + 1) c.index-said-i.result.items c.index-answered-i.result) _ (view_text (i + 1 + 1) (drop (i + 1) said) (drop (i + 1) answered) c.args.calls) _ put here c.loop-i.invariant
 
 pub returns : goal.returns

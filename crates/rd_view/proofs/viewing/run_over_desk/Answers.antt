@@ -30,10 +30,11 @@ returns-in-Ok-close-clause-ok g c =
     let closed = c.in-Ok-close.ensures.ok in
     let opened = c.in-Ok.ensures.ok in
     let state : opened_state desk ≡ book_state c.args.book = ap book_state opened.rooted in
-    let passes = c.in_ok-work.ensures.passes in (
-      rw (← state) (∥∥₁_map c.in-Ok-close.ensures.leaves (λ l. (_, _, l))),
-      rw (← opened.counted) closed.names,
-      rw (c.in_ok-passes.ensures.answered, ← state)
+    let passes = c.in_ok-work.ensures.passes in record {
+      legal = rw (← state) (∥∥₁_map c.in-Ok-close.ensures.leaves (λ l. (_, _, l)));
+      named = rw (← opened.counted) closed.names;
+      are_answered =
+          rw (c.in_ok-passes.ensures.answered, ← state)
           (all_answered g.row.N (Recorded.ghosts (number_of g.row.N)) desk c.in-Ok-close.history 1 c.in_ok-work.work.items c.in-Ok-ask_viewers.dones.items c.args.said.now c.in-Ok-ask_viewers.ensures.ok
-          (rw passes opened.are_new) (ap (map number) passes ∙ opened.numbered) c.in_ok-work.ensures.commands (rw c.in_ok-passes.ensures.passes at closed.continues)),
-    )
+          (rw passes opened.are_new) (ap (map number) passes ∙ opened.numbered) c.in_ok-work.ensures.commands (rw c.in_ok-passes.ensures.passes at closed.continues));
+    }
