@@ -10,8 +10,7 @@
 
 use anyhow::Result;
 use rd_program::{Setup, end, play, resume, view};
-use rd_script::{ReadSource, WriteSink};
-use rd_trace::Ring;
+use rd_script::{ReadSource, Ring, WriteSink};
 use std::alloc::{Alloc, Global};
 use std::fs::{self, Files};
 use std::process::ExitCode;

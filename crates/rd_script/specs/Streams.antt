@@ -1,9 +1,8 @@
 -- What a call does to the streams that it reads and writes, from what these are before and after.
-use Rattle.std.specs.Prelude.{◌≡◌, ℕ, Bool, false, MatchBool, List, Option}
-use Rattle.std.specs.Io.KnownBytes.{Appends, Keeps}
+use Rattle.std.specs.Prelude.{◌≡◌, ℕ, Bool, false, List, Option}
+use Rattle.std.specs.Io.KnownBytes.{Keeps}
 use Rattle.rd_script.specs.declared.devices.sources.Source.{Ghosts as SourceOf}
 use Rattle.rd_script.specs.declared.devices.sinks.Sink.{Ghosts as SinkOf}
-use Rattle.rd_script.specs.Device.{TakesBeginning}
 
 -- how a call changed a source or a sink: the bytes that a source has left, or that a sink has
 -- taken, before the call and after it (None where they aren't known), and whether it has failed by
@@ -33,15 +32,7 @@ devices source sink reader reader' writer writer' = record {
 abbrev pub IsUnused : Stream → Type 0
 IsUnused s = Keeps s.before s.after × (s.failed ≡ false)
 
--- neither device was used
-abbrev pub TouchesNothing : Devices → Type 0
-TouchesNothing d = IsUnused d.input × IsUnused d.output
-
 -- a stream got nothing: it has what it had, and has failed exactly if it had failed before, which
 -- the flag says
 abbrev pub GetsNothing : Bool → Stream → Type 0
 GetsNothing had_failed s = (s.after ≡ s.before) × (s.failed ≡ had_failed)
-
--- a stream took all of this text, after what it had; or, if it has failed, a beginning of the text
-abbrev pub Takes : Stream → List ℕ → Type 0
-Takes s text = MatchBool s.failed (TakesBeginning s.before s.after text) (Appends s.before s.after text)

@@ -28,5 +28,5 @@ mod write;
 
 pub use faults::{LoadTraceFault, WriteTraceFault};
 pub use load::load_trace;
-pub use rd_script::{AnyBook, Ring};
+pub use rd_script::AnyBook;
 pub use write::{write_any_trace, write_trace};

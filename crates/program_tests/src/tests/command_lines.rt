@@ -1,7 +1,7 @@
 //! Command lines, each with the options that it gives or with how it is refused.
 
 use rd_command_line::{Options, OptionsFault, options};
-use rd_trace::Ring;
+use rd_script::Ring;
 use std::alloc::Global;
 use std::fmt::Write;
 use std::process::Abort;

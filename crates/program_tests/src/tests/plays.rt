@@ -1,8 +1,7 @@
 //! Scripts as the program runs them: over the fresh world of the options' actors and ring.
 
 use rd_program::{Setup, play};
-use rd_script::{ReadSource, WriteSink};
-use rd_trace::Ring;
+use rd_script::{ReadSource, Ring, WriteSink};
 use std::alloc::Global;
 use std::process::Abort;
 use std::test::Fail;

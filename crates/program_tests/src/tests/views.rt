@@ -1,8 +1,7 @@
 //! Views: several scripts over one fresh world, of the options' actors and ring.
 
 use rd_program::{ProgramFault, Setup, view};
-use rd_script::WriteSink;
-use rd_trace::Ring;
+use rd_script::{Ring, WriteSink};
 use rd_view::ViewFault;
 use std::alloc::Global;
 use std::process::Abort;

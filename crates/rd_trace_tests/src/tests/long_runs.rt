@@ -4,8 +4,8 @@
 ghost use Rattle.std.specs.Prelude.{◌≤◌};
 
 use super::AnyBook;
-use rd_script::{ReadSource, WriteSink};
-use rd_trace::{Ring, load_trace, write_any_trace};
+use rd_script::{ReadSource, Ring, WriteSink};
+use rd_trace::{load_trace, write_any_trace};
 use std::alloc::Global;
 use std::process::Abort;
 use std::test::Fail;
