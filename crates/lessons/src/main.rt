@@ -4,8 +4,11 @@
 //! A page has its script beside the replies in a table, with words in a third column, which are for
 //! readers alone. The guide, and a lesson over two starts, have several tables and traces. A page
 //! has just those that its scripts give, in this order. The sessions of the README and the manual,
-//! and that of the poised world, have a report beside each script. For each page or report, one line
-//! that is printed states whether it is as the scripts give it.
+//! and that of the poised world, have a report beside each script. The program prints a line for
+//! each page or report, which states whether it is as the scripts give it.
+//!
+//! What runs a script fails if a file can't be read, if the run ends with a fault, or if memory is
+//! refused. Everything else fails only if memory is refused, or if it can't read or print.
 #![tactic(auto)]
 
 use anyhow::Result;
@@ -98,8 +101,8 @@ const TRACE_HEAD: &str = "```json\n";
 /// The line after a trace.
 const TRACE_END: &str = "```\n";
 
-/// Runs all lessons, the guide and the sessions, and prints a line for each. Fails if one is not as
-/// its page states.
+/// Runs all lessons, the guide and the sessions, and prints a line for each. Returns a failure
+/// status if one is not as its page states.
 fn main(rt: HostRuntime) -> Result<ExitCode> {
     let mut all_right = true;
     for &name in LESSONS {
@@ -119,15 +122,15 @@ fn main(rt: HostRuntime) -> Result<ExitCode> {
     })
 }
 
-/// Prints a line that states whether the replies are those of the page of this name, and returns
-/// whether they are.
+/// Prints a line with this name, which states whether its page or report is right, and returns that.
 fn print_whether<R: Print>(rt: &R, name: &str, right: bool) -> Result<bool> {
     let word = if right { "as" } else { "not as" };
     println!(rt; "{name}: {word} its page says")?;
     Ok(right)
 }
 
-/// Whether the replies to a lesson's script are those of its page.
+/// Runs the scripts of the lesson of this name, and returns whether its page has just the tables
+/// and traces that they give.
 fn is_as_its_page_says<R: Files + Alloc<A = Global> + Threads + Wait + Sync>(
     rt: &R,
     alloc: Global,
@@ -190,7 +193,8 @@ fn table_from_start<R: Files + Alloc<A = Global>>(
     table_of(alloc, &script, &replies)
 }
 
-/// Reads the page of this name, and leaves out what the rows of its tables of lines say in words.
+/// Reads the page of this name, and returns it without the third column of its tables of lines and
+/// replies.
 fn page_of<R: Files + Alloc<A = Global>>(rt: &R, alloc: Global, name: &str) -> Result<String> {
     let page = fs::read_to_string(rt, format!(in alloc; "{name}.md")?.as_str())?;
     let mut bare = String::new(alloc);
@@ -206,8 +210,8 @@ fn page_of<R: Files + Alloc<A = Global>>(rt: &R, alloc: Global, name: &str) -> R
     Ok(bare)
 }
 
-/// Appends a row of a table to the text, without its last cell. So a row that doesn't have three
-/// cells becomes one that no table of lines and replies has.
+/// Appends a row of a table and a line feed to the text, the row without its last cell. So a row
+/// that doesn't have three cells becomes one that no table of lines and replies has.
 fn write_pair(text: &mut String, row: &str) -> Result<()> {
     match before_last_cell(row) {
         Some(cells) => writeln!(text, "{cells}|")?,
@@ -216,14 +220,15 @@ fn write_pair(text: &mut String, row: &str) -> Result<()> {
     Ok(())
 }
 
-/// Returns what a row of a table has before its last cell; none if it ends without a bar.
+/// Returns what a row of a table has before its last cell; none if the row doesn't end with a bar
+/// or has no other bar.
 fn before_last_cell(row: &str) -> Option<&str> {
     let (cells, _) = row.strip_suffix('|')?.rsplit_once('|')?;
     Some(cells)
 }
 
-/// Whether the replies to a session's script are those of its report, over the fresh world or over
-/// the run of the trace of its name.
+/// Runs the script of the session of this name, over the fresh world or over the trace of its name,
+/// and returns whether the replies are those of its report.
 fn is_as_its_report_says<R: Files + Alloc<A = Global>>(
     rt: &R,
     alloc: Global,
@@ -241,7 +246,7 @@ fn is_as_its_report_says<R: Files + Alloc<A = Global>>(
     Ok(replies.as_str() == report.as_str())
 }
 
-/// Returns the traces and the tables of a lesson over two starts, in order.
+/// Runs the scripts of a lesson over two starts, and returns its traces and tables, in order.
 fn blocks_of_starts<R: Files + Alloc<A = Global>>(
     rt: &R,
     alloc: Global,
@@ -257,8 +262,8 @@ fn blocks_of_starts<R: Files + Alloc<A = Global>>(
     Ok(blocks)
 }
 
-/// Whether the tables and the traces of the guide are those that its scripts give, in order, and
-/// whether it has no other ones.
+/// Runs the guide's scripts, and returns whether the guide has just the tables and traces that they
+/// give, in order.
 fn is_guide_as_it_says<R: Files + Alloc<A = Global> + Threads + Wait + Sync>(
     rt: &R,
     alloc: Global,
@@ -268,7 +273,7 @@ fn is_guide_as_it_says<R: Files + Alloc<A = Global> + Threads + Wait + Sync>(
     Ok(has_exactly(page.as_str(), blocks.as_slice()))
 }
 
-/// Whether a page has these tables and traces in this order, and no other ones.
+/// Returns whether a page has these tables and traces in this order, and no other ones.
 fn has_exactly(page: &str, blocks: &[String]) -> bool {
     let mut rest = page;
     for block in blocks {
@@ -280,7 +285,7 @@ fn has_exactly(page: &str, blocks: &[String]) -> bool {
     !has_block(rest)
 }
 
-/// Returns the tables and the traces that the guide must have, in order.
+/// Runs the guide's scripts, and returns the tables and traces that the guide must have, in order.
 fn guide_blocks<R: Files + Alloc<A = Global> + Threads + Wait + Sync>(
     rt: &R,
     alloc: Global,
@@ -299,7 +304,8 @@ fn guide_blocks<R: Files + Alloc<A = Global> + Threads + Wait + Sync>(
     Ok(blocks)
 }
 
-/// Returns the text after a table or trace, if the text has it and no other one before it.
+/// Returns what follows the table or trace `block` in the text; none if the text doesn't have it,
+/// or has another one before it.
 fn text_after<'a>(text: &'a str, block: &str) -> Option<&'a str> {
     let (before, behind) = text.split_once(block)?;
     if has_block(before) {
@@ -308,13 +314,13 @@ fn text_after<'a>(text: &'a str, block: &str) -> Option<&'a str> {
     Some(behind)
 }
 
-/// Whether a text has a table of lines, a table of mistakes or a trace.
+/// Returns whether a text has a table of lines, a table of mistakes or a trace.
 fn has_block(text: &str) -> bool {
     text.contains(HEADINGS) || text.contains(MISTAKES_HEAD) || text.contains(TRACE_HEAD)
 }
 
-/// Runs a script over the fresh world, pushes its table and the trace of its run to the blocks, and
-/// returns the trace.
+/// Runs the script in the file of this name over the fresh world, pushes its table and the trace of
+/// its run to the blocks, and returns the trace.
 fn push_run<R: Files + Alloc<A = Global>>(
     rt: &R,
     alloc: Global,
@@ -332,7 +338,8 @@ fn push_run<R: Files + Alloc<A = Global>>(
     Ok(trace)
 }
 
-/// Runs a script over the run of a trace, and pushes its table to the blocks.
+/// Runs the script in the file of this name over the run of a trace, and pushes its table to the
+/// blocks.
 fn push_run_over<R: Files + Alloc<A = Global>>(
     rt: &R,
     alloc: Global,
@@ -346,12 +353,13 @@ fn push_run_over<R: Files + Alloc<A = Global>>(
     Ok(())
 }
 
-/// Returns a trace as a page shows it.
+/// Returns a trace as a page shows it, in a block of JSON. The trace must end with a line feed.
 fn block_of(alloc: Global, trace: &str) -> Result<String> {
     Ok(format!(in alloc; "{TRACE_HEAD}{trace}{TRACE_END}")?)
 }
 
-/// Returns the table of mistakes in a trace, and the empty line after it.
+/// Makes each of `MISTAKES` in a trace, and returns the table of what `load` answers, and the empty
+/// line after it. A mistake whose right text the trace doesn't have gets no row.
 fn table_of_mistakes(alloc: Global, trace: &str) -> Result<String> {
     let mut table = String::from_str(alloc, MISTAKES_HEAD)?;
     for &(right, wrong) in MISTAKES {
@@ -370,7 +378,8 @@ fn table_of_mistakes(alloc: Global, trace: &str) -> Result<String> {
     Ok(table)
 }
 
-/// Returns what `load` writes to standard error for a trace.
+/// Loads a trace, and returns what `load` writes to standard error: the line of the fault, or
+/// nothing if the trace is loaded.
 fn load_message(alloc: Global, trace: &str) -> Result<String> {
     let mut replies = Vec::new(alloc);
     let outcome = resume(
@@ -385,7 +394,7 @@ fn load_message(alloc: Global, trace: &str) -> Result<String> {
     Ok(String::from_utf8(errors)?)
 }
 
-/// Returns the replies to a script over the run of a trace.
+/// Runs a script over the run of a trace, and returns the replies.
 fn replies_over(alloc: Global, trace: &str, script: &str) -> Result<String> {
     let mut written = Vec::new(alloc);
     resume(
@@ -398,8 +407,8 @@ fn replies_over(alloc: Global, trace: &str, script: &str) -> Result<String> {
     Ok(String::from_utf8(written)?)
 }
 
-/// Returns the report of a script over a fresh world, and if `traced` the trace of the run after
-/// it.
+/// Runs a script over the fresh world of `ACTORS` actors, and returns its report, and if `traced`
+/// the trace of the run after it.
 fn report_from_start(alloc: Global, ring: Ring, script: &str, traced: bool) -> Result<String> {
     let mut written = Vec::new(alloc);
     play(
@@ -425,8 +434,9 @@ fn table_of(alloc: Global, script: &str, replies: &str) -> Result<String> {
     Ok(table)
 }
 
-/// Returns the table of two viewers: for each the file, its heading, and its lines with those parts
-/// of the replies that every run gives; and last the number of recorded calls.
+/// Runs two scripts at once, those of this name with `-1` and `-2`, and returns their table: for
+/// each viewer the file, its heading, and its lines with the replies of `write_certain`; and last
+/// the number of recorded calls.
 fn table_of_viewers<R: Files + Alloc<A = Global> + Threads + Wait + Sync>(
     rt: &R,
     alloc: Global,

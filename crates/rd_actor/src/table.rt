@@ -15,9 +15,9 @@ use super::actors::{Act, Actor, Op, OpReply, Pc};
 use rd_cell::{Access, Answer, ArrSlot, Cell, Content, Operation, Place, Refusal, SegName};
 
 /// Returns the one access of the step that the actor makes by this act, over rings of `R` cells, 1
-/// to 64. The contract holds if the numbers in the access fit the program's words
-/// (`IsRepresentable`), as they do for every actor of a well-formed world. Only the accesses of Q5,
-/// Q7, A2 and B2 might have others.
+/// to 64. The numbers in it fit the program's words for every actor of a well-formed world. For
+/// other actors, an index of 2^64 or more becomes 2^64 - 1 (Q5, Q7), and a slot above 255 becomes
+/// slot 255 (A2, B2).
 ///
 /// # Errors
 ///
@@ -40,8 +40,8 @@ pub fn need<const R: usize>(actor: &Actor, act: Act) -> Result<Access, Refusal>
     }
 }
 
-/// Returns the access for which an actor asks at its control point. Fails with `Idle` in no call,
-/// and with `NeedsChoice` at E10.
+/// Returns the access for which an actor asks by the act `Go` at its control point. Fails with
+/// `Idle` in no call, and with `NeedsChoice` at E10.
 fn need_at<const R: usize>(actor: &Actor) -> Result<Access, Refusal>
     requires positive { 1 ≤ R }
     requires small { R ≤ MOST_CELLS }
@@ -101,7 +101,8 @@ fn need_at<const R: usize>(actor: &Actor) -> Result<Access, Refusal>
 }
 
 /// Returns the actor's next record after this act, whose access got this answer, and the call's
-/// reply if the step ended the call.
+/// reply if the step ended the call. It doesn't ask whether `need` refuses the act. After a `Go`,
+/// an answer for which the row has no case leaves the record as it is.
 pub fn after<const R: usize>(actor: &Actor, act: Act, answer: Answer) -> (Actor, Option<OpReply>)
     requires { R ≤ MOST_CELLS }
     ensures { result ≡ after R actor.now act answer }
@@ -117,8 +118,8 @@ pub fn after<const R: usize>(actor: &Actor, act: Act, answer: Answer) -> (Actor,
 }
 
 /// Returns the next record of an actor that goes on from its control point with this answer, and
-/// its reply if its call is over. An answer that the row's access never gives leaves the record as
-/// it is.
+/// its reply if its call is over. An answer for which the row has no case leaves the record as it
+/// is.
 fn after_at<const R: usize>(actor: &Actor, answer: Answer) -> (Actor, Option<OpReply>)
     requires { R ≤ MOST_CELLS }
     ensures { result ≡ after_at R actor.now.pc actor.now answer }
@@ -488,8 +489,8 @@ fn swap_to_put(actor: &Actor) -> Operation
     Operation::Swap(ArrSlot::Value(value_to_put(actor.op)))
 }
 
-/// Returns a compare-and-swap from the name of the segment on which the actor works to another
-/// name.
+/// Returns a compare-and-swap from the name of the segment on which the actor works to the name
+/// `new`.
 fn cas_name(actor: &Actor, new: SegName) -> Operation
     ensures { result ≡ CasName actor.now.crq new }
 {

@@ -9,7 +9,8 @@ use rd_cell::SegName;
 use rd_cell::limits::SLOTS;
 
 impl Actor {
-    /// Whether the words fit the control point where the actor is.
+    /// Whether the words fit the control point where the actor is, which is condition 8 of a
+    /// well-formed world.
     pub fn words_fit(&self) -> bool
         ensures { result ≡ words_fit self.now }
     {

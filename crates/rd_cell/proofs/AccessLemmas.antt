@@ -102,9 +102,11 @@ after-is_some p c e at q h bare kind =
 abbrev KeepsKind : Place → Content → Place → Effect → Type 0
 KeepsKind p c q e = IfSome e.writes (λ d. is_some (share p (Some d) q) ≡ is_some (share p (Some c) q))
 
+-- a place that gets all of a content has a content after each write, as it had before
 plain_kind : (r : Result Effect Refusal) → IfOk r (λ e. IfSome e.writes (λ d. true ≡ true))
 plain_kind r = grind arith
 
+-- every operation on a cell that isn't refused writes a cell, if it writes
 cell_kind : (s : SegName) (i : ℕ) (op : Operation) (x : Cell) (q : Place) → IfOk (effect op (content.Cell x)) (KeepsKind (place.Cell s i) (content.Cell x) q)
 cell_kind s i op x q = grind arith
 
@@ -112,6 +114,7 @@ cell_kind s i op x q = grind arith
 effect_kind : (p : Place) (op : Operation) (at : Contents) (c : Content) (q : Place) → operand at p ≡ Some c → IfOk (effect op c) (KeepsKind p c q)
 effect_kind p op at c q h = grind (arith, halves_there, cell_kind, plain_kind)
 
+-- an effect, if not refused, adds and removes no place, if it keeps the kind of the content
 keeps-effect : (p : Place) (c : Content) (r : Result Effect Refusal) (at : Contents) (q : Place) → operand at p ≡ Some c → (is_cell_at q ≡ true → at q ≡ None)
     → IfOk r (KeepsKind p c q) → IfOk (result_map (effect_at p c) r) (λ did. is_some (contents_after did at q) ≡ is_some (at q))
 keeps-effect p c (Err x) at q h bare kind = tt
@@ -122,6 +125,7 @@ pub keeps-operate : (p : Place) (op : Operation) (o : Option Content) (at : Cont
     → IfOk (operate p op o) (λ did. is_some (contents_after did at q) ≡ is_some (at q))
 keeps-operate p op o at q h bare = grind (arith, keeps-effect, effect_kind)
 
+-- a making by one actor adds and removes no segment of another maker
 keeps-make : (actor n : ℕ) (given at : Contents) (maker k : ℕ) → (actor ≡ maker → ⊥)
     → IfOk (make (record { maker = actor; n = n }) given) (λ did. is_some (contents_after did at (place.Head (record { maker = maker; n = k }))) ≡ is_some (at (place.Head (record { maker = maker; n = k }))))
 keeps-make actor n given at maker k ne = grind arith

@@ -94,15 +94,15 @@ abbrev pub read_answer : Operation → Content → Option Answer
 read_answer op c = if is_read op then option_map (λ e. e.answer) (result_ok (effect op c)) else None
 
 -- whether an operation may be done on a segment: any may, except the array's fetch-and-add, which
--- has another limit, and a compare-and-swap that would set the tail past 2^62. One that is not for
--- the content found there may too: `NoSuchPlace` refuses it
+-- has another limit, and a compare-and-swap that would set the tail past 2^62. `effect` refuses one
+-- that is for another kind of content
 abbrev pub suits_segments : Operation → Bool
 suits_segments AddArray = false
 suits_segments (CasTail old new) = nat_le new COUNTER_END
 suits_segments _ = true
 
 -- whether an operation may be done on the array: any may, except a segment's fetch-and-add, whose
--- limit is higher. One that is not for the content found there may too: `NoSuchPlace` refuses it
+-- limit is higher. `effect` refuses one that is for another kind of content
 abbrev pub suits_array : Operation → Bool
 suits_array Add = false
 suits_array _ = true

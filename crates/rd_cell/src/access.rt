@@ -84,8 +84,9 @@ impl Done {
         }
     }
 
-    /// Returns the record of a compare-and-swap that found this content. If it won, it wrote the
-    /// part `written` of its place; if it lost, it wrote nothing.
+    /// Returns the record of a compare-and-swap that found this content. If it won, its answer is
+    /// `Won`, and it wrote the part `written` of its place. If it lost, its answer is `Lost`, and
+    /// it wrote nothing.
     pub fn swapped(place: Place, found: Content, won: bool, written: Wrote) -> Done
         ensures { result ≡ record {
           place = Some place;

@@ -77,7 +77,8 @@ pub enum Answer {
 }
 
 impl Operation {
-    /// Returns the answer of this operation if it is a read for this kind of content, else none.
+    /// Returns the answer of this operation if it only reads, and reads contents of this kind; else
+    /// none.
     pub fn read_answer(self, content: Content) -> Option<Answer>
         ensures { result ≡ read_answer self content }
     {

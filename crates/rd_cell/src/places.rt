@@ -104,9 +104,8 @@ impl Place {
     }
 }
 
-/// Returns the place that names what an access wrote, or none if it only read or had no place. The
-/// access touched what its own place names, and dependence is defined by what two accesses touched
-/// and wrote.
+/// Returns the place that names what an access at this place wrote: the place itself, or only the
+/// index half of this cell; none if the access wrote nothing or had no place.
 #[inline(always)]
 pub fn written(place: Option<Place>, wrote: Wrote) -> Option<Place>
     ensures { result ≡ written place wrote }
@@ -120,12 +119,12 @@ pub fn written(place: Option<Place>, wrote: Wrote) -> Option<Place>
 }
 
 /// Whether two places overlap: they are equal, one is a cell and the other one of its halves, or
-/// one is the whole of the other's segment. A search for a dependant asks this for each step, so
-/// the code avoids comparing two places twice.
+/// one is the whole of the other's segment.
 #[inline(always)]
 pub fn overlaps(a: Place, b: Place) -> bool
     ensures { result ≡ overlaps a b }
 {
+    // A search for a dependant asks this for each step, so two places are compared only once.
     match a {
         Place::Whole(name) => is_of(name, b),
         Place::Cell(name, i) => is_of_cell(name, i, b) || covers(b, a),

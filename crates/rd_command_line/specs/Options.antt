@@ -1,4 +1,4 @@
--- What the command line may ask for.
+-- What the command line may ask for, and the faults of a command line for clap's errors.
 use Rattle.std.specs.Prelude.{◌≡◌, ◌≤◌, ℕ, ⊤, Bool, true, false, List, codes, length}
 use Rattle.clap.specs.Words.{kind_of}
 use Rattle.clap.specs.declared.error.Error.{Error}
@@ -24,8 +24,8 @@ abbrev pub flag_text : Bool → List ℕ
 flag_text true = codes "true"
 flag_text false = codes "false"
 
--- the numbers in these options are in range: a world may have so many actors, and for `view` there
--- may be so many viewers; `load` gives no number
+-- the numbers in these options are in range: 1 to 16 actors and, for `view`, 1 to 64 files; `load`
+-- gives no number
 abbrev pub AreInRange : Options → Type 0
 AreInRange (Run file actors ring trace) = (1 ≤ actors) × (actors ≤ MOST_ACTORS)
 AreInRange (View files actors ring) = ((1 ≤ actors) × (actors ≤ MOST_ACTORS)) × ((1 ≤ length files.items) × (length files.items ≤ MOST_VIEWERS))

@@ -26,9 +26,10 @@ use std::sync::Wait;
 use std::thread::Threads;
 
 /// Does what the words of a command line ask for, over the files and the three streams. Then writes
-/// the outcome's message, if it has one, and returns the exit status. `words` is a fault if the
-/// words could not be taken from the system. It may wait, in `view`. None of the streams may have
-/// failed before.
+/// the outcome's message, if it has one, and returns the exit status: 0, 1 or 2, as `end` does. The
+/// first word is the program's name. If the words could not be taken from the system, `words` has
+/// the fault, which is then the outcome. With `view` it waits for the viewers' threads. None of the
+/// streams may have failed before.
 pub fn perform<R: Files + Threads + Wait + Sync, S: AsStr + Drop, I: Source, O: Sink, E: Sink>(
     rt: &R,
     alloc: Global,
@@ -48,8 +49,8 @@ pub fn perform<R: Files + Threads + Wait + Sync, S: AsStr + Drop, I: Source, O: 
     end(alloc, &outcome, output, errors)
 }
 
-/// Does what the words ask for, and returns the outcome. If `words` is a fault, returns this fault,
-/// and uses neither stream. Neither may have failed before.
+/// Does what the words ask for, as `answer` does, and returns the outcome. If `words` is a fault,
+/// returns this fault, and uses neither stream. Neither may have failed before.
 fn outcome_of<R: Files + Threads + Wait + Sync, S: AsStr + Drop, I: Source, O: Sink>(
     rt: &R,
     alloc: Global,
@@ -68,8 +69,9 @@ fn outcome_of<R: Files + Threads + Wait + Sync, S: AsStr + Drop, I: Source, O: S
 }
 
 /// Does what the words of a command line ask for, and returns the outcome. The first word is the
-/// program's name. If the words give no options, neither stream is used. It may wait, in `view`.
-/// Neither stream may have failed before.
+/// program's name. If the words give no options, the outcome is the fault of `options`, and neither
+/// stream is used. With `view` it waits for the viewers' threads. Neither stream may have failed
+/// before. If the outcome is `Shown`, the output has not failed.
 pub fn answer<R: Files + Threads + Wait + Sync, S: AsStr, I: Source, O: Sink>(
     rt: &R,
     alloc: Global,
@@ -88,8 +90,8 @@ pub fn answer<R: Files + Threads + Wait + Sync, S: AsStr, I: Source, O: Sink>(
 }
 
 /// Does what the options ask for. Returns the number of the script's lines, or for `view` the
-/// number of recorded calls. Fails as `play_named`, `view_files` or `load_file` does. The numbers
-/// in the options must be in range, and neither stream may have failed before.
+/// number of recorded calls. Fails as `play_named`, `view_files` or `load_file` does. There must be
+/// 1 to 16 actors and, for `view`, 1 to 64 files. Neither stream may have failed before.
 fn follow_options<R: Files + Threads + Wait + Sync, I: Source, O: Sink>(
     rt: &R,
     alloc: Global,
@@ -190,8 +192,8 @@ fn view_files<R: Files + Threads + Wait + Sync, O: Sink>(
     view(rt, alloc, scripts.as_slice(), output, setup)
 }
 
-/// Returns the whole texts of the files of these names, in order. Fails with `Read` if one can't be
-/// opened or read, and with `NoMemory` if memory is refused.
+/// Opens and reads the files of these names, and returns their whole texts, in order. Fails with
+/// `Read` if one can't be opened or read, and with `NoMemory` if memory is refused.
 fn whole_files<R: Files>(
     rt: &R,
     alloc: Global,
@@ -234,7 +236,7 @@ fn load_file<R: Files, I: Source, O: Sink>(
     resume(alloc, text.as_slice(), input, output, trace)
 }
 
-/// Returns the file of this name, opened for reading. Fails with `Read` if it can't be opened.
+/// Opens the file of this name for reading. Fails with `Read` if it can't be opened.
 fn open_file<R: Files>(rt: &R, name: &str) -> Result<R::File, ProgramFault>
     ensures { IfErr result (λ fault. fault ≡ Read) }
 {

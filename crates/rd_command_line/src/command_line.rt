@@ -53,7 +53,7 @@ pub fn options<'a, S: AsStr>(alloc: Global, words: &'a [S]) -> Result<Options<'a
     Ok(options)
 }
 
-/// Returns the words of the program's command line.
+/// Returns the words of the program's command line. The first is the program's name.
 ///
 /// # Errors
 ///
@@ -132,7 +132,8 @@ fn run_from<'a>(run: &ArgMatches<'a>) -> Option<Options<'a>>
 }
 
 /// Returns the options from the matches of `view`, or none if a value is missing or not one that
-/// the program takes. Fails only if memory is refused.
+/// the program takes, or if there is no file. There may be more than 64 files. Fails only if memory
+/// is refused.
 fn view_from<'a>(alloc: Global, view: &ArgMatches<'a>) -> Result<Option<Options<'a>>, AllocError>
     ensures some { IfOk result (λ asked. IfSome asked (GivesView (rows_of (found_of view.now)))) }
     ensures none { IfOk result (λ asked. IsNone asked → (o : Options)
@@ -155,8 +156,8 @@ fn view_from<'a>(alloc: Global, view: &ArgMatches<'a>) -> Result<Option<Options<
     }))
 }
 
-/// Returns the number of actors and the ring from matches, or none if a value is missing or not one
-/// that the program takes.
+/// Returns the number of actors, 1 to 16, and the ring from the matches of `run` or `view`, or none
+/// if a value is missing or not one that the program takes.
 fn world_from<'a>(matches: &ArgMatches<'a>) -> Option<(u8, Ring)>
     ensures some { IfSome result (λ world.
         GivesWorld (rows_of (found_of matches.now)) world.0 world.1) }
@@ -182,8 +183,8 @@ fn load_from<'a>(load: &ArgMatches<'a>) -> Option<Options<'a>>
     Some(Options::Load { file, trace })
 }
 
-/// Returns the file, and whether the trace is asked for, from the matches of `run` or `load`, or
-/// none if a value is missing or not one that the program takes.
+/// Returns the file's name, and whether the trace is asked for, from the matches of `run` or
+/// `load`, or none if a value is missing or not one that the program takes.
 fn file_from<'a>(matches: &ArgMatches<'a>) -> Option<(&'a str, bool)>
     ensures some { IfSome result (λ asked.
         GivesFile (rows_of (found_of matches.now)) asked.0.now asked.1) }
@@ -222,7 +223,8 @@ fn program<'a>(alloc: Global) -> Result<Command<'a>, AllocError>
         .subcommand(load(alloc)?)
 }
 
-/// Returns the subcommand `run` for `clap`, with `--trace`. Fails only if memory is refused.
+/// Returns the subcommand `run` for `clap`, with all its arguments. Fails only if memory is
+/// refused.
 fn run<'a>(alloc: Global) -> Result<Command<'a>, AllocError>
     ensures app { IfOk result (λ c. (names : _) × IsRings names × (app_of c ≡ run_app names)) }
     ensures local { IfOk result (λ c. (out-Command c).has_globals ≡ false) }
@@ -230,7 +232,8 @@ fn run<'a>(alloc: Global) -> Result<Command<'a>, AllocError>
     run_without_trace(alloc)?.arg(trace(alloc))
 }
 
-/// Returns the subcommand `run` for `clap`, without `--trace`. Fails only if memory is refused.
+/// Returns the subcommand `run` for `clap`, with all its arguments but `--trace`. Fails only if
+/// memory is refused.
 fn run_without_trace<'a>(alloc: Global) -> Result<Command<'a>, AllocError>
     ensures app { IfOk result (λ c. (names : _) × IsRings names
         × (app_of c ≡ run_app_without_trace names)) }
@@ -244,7 +247,8 @@ fn run_without_trace<'a>(alloc: Global) -> Result<Command<'a>, AllocError>
         .arg(ring(alloc))
 }
 
-/// Returns the subcommand `view` for `clap`. Fails only if memory is refused.
+/// Returns the subcommand `view` for `clap`, with all its arguments. Fails only if memory is
+/// refused.
 fn view<'a>(alloc: Global) -> Result<Command<'a>, AllocError>
     ensures app { IfOk result (λ c. (names : _) × IsRings names × (app_of c ≡ view_app names)) }
     ensures local { IfOk result (λ c. (out-Command c).has_globals ≡ false) }
@@ -256,7 +260,8 @@ fn view<'a>(alloc: Global) -> Result<Command<'a>, AllocError>
         .arg(ring(alloc))
 }
 
-/// Returns the subcommand `load` for `clap`. Fails only if memory is refused.
+/// Returns the subcommand `load` for `clap`, with all its arguments. Fails only if memory is
+/// refused.
 fn load<'a>(alloc: Global) -> Result<Command<'a>, AllocError>
     ensures app { IfOk result (λ c. app_of c ≡ load_app) }
     ensures local { IfOk result (λ c. (out-Command c).has_globals ≡ false) }
@@ -268,14 +273,14 @@ fn load<'a>(alloc: Global) -> Result<Command<'a>, AllocError>
         .arg(trace(alloc))
 }
 
-/// Returns the required argument `file`. Help shows it as `name`.
+/// Returns the required argument `file`, the name of one file, for `clap`. Help shows it as `name`.
 fn file<'a>(alloc: Global, name: &'a str) -> Arg<'a>
     ensures { (rule_of result ≡ file_rule) × (result.global ≡ false) }
 {
     Arg::new(alloc, "file").value_name(name).required(true)
 }
 
-/// Returns the argument `files`: the viewers' scripts, at least one.
+/// Returns the argument `files` for `clap`: the names of the viewers' scripts, at least one.
 fn files<'a>(alloc: Global) -> Arg<'a>
     ensures { (rule_of result ≡ files_rule) × (result.global ≡ false) }
 {
@@ -286,7 +291,7 @@ fn files<'a>(alloc: Global) -> Arg<'a>
         .help("The scripts of the viewers, 1 to 64")
 }
 
-/// Returns the option `--trace`.
+/// Returns the option `--trace` for `clap`, a flag without a value.
 fn trace<'a>(alloc: Global) -> Arg<'a>
     ensures { (rule_of result ≡ trace_rule) × (result.global ≡ false) }
 {
@@ -296,7 +301,7 @@ fn trace<'a>(alloc: Global) -> Arg<'a>
         .help("Writes the trace of the run behind its report")
 }
 
-/// Returns the option `--actors`.
+/// Returns the option `--actors` for `clap`: a number from 1 to 16, by default 4.
 fn actors<'a>(alloc: Global) -> Arg<'a>
     ensures { (rule_of result ≡ actors_rule) × (result.global ≡ false) }
 {
@@ -308,7 +313,7 @@ fn actors<'a>(alloc: Global) -> Arg<'a>
         .help("How many actors the world has, 1 to 16")
 }
 
-/// Returns the option `--ring`.
+/// Returns the option `--ring` for `clap`: 2, 4 or 8, by default 4.
 fn ring<'a>(alloc: Global) -> Arg<'a>
     ensures rule { (names : _) × IsRings names × (rule_of result ≡ ring_rule names) }
     ensures local { result.global ≡ false }

@@ -20,10 +20,12 @@ const TOO_MANY_FILES: &str = "lcrqdb: 1 to 64 files\n";
 /// done. `Err(fault)`: the command line gives no options.
 pub type Outcome = Result<Result<u64, ProgramFault>, OptionsFault>;
 
-/// Writes the message of an outcome, if it has one, and returns the exit status with which the
-/// program ends. The status is the same if a stream fails, and a stream that gets no message is not
-/// called. Standard error must not have failed before, nor must standard output if the outcome is
-/// `Shown`. If memory for a text of `clap` is refused, the program ends as after `NoMemory`.
+/// Writes the message of an outcome, if it has one, and returns the exit status: 0 if all was done
+/// or if the outcome is `Shown`, 2 after `Refused` or `TooManyFiles`, and 1 after any other fault.
+/// The text of `Shown` goes to standard output, any other message to standard error. If memory for
+/// a text of `clap` is refused, the program ends as after `NoMemory`, with status 1. The status is
+/// the same if a stream fails, and a stream that gets no message is not called. Standard error must
+/// not have failed before, nor must standard output if the outcome is `Shown`.
 pub fn end<O: Sink, E: Sink>(
     alloc: Global,
     outcome: &Outcome,
@@ -41,10 +43,10 @@ pub fn end<O: Sink, E: Sink>(
     }
 }
 
-/// Writes the message for a command line that gives no options, and returns the exit status with
-/// which the program ends. Standard error must not have failed before, nor must standard output if
-/// the fault is `Shown`. If memory for a text of `clap` is refused, the program ends as after
-/// `NoMemory`.
+/// Writes the message for a command line that gives no options, and returns the exit status: 0
+/// after `Shown`, 2 after `Refused` or `TooManyFiles`, 1 after `NoMemory`. If memory for a text of
+/// `clap` is refused, the program ends as after `NoMemory`. Standard error must not have failed
+/// before, nor must standard output if the fault is `Shown`.
 fn show_options_fault<O: Sink, E: Sink>(
     alloc: Global,
     fault: &OptionsFault,
@@ -79,8 +81,8 @@ fn show_options_fault<O: Sink, E: Sink>(
     }
 }
 
-/// Writes a text to a stream that has not failed. If the stream fails, it took a beginning of the
-/// text, and nothing more is done about it.
+/// Writes a text to a stream that has not failed. If the stream fails, it has taken a beginning of
+/// the text, and the failure is ignored.
 fn show<K: Sink>(stream: &mut K, text: &str)
     requires { K.has_failed stream.old ≡ false }
     ensures { Takes (sink_stream K.Sink stream.old stream.new) text.now }

@@ -11,7 +11,8 @@ use rd_desk::MOST_VIEWERS;
 use rd_script::Ring;
 use std::alloc::AllocError;
 
-/// Returns the ring that a text of the command line spells, or none if it spells none.
+/// Returns the ring that a text of the command line spells, `2`, `4` or `8`, or none for any other
+/// text.
 pub fn ring_of(text: &str) -> Option<Ring>
     ensures some { IfSome result (λ ring. text.now ≡ ring_text ring) }
     ensures none { IsNone result → (ring : Ring) → text.now ≢ ring_text ring }
@@ -57,7 +58,8 @@ pub enum Options<'a> {
 }
 
 impl<'a> Options<'a> {
-    /// Whether `view` names more files than there may be viewers.
+    /// Returns whether `view` names more files than there may be viewers, 64; false for `run` and
+    /// `load`, which name one file.
     pub(crate) fn has_too_many_files(&self) -> bool
         ensures many { result ≡ true → MOST_VIEWERS < file_count self.now }
         ensures few { result ≡ false → file_count self.now ≤ MOST_VIEWERS }

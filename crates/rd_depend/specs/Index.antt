@@ -75,7 +75,7 @@ KeepsRoom old new = (t : Touch) → spare new t ≡ spare old t
 abbrev pub LosesNoRoom : DependIndex → DependIndex → Type 0
 LosesNoRoom old new = (t : Touch) → spare old t ≤ spare new t
 
--- these entries were removed, and each list has room for as many more positions as it kept of them
+-- each list has room for as many more positions as it kept of these entries, which were removed
 abbrev pub GivesRoom : DependIndex → DependIndex → List Entry → Type 0
 GivesRoom old new gone = (t : Touch) → spare new t ≡ spare old t + count_by (touches t) gone
 

@@ -16,6 +16,7 @@ key_eq-true (In s) (In t) h = ap In (name_eq-true s t h)
 key_eq-true (At p) (In t) h = cc
 key_eq-true (In s) (At r) h = cc
 
+-- each key is equal to itself
 pub key_eq-refl : (k : Key) → key_eq k k ≡ true
 key_eq-refl (At p) = place_eq-refl p
 key_eq-refl (In s) = name_eq-refl s
@@ -26,6 +27,7 @@ key_eq-sym k q = both_ways (key_eq k q) (key_eq q k)
     (λ h. subst (λ (x : Key). key_eq x k ≡ true) (key_eq-true k q h) (key_eq-refl k))
     (λ h. subst (λ (x : Key). key_eq x q ≡ true) (key_eq-true q k h) (key_eq-refl q))
 
+-- the test of equality is an equivalence
 pub key_equiv : IsEquivalence key_eq
 key_equiv = record {
   refl = key_eq-refl;

@@ -72,7 +72,8 @@ abbrev pub own_key : Place → Key
 own_key (place.Whole s) = In s
 own_key p = At (index_half p)
 
--- the key of the whole of the segment that has the place, if a segment has it
+-- the key of the whole of the segment to which the place belongs; none for the queue's ends, the
+-- array's places and the whole of a segment
 abbrev pub whole_key : Place → Option Key
 whole_key p = option_map (λ s. At (place.Whole s)) (segment_of p)
 
@@ -80,7 +81,7 @@ whole_key p = option_map (λ s. At (place.Whole s)) (segment_of p)
 unfoldable pub slot_in : List Key → Key → Option ℕ
 slot_in keys k = position (key_eq k) keys
 
--- the number of a part of a segment, made of the kind of part, the segment's name and an index
+-- a kind of key, an index and a segment's name as one number, in which each has digits of its own
 abbrev pub packed : ℕ → SegName → ℕ → ℕ
 packed part s i = ((part * 256 + i) * 256 + s.maker) * 4294967296 + s.n
 

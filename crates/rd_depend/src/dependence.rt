@@ -10,10 +10,6 @@ use rd_step::Entry;
 /// Whether two steps depend on each other: they have the same actor, or both touched a place that
 /// one of them wrote. This is symmetric: a write depends on an earlier read, as a read does on an
 /// earlier write.
-///
-/// After the actors it compares in this order: whether a step wrote, whether the places overlap,
-/// and which part of its place each step wrote. Most steps that a scan meets only read, or are at
-/// other places.
 #[inline(always)]
 pub fn depends(a: &Entry, b: &Entry) -> bool
     ensures { result ≡ depends a.now b.now }
@@ -21,7 +17,8 @@ pub fn depends(a: &Entry, b: &Entry) -> bool
     a.event.actor == b.event.actor || interfere(a, b)
 }
 
-/// Whether both steps touched a place that one of them wrote.
+/// Whether both steps touched a place that one of them wrote. The cheap tests come first: most
+/// steps that a scan meets only read, or are at other places.
 #[inline(always)]
 fn interfere(a: &Entry, b: &Entry) -> bool
     ensures { result ≡ interfere a.now.place a.now.wrote b.now.place b.now.wrote }
@@ -55,7 +52,8 @@ fn some_overlap(a: Option<Place>, b: Option<Place>) -> bool
 }
 
 /// Returns the number, from 1, of the first step after the `k`-th that depends on it; `None` if no
-/// later step does. There must be a `k`-th step, counted from 1.
+/// later step does. There must be a `k`-th step, counted from 1. The call looks at one later step
+/// after another, and takes no memory.
 pub fn first_dependant(entries: &[Entry], k: u64) -> Option<u64>
     requires some { 1 ≤ k }
     requires within { k ≤ length entries.now }

@@ -15,13 +15,15 @@ use rd_step::{Entry, common_beginning_len};
 use std::alloc::{AllocError, Global};
 
 /// Whether the events of two runs from one start are causally equivalent: one list is the other, up
-/// to the order of steps that do not depend on each other. Its time grows with the lengths of the
+/// to the order of steps that do not depend on each other. The lists must be the entries of two
+/// such runs; nothing is said of the result for others. The time grows with the lengths of the
 /// lists; each event after their common beginning costs a few look-ups. The common beginning takes
 /// no memory.
 ///
 /// # Errors
 ///
-/// `AllocError` if memory is refused. None is asked for if one list begins the other.
+/// `AllocError` if memory is refused. None is asked for if the events of one list begin those of
+/// the other.
 pub fn are_equivalent(alloc: Global, a: &[Entry], b: &[Entry]) -> Result<bool, AllocError>
     ensures answer { IfOk result (DecidesEquivalence a.now b.now) }
     ensures memory { OnErr result (NeitherBegins (events a.now) (events b.now)) }
@@ -30,8 +32,9 @@ pub fn are_equivalent(alloc: Global, a: &[Entry], b: &[Entry]) -> Result<bool, A
     compare(alloc, &a[common..], &b[common..])
 }
 
-/// Whether the lists are equivalent, by one pass over each. Fails only if memory is refused, and
-/// never if one of the lists is empty.
+/// Whether two runs from one start are causally equivalent, given their entries. It passes once
+/// over each list, and skips no common beginning. Fails only if memory is refused, and never if one
+/// of the lists is empty.
 fn compare(alloc: Global, a: &[Entry], b: &[Entry]) -> Result<bool, AllocError>
     ensures answer { IfOk result (DecidesEquivalence a.now b.now) }
     ensures memory { OnErr result ((1 ≤ length a.now) × (1 ≤ length b.now)) }
@@ -52,9 +55,11 @@ fn compare(alloc: Global, a: &[Entry], b: &[Entry]) -> Result<bool, AllocError>
     Ok(left.is_empty())
 }
 
-/// Removes the next step of this step's actor from those left of the second run, and returns
-/// whether there is one that is like this step and in order there. If it is like this step, it is
-/// taken in under its keys. Fails only if memory is refused.
+/// Compares the next step of the first run with the second run. Removes the next step of the same
+/// actor from those left of the second run. Returns whether there is one, it is like this step, and
+/// it comes there after all earlier steps on which it depends. If it is like this step, this step
+/// is taken in under its keys with its number there. Fails only if memory is refused; the step may
+/// then be taken in under some of its keys only.
 fn goes_on(
     left: &mut StepsByActor,
     reached: &mut ReachedByKey,

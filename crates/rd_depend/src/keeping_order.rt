@@ -34,8 +34,9 @@ pub(crate) struct Reached {
 }
 
 impl Reached {
-    /// Takes in a step under the key, which has the number `at` in the second run. Returns whether
-    /// it comes there after all earlier steps under the key on which it depends.
+    /// Takes in a step that touched the key and, if `wrote`, wrote it. The step has the number `at`
+    /// in the second run. Returns whether it comes there after all steps taken in before under the
+    /// key on which it depends.
     fn take_in(&mut self, wrote: bool, at: usize) -> bool
         ensures order { IsTrue result ↔ (last_blocking self.old wrote < at) }
         ensures reached { self.new ≡ taken_in self.old wrote at }
@@ -66,8 +67,9 @@ impl ReachedByKey {
         }
     }
 
-    /// Takes in a step, which has the number `at` in the second run. Returns whether it comes there
-    /// after all earlier steps with which it shares a key and on which it depends.
+    /// Takes in a step, which has the number `at` in the second run, from 1. Returns whether it
+    /// comes there after all steps taken in before with which it shares a key and on which it
+    /// depends.
     ///
     /// # Errors
     ///
@@ -87,9 +89,10 @@ impl ReachedByKey {
         Ok(place & value & segment)
     }
 
-    /// Takes in a step under this key, which has the number `at` in the second run. Returns whether
-    /// it comes there after all earlier steps under the key on which it depends; without a key it
-    /// does nothing and returns true. Fails only if memory is refused.
+    /// Takes in a step under this key, which it touched and, if `wrote`, wrote. The step has the
+    /// number `at` in the second run. Returns whether it comes there after all steps taken in
+    /// before under the key on which it depends; without a key it does nothing and returns true.
+    /// Fails only if memory is refused.
     fn take_in_under(
         &mut self,
         key: Option<Key>,
@@ -142,7 +145,7 @@ pub(crate) struct StepsByActor<'a> {
 }
 
 impl<'a> StepsByActor<'a> {
-    /// Returns all steps of these entries, by actor.
+    /// Returns all steps of these entries by actor, each with its number in the list, from 1.
     ///
     /// # Errors
     ///

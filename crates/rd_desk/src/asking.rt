@@ -19,14 +19,14 @@ use std::sync::Wait;
 impl<const R: usize> Desk<R> {
     ghost use Rattle.rd_desk.specs.declared.gates.DeskRefusal.TheVariants.{TicketsEnded};
 
-    /// Asks one command and returns the book's answer. It waits for the viewers that drew a ticket
-    /// before. The pass must be one of this desk, and in no call.
+    /// Asks one command and returns the book's answer, which may be a refusal. It waits for the
+    /// viewers that drew a ticket before. The pass must be one of this desk, and in no call.
     ///
     /// # Errors
     ///
     /// `TicketsEnded` if this pass saw that all tickets of the lock are drawn. Otherwise, in this
     /// order: `HistoryFull` if the history has `MOST_CALLS` calls; `NotRecorded` if its list is
-    /// full and memory for a longer one was refused. The book doesn't do a refused command.
+    /// full and memory for a longer one was refused. The book doesn't do the command then.
     pub fn ask<W: Wait>(&self, rt: &W, pass: &mut DeskPass<R>, command: Command) -> Answer
         requires own { IsViewerOf self.now pass.old }
         ensures own { IsViewerOf self.now pass.new }
@@ -38,13 +38,14 @@ impl<const R: usize> Desk<R> {
         }
     }
 
-    /// Asks one command if the lock is free, and returns the book's answer. It never waits. The
-    /// pass must be one of this desk, and in no call.
+    /// Asks one command if the lock is free, and returns the book's answer, which may be a refusal.
+    /// It never waits. The pass must be one of this desk, and in no call.
     ///
     /// # Errors
     ///
-    /// `Busy` if the lock isn't free; otherwise those of `ask`. The book doesn't do a refused
-    /// command.
+    /// In this order: `TicketsEnded` if this pass saw that all tickets of the lock are drawn;
+    /// `Busy` if the lock isn't free, which never happens at a desk of one viewer; `HistoryFull`
+    /// and `NotRecorded` as for `ask`. The book doesn't do the command then.
     pub fn try_ask(&self, pass: &mut DeskPass<R>, command: Command) -> Answer
         requires own { IsViewerOf self.now pass.old }
         ensures own { IsViewerOf self.now pass.new }

@@ -219,8 +219,8 @@ impl Entries {
         )
     }
 
-    /// Makes room for this many entries in all. Fails only if memory is refused, which is asked for
-    /// only if room is missing.
+    /// Makes room for this many entries in all, live and ahead. The entries stay as they are, also
+    /// on failure. Fails only if memory is refused, which is asked for only if room is missing.
     #[inline(always)]
     pub(crate) fn make_room_for(&mut self, needed: usize) -> Result<(), AllocError>
         ensures live { live_entries self.new ≡ live_entries self.old }

@@ -83,10 +83,12 @@ impl EventList for EntryList<'_> {
 
     ghost listed = { events };
 
+    /// Returns the number of entries, each of which has one event.
     fn count(&self) -> usize {
         self.len()
     }
 
+    /// Returns the event of the entry at this position, from 0; `None` if there is none.
     fn event(&self, position: usize) -> Option<Event> {
         Some(self.get(position)?.event)
     }

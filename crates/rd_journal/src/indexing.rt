@@ -94,8 +94,8 @@ pub(crate) fn fill_index(index: &mut DependIndex, entries: &Entries)
     }
 }
 
-/// Puts an entry at the index's next position, for which there must be room. There must be fewer
-/// than `MOST_STEPS` positions.
+/// Puts an entry at the index's next position, for which there must be room, so that it takes no
+/// memory and can't fail. There must be fewer than `MOST_STEPS` positions.
 #[tactic(auto, using(rd_depend::proofs::IndexRoom::room_left))]
 pub(crate) fn put_back(index: &mut DependIndex, entry: &Entry)
     requires few { position_count index.old < MOST_STEPS }

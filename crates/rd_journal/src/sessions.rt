@@ -79,7 +79,8 @@ impl<const R: usize> Drop for Session<R> {
 impl<const R: usize> Session<R> {
     ghost use Rattle.rd_journal.specs.Sessions.{journal, state, track, room, capacity, index, MayRefuse, AnswersAs, GoesAlong, KeepsItsSteps};
 
-    /// Opens a session in a world, which is its start and keeps its room. Opening takes no memory.
+    /// Opens a session in a world, which is its start. No step is live or undone then, and makers
+    /// keep the room that they have in the world. Opening takes no memory.
     pub fn open(alloc: Global, world: World<R>) -> Session<R>
         ensures state { state result ≡ record {
           start = model world.entry;
@@ -169,8 +170,8 @@ impl<const R: usize> Session<R> {
 
     /// Undoes the `k`-th live step alone, counted from 1, if no later live step depends on it. The
     /// step becomes the front of the undone ones, and all other steps stay as they are. The call
-    /// takes no memory and makes no step again; it looks for the step's first dependant, and moves
-    /// the numbers of the entries after it.
+    /// takes no memory and makes no step again. A few look-ups find the step's first dependant. If
+    /// there is none, the call goes once over the index of dependants, in which later steps move.
     ///
     /// # Errors
     ///
@@ -311,9 +312,10 @@ impl<const R: usize> Session<R> {
     }
 
     /// Goes along the session's track, which is the live steps with those ahead of them: the
-    /// track's first `n` steps become the live ones, and no step is undone. The track must have at
-    /// least `n` steps, and stays as it is. The call copies no entry and takes no memory, and its
-    /// time grows only with the number of steps that it undoes or makes again.
+    /// track's first `n` steps become the live ones. No step counts as undone afterwards, so `redo`
+    /// finds none. The track must have at least `n` steps, and stays as it is. The call copies no
+    /// entry and takes no memory, and its time grows only with the number of steps that it undoes
+    /// or makes again.
     pub fn go_along(&mut self, n: u64)
         requires within { n ≤ length (track self.old) }
         ensures state { state self.new ≡ record {

@@ -80,14 +80,14 @@ impl<T: Recorded> TicketLock<T> {
         Ok((TicketLock { table }, passes))
     }
 
-    /// Ends the lock and the given passes, and returns the value. The passes have to be this
-    /// lock's, and none of them may hold the value.
+    /// Ends the lock and the given passes, and returns the value. The passes must be this lock's,
+    /// and neither wait nor hold.
     ///
     /// # Errors
     ///
     /// `Busy`, with the two words, if a ticket is drawn and not finished; the value is then lost.
-    /// This can't be if all passes of the lock are given. Each word is at least the greatest that a
-    /// given pass has seen.
+    /// This never happens if all passes of the lock are given. Neither word is below what a given
+    /// pass has seen.
     pub fn close(self, passes: Vec<Pass<T>>) -> Result<T, Busy>
         requires own { AllByRecursion (IsPassOf self) passes.items }
         requires out { AllByRecursion IsOut passes.items }

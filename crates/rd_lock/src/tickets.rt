@@ -130,7 +130,8 @@ impl<T: Recorded> TicketLock<T> {
         unreachable!()
     }
 
-    /// Puts the value back and ends the pass's ticket, so that the next one is served.
+    /// Puts the value back and ends the pass's ticket, so that the next one is served. The pass
+    /// then neither waits nor holds. This never fails.
     ///
     /// The pass must be this lock's, and hold. The value must have the lock's origin, and the
     /// history with which the pass found it, followed by entries of this pass only.

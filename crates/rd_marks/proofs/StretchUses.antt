@@ -105,6 +105,7 @@ module _ (ss : List Stretch) (few : length ss < 2 ^ 64) (rule : AreNested ss) (f
           none h = along_taken ss ss 0 at.stretch at.number (events live) (grind arith) along
       before (suc k) first begins go = go k (λ some. omega arith) (along_taken ss ss k at.stretch at.number (events live) begins along)
 
+-- the invariants of the new stretches, and what `IsShrunk` states of them
 pub record Shrinks (old new : List Stretch) (i n : ℕ) (shift : Shift) : Type 0 where
   pub nested : AreNested new
   pub fresh : AreFresh new

@@ -58,7 +58,7 @@ impl Bookmarks {
         }
     }
 
-    /// Returns the number of bookmarks.
+    /// Returns the number of bookmarks, at most `MOST_MARKS`. Their names are all different.
     #[tactic(auto, using(crate::proofs::Putting::names_same))]
     pub(crate) fn len(&self) -> usize
         ensures count { result ≡ length (lists_in self.now) }
@@ -68,7 +68,8 @@ impl Bookmarks {
         self.names.len()
     }
 
-    /// Returns the number of entries that are kept for all bookmarks together.
+    /// Returns the number of entries that are kept for all bookmarks together. There is one for
+    /// each different list, except the empty one, that begins some bookmark's entries.
     #[tactic(auto, using(crate::proofs::Counting::counts, crate::proofs::Putting::count_fits))]
     pub(crate) fn nodes(&self) -> usize
         ensures counts { CountsBeginnings (marks_of (lists_in self.now)) result }
@@ -135,9 +136,9 @@ impl Bookmarks {
     ///
     /// # Errors
     ///
-    /// `AllocError` if memory for the added entries or for the name was refused. This never happens
-    /// if there is room for another name and all entries of the live steps are kept already. The
-    /// bookmarks stay then.
+    /// `AllocError` if memory for the added entries or for the name was refused. The bookmarks are
+    /// then as before. This never happens if there is room for another name and all entries of the
+    /// live steps are kept already.
     pub(crate) fn set<const R: usize>(
         &mut self,
         alloc: Global,

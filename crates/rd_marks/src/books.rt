@@ -72,7 +72,7 @@ impl<const R: usize> Book<R> {
         }
     }
 
-    /// Returns the session of the book.
+    /// Lends the book's session, for queries of its steps and of its world.
     pub fn session(&self) -> &Session<R>
         ensures state { state result.now ≡ (book_state self.now).session }
         ensures value { result.now ≡ session_of self.now }
@@ -86,7 +86,9 @@ impl<const R: usize> Book<R> {
     ///
     /// # Errors
     ///
-    /// The refusal of `Session::apply`. A refused event changes nothing.
+    /// The refusal of `Session::apply`: `TooLong` if `MOST_STEPS` steps are live; `NoMemory` if
+    /// memory for the step was refused; otherwise why the actor can't make this step now. A refused
+    /// event changes nothing.
     pub fn apply(&mut self, event: Event) -> Result<EventReply, Refusal>
         ensures answer { IsEventAnswer (book_state self.old) event
             (record { answer = result_map as_reply result; state = book_state self.new }) }

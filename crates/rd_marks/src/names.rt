@@ -45,7 +45,7 @@ impl MarkName {
         }
     }
 
-    /// Returns the text of the name.
+    /// Returns the name as text: 1 to 16 bytes of a-z, 0-9 and `-`.
     pub fn as_str(&self) -> &str
         ensures text { result.now ≡ bytes_of self.now }
         ensures valid { is_mark_name result.now ≡ true }
@@ -54,21 +54,21 @@ impl MarkName {
     }
 }
 
-/// Whether these bytes spell a name: 1 to 16 bytes of a-z, 0-9 and `-`.
+/// Returns whether these bytes spell a name: 1 to 16 bytes of a-z, 0-9 and `-`.
 fn is_mark_name(text: &[u8]) -> bool
     ensures { result ≡ is_mark_name text.now }
 {
     !text.is_empty() && text.len() <= MOST_NAME_BYTES && are_name_bytes(text)
 }
 
-/// Whether each of these bytes may be in a name.
+/// Returns whether each of these bytes may be in a name: a-z, 0-9 or `-`.
 fn are_name_bytes(text: &[u8]) -> bool
     ensures { result ≡ list_all is_name_byte text.now }
 {
     text.iter().all(|b| is_name_byte(*b))
 }
 
-/// Whether this byte may be in a name: a-z, 0-9 or `-`.
+/// Returns whether this byte may be in a name: a-z, 0-9 or `-`.
 fn is_name_byte(byte: u8) -> bool
     ensures { result ≡ is_name_byte byte }
 {

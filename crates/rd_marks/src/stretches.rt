@@ -85,7 +85,7 @@ impl Stretches {
         self.list.len()
     }
 
-    /// Returns the number of entries that the stretches keep, all together.
+    /// Returns the number of entries that the stretches keep, all together. It must be below 2^64.
     #[tactic(auto, using(crate::proofs::Reading::count_on))]
     pub(crate) fn entries(&self) -> usize
         requires { entry_count self.now.list.items < 2 ^ 64 }

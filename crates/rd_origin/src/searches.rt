@@ -62,8 +62,8 @@ fn last_put(steps: &EntryList, k: u64, cell: Option<Place>) -> Option<u64>
     last_below(steps, k, |step| puts_into(cell, step))
 }
 
-/// Returns the number of the last step before the step of this number in which the same actor began
-/// a call; none if there is no such call, no such step, or no number.
+/// Returns the number of the last step before the step of this number that begins a call of the
+/// same actor; none if no earlier step does, or if there is no step of this number or no number.
 fn last_call(steps: &EntryList, number: Option<u64>) -> Option<u64>
     ensures { result ≡ call_of steps.now number }
 {
@@ -72,8 +72,9 @@ fn last_call(steps: &EntryList, number: Option<u64>) -> Option<u64>
     last_below(steps, number, |call| calls_by(step.event.actor, call))
 }
 
-/// Returns the greatest number below this one whose step passes the test; none if no such step
-/// does. It must be possible to call the test with any entry.
+/// Returns the greatest number below `below`, counted from 1, whose step passes the test; none if
+/// no such step does. Numbers beyond the last step are skipped. It must be possible to call the
+/// test with any entry.
 fn last_below<F: Fn(&Entry) -> bool>(steps: &EntryList, below: u64, test: F) -> Option<u64>
     requires { F.IsAlwaysCallable test }
     ensures { (passes : SomeEntry → Bool)
@@ -114,7 +115,7 @@ fn puts_into(cell: Place, step: &Entry) -> bool
     }
 }
 
-/// Whether an access has a place, and it is this cell.
+/// Whether there is a place, and it is this cell of a segment or slot of the array.
 fn is_at(place: Option<Place>, cell: Place) -> bool
     ensures { result ≡ is_at place cell }
 {

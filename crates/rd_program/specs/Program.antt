@@ -29,8 +29,8 @@ abbrev pub WritesIf : Bool → BookState → Stream → Result (Unit {0}) WriteT
 WritesIf true b output result = WritesTrace b output result
 WritesIf false b output result = (result ≡ Ok tt) × GetsNothing false output
 
--- a script of n lines ran to its end over a book in this state, its report was written, and then
--- the trace was written if it was asked for, with the result `written`
+-- a script of n lines ran to its end over a book in this state, and its report was written; then,
+-- if the trace was asked for, writing it had the result `written`
 pub record RanToTrace (before : BookState) (traced : Bool) (d : Devices) (n : ℕ) (written : Result (Unit {0}) WriteTraceFault) : Type 0 where
   -- the state that the script left, and the journal that the book then keeps
   pub after : BookState

@@ -10,8 +10,8 @@ use rd_script::{AnyRefusal, Sink, Text, WriteFault, set_answer, write_all};
 use std::process::ExitCode;
 
 /// Writes the line of the fault, if there is one, to standard error, and returns the exit status:
-/// 0, or 1 after a fault. The status is the same if standard error fails, but it must not have
-/// failed before.
+/// 0, or 1 after a fault. If standard error fails, it has taken a beginning of the line, and the
+/// status is the same. It must not have failed before.
 pub fn end<E: Sink>(outcome: &Result<u64, ProgramFault>, errors: &mut E) -> ExitCode
     requires { E.has_failed errors.old ≡ false }
     ensures { EndsAs outcome.now (exit_status result) (sink_stream E.Sink errors.old errors.new) }

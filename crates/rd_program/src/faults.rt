@@ -20,7 +20,7 @@ pub enum ProgramFault {
     /// A file can't be opened or read.
     #[error("a file can't be read")]
     Read,
-    /// The run of a script stopped.
+    /// The run of a script stopped: the script could not be read, or an answer not written.
     #[error("the script stopped: {0:?}")]
     Script(ScriptFault),
     /// A trace was not loaded.

@@ -22,9 +22,9 @@ use std::io::{ErrorKind, Read};
 /// # Errors
 ///
 /// `NoMemory` if memory for the world was refused; neither device was then used. `Script` if the
-/// run of the script stopped. `Trace` if the trace was not written whole: either memory was
-/// refused, and nothing follows the report, or the writer failed, and took a beginning of the
-/// trace.
+/// run of the script stopped, with the fault of `rd_script::run`; no trace follows. `Trace` if the
+/// trace was not written whole: either memory was refused, and nothing follows the report, or the
+/// writer failed, and took a beginning of the trace.
 pub fn play<S: Source, K: Sink>(
     alloc: Global,
     reader: &mut S,
@@ -43,9 +43,9 @@ pub fn play<S: Source, K: Sink>(
     play_over(alloc, reader, writer, &mut book, trace)
 }
 
-/// Runs a script over a book, writes its report, and after it the trace if that is asked for.
-/// Returns the number of the script's lines. Fails with `Script` or `Trace`, as `play` does.
-/// Neither the reader nor the writer may have failed before.
+/// Runs a script over a book, writes its report, and, if the run came to its end and the trace is
+/// asked for, the trace after it. Returns the number of the script's lines. Fails with `Script` or
+/// `Trace`, as `play` does. Neither the reader nor the writer may have failed before.
 fn play_over<S: Source, K: Sink>(
     alloc: Global,
     reader: &mut S,
@@ -63,8 +63,8 @@ fn play_over<S: Source, K: Sink>(
     Ok(lines)
 }
 
-/// Writes the trace of a book if the trace is asked for, else nothing. Fails as `write_any_trace`
-/// does. The writer must not have failed before.
+/// Writes the trace of a book if `trace` is set, else nothing. Fails as `write_any_trace` does, and
+/// never if `trace` is not set. The writer must not have failed before.
 fn write_trace_if_asked<K: Sink>(
     alloc: Global,
     writer: &mut K,
@@ -105,11 +105,12 @@ pub fn resume<S: Source, K: Sink>(
     play_over(alloc, reader, writer, &mut book, trace)
 }
 
-/// Reads a reader to its end, and returns the bytes that it gave.
+/// Reads a reader to its end, and returns all bytes that it still had.
 ///
 /// # Errors
 ///
-/// `NoMemory` if memory was refused; `Read` if the reader failed.
+/// `NoMemory` if memory was refused; `Read` if the reader failed. The bytes that were read are then
+/// lost.
 pub fn whole_text<R: Read>(alloc: Global, reader: &mut R) -> Result<Vec<u8>, ProgramFault>
     ensures ok { IfOk result (λ text. IfSome (R.remaining reader.old)
         (λ bytes. text.items ≡ bytes)) }

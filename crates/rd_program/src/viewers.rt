@@ -17,14 +17,15 @@ use std::alloc::Global;
 use std::sync::Wait;
 use std::thread::Threads;
 
-/// Runs 1 to 64 scripts over a fresh world, each by a viewer in its own thread. Writes for each
-/// viewer the answers to its lines, and last the number of recorded calls, which it returns. The
-/// writer must not have failed before.
+/// Runs 1 to 64 scripts over a fresh world, each by a viewer in its own thread, and waits for all
+/// of them. Then writes for each viewer the answers to its lines, and last the number of recorded
+/// calls, which it returns. If a thread can't be started, its viewer gets the line
+/// `refused 20 NoMemory` in place of answers. The writer must not have failed before.
 ///
 /// # Errors
 ///
-/// `View` if the view was not written whole, with the reason. If memory for the world was refused,
-/// the reason is `NoMemory`.
+/// `View` if the view was not written whole, with the reason of `view_scripts`. The reason is also
+/// `NoMemory` if memory for the world was refused; nothing was then written.
 pub fn view<R: Threads + Wait + Sync, K: Sink>(
     rt: &R,
     alloc: Global,

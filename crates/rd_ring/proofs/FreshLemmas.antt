@@ -6,9 +6,11 @@ use Rattle.rd_cell.specs.declared.places.Place.TheVariants as place
 
 module _ {R : ℕ} (s : Segment R) where
   module _ (cells : (u : ℕ) → u < length s.cells → slice_get s.cells u ≡ Some (new_cell u None)) where
+    -- what a half of each cell has is what it has in a fresh segment
     half_at : (f : Cell → Content) (u : ℕ) → option_map f (slice_get s.cells u) ≡ (if nat_lt u R then Some (f (new_cell u None)) else None)
     half_at f u = let sized : length s.cells ≡ R = s.sized in grind (arith, cells, slice_get_past)
 
+    -- a segment with fresh words and fresh cells is fresh
     pub segment_fresh : s.head ≡ 0 → s.tail ≡ 0 → s.closed ≡ false → s.next ≡ None → (q : Place) → part s q ≡ fresh_segment R q
     segment_fresh head tail closed next q = grind (arith, half_at)
 

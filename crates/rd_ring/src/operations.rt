@@ -17,8 +17,8 @@ impl<const R: usize> Segment<R> {
     /// # Errors
     ///
     /// `CounterEnd` for a fetch-and-add on a counter that is 2^62; `NoSuchPlace` if the segment has
-    /// no such place, or a content of another kind there, which no actor asks for. The segment is
-    /// then as before.
+    /// no such place, or if the operation is for another kind of content. No actor asks for either.
+    /// The segment is then as before.
     pub fn operate(&mut self, place: Place, operation: Operation) -> Result<Done, Refusal>
         requires { IsTrue (suits_segments operation) }
         ensures ok { IfOk result (λ done. Operates (is_of_same_segment place) place operation done

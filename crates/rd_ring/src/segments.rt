@@ -41,8 +41,8 @@ impl<const R: usize> Segment<R> {
         }
     }
 
-    /// Whether the segment equals a fresh one, as it does before its first operation and once all
-    /// of its operations are undone.
+    /// Whether the segment equals a fresh one: both counters are 0, it is open, no segment follows,
+    /// and each cell is safe and empty, with its own number as its index.
     pub fn is_fresh(&self) -> bool
         ensures { IsTrue result ↔ ((q : Place) → part self.now q ≡ fresh_segment R q) }
     {
@@ -104,7 +104,8 @@ impl<const R: usize> Segment<R> {
     }
 
     /// Returns the content at a place of the segment, whichever segment the place names. For a
-    /// cell, this is its two halves together. None if a segment has no such place.
+    /// cell, this is its two halves together. None if no segment of `R` cells has such a place, and
+    /// for the whole of a segment.
     pub fn content(&self, place: Place) -> Option<Content>
         ensures { result ≡ operand (part self.now) place }
     {
@@ -141,7 +142,7 @@ impl<const R: usize> Segment<R> {
         self.next
     }
 
-    /// Returns the cell at this number in the ring, or none if the number is `R` or more.
+    /// Returns the cell of this number, counted from 0, or none if the number is `R` or more.
     pub fn cell(&self, i: u8) -> Option<Cell>
         ensures value { (s : SegName) → operand (part self.now) (Place.Cell s i)
             ≡ option_map Content.Cell result }
@@ -205,7 +206,7 @@ impl<const R: usize> Segment<R> {
     }
 
     /// Changes the tail from open at the count `old` to open at the count `new` (compare-and-swap),
-    /// and returns whether it won. `new` must be at most 2^62.
+    /// and returns whether it won. If it lost, the tail stays. `new` must be at most 2^62.
     pub fn cas_tail(&mut self, old: u64, new: u64) -> bool
         requires { new ≤ COUNTER_END }
         ensures { (c : Content) → part self.old (Place.Tail root) ≡ Some c
@@ -219,7 +220,8 @@ impl<const R: usize> Segment<R> {
         won
     }
 
-    /// Changes the next from none to this name (compare-and-swap), and returns whether it won.
+    /// Changes the next from none to this name (compare-and-swap), and returns whether it won. If
+    /// it lost, the next stays.
     pub fn cas_next(&mut self, new: SegName) -> bool
         ensures { (c : Content) → part self.old (Place.Next root) ≡ Some c
             → OperatesAt Place.Next (CasNext new) c (swap_answer result)
@@ -232,8 +234,8 @@ impl<const R: usize> Segment<R> {
         won
     }
 
-    /// Changes the cell of this number from `old` to `new` (CAS2), and returns whether it won. The
-    /// number must be below `R`.
+    /// Changes the cell of this number from `old` to `new` (CAS2), and returns whether it won. If
+    /// it lost, the cell stays. The number must be below `R`.
     pub fn cas2_cell(&mut self, i: u8, old: Cell, new: Cell) -> bool
         requires { i < R }
         ensures { (c : Content) → operand (part self.old) (Place.Cell root i) ≡ Some c
@@ -327,7 +329,7 @@ fn are_fresh(cells: &[Cell]) -> bool
     true
 }
 
-/// Returns a copy of the given `R` cells.
+/// Returns a copy of these cells, of which there must be just `R`.
 fn copied_cells<const R: usize>(given: &[Cell]) -> [Cell; R]
     requires small { R ≤ MOST_CELLS }
     requires sized { length given.now ≡ R }

@@ -1,4 +1,4 @@
--- How many cells a ring has.
+-- The number of cells of a `Ring`, which is known only when the program runs.
 use Rattle.std.specs.Prelude.{ℕ}
 use Rattle.rd_script.specs.declared.rings.Ring.{Ring}
 use Rattle.rd_script.specs.declared.rings.Ring.TheVariants.{Two, Four, Eight}

@@ -49,7 +49,8 @@ impl AnyBook {
     ///
     /// # Errors
     ///
-    /// Those of the function `run`.
+    /// `Read` if the reader failed, `Write` if the writer failed or took nothing: as the function
+    /// `run` says.
     pub fn run<S: Source, K: Sink>(
         &mut self,
         reader: &mut S,

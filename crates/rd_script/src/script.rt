@@ -38,9 +38,9 @@ use rd_step::Event;
 ///
 /// # Errors
 ///
-/// `Read` if the reader failed, or gave 2^64 - 1 bytes without an end; the whole lines that it gave
-/// were then obeyed and answered. `Write` if the writer failed or took nothing; the line whose
-/// answer it did not take whole was then obeyed.
+/// `Read` if the reader failed, or gave 2^64 - 1 bytes without an end; each line that a line feed
+/// ended was then obeyed and answered, and the rest was not obeyed. `Write` if the writer failed or
+/// took nothing; the line whose answer it did not take whole was then obeyed, and no later line.
 pub fn run<S: Source, K: Sink, const R: usize>(
     reader: &mut S,
     writer: &mut K,
@@ -69,8 +69,8 @@ pub fn run<S: Source, K: Sink, const R: usize>(
 }
 
 /// Obeys a line and writes its answer, whose line is made in the buffer `text`. Fails if the writer
-/// fails or takes nothing; it has then taken a beginning of the answer's line. It must not have
-/// failed before.
+/// fails or takes nothing; the line was then obeyed, and the writer has taken a beginning of the
+/// answer's line. The writer must not have failed before.
 fn do_line<K: Sink, const R: usize>(
     book: &mut Book<R>,
     line: &Line,
@@ -90,7 +90,8 @@ fn do_line<K: Sink, const R: usize>(
     write_all(writer, text.as_slice())
 }
 
-/// Obeys a line, if it spells a command, and replaces the text by the line of its answer.
+/// Obeys a line, if it spells a command, and replaces the text by the line of its answer. If it
+/// spells none, the answer is the refusal of its fault.
 fn answer_line<const R: usize>(book: &mut Book<R>, line: &Line, text: &mut Text)
     ensures answers { (bytes : List ℕ) → Holds line.now bytes
         → (said : Result SomeCommand LineFault) × (answer : SomeAnswer) × Says bytes said
@@ -107,7 +108,8 @@ fn answer_line<const R: usize>(book: &mut Book<R>, line: &Line, text: &mut Text)
     }
 }
 
-/// Makes an event happen, and replaces the text by the line of its answer.
+/// Makes an event happen, and replaces the text by the line of its answer, which may be a refusal.
+/// A refused event changes nothing in the book.
 fn answer_event<const R: usize>(book: &mut Book<R>, event: Event, text: &mut Text)
     ensures answers { (answer : Result Reply Refusal)
         × IsEventAnswer (book_state book.old) event
@@ -122,7 +124,8 @@ fn answer_event<const R: usize>(book: &mut Book<R>, event: Event, text: &mut Tex
     }
 }
 
-/// Obeys a command, and replaces the text by the line of its answer.
+/// Obeys a command, and replaces the text by the line of its answer, which may be a refusal. A
+/// refused command changes nothing in the book.
 fn answer_command<const R: usize>(book: &mut Book<R>, command: Command, text: &mut Text)
     ensures answers { (answer : Result Reply Refusal)
         × IsObeyed (book_state book.old) command

@@ -21,6 +21,7 @@ head_other m n tail cells q h = grind arith
 pub tail_other : (head m n : ℕ) (cells : List ArrSlot) (q : Place) → place_eq place.ArrTail q ≡ false → array_of head n cells q ≡ array_of head m cells q
 tail_other head m n cells q h = grind arith
 
+-- another content of a slot changes no other place of the array
 slot_other : (head tail : ℕ) (cells : List ArrSlot) (i : ℕ) (slot : ArrSlot) (q : Place) → place_eq (place.ArrCell i) q ≡ false
     → array_of head tail (set cells i slot) q ≡ array_of head tail cells q
 slot_other head tail cells i slot q h = grind (arith, eqb-false, option_map, slice_get-set_other)

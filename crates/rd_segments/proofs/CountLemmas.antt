@@ -11,6 +11,7 @@ numbered_there o n h = grind (arith, slice_get-is_some)
 pub numbered_absent : {X : Type 0} (o : Option (Vec X Global)) (n : ℕ) → count_in o ≤ n → is_some (by_number o n) ≡ false
 numbered_absent o n h = grind (arith, is_some, slice_get_past)
 
+-- a segment's head is there exactly if the segment is
 head_there : {R : ℕ} (o : Option (Segment R)) (s : SegName) → is_some (part_of o (place.Head s)) ≡ is_some o
 head_there o s = grind arith
 
@@ -24,6 +25,8 @@ pub absent_from : {R : ℕ} (makers : List (ListOf (Segment R))) (qhead qtail : 
     → is_there (contents_of makers qhead qtail array) (record { maker = m; n = n }) ≡ false
 absent_from makers qhead qtail array m n h = grind (arith, head_there, numbered_absent, slice_get)
 
+-- counting on in the map from number n ends at the length of the maker's list, if n is not past it
+-- and the bound reaches it
 counts_from : {R : ℕ} (makers : List (ListOf (Segment R))) (qhead qtail : SegName) (array : ArrayParts) (more m n : ℕ) → n ≤ count makers m → count makers m ≤ n + more
     → number_made_from more (contents_of makers qhead qtail array) m n ≡ count makers m
 unfolding number_made_from

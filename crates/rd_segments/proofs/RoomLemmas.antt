@@ -15,6 +15,7 @@ pub uses_too : {S T : Type 0} (x : S) (y : T) (inner outer : Bool) (maker : ℕ)
     → UsesMakersRoom (Ok x) inner maker old new → UsesMakersRoom (Ok y) outer maker old new
 uses_too x y inner outer maker old new same uses = grind arith
 
+-- a result has one error at most
 err_is : {T E : Type 0} (r : Result T E) (x y : E) → r ≡ Err x → r ≡ Err y → x ≡ y
 err_is r x y h e = cc
 

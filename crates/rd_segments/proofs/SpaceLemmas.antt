@@ -13,6 +13,7 @@ of_segments place.ArrTail = false
 of_segments (place.ArrCell i) = false
 of_segments _ = true
 
+-- a place that belongs to a segment is one of the segments'
 own_of : (p : Place) (name : SegName) → segment_of p ≡ Some name → of_segments p ≡ true
 own_of p name h = grind arith
 
@@ -74,6 +75,7 @@ array_restored makers qhead qtail old new p c own same =
 
 -- A fresh space
 
+-- the places under a name in fresh lists are the root's, with fresh contents, or none
 fresh_parts : {R : ℕ} (makers : List (ListOf (Segment R))) (t : SegName) (q : Place) → IsFresh makers → is_of root q ≡ name_eq root t
     → part_of (by_name makers t) q ≡ (if is_of root q then fresh_segment R q else None)
 fresh_parts {R} makers t q h of = grind arith

@@ -70,8 +70,8 @@ impl ArrayParts {
     /// # Errors
     ///
     /// `ArrayEnd` for a fetch-and-add on a counter that is 64; `NoSuchPlace` if the array has no
-    /// such place, or one with another kind of content, for which no actor asks. The array is then
-    /// as before.
+    /// such place, or if the operation is for another kind of content. No actor asks for either.
+    /// The array is then as before.
     pub(crate) fn operate(&mut self, place: Place, operation: Operation) -> Result<Done, Refusal>
         requires { IsTrue (suits_array operation) }
         ensures ok { IfOk result (λ done. Operates everywhere place operation done
@@ -93,8 +93,8 @@ impl ArrayParts {
         }
     }
 
-    /// Puts an old content back at a place of the array, which must be there and be able to hold
-    /// it. This undoes a fetch-and-add or a swap.
+    /// Puts an old content back at a place of the array. The place must be there, the content must
+    /// be of its kind, and a counter at most 64. This undoes a fetch-and-add or a swap.
     pub(crate) fn restore(&mut self, place: Place, content: Content)
         requires there { IsTrue (is_some (array_part self.old place)) }
         requires kind { IsTrue (can_hold place content) }
@@ -124,9 +124,9 @@ fn is_empty(slot: &ArrSlot) -> bool
 }
 
 /// Does a read or a fetch-and-add on a counter of the array, and returns what it found, answered
-/// and wrote. The operation must not be `Add`, a segment's fetch-and-add. Fails with `ArrayEnd` if
-/// a fetch-and-add finds 64, and with `NoSuchPlace` for any other operation; the counter then
-/// stays.
+/// and wrote. `place` is the counter's place, for the record alone. The operation must not be
+/// `Add`, a segment's fetch-and-add. Fails with `ArrayEnd` if a fetch-and-add finds 64, and with
+/// `NoSuchPlace` for any other operation; the counter then stays.
 fn operate_on_counter(
     counter: &mut u64,
     place: Place,
@@ -153,8 +153,9 @@ fn operate_on_counter(
     }
 }
 
-/// Does a swap on a slot of the array, and returns what it found, answered and wrote. Fails with
-/// `NoSuchPlace` for any other operation; the slot then stays.
+/// Does a swap on a slot of the array, and returns what it found, answered and wrote. `place` is
+/// the slot's place, for the record alone. Fails with `NoSuchPlace` for any other operation; the
+/// slot then stays.
 fn operate_on_slot(slot: &mut ArrSlot, place: Place, operation: Operation) -> Result<Done, Refusal>
     ensures ok { IfOk result (λ done. OperatesOn place operation done (Content.Slot slot.old)
         (Content.Slot slot.new)) }

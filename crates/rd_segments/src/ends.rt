@@ -6,7 +6,7 @@ ghost use Rattle.rd_ring.specs.Prelude.{operate, OperatesOn};
 use rd_cell::{Answer, Content, Done, Operation, Place, Refusal, SegName, Wrote};
 
 /// Does a read or a compare-and-swap of the name at one of the queue's ends, and returns what it
-/// found, answered and wrote.
+/// found, answered and wrote. `place` is that end, for the record alone.
 ///
 /// # Errors
 ///

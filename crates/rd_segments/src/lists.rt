@@ -50,8 +50,8 @@ pub fn operate_in<const R: usize>(
     makers[maker][n].operate(place, operation)
 }
 
-/// Puts an old content back at a place of the segment of this name. That place must be there, name
-/// this segment too, and be able to hold the content.
+/// Puts an old content back at a place of the segment of this name. That place must be there and
+/// name this segment too. The content must be of its kind, and a counter at most 2^62.
 pub fn restore_in<const R: usize>(
     makers: &mut Vec<Vec<Segment<R>>>,
     name: SegName,

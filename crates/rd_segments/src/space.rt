@@ -106,8 +106,9 @@ impl<const R: usize> Space<R> {
         })
     }
 
-    /// Returns the parts of each maker's segments. `from_parts` makes an equal space from these,
-    /// together with the names at the queue's ends and the array.
+    /// Returns the parts of each maker's segments: element m has those of maker m, in the order of
+    /// their making. `from_parts` makes an equal space from these, together with the names at the
+    /// queue's ends and the array.
     ///
     /// # Errors
     ///
@@ -174,8 +175,9 @@ impl<const R: usize> Space<R> {
     /// # Errors
     ///
     /// `CounterEnd` for a fetch-and-add on a segment's counter that is 2^62, `ArrayEnd` for one on
-    /// a counter of the array that is 64; `NoSuchPlace` if there is no such place, or one with
-    /// another kind of content, for which no actor asks. The space is then as before.
+    /// a counter of the array that is 64; `NoSuchPlace` if there is no such place, or if the
+    /// operation is for another kind of content. No actor asks for either. The space is then as
+    /// before.
     pub fn operate(&mut self, place: Place, operation: Operation) -> Result<Done, Refusal>
         requires { IsTrue (suits place operation) }
         ensures ok { IfOk result (λ done. Operates everywhere place operation done
@@ -232,7 +234,9 @@ impl<const R: usize> Space<R> {
         unmake_in(&mut self.makers, maker);
     }
 
-    /// Puts an old content back at a place, which must be there and be able to hold it.
+    /// Puts an old content back at a place. The place must be there, the content must be of its
+    /// kind, and a counter at most its end: 2^62 in a segment, 64 in the array. Each maker keeps
+    /// its room.
     pub fn restore(&mut self, place: Place, content: Content)
         requires there { IsTrue (is_some (operand (contents self.old) place)) }
         requires kind { IsTrue (can_hold place content) }

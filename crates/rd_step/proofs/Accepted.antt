@@ -14,9 +14,11 @@ unflawed {R} p f = grind arith
 
 -- A test that holds at each index holds of each element
 
+-- a test that holds at each index of a list holds of all its elements
 all_from : {X : Type 0} (test : X → Bool) (xs : List X) → ((i : ℕ) (x : X) → slice_get xs i ≡ Some x → test x ≡ true) → list_all test xs ≡ true
 all_from test xs h = list_all-from_AllPass test xs (λ i d below. h i (get_or xs i d) (slice_get-get_or xs i d below))
 
+-- a test that holds of the segment under each name holds of each segment
 each_from : {R : ℕ} (test : SegmentParts R → Bool) (makers : List (ListOf (SegmentParts R)))
     → ((s : SegName) (x : SegmentParts R) → by_name makers s ≡ Some x → test x ≡ true) → each_segment test makers ≡ true
 each_from test makers h =

@@ -29,11 +29,13 @@ pub record NoFlaw {R : ℕ} (p : Parts R) : Type 0 where
 not_first : (b : Bool) (f : Flaw) (rest : Option Flaw) → (if not b then Some f else rest) ≡ None → (b ≡ true) × (rest ≡ None)
 not_first b f rest h = grind arith
 
+-- parts without a flaw meet each condition
 no_flaw : {R : ℕ} (p : Parts R) → first_flaw p ≡ None → NoFlaw p
 no_flaw {R} p h = grind (arith, not_first, nat_le, and_parts)
 
 -- A test that holds of each element holds at each index
 
+-- a test that holds of all elements of a list holds at each index
 all_at : {X : Type 0} (test : X → Bool) (xs : List X) (i : ℕ) (x : X) → list_all test xs ≡ true → slice_get xs i ≡ Some x → test x ≡ true
 all_at test xs i x h k = grind (arith, AllPass-from_list_all test xs h i x, slice_get_within, get_or_from_slice_get)
 
@@ -41,6 +43,7 @@ each_in : {R : ℕ} (test : SegmentParts R → Bool) (makers : List (ListOf (Seg
     → each_segment test makers ≡ true → slice_get makers m ≡ o → by_number o n ≡ Some s → test s ≡ true
 each_in test makers m n o s h k there = grind (arith, all_at)
 
+-- a test that holds of each segment holds of the one under a name
 each_at : {R : ℕ} (test : SegmentParts R → Bool) (makers : List (ListOf (SegmentParts R))) (t : SegName) (s : SegmentParts R) → each_segment test makers ≡ true
     → by_name makers t ≡ Some s → test s ≡ true
 each_at test makers t s h there = each_in test makers t.maker t.n (slice_get makers t.maker) s h refl there
@@ -69,6 +72,7 @@ few_in makers m o h k = grind (arith, leb-true, all_at, nat_le)
 has_list : {R : ℕ} (makers : List (ListOf (SegmentParts R))) (m n : ℕ) → is_some (by_number (slice_get makers m) n) ≡ true → m < length makers
 has_list makers m n h = grind (arith, is_some, slice_get_past)
 
+-- parts without a flaw have the root, and each maker's segments are numbered without a gap
 segments_made : {R : ℕ} (p : Parts R) → NoFlaw p → AreMade (is_actor (numbered p.actors.items)) (has p)
 segments_made p f = grind (arith, numbered_there, slice_get, eqb-true, numbered_below, is_some, eq-eqb, has_list, few_in, and_from, nat_lt, slice_get-is_some, lt-ltb)
 
@@ -86,6 +90,7 @@ index_there R o s i = grind (arith, nat_lt, some_in)
 no_place : {R : ℕ} (o : Option (SegmentParts R)) (q : Place) → ((x : SegmentParts R) → part_from x q ≡ None) → is_some (part_of_parts o q) ≡ false
 no_place o q none = grind arith
 
+-- the parts' world has exactly the places that belong to it
 places_belong : {R : ℕ} (p : Parts R) (q : Place) → is_some ((world_of_parts p).at q) ≡ belongs R (has p) q
 places_belong p q = grind (arith, there_if, value_there, index_there, no_place, some_in)
 
@@ -105,6 +110,7 @@ segment_fits R p s q (Some x) f e = grind (arith, and_parts, nat_le, each_at)
 slot_fits : (R : ℕ) (there : Presence) (i : ℕ) (o : Option ArrSlot) → place_fits R there (place.ArrCell i) (option_map content.Slot o) ≡ true
 slot_fits R there i o = grind arith
 
+-- in the world of parts without a flaw, each content fits its place
 contents_fit : (R : ℕ) (p : Parts R) → NoFlaw p → (q : Place) → place_fits R (has p) q ((world_of_parts p).at q) ≡ true
 contents_fit R p f q = grind (arith, segment_fits, slot_fits, slice_get)
 
@@ -115,6 +121,7 @@ one_fits R p n (Some a) f e =
     (and_from (names_fit (has p) a) (numbers_within (index_end R) a) (all_at (names_fit (has p)) p.actors.items n a f.names e) (all_at (numbers_within (index_end R)) p.actors.items n a f.numbers e))
     (all_at words_fit p.actors.items n a f.words e)
 
+-- in the world of parts without a flaw, each actor's record fits
 actors_fit : (R : ℕ) (p : Parts R) → NoFlaw p → (n : ℕ) → actor_fits R (has p) (numbered p.actors.items n) ≡ true
 actors_fit R p f n = grind (arith, one_fits, slice_get)
 

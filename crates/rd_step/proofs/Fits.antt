@@ -88,6 +88,7 @@ abbrev pub drew_slot : Access → Answer → Bool
 drew_slot (At p op) answer = has_slot op answer
 drew_slot _ answer = true
 
+-- each row of an actor whose names and numbers fit has an access that fits
 need_at_fits : (R : ℕ) (there : Presence) (pc : Pc) (a : Actor) → PartsFit R there a
     → IfOk (need_at R pc a) (λ x. access_fits R there x ≡ true)
 need_at_fits R there pc a f = grind arith

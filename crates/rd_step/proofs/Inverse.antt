@@ -13,6 +13,7 @@ PutsBack at did = (q : Place) → restore did.place did.old (contents_after did 
 abbrev Bare : Contents → Type 0
 Bare at = (q : Place) → is_cell_at q ≡ true → at q ≡ None
 
+-- what an operation did is undone by putting back its operand
 back-effect : (p : Place) (c : Content) (e : Effect) (at : Contents) → Bare at → operand at p ≡ Some c → PutsBack at (effect_at p c e)
 back-effect p c e at bare h q = grind (arith, cond_both, operand-covered, after_write-outside, not_written)
 
@@ -20,6 +21,7 @@ back-effect p c e at bare h q = grind (arith, cond_both, operand-covered, after_
 pub absent_place : (R : ℕ) (there : Presence) (s : SegName) (q : Place) → there s ≡ false → is_of s q ≡ true → belongs R there q ≡ false
 absent_place R there s q h e = grind arith
 
+-- what a making did is undone by removing the segment
 back-make : (n x : ℕ) (w : World) → IsWellFormed w → nat_lt (number_made w.at n) MOST_SEGMENTS ≡ true → PutsBack w.at (making w.ring n w.at x)
 back-make n x w formed below q =
     let s : SegName = record { maker = n; n = number_made w.at n } in

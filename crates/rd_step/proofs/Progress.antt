@@ -27,6 +27,7 @@ OfKind place.ArrTail P = (n : ℕ) → P (content.Number n)
 OfKind (place.ArrCell i) P = (x : ArrSlot) → P (content.Slot x)
 OfKind (place.Whole s) P = P content.Whole
 
+-- what holds of each content of a place's kind holds of each content that fits the place
 at_kind : (R : ℕ) (there : Presence) (p : Place) (P : Content → Type 0) → OfKind p P → (c : Content) → content_fits R there p c ≡ true → P c
 at_kind R there p P f c h = grind arith
 
@@ -49,10 +50,12 @@ Leads R pc a (Make x) = (s : SegName) → (after_at R pc a (answer.Made s)).0.pc
 other : (b : Bool) (x y z : Pc) → x ≢ z → y ≢ z → (if b then x else y) ≢ z
 other b x y z h k = cond_both b x y (λ (pc : Pc). pc ≢ z) (λ e. h) (λ e. k)
 
+-- a compare-and-swap leads on, if the row does when it won and when it lost
 swaps_lead : (R : ℕ) (pc : Pc) (a : Actor) (b : Bool) (c : Content) → (after_at R pc a answer.Won).0.pc ≢ pc → (after_at R pc a answer.Lost).0.pc ≢ pc
     → Goes R pc a (swaps b c)
 swaps_lead R pc a b c won lost = grind arith
 
+-- a fetch-and-add leads on, if the row does with the old content and may be refused at the limit
 adds_lead : (R : ℕ) (pc : Pc) (a : Actor) (limit n : ℕ) (end : Refusal) (old new : Content) → Goes R pc a (Err end)
     → (after_at R pc a (answer.Found old)).0.pc ≢ pc → Goes R pc a (adds limit n end old new)
 adds_lead R pc a limit n end old new may h = cond_both (nat_lt n limit) _ _ (λ (r : Result Effect Refusal). Goes R pc a r) (λ e. h) (λ e. may)
@@ -77,6 +80,7 @@ abbrev IsAtPlace : ℕ → Presence → Access → Type 0
 IsAtPlace R there (At p op) = has_place R there p ≡ true
 IsAtPlace R there _ = Unit {0}
 
+-- the place of each row's access is there, if the actor's names and words fit
 row_place : (R : ℕ) (there : Presence) (pc : Pc) (a : Actor) → 1 ≤ R → PartsFit R there a → words_fit_at pc a ≡ true
     → IfOk (need_at R pc a) (IsAtPlace R there)
 row_place R there pc a some f w = grind arith
@@ -89,6 +93,7 @@ record WorksOn (w : World) (a : Actor) (p : Place) (op : Operation) : Type 0 whe
   pub found : operand w.at p ≡ Some content
   pub goes : Goes w.ring a.pc a (effect op content)
 
+-- in a well-formed world, the operation of an actor's row finds its content and leads on
 works_on : (w : World) (a : Actor) (p : Place) (op : Operation) → 1 ≤ w.ring → IsWellFormed w → record_fits w.ring (is_there w.at) a ≡ true
     → need_at w.ring a.pc a ≡ Ok (At p op) → WorksOn w a p op
 works_on w a p op some formed fits needs =
@@ -126,6 +131,7 @@ go_ends actor w a (Make x) some formed fits needs =
     make_ends w.ring a (record { maker = actor; n = number_made w.at actor }) x
     (IfOk-at_ok (Leads w.ring a.pc a) needs (row_leads w.ring a.pc a (words_of w.ring (is_there w.at) a fits)))
 
+-- in a well-formed world, the access for which an actor asks ends well
 access_ends : (actor : ℕ) (w : World) (a : Actor) (x : Act) (y : Access) → 1 ≤ w.ring → IsWellFormed w → record_fits w.ring (is_there w.at) a ≡ true
     → need w.ring a x ≡ Ok y → Ends w.ring a x (perform w.ring actor w.at y)
 access_ends actor w a x y some formed fits needs = grind (arith, other_acts, go_ends)

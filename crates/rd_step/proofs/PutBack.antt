@@ -14,6 +14,7 @@ use Rattle.rd_cell.specs.declared.places.Place.TheVariants as place
 abbrev StaysAt : Contents → Place → Performed → Type 0
 StaysAt at q did = is_some (contents_after did at q) ≡ is_some (at q)
 
+-- a making adds and removes no place of another segment
 stays-make : (R : ℕ) (s : SegName) (x : ℕ) (at : Contents) (q : Place) → (s.n < MOST_SEGMENTS → is_of s q ≡ false)
     → IfOk (make s (holding R x)) (StaysAt at q)
 stays-make R s x at q other = grind arith

@@ -52,7 +52,7 @@ run_ring w es r h = run_invariant (λ v. v.ring ≡ w.ring) (λ v e s same goes.
 pub run_keeps : (w : World) (es : List Event) (r : Ran) → IsWellFormed w → run w es ≡ Ok r → IsWellFormed r.world
 run_keeps w es r formed h = run_invariant IsWellFormed keeps w es r formed h
 
--- no step and no run removes an actor or a place
+-- a step removes no actor
 stays_actor : (w : World) (e : Event) (s : Stepped) (n : ℕ) → step w e ≡ Ok s → is_some (w.actor n) ≡ true
     → is_some (s.world.actor n) ≡ true
 stays_actor w e s n h there = grind arith
@@ -62,6 +62,7 @@ pub run_stays_actor : (w : World) (es : List Event) (r : Ran) (n : ℕ) → run 
     → is_some (r.world.actor n) ≡ true
 run_stays_actor w es r n h there = run_invariant (λ v. is_some (v.actor n) ≡ true) (λ v e s some goes. stays_actor v e s n goes some) w es r there h
 
+-- a run removes no place
 run_stays_at : (w : World) (es : List Event) (r : Ran) (q : Place) → IsWellFormed w → run w es ≡ Ok r → is_some (w.at q) ≡ true
     → is_some (r.world.at q) ≡ true
 run_stays_at w es r q formed h there =
@@ -92,6 +93,7 @@ pub record CanUndo (now : World) (x : Entry) : Type 0 where
   pub place_there : CanPutBack now.at x.place x.old_content
   pub formed : IsWellFormed (unstep now x)
 
+-- the first step of a run, on which no later one depends, can be undone at the run's end
 can_undo_ran : (w : World) (e : Event) (s : Stepped) (es : List Event) (r : Ran) → IsWellFormed w → step w e ≡ Ok s
     → run s.world es ≡ Ok r → IsFree s.entry r.entries → CanUndo r.world s.entry
 can_undo_ran w e s es r formed h k free =

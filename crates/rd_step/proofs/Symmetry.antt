@@ -1,6 +1,7 @@
 -- Dependence is symmetric.
 use Rattle.rd_step.proofs.Prelude.{◌≡◌, ℕ, ◌==◌, ◌||◌, arith, interfere-sym, depends, Entry}
 
+-- the order doesn't matter to a test of two numbers for equality
 same_either_way : (m n : ℕ) → (m == n) ≡ (n == m)
 same_either_way m n = grind arith
 

@@ -11,6 +11,7 @@ use Rattle.rd_cell.specs.declared.operations.Answer.TheVariants as answer
 
 -- Accesses
 
+-- the model and the space count the same number of a maker's segments
 made_in : {R : ℕ} (space : Space R) (m : ℕ) → making_count space m ≤ MOST_SEGMENTS → number_made (contents space) m ≡ making_count space m
 made_in space m few = counts space.makers.items space.qhead space.qtail space.array m few
 
@@ -34,11 +35,13 @@ refuses_access {R} space actor x e few h = grind (arith, cond-false, nat_lt, le-
 
 -- Taking a segment away
 
+-- the number of a segment that is there is below its maker's count
 below_count : {R : ℕ} (space : Space R) (s : SegName) → is_there (contents space) s ≡ true → s.n < making_count space s.maker
 below_count space s h =
     elim (cases_lt s.n (making_count space s.maker))
     [ inl lt ↦ lt | inr past ↦ absurd (cc (absent_from space.makers.items space.qhead space.qtail space.array s.maker s.n past, h)) ]
 
+-- the number of a segment that is not there is at least its maker's count
 at_count : {R : ℕ} (space : Space R) (m n : ℕ) → is_there (contents space) (record { maker = m; n = n }) ≡ false → making_count space m ≤ n
 at_count space m n h =
     elim (cases_lt n (making_count space m))
@@ -83,13 +86,14 @@ few_actors R space xs formed = grind (arith, too_many)
 
 -- The step
 
--- an actor that is there has a list of segments, of 65,535 at most
+-- an actor that is there has a list of segments
 pub some_maker : {R : ℕ} (space : Space R) (xs : List Actor) (n : ℕ) → lists space ≡ suc (length xs) → IsSome (numbered xs n) → n < lists space
 some_maker space xs n lists_are h = grind (arith, numbered-within)
 
 no_such : {R : ℕ} (space : Space R) (xs : List Actor) (n : ℕ) → may_be_there (is_actor (numbered xs)) n MOST_SEGMENTS ≡ true → ⊥
 no_such space xs n h = grind arith
 
+-- in a well-formed world, no maker has made more than 65,535 segments
 few_made : {R : ℕ} (space : Space R) (xs : List Actor) (n : ℕ) → IsWellFormed (world_of_fields space xs) → making_count space n ≤ MOST_SEGMENTS
 few_made space xs n formed =
     elim (cases_lt MOST_SEGMENTS (making_count space n)) [

@@ -31,21 +31,21 @@ pub data IsInClosure (entries : List Entry) (k : ℕ) : ℕ → Type 0 where
 abbrev pub depends_on_any : List Entry → Entry → Bool
 depends_on_any xs y = list_any (λ x. depends x y) xs
 
--- a mark for each entry of the second list: whether it depends on an entry of the first list, or on
--- an earlier entry of the second that is marked
+-- for each entry of the second list, whether it depends on an entry of the first list, or on an
+-- earlier entry of the second for which this is `true`
 abbrev pub closure_from : List Entry → List Entry → List Bool
 closure_from xs [] = []
 closure_from xs (y ∷ ys) = depends_on_any xs y ∷ closure_from (if depends_on_any xs y then xs ++ y ∷ [] else xs) ys
 
--- a mark for each position: whether it is in the causal closure of position k. If no entry has
--- position k, no position is marked
+-- for each position, whether it is in the causal closure of position k; none is if no entry has
+-- position k
 abbrev pub closure : List Entry → ℕ → List Bool
 closure entries zero = []
 closure [] (suc k) = []
 closure (x ∷ xs) (suc zero) = true ∷ closure_from (x ∷ []) xs
 closure (x ∷ xs) (suc (suc k)) = false ∷ closure xs (suc k)
 
--- the elements that are not marked `true`, in their order; elements past the last mark stay
+-- the elements of the second list where the first has no `true`, in their order
 abbrev pub items_where_false : {X : Type 0} → List Bool → List X → List X
 items_where_false [] xs = xs
 items_where_false (b ∷ bs) [] = []

@@ -38,8 +38,8 @@ pub struct Entry {
 }
 
 impl Entry {
-    /// Returns the place that names what the step wrote, or none if it only read or had no place.
-    /// The step touched what its own place names.
+    /// Returns the place that names what the step wrote: its own place, or only the index half of
+    /// that cell; none if the step wrote nothing or had no place.
     pub fn written(&self) -> Option<Place>
         ensures { result ≡ written self.now.place self.now.wrote }
     {

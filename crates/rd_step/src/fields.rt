@@ -17,9 +17,10 @@ use rd_actor::Actor;
 use rd_cell::{Access, Content, Done, Place, Refusal};
 use rd_segments::Space;
 
-/// Puts back an old record of one actor and, if a place is given, the old content of that place. A
-/// place without an old content is the whole of its maker's last segment, which is removed. The
-/// actor must be there. A given place must be there too, and be able to hold a given content.
+/// Puts back an old record of one actor and, if a place is given, the old content of that place.
+/// The actor and the place must be there, the content must be of the place's kind, and a counter at
+/// most its end. A place without an old content must be the whole of its maker's last segment,
+/// which is removed. Without a place there must be no content.
 pub fn revert_fields<const R: usize>(
     space: &mut Space<R>,
     actors: &mut Vec<Actor>,
@@ -41,9 +42,10 @@ pub fn revert_fields<const R: usize>(
     set_actor(actors, actor, words);
 }
 
-/// Puts the old content back at a place, if one is given; it must be there and be able to hold the
-/// content. A place without an old content is the whole of its maker's last segment, which is
-/// removed.
+/// Puts the old content back at a place, if one is given. The place must be there, the content must
+/// be of its kind, and a counter at most its end. A place without an old content must be the whole
+/// of its maker's last segment, which is removed. Without a place there must be no content, and
+/// nothing changes.
 fn put_back<const R: usize>(space: &mut Space<R>, place: Option<Place>, content: Option<Content>)
     requires can { CanPutBack (contents space.old) place content }
     requires small { R ≤ MOST_CELLS }
@@ -58,7 +60,8 @@ fn put_back<const R: usize>(space: &mut Space<R>, place: Option<Place>, content:
     }
 }
 
-/// Unmakes the segment whose whole is this place. It has to be the last one of its maker.
+/// Removes the segment whose whole is this place, and so gives its room back. It must be its
+/// maker's last segment.
 fn unmake_at<const R: usize>(space: &mut Space<R>, place: Place)
     requires can { CanPutBack (contents space.old) (Some place) None }
     requires small { R ≤ MOST_CELLS }

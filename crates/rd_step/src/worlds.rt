@@ -155,7 +155,7 @@ impl<const R: usize> World<R> {
     }
 
     /// Returns a copy of this world: each place has the same content, and each actor the same
-    /// record.
+    /// record. The room of its makers may differ.
     ///
     /// # Errors
     ///
@@ -266,11 +266,12 @@ impl<const R: usize> World<R> {
     }
 
     /// Puts back an old record of one actor and, if a place is given, the old content of that
-    /// place. A place without an old content is the whole of its maker's last segment, which is
-    /// removed. Nothing else changes.
+    /// place. A place without an old content must be the whole of its maker's last segment, which
+    /// is removed. Nothing else changes.
     ///
-    /// The actor must be there. A given place must be there too, and be able to hold a given
-    /// content. The world so changed must be well-formed.
+    /// The actor and a given place must be there. A content must be of the place's kind, and a
+    /// counter in it at most its end; without a place there must be none. The world so changed must
+    /// be well-formed.
     pub fn revert(
         &mut self,
         actor: u8,

@@ -17,11 +17,11 @@ Reads seen IsSpelled (Err NoMemory) = Unit {0}
 Reads {V} {X} seen IsSpelled (Err BadTrace) = (x : X) → IsSpelled x → ⊥
 Reads seen IsSpelled (Err _) = ⊥
 
--- for `Reads`: of a thing, the thing itself is seen
+-- for `Reads`: the thing itself is what is `seen` of it
 abbrev pub itself : {X : Type 0} → X → X
 itself x = x
 
--- for `Reads`: of a list, its elements are seen
+-- for `Reads`: its elements are what is `seen` of a list
 abbrev pub elements : {X : Type 0} → Vec X Global → List X
 elements v = v.items
 

@@ -84,8 +84,8 @@ fn mark_in(alloc: Global, value: &Value) -> Result<SavedMark, LoadTraceFault>
     })
 }
 
-/// Returns the bookmark's name at the key `name` of an object with two members; none for any other
-/// value.
+/// Returns the bookmark's name at the key `name` of an object with two members; none if the value
+/// is no such object, or if what it has there isn't a name that a bookmark may have.
 #[tactic(auto, using(crate::proofs::SpellLemmas::passed_up))]
 fn name_in(value: &Value) -> Option<MarkName>
     ensures some { IfSome result (HasMarkName (view value.now)) }
@@ -102,7 +102,7 @@ fn name_in(value: &Value) -> Option<MarkName>
 }
 
 /// Appends the texts of a book's bookmarks to the text, in order, with commas between them. Fails
-/// only if memory is refused.
+/// only if memory is refused; the text may then end with some of them.
 pub fn put_marks<const R: usize>(
     alloc: Global,
     text: &mut String,
@@ -123,8 +123,9 @@ pub fn put_marks<const R: usize>(
     Ok(())
 }
 
-/// Appends the text of the book's bookmark of this number, from 1, with this name. Fails if memory
-/// is refused, or if there is no bookmark of this number.
+/// Appends the text of a bookmark with this name, and with the events of the book's bookmark of
+/// number `i`, from 1. Fails if memory is refused, and the text may then end with a beginning of
+/// it; or if the book has no such bookmark, and the text is then unchanged.
 fn put_mark<const R: usize>(
     alloc: Global,
     text: &mut String,

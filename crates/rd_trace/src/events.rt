@@ -75,7 +75,7 @@ fn act_with(word: &str, value: &Value) -> Option<Act>
 }
 
 /// Appends the texts of events to the text, with commas between them. Fails only if memory is
-/// refused.
+/// refused; the text may then end with some of them.
 pub fn put_events(text: &mut String, events: &[Event]) -> Result<(), AllocError>
     ensures { OnOk result (AreAppended (Gives event_of) event_data events.now
         (string_bytes text.old) (string_bytes text.new)) }
@@ -86,8 +86,9 @@ pub fn put_events(text: &mut String, events: &[Event]) -> Result<(), AllocError>
     Ok(())
 }
 
-/// Appends the text of an event to a list of which the text has this many events already, with a
-/// comma before it unless it is the first. Fails only if memory is refused.
+/// Appends the text of an event, as the next one of a list that has `count` events so far: a comma
+/// comes before it unless it is the first. Fails only if memory is refused; the text may then end
+/// with a beginning of this.
 pub fn put_next_event(text: &mut String, count: usize, event: Event) -> Result<(), AllocError>
     ensures ok { OnOk result (string_bytes text.new
         ≡ string_bytes text.old ++ (comma_if (nat_lt 0 count) ++ compact_text (event_data event))) }
@@ -97,7 +98,8 @@ pub fn put_next_event(text: &mut String, count: usize, event: Event) -> Result<(
     put_event(text, event)
 }
 
-/// Appends the text of an event. Fails only if memory is refused.
+/// Appends the text of an event. Fails only if memory is refused; the text may then end with a
+/// beginning of it.
 #[tactic(auto, unfolding(json::specs::Print::escape_byte))]
 fn put_event(text: &mut String, event: Event) -> Result<(), AllocError>
     ensures ok { OnOk result (string_bytes text.new
@@ -115,8 +117,9 @@ fn put_event(text: &mut String, event: Event) -> Result<(), AllocError>
     }
 }
 
-/// Appends the text of an event that ends with a number: the opening with the word, the actor, the
-/// number and the closing bracket. Fails only if memory is refused.
+/// Appends the text of an event that has a number: `opening`, which is the bracket, the word and a
+/// comma; the actor, a comma, the number, and the closing bracket. Fails only if memory is refused;
+/// the text may then end with a beginning of this.
 fn put_long(text: &mut String, opening: &str, actor: u8, x: u64) -> Result<(), AllocError>
     ensures ok { OnOk result (string_bytes text.new
         ≡ string_bytes text.old ++ (opening.now
@@ -128,8 +131,8 @@ fn put_long(text: &mut String, opening: &str, actor: u8, x: u64) -> Result<(), A
     text.push_str("]")
 }
 
-/// Appends the opening with an event's word, its actor, and the closing. Fails only if memory is
-/// refused.
+/// Appends `opening`, the actor's number and `closing`. Fails only if memory is refused; the text
+/// may then end with a beginning of this.
 fn put_around(text: &mut String, opening: &str, actor: u8, closing: &str) -> Result<(), AllocError>
     ensures { OnOk result (string_bytes text.new
         ≡ string_bytes text.old ++ (opening.now ++ (decimal actor ++ closing.now))) }
@@ -139,7 +142,8 @@ fn put_around(text: &mut String, opening: &str, actor: u8, closing: &str) -> Res
     text.push_str(closing)
 }
 
-/// Returns what follows the actor in the text of a `starve` event, by its choice.
+/// Returns what follows the actor in the text of a `starve` event: a comma, the choice as `true` or
+/// `false`, and the closing bracket.
 fn choice_end(choice: bool) -> &'static str
     ensures { result.now ≡ 44 ∷ (token_text (boolean choice) ++ 93 ∷ []) }
 {

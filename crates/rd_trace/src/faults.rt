@@ -6,7 +6,7 @@ use rd_cell::Refusal;
 use rd_step::Flaw;
 use std::alloc::AllocError;
 
-/// Why a text gives no book.
+/// Why a text gives no book. The numbers are those of the refusals in a report.
 #[derive(Clone, Copy, Debug, PartialEq, Eq)]
 pub enum LoadTraceFault {
     /// 20: memory was refused.
@@ -36,7 +36,7 @@ pub enum LoadTraceFault {
     },
 }
 
-/// Why a trace isn't written whole.
+/// Why a trace isn't written whole. The numbers are those of the refusals in a report.
 #[derive(Clone, Copy, Debug, PartialEq, Eq)]
 pub enum WriteTraceFault {
     /// 20: memory was refused. Nothing was written.

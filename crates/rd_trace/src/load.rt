@@ -30,9 +30,9 @@ use std::alloc::Global;
 ///
 /// In this order: `BadTrace` if the text is no trace; `Flawed` if its start is no well-formed
 /// world, with the first condition that fails; `TraceMark` if an event of a bookmark is refused,
-/// with the numbers of the first such bookmark and of its first such event; `TraceStep` if a live
-/// event or an undone one is refused, with its number. `NoMemory` if memory was refused, at any
-/// point.
+/// with the numbers of the first such bookmark and of its first such event, and why; `TraceStep` if
+/// a live event or an undone one is refused, with the number of the first and why. `NoMemory` if
+/// memory was refused, at any point.
 ///
 /// The undone events are numbered after the live ones. The event after the `MOST_STEPS`-th of a
 /// list is refused with the cause `TooLong`.

@@ -22,14 +22,16 @@ use rd_marks::Book;
 use rd_step::{Event, Unassembled, World, common_beginning_len};
 use std::alloc::Global;
 
-/// Returns the book of a session that was read, by making its events happen. A fresh start must
-/// have 1 to 16 actors. There must be at most 64 bookmarks, with different names.
+/// Returns the book of a session that was read, by making its events happen. `R` must be from 1 to
+/// 64. A fresh start must have 1 to 16 actors. There must be at most 64 bookmarks, with different
+/// names.
 ///
 /// # Errors
 ///
-/// In this order: `Flawed` if its start is no well-formed world; `TraceMark` if an event of a
-/// bookmark is refused; `TraceStep` if a live event, or an undone one after them, is refused.
-/// `NoMemory` if memory was refused, at any point.
+/// In this order: `Flawed` with the first condition that fails, if its start is no well-formed
+/// world; `TraceMark` at the first event of a bookmark that is refused; `TraceStep` at the first
+/// live event, or undone one after them, that is refused. `NoMemory` if memory was refused, at any
+/// point.
 pub fn replay<const R: usize>(
     alloc: Global,
     session: SavedSession<R>,
@@ -49,9 +51,9 @@ pub fn replay<const R: usize>(
     Ok(book)
 }
 
-/// Returns the world of a start. A fresh start must have 1 to 16 actors. Fails with `Flawed` and
-/// the first flaw if the start makes no well-formed world, and with `NoMemory` if memory is
-/// refused.
+/// Returns the world of a start. `R` must be from 1 to 64, and a fresh start must have 1 to 16
+/// actors. Fails with `Flawed` and the first condition that fails if the start makes no well-formed
+/// world, and with `NoMemory` if memory is refused.
 fn world_of<const R: usize>(alloc: Global, start: Start<R>) -> Result<World<R>, LoadTraceFault>
     requires positive { 1 ≤ R }
     requires small { R ≤ MOST_CELLS }
@@ -73,7 +75,8 @@ fn world_of<const R: usize>(alloc: Global, start: Start<R>) -> Result<World<R>, 
 
 /// Sets bookmarks in a book that has none, each at its own events, and leaves the last one's events
 /// live. There must be at most 64 bookmarks, with different names. Fails with `TraceMark` at the
-/// first event that is refused, and with `NoMemory` if memory is refused.
+/// first event that is refused, and with `NoMemory` if memory is refused; some bookmarks may then
+/// be set.
 fn set_marks<const R: usize>(book: &mut Book<R>, marks: &[SavedMark]) -> Result<(), LoadTraceFault>
     requires names { HaveDifferentNames (map saved_mark marks.now) }
     requires few { length marks.now ≤ MOST_MARKS }
@@ -95,9 +98,9 @@ fn set_marks<const R: usize>(book: &mut Book<R>, marks: &[SavedMark]) -> Result<
     Ok(())
 }
 
-/// Makes just `events` live and just `undone` undone. Fails with `TraceStep` at the first event
-/// that is refused, where the undone events are numbered after the live ones, and with `NoMemory`
-/// if memory is refused.
+/// Makes just `events` live and just `undone` undone; the bookmarks stay. Fails with `TraceStep` at
+/// the first event that is refused, where the undone events are numbered after the live ones, and
+/// with `NoMemory` if memory is refused. The events before it are then live.
 fn make_live<const R: usize>(
     book: &mut Book<R>,
     events: &[Event],
@@ -111,9 +114,9 @@ fn make_live<const R: usize>(
     Ok(())
 }
 
-/// Makes just these events live, with nothing undone. It undoes live events only from the first one
-/// in which the two lists differ. Fails with `TraceStep` at the first event that is refused, and
-/// with `NoMemory` if memory is refused.
+/// Makes just these events live, with nothing undone; the bookmarks stay. It undoes live events
+/// only from the first one in which the two lists differ. Fails with `TraceStep` at the first event
+/// that is refused, and with `NoMemory` if memory is refused. The events before it are then live.
 fn go_to<const R: usize>(book: &mut Book<R>, events: &[Event]) -> Result<(), LoadTraceFault>
     ensures { GoesTo (book_state book.old) events.now (book_state book.new) result }
 {
@@ -122,9 +125,9 @@ fn go_to<const R: usize>(book: &mut Book<R>, events: &[Event]) -> Result<(), Loa
     step_all(book, &events[kept..])
 }
 
-/// Makes events happen after the live ones, in order, in a book with nothing undone. Fails with
-/// `TraceStep` at the first one that is refused, which is numbered after the live events, and with
-/// `NoMemory` if memory is refused.
+/// Makes events happen after the live ones, in order, in a book with nothing undone; the bookmarks
+/// stay. Fails with `TraceStep` at the first one that is refused, which is numbered after the live
+/// events, and with `NoMemory` if memory is refused. The events before it are then live.
 fn step_all<const R: usize>(book: &mut Book<R>, events: &[Event]) -> Result<(), LoadTraceFault>
     requires through { GoThrough (book_state book.old).session.start
         (book_state book.old).session.live }

@@ -196,7 +196,8 @@ fn start_of<const R: usize>(alloc: Global, session: &Session<R>) -> Result<Value
     start_value(alloc, &world)
 }
 
-/// Appends the text of the start of a session. Fails only if memory is refused.
+/// Appends the text of the start of a session. Fails only if memory is refused; the text is then
+/// unchanged.
 fn put_start<const R: usize>(
     alloc: Global,
     text: &mut String,
@@ -210,8 +211,8 @@ fn put_start<const R: usize>(
     text.push_str(written.as_str())
 }
 
-/// Appends the texts of the live events of a session, with commas between them. Fails only if
-/// memory is refused.
+/// Appends the texts of the live events of a session, in order, with commas between them. Fails
+/// only if memory is refused; the text may then end with some of them.
 fn put_live<const R: usize>(text: &mut String, session: &Session<R>) -> Result<(), AllocError>
     ensures { OnOk result (AreAppended (Gives event_of) event_data (state session.now).live
         (string_bytes text.old) (string_bytes text.new)) }
@@ -224,7 +225,8 @@ fn put_live<const R: usize>(text: &mut String, session: &Session<R>) -> Result<(
 }
 
 /// Appends the texts of the undone events of a session, with commas between them, beginning with
-/// the event that was undone last. Fails only if memory is refused.
+/// the event that was undone last. Fails only if memory is refused; the text may then end with some
+/// of them.
 fn put_undone<const R: usize>(text: &mut String, session: &Session<R>) -> Result<(), AllocError>
     ensures { OnOk result (AreAppended (Gives event_of) event_data (state session.now).undone
         (string_bytes text.old) (string_bytes text.new)) }

@@ -120,8 +120,8 @@ fn name_at(value: &Value, key: &str) -> Option<SegName>
     name_in(value.get(key)?)
 }
 
-/// Returns the JSON value of a session's start in this world: the number of actors if the world is
-/// fresh, else its parts. Fails only if memory is refused.
+/// Returns the JSON value of a session's start in this world: an object with the number of actors
+/// if the world is fresh, else the object of its parts. Fails only if memory is refused.
 pub fn start_value<const R: usize>(alloc: Global, world: &World<R>) -> Result<Value, AllocError>
     ensures { IfOk result (λ value. IsStartValue (model world.now) (view value)) }
 {

@@ -14,7 +14,8 @@ pub fn comma_after(count: usize) -> &'static str
     if count > 0 { "," } else { "" }
 }
 
-/// Appends a number to the text, in decimal digits. Fails only if memory is refused.
+/// Appends a number to the text, in decimal digits. Fails only if memory is refused; the text is
+/// then unchanged.
 pub fn put_number(text: &mut String, number: u64) -> Result<(), AllocError>
     ensures { OnOk result (string_bytes text.new ≡ string_bytes text.old ++ decimal number) }
 {

@@ -34,8 +34,8 @@ calls_of (command ∷ commands) (Err refusal ∷ answers) = calls_of commands an
 calls_of [] answers = []
 calls_of (command ∷ commands) [] = []
 
--- the fault of a view of which nothing was written: `NoMemory`, or `Busy`, where a drawn ticket was
--- not finished
+-- the fault of a view of which nothing was written: `NoMemory`, or `Busy` with the two words of the
+-- lock, which show that a drawn ticket was not finished
 abbrev pub IsUnviewed : ViewFault → Type 0
 IsUnviewed view.NoMemory = Unit {0}
 IsUnviewed view.Write = ⊥
@@ -89,7 +89,7 @@ module _ (opened : BookState) where
     pub are_read : AreRead scripts said
     pub is_viewed : IsViewed said answered history
 
-  -- the text of a view: the answers to its viewers, and the number of calls in its history
+  -- the text of a view: each viewer's heading and answers, and the number of calls in its history
   abbrev pub viewed_text : {scripts : List (Vec ℕ Global)} {history : List (ℕ × Call)} → Views scripts history → List ℕ
   viewed_text {history = history} views = view_text 1 views.said views.answered (length history)
 

@@ -15,7 +15,8 @@ use rd_script::{AnyRefusal, Heading, LineAnswer, ParsedLine, Text, set_answer, s
 use std::alloc::{AllocError, Global};
 
 /// Returns the text of a view: for each viewer in order its heading and the answers to its lines,
-/// and last the number of recorded calls. A viewer whose thread was not started has no answers: it
+/// and last the number of recorded calls. `said` has what each viewer's lines spell, and `answered`
+/// the desk's answers to their commands. A viewer whose thread was not started has no answers: it
 /// gets one line, which says that memory was refused. The two lists must be equally long. Fails
 /// only if memory is refused.
 pub fn text_of_view(
@@ -44,7 +45,8 @@ pub fn text_of_view(
 }
 
 /// Appends to the text the heading of a viewer and the answers to its lines, or one line if its
-/// thread was not started. Fails only if memory is refused.
+/// thread was not started. The buffer `line` is overwritten. Fails only if memory is refused; some
+/// lines may then have been appended.
 fn put_viewer(
     text: &mut Vec<u8>,
     line: &mut Text,
@@ -64,7 +66,8 @@ fn put_viewer(
 }
 
 /// Appends to the text the answers to the lines of a script: for a line that spells no command its
-/// fault, for any other line the next answer, if there is one. Fails only if memory is refused.
+/// fault, for any other line the next answer, if there is one. The buffer `line` is overwritten.
+/// Fails only if memory is refused; some lines may then have been appended.
 fn put_report(
     text: &mut Vec<u8>,
     line: &mut Text,
@@ -100,7 +103,7 @@ fn put_answer(text: &mut Vec<u8>, line: &mut Text, answer: &LineAnswer) -> Resul
     text.extend_from_slice(line.as_slice())
 }
 
-/// Returns the answer to a line, from the desk's answer to the line's command.
+/// Returns the answer to a line that spells a command, from the desk's answer to that command.
 fn desk_answer(answer: &Answer) -> LineAnswer
     ensures { result ≡ desk_answer answer.now }
 {

@@ -24,9 +24,11 @@ use std::thread::Threads;
 /// For each viewer the answers to its commands, or none if its thread was not started.
 type ViewerAnswers = Vec<Option<Vec<Answer>>>;
 
-/// Runs 1 to 64 scripts over the book, each by a viewer in its own thread, and writes the answers
-/// to their lines. Returns the history of the recorded calls. The book is lost. The writer must not
-/// have failed before.
+/// Runs 1 to 64 scripts over the book, each by a viewer in its own thread, and waits for all of
+/// them. Then writes the text of `text_of_view`: the answers to each script's lines, and the number
+/// of recorded calls. Returns the history of these calls. If a thread can't be started, its viewer
+/// gets the line `refused 20 NoMemory` in place of answers, and that is no error. The book is lost.
+/// The writer must not have failed before.
 ///
 /// # Errors
 ///
@@ -67,9 +69,10 @@ fn parse_scripts(alloc: Global, scripts: &[Vec<u8>]) -> Result<Vec<Vec<ParsedLin
     Ok(said)
 }
 
-/// Opens a desk over the book for 1 to 64 viewers, asks the commands of each viewer's lines, and
-/// closes the desk. Returns the answers to each viewer, and the history; the book is lost. Fails
-/// with `NoMemory` if memory is refused, and with `Busy` if the desk can't be closed.
+/// Opens a desk over the book for 1 to 64 viewers, lets each ask the commands of its lines in its
+/// own thread, and closes the desk when all are done. Returns for each viewer the answers, or none
+/// if its thread was not started, and the history. The book is lost. Fails with `NoMemory` if
+/// memory is refused, and with `Busy` if the desk can't be closed.
 fn run_over_desk<R: Threads + Wait + Sync, const N: usize>(
     rt: &R,
     alloc: Global,

@@ -227,7 +227,8 @@ impl<'a> io::Write for Stream<'a> {
 /// Two numbers of viewers: the most that there may be, and one too many.
 const CROWDS: [usize; 2] = [64, 65];
 
-/// Does all command lines, and prints what came of each.
+/// Does all command lines, and prints what came of each. Fails if memory is refused or printing
+/// fails.
 fn main(rt: HostRuntime) -> io::Result<()> {
     let alloc = rt.alloc();
     for rehearsal in &REHEARSALS {
@@ -244,7 +245,9 @@ fn main(rt: HostRuntime) -> io::Result<()> {
     Ok(())
 }
 
-/// Does one command line, and prints its status and what it wrote to the two streams.
+/// Runs the command line with these words after the program's name. Prints the words, the
+/// status, and what was written to the two streams. `room` is the number of bytes that standard
+/// output takes. Fails if memory is refused or printing fails.
 fn rehearse<R: Files + Threads + Wait + Print + Sync>(
     rt: &R,
     alloc: Global,
@@ -274,7 +277,7 @@ fn rehearse<R: Files + Threads + Wait + Print + Sync>(
     print_stream(rt, alloc, "errors", &errors)
 }
 
-/// Returns the number, as a text, of a status with which the program may end.
+/// Returns the number of an exit status as a text: `0`, `1` or `2`, or `another` for any other.
 fn status_text(status: ExitCode) -> &'static str {
     if status == ExitCode::SUCCESS {
         "0"
@@ -287,7 +290,8 @@ fn status_text(status: ExitCode) -> &'static str {
     }
 }
 
-/// Prints what a stream has taken, with the stream's name before each line.
+/// Prints what a stream has taken, with the stream's name before each line. One line says so if it
+/// took nothing, took no UTF-8, or took no line feed at the end. Fails if printing fails.
 fn print_stream<R: Print>(rt: &R, alloc: Global, name: &str, taken: &[u8]) -> io::Result<()> {
     if taken.is_empty() {
         return println!(rt; "  {name}: nothing");

@@ -1,9 +1,9 @@
-//! Devices in memory that fail.
+//! Readers and writers in memory that fail, give little or take little.
 
 use std::io;
 use std::io::{Read, Write};
 
-/// Fails at each call.
+/// A writer that fails at each call.
 #[derive(Drop)]
 pub struct BrokenWriter;
 
@@ -17,7 +17,7 @@ impl Write for BrokenWriter {
     }
 }
 
-/// How a writer ends.
+/// What a writer does at calls beyond its limit.
 #[derive(Clone, Copy, PartialEq, Eq)]
 pub enum End {
     /// It fails.
@@ -26,7 +26,7 @@ pub enum End {
     TakesNone,
 }
 
-/// What a writer takes.
+/// How much a writer takes.
 #[derive(Clone, Copy)]
 pub struct Limit {
     /// How many calls take bytes; those after them don't.
@@ -37,7 +37,7 @@ pub struct Limit {
     pub end: End,
 }
 
-/// A writer onto a page.
+/// A writer that appends to a vector, up to a limit.
 #[derive(Drop)]
 pub struct PageWriter<'a> {
     taken: &'a mut Vec<u8>,
@@ -46,7 +46,7 @@ pub struct PageWriter<'a> {
 }
 
 impl<'a> PageWriter<'a> {
-    /// A writer that takes all that it is given.
+    /// Returns a writer that takes all that it is given, unless memory is refused.
     pub fn that_works(taken: &'a mut Vec<u8>) -> PageWriter<'a> {
         PageWriter {
             taken,
@@ -58,7 +58,7 @@ impl<'a> PageWriter<'a> {
         }
     }
 
-    /// A writer that takes so much.
+    /// Returns a writer that takes as much as the limit says, unless memory is refused.
     pub fn that_ends(taken: &'a mut Vec<u8>, limit: Limit) -> PageWriter<'a> {
         PageWriter { taken, limit }
     }
@@ -83,7 +83,7 @@ impl<'a> Write for PageWriter<'a> {
     }
 }
 
-/// A reader of a text.
+/// A reader of bytes, which gives them in small portions and then fails.
 #[derive(Drop)]
 pub struct StripReader<'a> {
     rest: &'a [u8],
@@ -94,7 +94,8 @@ pub struct StripReader<'a> {
 }
 
 impl<'a> StripReader<'a> {
-    /// A reader that gives this many bytes a call, for this many calls, and then fails.
+    /// Returns a reader of these bytes. For `good_calls` calls it gives at most `most` bytes a
+    /// call, or the end; then it fails.
     pub fn of(rest: &'a [u8], good_calls: usize, most: usize) -> StripReader<'a> {
         StripReader {
             rest,

@@ -7,8 +7,8 @@ use rd_step::Event;
 use std::alloc::Global;
 use std::test::Fail;
 
-/// The event that a line spells, and how often it is made: as a script has it once, but `go 1 6` is
-/// six steps of actor 1. None if it spells no event.
+/// Returns the event that a line spells, and how often it is to happen: once if the line is spelled
+/// as in a script, and six times for `go 1 6`. Returns none if the line spells no event.
 pub fn event_in(line: &str) -> Option<(Event, u64)> {
     let mut words = line.split_whitespace();
     let keyword = words.next()?;
@@ -31,8 +31,8 @@ pub fn event_in(line: &str) -> Option<(Event, u64)> {
     Some((Event { actor, act }, 1))
 }
 
-/// The events of a schedule, which is lines with a comma and a space between them. An empty one has
-/// none. A line that spells no event fails the test.
+/// Returns the events of a schedule, which is lines with a comma and a space between them. An empty
+/// schedule has no events. Fails if a line spells no event, or if memory is refused.
 pub fn events_in(alloc: Global, schedule: &str) -> Result<Vec<Event>, Fail> {
     let mut events = Vec::new(alloc);
     if schedule.is_empty() {

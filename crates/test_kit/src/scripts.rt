@@ -9,8 +9,9 @@ use std::test::Fail;
 /// How many lines a long script has.
 const LINES: u64 = 300;
 
-/// Puts a line of a kind after a script: `A` stands for an actor, `K` for a number, and `N` for the
-/// number in a bookmark's name. Which ones they are is as the number has it.
+/// Appends a line of a kind to a script. In the kind, `A` stands for an actor from 1 to `actors`,
+/// `K` for a number below 60, and `N` for a number below 4 in a bookmark's name; `number` chooses
+/// them. Fails only if memory is refused.
 fn put_line(script: &mut String, kind: &str, actors: u64, number: u64) -> Result<(), Fail>
     requires { 1 ≤ actors }
 {
@@ -30,8 +31,9 @@ fn put_line(script: &mut String, kind: &str, actors: u64, number: u64) -> Result
     Ok(())
 }
 
-/// A script of 300 lines for this many actors, in an order that looks like chance. A line is of one
-/// of these kinds, as one in `choices` is of each, or else a step of an actor.
+/// Returns a pseudo-random script of 300 lines for this many actors, at least 1. A line is of each
+/// of the kinds (see `put_line`) with a chance of 1 in `choices`, at most 64, and else a step of an
+/// actor. Equal arguments give equal scripts. Fails only if memory is refused.
 pub fn long_script(alloc: Global, kinds: &[&str], choices: u64, actors: u64) -> Result<String, Fail>
     requires some { 1 ≤ actors }
     requires choices { choices ≤ 64 }
@@ -50,7 +52,7 @@ pub fn long_script(alloc: Global, kinds: &[&str], choices: u64, actors: u64) -> 
     Ok(script)
 }
 
-/// The bytes of each script.
+/// Returns the bytes of each script, in order. Fails only if memory is refused.
 pub fn bytes_of(alloc: Global, scripts: &[&str]) -> Result<Vec<Vec<u8>>, AllocError> {
     let mut bytes = Vec::new(alloc);
     for script in scripts {

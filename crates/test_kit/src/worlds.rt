@@ -1,4 +1,4 @@
-//! Events, entries and parts of worlds by what matters of them.
+//! Events, entries and parts of worlds, from what tests choose of them.
 
 ghost use Rattle.std.specs.Prelude.{◌≡◌, ◌≤◌};
 ghost use Rattle.rd_step.specs.Prelude.{MOST_CELLS};
@@ -8,7 +8,7 @@ use rd_cell::{Answer, Place, SegName, Wrote};
 use rd_step::{ArrayParts, Entry, Event, Parts, SegmentParts};
 use std::alloc::{AllocError, Global};
 
-/// The step of this actor where it is.
+/// Returns the event `Go` of this actor.
 pub fn go(actor: u8) -> Event
     ensures { result.actor ≡ actor }
 {
@@ -18,7 +18,8 @@ pub fn go(actor: u8) -> Event
     }
 }
 
-/// An entry of what dependence looks at: the actor, the place, and what the access wrote of it.
+/// Returns an entry of an access by this actor at this place, which wrote this much of it.
+/// Dependence looks at no other field; they have an idle actor, no answer and no content.
 pub fn record((actor, place, wrote): (u8, Option<Place>, Wrote)) -> Entry {
     Entry {
         event: go(actor),
@@ -31,8 +32,9 @@ pub fn record((actor, place, wrote): (u8, Option<Place>, Wrote)) -> Entry {
     }
 }
 
-/// The parts of a world of one actor, with this root and the segments that the actor made. The
-/// queue's ends are at the root, and the array is fresh.
+/// Returns the parts of a world of one actor, with this root and the segments that the actor made.
+/// The queue's ends are at the root, and the array is fresh. A ring must have at most 64 cells.
+/// Fails only if memory is refused.
 pub fn parts<const R: usize>(
     alloc: Global,
     actor: Actor,

@@ -44,8 +44,8 @@ struct Slots {
 
 impl DependIndex {
     /// Puts the entry at the next position. There must be fewer than `MOST_STEPS` positions. This
-    /// costs one access by the actor's number, and one look-up of each of its keys: of its place,
-    /// of a cell's value half, and of its segment.
+    /// costs one access by the actor's number, and at most three look-ups: of the entry's place, of
+    /// a cell's value half, and of the place's segment.
     ///
     /// # Errors
     ///

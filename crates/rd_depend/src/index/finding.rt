@@ -60,7 +60,8 @@ impl DependIndex {
     }
 
     /// Returns the first position above `k` of a step that interferes with an access to this place
-    /// that wrote this part of it; `None` if there is no such step. It makes at most 57 probes.
+    /// that wrote this part of it; `None` if there is no such step. It makes at most 57 probes,
+    /// before which fewer than 2^33 must be counted.
     fn first_at(&self, k: u32, place: Place, wrote: Wrote, probes: &mut Probes) -> Option<u64>
         requires { probe_count probes.old < 2 ^ 33 }
         ensures answer { (es : List SomeEntry) → IsIndexOf self.now es
@@ -79,7 +80,7 @@ impl DependIndex {
 
     /// Returns the first position above `k` that is kept under the key, among all positions or only
     /// those of steps that wrote there; `None` if there is no key or no such position. It makes at
-    /// most 19 probes.
+    /// most 19 probes, and none without a key. Fewer than 2^34 must be counted before.
     fn first_under(
         &self,
         k: u32,
@@ -103,7 +104,8 @@ impl DependIndex {
 
     /// Returns the first position above `k` of a step of this actor; `None` if there is none. The
     /// actor's positions must ascend and be fewer than 2^17; otherwise nothing is said of the
-    /// result. It makes at most 19 probes.
+    /// result. It makes at least one probe and at most 19, before which fewer than 2^34 must be
+    /// counted.
     fn first_by(&self, k: u32, actor: u8, probes: &mut Probes) -> Option<u64>
         requires { probe_count probes.old < 2 ^ 34 }
         ensures answer { IsAscending (list_at self.now.by_actor.items actor)

@@ -53,7 +53,9 @@ impl Key {
         }
     }
 
-    /// Returns the key of the whole of the segment that has the place, if a segment has it.
+    /// Returns the key of the whole of the segment to which the place belongs; `None` for the
+    /// queue's ends, the array's places and the whole of a segment. A search for the steps at a
+    /// place looks there for the making of its segment.
     pub(crate) fn of_whole(place: Place) -> Option<Key>
         ensures { result ≡ whole_key place }
     {
@@ -63,7 +65,7 @@ impl Key {
         }
     }
 
-    /// Returns the number as which the key is hashed.
+    /// Returns the number as which the key is hashed. Different keys have different numbers.
     #[inline(always)]
     pub(crate) fn number(&self) -> u64
         ensures { result ≡ key_number self.now }
@@ -141,8 +143,9 @@ fn place_number(place: Place) -> u64
     }
 }
 
-/// Returns the number of a part of a segment, made of the kind of part, the segment's name and an
-/// index.
+/// Packs a kind of key, an index and a segment's name into one number below 2^56, each into bits of
+/// its own. So different arguments give different numbers. A kind without an index or a segment
+/// passes 0 or the root.
 fn packed(part: u8, name: SegName, index: u8) -> u64
     ensures { result ≡ packed part name index }
 {
@@ -155,7 +158,7 @@ impl PartialEq for Key {
 
     ghost laws = { partial_equiv_from_equiv key_equiv };
 
-    /// Whether two keys are equal.
+    /// Whether both are keys of the same place, or both of the same segment.
     #[inline(always)]
     fn eq(&self, other: &Key) -> bool {
         match (*self, *other) {
@@ -175,7 +178,7 @@ impl Hash for Key {
 
     ghost respects_eq = { key_number-same };
 
-    /// Hashes the key as one number.
+    /// Hashes the key as one number. So a look-up costs one call of the hasher.
     fn hash<H: Hasher>(&self, state: &mut H) {
         state.write_u64(self.number());
     }

@@ -37,7 +37,7 @@ pub(crate) fn grow(
 ///
 /// # Errors
 ///
-/// `AllocError` if memory is refused.
+/// `AllocError` if memory is refused. No list has changed then, and no room is lost.
 pub(crate) fn reserve_in(lists: &mut Vec<Vec<u32>>, index: usize) -> Result<(), AllocError>
     requires { index < length lists.old.items }
     ensures lists { (i : ℕ) → list_at lists.new.items i ≡ list_at lists.old.items i }

@@ -14,6 +14,7 @@ pub(crate) struct Positions<'a> {
 
 impl<'a> Positions<'a> {
     /// Returns the positions of a list that a look-up found, and counts that look-up as one probe.
+    /// Fewer than 2^63 probes must be counted before.
     pub(crate) fn found(items: &'a [u32], probes: &mut Probes) -> Positions<'a>
         requires { probe_count probes.old < 2 ^ 63 }
         ensures items { result.items.now ≡ items.now }
@@ -30,7 +31,8 @@ impl<'a> Positions<'a> {
         self.items.len()
     }
 
-    /// Returns the position at this index, which must be below `len`, and counts a probe.
+    /// Returns the position at this index, which must be below `len`, and counts a probe. Fewer
+    /// than 2^63 probes must be counted before.
     pub(crate) fn look(&self, index: usize, probes: &mut Probes) -> u32
         requires within { index < length self.now.items.now }
         requires few { probe_count probes.old < 2 ^ 63 }

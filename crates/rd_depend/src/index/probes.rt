@@ -18,7 +18,7 @@ impl Probes {
         Probes { count: 0 }
     }
 
-    /// Returns the number of probes that were counted.
+    /// Returns the number of probes counted since `new`.
     pub fn count(&self) -> u64
         ensures { result ≡ probe_count self.now }
     {

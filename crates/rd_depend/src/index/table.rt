@@ -266,7 +266,7 @@ impl Table {
     }
 }
 
-/// Returns the number of the hint that may know the index of this key.
+/// Returns the number of the hint that may know the index of this key. Keys can share a hint.
 #[inline(always)]
 fn hint_of(key: Key) -> usize
     ensures { result < HINTS }

@@ -38,7 +38,8 @@ impl DependIndex {
     }
 
     /// Returns the last position up to `n` of a step that is kept under the key and wrote there;
-    /// `None` if there is no key or no such step. It makes at most 19 probes.
+    /// `None` if there is no key or no such step. It makes at most 19 probes, and none without a
+    /// key. Fewer than 2^34 must be counted before.
     fn last_under(&self, n: u32, key: Option<Key>, probes: &mut Probes) -> Option<u64>
         requires { probe_count probes.old < 2 ^ 34 }
         ensures answer { (es : List SomeEntry) → IsIndexOf self.now es

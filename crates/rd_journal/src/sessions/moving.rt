@@ -39,8 +39,8 @@ impl<const R: usize> Session<R> {
         self.undone -= n as usize;
     }
 
-    /// Makes the next `n` steps ahead again, after which no step is undone. At least `n` steps must
-    /// be ahead.
+    /// Makes the next `n` steps ahead again, whether they were undone or left by going back along
+    /// the track. No step counts as undone afterwards. At least `n` steps must be ahead.
     pub(super) fn redo_ahead(&mut self, n: usize)
         requires within { n ≤ length (ahead_entries self.old.entries) }
         ensures entries { IsSwitched (length (journal self.old).live)

@@ -89,11 +89,12 @@ impl<const R: usize> Session<R> {
 }
 
 /// Makes room for each actor's makings among the given entries, beyond the room that undoing the
-/// dropped entries gives back.
+/// dropped entries gives back. Memory is asked for only if room is missing. The world's contents
+/// and actors stay as they are.
 ///
 /// # Errors
 ///
-/// `NoMemory` if memory is refused.
+/// `NoMemory` if memory is refused. Room that was made for some actors stays.
 fn make_room_for_makings<const R: usize>(
     world: &mut World<R>,
     dropped: &EntryList,

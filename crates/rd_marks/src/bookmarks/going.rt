@@ -25,8 +25,8 @@ impl Bookmarks {
     /// # Errors
     ///
     /// `NoMemory` if memory was refused for the steps that are made again, or for a copy of their
-    /// entries if the node's entries lie in more than one stretch. This never happens if the live
-    /// steps begin with the node's. A refusal changes nothing.
+    /// entries if the node's entries lie in more than one stretch. A refusal changes nothing. It
+    /// never happens if the live steps begin with the node's, or if the session moves along.
     #[tactic(auto, using(rd_step::proofs::PassedUp::error_passed_up))]
     pub(crate) fn go_to<const R: usize>(
         &mut self,
@@ -73,7 +73,8 @@ impl Bookmarks {
 /// # Errors
 ///
 /// `NoMemory` if memory was refused for the steps that are made again, or for a copy of their
-/// entries. This never happens if the live steps begin with the node's. Nothing has changed then.
+/// entries if the node's entries lie in more than one stretch. Nothing has changed then. This never
+/// happens if the live steps begin with the node's.
 fn switch_to<const R: usize>(
     stretches: &Stretches,
     alloc: Global,

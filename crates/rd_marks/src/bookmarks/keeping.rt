@@ -65,8 +65,10 @@ pub(super) fn prune(
     }
 }
 
-/// Removes the entries of stretch `i` that neither a bookmark nor the next stretch needs. There
-/// must be a stretch `i`, and all entries of the stretches after it must be needed.
+/// Removes the entries of stretch `i` that neither a bookmark nor the next stretch needs, and the
+/// stretch itself if none of its own is left. The bookmarks keep their entries, and `here` keeps a
+/// beginning of the entries that it had. There must be a stretch `i`, and all entries of the
+/// stretches after it must be needed.
 fn trim(stretches: &mut Stretches, names: &mut IndexMap<MarkName, Node>, here: &mut Node, i: usize)
     requires there { i < length stretches.old.list.items }
     requires within { All (λ m. IsWithin stretches.old.list.items m.1) names.old.entries }
@@ -115,7 +117,8 @@ fn entries_in_stretch(i: usize, node: Node) -> usize
     if node.stretch == i { node.number } else { 0 }
 }
 
-/// Moves the node of each bookmark to where its entries are after the stretches were renumbered.
+/// Replaces the node of each bookmark by the one that has its entries after the stretches were
+/// renumbered. A node with entries must have a stretch number below 2^64 - 1.
 fn move_all(names: &mut IndexMap<MarkName, Node>, shift: Shift)
     requires { All (λ m. IsLow m.1) names.old.entries }
     ensures room { spare names.new ≡ spare names.old }

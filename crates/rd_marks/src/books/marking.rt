@@ -130,7 +130,8 @@ impl<const R: usize> Book<R> {
         }
     }
 
-    /// Sets a bookmark, and returns the number of live steps. Fails as `mark` does.
+    /// Sets a bookmark of this name at the live steps, and replies with their number. Fails as
+    /// `mark` does, and has then changed nothing.
     pub(super) fn answer_mark(&mut self, name: MarkName) -> Result<Reply, Refusal>
         ensures answer { IsObeyed (book_state self.old) (command.Mark name)
             (record { answer = result; state = book_state self.new }) }
@@ -141,7 +142,8 @@ impl<const R: usize> Book<R> {
         Ok(Reply::Marked(self.session.len()))
     }
 
-    /// Drops a bookmark, and returns that it was dropped. Fails only if no bookmark has this name.
+    /// Drops the bookmark of this name, and replies that it was dropped. Fails with `NoMark` if no
+    /// bookmark has this name, and has then changed nothing.
     pub(super) fn answer_drop_mark(&mut self, name: MarkName) -> Result<Reply, Refusal>
         ensures { IsObeyed (book_state self.old) (command.DropMark name)
             (record { answer = result; state = book_state self.new }) }
@@ -150,8 +152,8 @@ impl<const R: usize> Book<R> {
         Ok(Reply::Dropped)
     }
 
-    /// Goes to a bookmark, and returns the numbers of live and undone steps then. Fails as
-    /// `goto_mark` does.
+    /// Makes the steps of the bookmark of this name the live ones, and replies with the numbers of
+    /// live and undone steps then. Fails as `goto_mark` does, and has then changed nothing.
     #[tactic(auto, using(rd_step::proofs::PassedUp::error_passed_up))]
     pub(super) fn answer_goto_mark(&mut self, name: MarkName) -> Result<Reply, Refusal>
         ensures answer { IsObeyed (book_state self.old) (command.GotoMark name)

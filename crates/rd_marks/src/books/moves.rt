@@ -12,7 +12,13 @@ impl<const R: usize> Book<R> {
     ghost use Rattle.rd_marks.specs.declared.commands.Command.TheVariants as command;
 
     /// Undoes the `k`-th live step alone, counted from 1. Returns how many steps are live and how
-    /// many are undone afterwards. Fails as `Session::undo_at` does, and has then changed nothing.
+    /// many are undone afterwards.
+    ///
+    /// # Errors
+    ///
+    /// `NoSuchStep`, with the number of live steps, if `k` is 0 or above that number; `Depended`,
+    /// with the number of the first live step that depends on the `k`-th, if there is one. Nothing
+    /// has changed then.
     pub(super) fn answer_undo_at(&mut self, k: u64) -> Result<Reply, Refusal>
         ensures { IsObeyed (book_state self.old) (command.UndoAt k)
             (record { answer = result; state = book_state self.new }) }
@@ -23,8 +29,12 @@ impl<const R: usize> Book<R> {
     }
 
     /// Rolls back the `k`-th live step, counted from 1: undoes its causal closure. Returns how many
-    /// steps are live and how many are undone afterwards. Fails as `Session::roll` does, and has
-    /// then changed nothing.
+    /// steps are live and how many are undone afterwards.
+    ///
+    /// # Errors
+    ///
+    /// `NoSuchStep`, with the number of live steps, if `k` is 0 or above that number. Nothing has
+    /// changed then.
     pub(super) fn answer_roll(&mut self, k: u64) -> Result<Reply, Refusal>
         ensures { IsObeyed (book_state self.old) (command.Roll k)
             (record { answer = result; state = book_state self.new }) }
@@ -35,7 +45,12 @@ impl<const R: usize> Book<R> {
     }
 
     /// Undoes the last `n` live steps. Returns how many steps are live and how many are undone
-    /// afterwards. Fails only if fewer steps are live, and has then changed nothing.
+    /// afterwards.
+    ///
+    /// # Errors
+    ///
+    /// `NothingToUndo`, with the number of live steps, if fewer than `n` steps are live. Nothing
+    /// has changed then.
     pub(super) fn answer_back(&mut self, n: u64) -> Result<Reply, Refusal>
         ensures { IsObeyed (book_state self.old) (command.Back n)
             (record { answer = result; state = book_state self.new }) }
@@ -45,7 +60,11 @@ impl<const R: usize> Book<R> {
     }
 
     /// Makes the first `n` undone steps again. Returns how many steps are live and how many are
-    /// undone afterwards. Fails only if fewer steps are undone, and has then changed nothing.
+    /// undone afterwards.
+    ///
+    /// # Errors
+    ///
+    /// `NothingToRedo` if fewer than `n` steps are undone. Nothing has changed then.
     pub(super) fn answer_forward(&mut self, n: u64) -> Result<Reply, Refusal>
         ensures { IsObeyed (book_state self.old) (command.Forward n)
             (record { answer = result; state = book_state self.new }) }
@@ -54,7 +73,7 @@ impl<const R: usize> Book<R> {
         self.counts_after(done)
     }
 
-    /// Returns the reply with the numbers of live and undone steps.
+    /// Returns the reply `At`, with the numbers of live and undone steps now.
     pub(super) fn step_counts(&self) -> Reply
         ensures { result ≡ step_counts (book_state self.now).session }
     {

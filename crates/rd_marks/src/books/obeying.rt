@@ -25,8 +25,10 @@ impl<const R: usize> Book<R> {
     ///
     /// # Errors
     ///
-    /// The refusal of the method that the command calls, or `NoSuchPlace` or `NoActor` if the world
-    /// doesn't have the place or actor that the command shows. A refused command changes nothing.
+    /// The refusal of the call that does the command: a method of this book or of its session,
+    /// `origin` or `last_writer`. `Show` is refused with `NoSuchPlace` if the world doesn't have
+    /// the place, and `Actor` with `NoActor` if it doesn't have the actor. A refused command
+    /// changes nothing.
     #[tactic(auto, using(crate::proofs::ObeyLemmas::no_event_refused))]
     pub fn obey(&mut self, command: Command) -> Result<Reply, Refusal>
         ensures answer { IsObeyed (book_state self.old) command
@@ -84,8 +86,8 @@ impl<const R: usize> Book<R> {
     ///
     /// # Errors
     ///
-    /// `NoMemory` if memory for the list of answers was refused, which never happens if there is no
-    /// command. No command is done then.
+    /// `NoMemory` if memory for the list of answers was refused. No command is done then. This
+    /// never happens if there is no command.
     pub fn apply_all(
         &mut self,
         alloc: Global,
@@ -111,7 +113,8 @@ impl<const R: usize> Book<R> {
     }
 
     /// Makes an event of this actor happen, and replies with the step's number and the result of
-    /// the call that the step ends, if it ends one. Fails as `apply` does.
+    /// the call that the step ends, if it ends one. Fails as `apply` does, and has then changed
+    /// nothing.
     #[tactic(auto, using(rd_step::proofs::PassedUp::error_passed_up, rd_step::proofs::PassedUp::fact_passed_up, crate::proofs::AnswerLemmas::event_passed_up))]
     fn answer_event(&mut self, actor: u8, act: Act) -> Result<Reply, Refusal>
         ensures happens { IsEventAnswer (book_state self.old) (record { actor = actor; act = act })

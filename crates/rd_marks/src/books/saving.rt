@@ -57,8 +57,8 @@ impl<const R: usize> Book<R> {
         self.session.go_along(0);
     }
 
-    /// Goes back to the first `n` live steps, and leaves no undone step. At least `n` steps must be
-    /// live. With 0 it goes to the start. The bookmarks stay. It takes no memory.
+    /// Goes back to the first `n` live steps, and leaves no undone step, so the others can't be
+    /// redone. At least `n` steps must be live. The bookmarks stay. It takes no memory.
     pub fn keep_first(&mut self, n: u64)
         requires within { n ≤ length (book_state self.old).session.live }
         ensures { book_state self.new ≡ at_events (book_state self.old)
@@ -67,8 +67,8 @@ impl<const R: usize> Book<R> {
         self.session.go_along(n);
     }
 
-    /// Undoes the last `n` live steps. At least `n` steps must be live. The bookmarks stay. It
-    /// takes no memory.
+    /// Undoes the last `n` live steps, which can then be redone before those undone earlier. At
+    /// least `n` steps must be live. The bookmarks stay. It takes no memory.
     pub fn go_back(&mut self, n: u64)
         requires within { n ≤ length (book_state self.old).session.live }
         ensures session { back (book_state self.old).session n ≡ Ok (book_state self.new).session }

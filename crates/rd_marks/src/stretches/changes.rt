@@ -90,8 +90,8 @@ impl Stretches {
     ///
     /// # Errors
     ///
-    /// `AllocError` if memory was refused, which never happens if there is nothing to insert. All
-    /// nodes keep their entries then.
+    /// `AllocError` if memory was refused. All nodes keep their entries then. This never happens if
+    /// there is nothing to insert.
     pub(crate) fn grow(
         &mut self,
         alloc: Global,
@@ -120,7 +120,8 @@ impl Stretches {
         }
     }
 
-    /// Whether a node has all entries of its stretch's list. False if there is no such stretch.
+    /// Returns whether a node has all entries of its stretch's list. Returns false if there is no
+    /// such stretch.
     #[tactic(auto, using(crate::proofs::Reading::stretch_at, crate::proofs::StretchLists::total))]
     fn is_end(&self, at: Node) -> bool
         ensures { IsTrue result ↔ IsEnd self.now.list.items at }
@@ -239,8 +240,8 @@ impl Stretches {
 ///
 /// # Errors
 ///
-/// `AllocError` if memory was refused, which never happens if there is room already. The entries
-/// stay then.
+/// `AllocError` if memory was refused. The entries are then as before. This never happens if there
+/// is room already.
 fn append(entries: &mut Vec<Entry>, more: &EntryList) -> Result<(), AllocError>
     ensures ok { OnOk result (entries.new.items ≡ entries.old.items ++ more.now) }
     ensures err { OnErr result (entries.new.items ≡ entries.old.items) }
@@ -254,7 +255,8 @@ fn append(entries: &mut Vec<Entry>, more: &EntryList) -> Result<(), AllocError>
     Ok(())
 }
 
-/// Keeps the first `n` entries, and gives back the room of the others.
+/// Keeps the first `n` entries, and gives back the room of the others. If there are at most `n`,
+/// nothing changes.
 fn cut(entries: &mut Vec<Entry>, n: usize)
     ensures { entries.new.items ≡ take n entries.old.items }
 {

@@ -14,7 +14,7 @@ impl Stretches {
     ghost use Rattle.rd_marks.specs.Stretches.{entries_at, shared_at, IsWithin, IsOwn, AreInPieces};
 
     /// Returns the event of this number, counted from 1, among the entries of a node. `None` if the
-    /// node has no such entry.
+    /// node has no such entry. The stretches must have the node's entries.
     pub(crate) fn event_at(&self, of: Node, n: u64) -> Option<Event>
         requires { IsWithin self.now.list.items of }
         ensures { result ≡ numbered (events (entries_at self.now.list.items of)) n }
@@ -25,7 +25,8 @@ impl Stretches {
         Some(self.last(self.own_node(of.cut(n as usize))).event)
     }
 
-    /// Returns the last entry of a node. There must be one, and it must be its stretch's own.
+    /// Returns the last entry of a node. There must be one, which the node's stretch keeps itself.
+    /// The stretches must have the node's entries.
     #[tactic(auto, using(crate::proofs::Reading::last_steps))]
     fn last(&self, of: Node) -> &Entry
         requires within { IsWithin self.now.list.items of }
@@ -38,7 +39,8 @@ impl Stretches {
     }
 
     /// Returns the entries of a node after the first `n`: lent if they all lie in one stretch,
-    /// otherwise copied. The node must have at least `n`.
+    /// otherwise copied. The node must have at least `n`. The stretches must have the node's
+    /// entries.
     ///
     /// # Errors
     ///
@@ -65,8 +67,9 @@ impl Stretches {
     }
 
     /// Returns the entries of a node after the first `n`, or `None` if the node's stretch shares
-    /// one of them or there is no such stretch. The node must have at least `n` entries, and its
-    /// last one must be its stretch's own, unless it is in the first stretch.
+    /// one of them or there is no such stretch. The stretches must have the node's entries, which
+    /// must be at least `n`. The node's stretch must keep the last of them itself, unless it is the
+    /// first stretch.
     #[tactic(auto, using(crate::proofs::Reading::stretch_at, crate::proofs::Reading::lent, crate::proofs::StretchLists::total, crate::proofs::Starting::stretch_within))]
     fn slice_after(&self, of: Node, n: usize) -> Option<&[Entry]>
         requires present { IsWithin self.now.list.items of }
@@ -84,8 +87,8 @@ impl Stretches {
         Some(&stretch.entries[n - stretch.shared..of.number - stretch.shared])
     }
 
-    /// Returns a copy of the entries of a node after the first `n`. The node must have at least
-    /// `n`.
+    /// Returns a copy of the entries of a node after the first `n`. The stretches must have the
+    /// node's entries, which must be at least `n`.
     ///
     /// # Errors
     ///
@@ -115,7 +118,8 @@ impl Stretches {
         Ok(entries)
     }
 
-    /// Returns the events of the entries of a node, in a list of their own.
+    /// Returns the events of the entries of a node, in a list of their own. The stretches must have
+    /// the node's entries.
     ///
     /// # Errors
     ///

@@ -15,8 +15,11 @@ pub const MOST_PORTION_BYTES: usize = 4096;
 /// The bytes of one read.
 #[derive(Drop)]
 pub struct Portion {
+    /// The bytes that were read, and after them bytes of no meaning.
     bytes: [u8; MOST_PORTION_BYTES],
+    /// How many of the read bytes were given.
     given: usize,
+    /// How many bytes were read.
     filled: usize,
     ghost ordered: { given ≤ filled },
     ghost within: { filled ≤ MOST_PORTION_BYTES },
@@ -43,7 +46,7 @@ impl Portion {
         self.given == self.filled
     }
 
-    /// Returns the portion's next byte, or none after the last one.
+    /// Gives the portion's next byte, or none after the last one. A byte is given once.
     pub fn next(&mut self) -> Option<u8>
         ensures { GivesByte (Some (pending_bytes self.old)) (Some (pending_bytes self.new)) result }
     {
@@ -77,8 +80,8 @@ impl Portion {
 }
 
 /// Reads the next bytes of a reader into a slice, which must not be empty, and returns how many
-/// they are: none only at the reader's end. Fails if the reader fails. A read that a signal
-/// interrupts is made again, up to 2^64 - 1 times, and is no fault.
+/// they are: none only at the reader's end. Fails if the reader fails, and has then read nothing. A
+/// read that a signal interrupts is made again, up to 2^64 - 1 times, and is no fault.
 fn read_some<R: Read>(reader: &mut R, bytes: &mut [u8]) -> io::Result<usize>
     requires room { 0 < length bytes.old }
     ensures len { length bytes.new ≡ length bytes.old }

@@ -52,7 +52,9 @@ pub fn write_all<K: Sink>(writer: &mut K, text: &[u8]) -> Result<(), WriteFault>
 /// A sink over a writer, which should have no buffer that is flushed later.
 #[derive(Drop)]
 pub struct WriteSink<W> {
+    /// The writer.
     inner: W,
+    /// Whether a call failed.
     failed: bool,
 }
 
@@ -87,8 +89,8 @@ impl<W: Write> Sink for WriteSink<W> {
 }
 
 /// Offers the writer some bytes, at least one, and returns how many of the first ones it took.
-/// Fails if the writer fails or takes none. A write that a signal interrupts is made again, up to
-/// 2^64 - 1 times, and is no fault.
+/// Fails if the writer fails or takes none; it has then taken nothing. A write that a signal
+/// interrupts is made again, up to 2^64 - 1 times, and is no fault.
 fn write_some<W: Write>(writer: &mut W, given: &[u8]) -> io::Result<usize>
     requires some { 0 < length given.now }
     ensures count { IfOk result (λ n. (0 < n) × (n ≤ length given.now)) }

@@ -33,8 +33,11 @@ pub trait Source {
 /// A source over a reader, which is read in portions.
 #[derive(Drop)]
 pub struct ReadSource<R> {
+    /// The reader.
     inner: R,
+    /// The bytes that were read last, and not all given yet.
     portion: Portion,
+    /// Whether a call failed.
     failed: bool,
 }
 

@@ -42,8 +42,8 @@ fn digit_in(word: &[u8]) -> Option<u64>
     }
 }
 
-/// Whether a word begins with a plus sign, or with a zero before another byte. No number is spelled
-/// so, though std may read one there.
+/// Returns whether a word begins with a plus sign, or with a zero before another byte. No number is
+/// spelled so, though std may read one there.
 fn has_plus_or_leading_zero(word: &[u8]) -> bool
     ensures yes { result ≡ true → (get_or word.now 0 0 ≡ 43)
         ⊎ ((get_or word.now 0 0 ≡ 48) × (1 < length word.now)) }

@@ -68,7 +68,7 @@ impl PlaceKind {
         None
     }
 
-    /// Returns the text of the kind of place.
+    /// Returns the word that spells the kind: the first word of each place of this kind.
     fn text(self) -> &'static [u8]
         ensures { result.now ≡ kind_text self }
     {
