@@ -1,6 +1,7 @@
 -- The result of loading a text.
-use Rattle.rd_trace.proofs.Prelude.{◌≡◌, ◌≤◌, ◌<◌, ◌+◌, ℕ, List, [], ◌∷◌, length, codes, Some, none-some, Result, Ok, Err, refl, sym, ap, ◌∙◌, subst, arith, IsDistinct, Data, World, Mark, book_state, loaded_state, first_refused_mark, Replays, MOST_MARKS, HaveDifferentNames, LoadTraceFault, BadTrace, number_at, HasActorsInRange, Trace, IsEitherVersion, HasValue, Reads, view, AnyBook, any_state, IsTraceText, IsTraceRing, LoadsValue, LoadsTrace, Book, NoMemory}
+use Rattle.rd_trace.proofs.Prelude.{IsErrAnd, ◌≡◌, ◌≤◌, ◌<◌, ◌+◌, ℕ, List, [], ◌∷◌, length, codes, Some, none-some, Result, Ok, Err, sym, ap, ◌∙◌, subst, arith, IsDistinct, Data, World, Mark, book_state, loaded_state, first_refused_mark, Replays, MOST_MARKS, HaveDifferentNames, LoadTraceFault, BadTrace, number_at, HasActorsInRange, Trace, IsEitherVersion, HasValue, AnyBook, any_state, IsTraceText, IsTraceRing, LoadsValue, LoadsTrace, Book, NoMemory}
 use Rattle.std.specs.Prelude.{IsOkAnd, MatchResult}
+use Rattle.rd_trace.proofs.SpellLemmas.{passed_up}
 use Rattle.serde_json.proofs.OnLiterals.{serde_json_on_literals}
 
 -- What holds of a session that a value spells
@@ -50,12 +51,6 @@ module _ (text : List ℕ) (d : Data) (value : HasValue text d) (Q : ℕ) (ring 
   loads_any wrap same (Ok book) (Err e) h is = absurd is
   loads_any wrap same (Err fault) s h is = subst (λ (x : Result AnyBook LoadTraceFault). LoadsTrace text x) (sym is) (loads_none fault h)
 
--- the fault of a text whose value was not read is a result of loading it
-pub not_read : (text : List ℕ) (fault : LoadTraceFault) → Reads view (HasValue text) (Err fault) → (fault ≡ NoMemory → 0 < length text) → LoadsTrace text (Err fault)
-not_read text NoMemory h memory = memory refl
-not_read text BadTrace h memory = λ R t is. h is.1 (is.0, is.2)
-not_read text _ h memory = absurd h
-
 -- The result of loading a value
 
 marks_not_bad : (w : World) (n : ℕ) (ms : List Mark) → first_refused_mark w n ms ≡ Some BadTrace → ⊥
@@ -64,3 +59,8 @@ marks_not_bad w n (m ∷ ms) h = grind (arith, marks_not_bad w (n + 1) ms)
 
 pub loads_value : {R : ℕ} (d : Data) (t : Trace R) → IsEitherVersion d t → (r : Result (Book R) LoadTraceFault) → Replays (λ (book : Book R). book_state book ≡ loaded_state t) t r → LoadsValue d r
 loads_value d t is r h = grind (arith, marks_not_bad)
+
+-- the fault of replaying the trace, passed up, is a result of loading the value
+pub not_loaded : {R : ℕ} (d : Data) (t : Trace R) → IsEitherVersion d t → (fault : LoadTraceFault) (r : Result (Book R) LoadTraceFault) → IsErrAnd r (λ e. e ≡ fault)
+    → Replays (λ (book : Book R). book_state book ≡ loaded_state t) t (Err fault) → LoadsValue d r
+not_loaded d t is fault r told h = passed_up (LoadsValue d) r fault told (loads_value d t is (Err fault) h)

@@ -16,7 +16,7 @@ name_laws = grind (arith, name_decides, nat_eq)
 
 -- all bookmarks that a JSON value spells have one name
 one_name : (d : Data) (m n : Mark) → IsMark d m → IsMark d n → bytes_of m.name ≡ bytes_of n.name
-one_name d m n h k = same_Some _ _ (sym h.name.text ∙ k.name.text)
+one_name d m n h k = same_Some _ _ (sym h.name ∙ k.name)
 
 -- ---- lists that are read
 
@@ -117,5 +117,8 @@ mark_appended name es old t u v w new opened events between named closed =
     let plain = plain_name (bytes_of name) (name_bytes (bytes_of name) name.valid) in
     record {
       text = simp (closed, named, between, events.text, opened, items_text-joined false (items_by event_data es), plain, append_assoc);
-      kept = grind (arith, all_kept);
+      kept = record {
+        spelled = record { members = refl; name = refl; events = (items_by event_data es, refl, (all_kept (Gives event_of) (items_by event_data es) es events.kept).0) };
+        back = grind (arith, all_kept);
+      };
     }

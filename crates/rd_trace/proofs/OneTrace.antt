@@ -118,7 +118,7 @@ same_events : (key : List ℕ) (d : Data) (es fs : List Event) → SpellEachAt (
 same_events key d es fs h k = same_each_at (Gives event_of) (one_given event_of) (items_at key d) es fs h k
 
 same_mark : (d : Data) (m n : Mark) → IsMark d m → IsMark d n → seen_mark m ≡ seen_mark n
-same_mark d m n h k = λ i. (some_same _ (bytes_of m.name) (bytes_of n.name) h.name.text k.name.text i, same_events (codes "events") d m.events n.events h.events k.events i)
+same_mark d m n h k = λ i. (some_same _ (bytes_of m.name) (bytes_of n.name) h.name k.name i, same_events (codes "events") d m.events n.events h.events k.events i)
 
 -- ---- traces
 

@@ -38,9 +38,9 @@ pub use Rattle.rd_trace.specs.Names.{name_data, name_of, name_of_items, next_dat
 pub use Rattle.rd_trace.specs.Numbers.{byte_number, items_at, member_count, number_at}
 pub use Rattle.rd_trace.specs.Saved.{HasValue, IsEitherVersion, IsSameBook, IsTraceText, IsVersion1, IsVersion2, Trace, book_data, book_object, loaded_state, saved_trace, seen_mark}
 pub use Rattle.rd_trace.specs.Segments.{IsSegment, IsSegmentList, cell_data, cell_of, cell_of_items, segment_list_data, segment_data}
-pub use Rattle.rd_trace.specs.Spelled.{AreSpelled, Gives, Reads, SpellEach, SpellEachAt, elements, items_by, itself}
+pub use Rattle.rd_trace.specs.Spelled.{AreSpelled, Gives, Reads, SpellEach, SpellEachAt, SpellEachOf, elements, items_by, itself}
 pub use Rattle.rd_trace.specs.Starts.{HasActorsInRange, IsFreshStart, IsParts, IsStart, IsStartData, IsStartValue, SpellsWorld, fresh_data, parts_data, start_flaw, start_world}
-pub use Rattle.rd_trace.specs.Steps.{GoesTo, LoadsValue, MakesLive, RefusesOne, SetsMarks, mark_fault, step_fault}
+pub use Rattle.rd_trace.specs.Steps.{GoesTo, LoadsValue, MakesWorld, RefusesOne, SetsMarks}
 pub use Rattle.rd_trace.specs.Texts.{AreAppended, IsMarkAppended, IsReadBack, IsSpelledBack, IsStartAppended, joined_text}
 pub use Rattle.rd_trace.specs.Traces.{IsTraceRing, first_refused, session_at}
 pub use Rattle.rd_trace.specs.Writing.{IsTextOf}

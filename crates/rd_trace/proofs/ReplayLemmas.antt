@@ -1,5 +1,5 @@
 -- Replaying events: which ones happen, and which one is refused.
-use Rattle.rd_trace.proofs.Prelude.{common_steps, AllByRecursion, cond-false, IsDistinct-head, IsDistinct-tail, take-append_seam, drop-append_seam, append-nil, length-map, map-append, map_push, take_all, take-append-drop, length-take-le, World, Refusal, Stepped, Ran, run, MOST_STEPS, result_map, Event, State, step_after, with_event, apply, back, MarkName, MOST_MARKS, bytes_of, mark_name_eq, Mark, BookState, marked_events, mark, GoThrough, MarksGoThrough, HaveDifferentNames, SavedMark, LoadTraceFault, Flawed, TraceMark, TraceStep, saved_mark, start_world, start_flaw, Trace, loaded_state, session_at, first_refused, first_refused_mark, trace_fault, Replays, RefusesOne, GoesTo, MakesLive, SetsMarks, mark_fault, step_fault, le-ltb, ◌≡◌, ◌⊎◌, inl, inr, ℕ, suc, ◌+◌, ◌-◌, ◌<◌, ◌≤◌, if◌then◌else◌, Bool, false, List, [], ◌∷◌, ◌++◌, length, take, drop, get_or, map, Some, None, is_some, Option, option_map, Result, Ok, Err, IsOk, refl, sym, ap, ap₂, ◌∙◌, subst, arith, append_assoc, length-append, ne_eqb, option_or, result_err, at_events, with_marks, NoMemory, Reply, IsEventAnswer}
+use Rattle.rd_trace.proofs.Prelude.{common_steps, AllByRecursion, cond-false, IsDistinct-head, IsDistinct-tail, take-append_seam, drop-append_seam, append-nil, length-map, map-append, map_push, take_all, take-append-drop, length-take-le, World, Refusal, Stepped, Ran, run, MOST_STEPS, result_map, Event, State, step_after, with_event, apply, back, MarkName, MOST_MARKS, bytes_of, mark_name_eq, Mark, BookState, marked_events, mark, GoThrough, MarksGoThrough, HaveDifferentNames, SavedMark, LoadTraceFault, Flawed, TraceMark, TraceStep, saved_mark, start_world, start_flaw, Trace, loaded_state, session_at, first_refused, first_refused_mark, trace_fault, Replays, RefusesOne, GoesTo, MakesWorld, SetsMarks, le-ltb, ◌≡◌, ◌⊎◌, inl, inr, ℕ, suc, ◌+◌, ◌-◌, ◌<◌, ◌≤◌, if◌then◌else◌, Bool, false, List, [], ◌∷◌, ◌++◌, length, take, drop, get_or, map, Some, None, is_some, Option, option_map, Result, Ok, Err, IsOk, refl, sym, ap, ap₂, ◌∙◌, subst, arith, append_assoc, length-append, ne_eqb, option_or, result_err, at_events, with_marks, with_session, NoMemory, Reply, IsEventAnswer}
 use Rattle.std.proofs.lemmas.Cmp.{nat_list_eq_equiv}
 use Rattle.rd_step.proofs.Equivalence.{ran_through}
 use Rattle.rd_marks.proofs.MarkLemmas.{mark_goes}
@@ -49,12 +49,6 @@ module _ (w : World) where
 
 -- One event
 
--- the fault of a refused event is `NoMemory`; or Q holds, if it follows from the other reason P and
--- from the fault `TraceStep`
-fault_told : (n : ℕ) (cause : Refusal) (fault : LoadTraceFault) (P Q : Type 0) → (cause ≡ refusal.NoMemory) ⊎ P → fault ≡ step_fault n cause → (P → fault ≡ TraceStep n cause → Q)
-    → (fault ≡ NoMemory) ⊎ Q
-fault_told n cause fault P Q why is follows = grind arith
-
 -- the session that an event leaves when it happens is `with_event` of the session before
 applied : (s after : State) (e : Event) (full : Bool) (o : Result Stepped Refusal) → (if full then Err refusal.TooLong else result_map (λ stepped. with_event s e) o) ≡ Ok after → after ≡ with_event s e
 applied s after e full o h = grind arith
@@ -85,15 +79,15 @@ module _ (old now : BookState) (es : List Event) (i : ℕ) (e : Event) (within :
       rw (take_item es i e within is, ← append_assoc old.session.live (take i es) (e ∷ []))
       ((λ j. record { session = left j; marks = (marks ∙ ap (λ (b : BookState). b.marks) so_far.0) j }), from_here [] (Ok after.session) h)
 
-  pub one_refused : (n : ℕ) (cause : Refusal) (fault : LoadTraceFault) → n ≡ length now.session.live + 1 → (cause ≡ refusal.NoMemory) ⊎ (apply now.session e ≡ Err cause)
-      → fault ≡ step_fault n cause → RefusesOne old.session.start (old.session.live ++ es) fault
-  one_refused n cause fault number why its =
+  pub one_refused : (n : ℕ) (cause : Refusal) → n ≡ length now.session.live + 1 → (cause ≡ refusal.NoMemory → ⊥) → (cause ≡ refusal.NoMemory) ⊎ (apply now.session e ≡ Err cause)
+      → RefusesOne old.session.start (old.session.live ++ es) (TraceStep n cause)
+  one_refused n cause number other (inl memory) = absurd (other memory)
+  one_refused n cause number other (inr h) =
       let live = old.session.live ++ take i es in
       let all : old.session.live ++ es ≡ live ++ e ∷ drop (i + 1) es =
       ap (λ (fs : List Event). old.session.live ++ fs) (split_at es i e within is) ∙ sym (append_assoc old.session.live (take i es) (e ∷ drop (i + 1) es)) in
       let here : length live + 1 ≡ n = sym (number ∙ ap (λ (b : BookState). length b.session.live + 1) so_far.0) in
-      fault_told n cause fault _ _ why its
-      (λ h told. (n, cause, ap (first_refused old.session.start []) all ∙ from_here (drop (i + 1) es) (Err cause) h ∙ ap (λ (m : ℕ). Some (m, cause)) here, told))
+      inr (n, cause, ap (first_refused old.session.start []) all ∙ from_here (drop (i + 1) es) (Err cause) h ∙ ap (λ (m : ℕ). Some (m, cause)) here, refl)
 
 -- An event's answer
 
@@ -129,6 +123,12 @@ goes_to old mid new es rest k r at shared behind h =
 
 -- Making these events live and others undone
 
+-- just the first events were made live and just the second ones undone; none of them is refused
+abbrev pub MakesLive : BookState → List Event → List Event → BookState → Type 0
+MakesLive old live undone new =
+    (new ≡ with_session old (record { start = old.session.start; live = live; undone = undone }))
+    × (first_refused old.session.start [] (live ++ undone) ≡ None)
+
 pub live_refused : (w : World) (es fs : List Event) (fault : LoadTraceFault) → RefusesOne w es fault → RefusesOne w (es ++ fs) fault
 live_refused w es fs fault (inl memory) = inl memory
 live_refused w es fs fault (inr h) = inr (h.0, h.1, first_refused-append w [] es fs ∙ ap (λ (o : Option (ℕ × Refusal)). option_or o (first_refused w es fs)) h.2, h.3)
@@ -141,10 +141,15 @@ pub enough_live : (old mid now : BookState) (es fs : List Event) → mid ≡ at_
 enough_live old mid now es fs at h = grind (arith, from_old, length-append)
 
 pub made_live : (old mid now new : BookState) (es fs : List Event) → mid ≡ at_events old es → GoesTo mid (mid.session.live ++ fs) now (Ok tt)
-    → back now.session (length fs) ≡ Ok new.session → new.marks ≡ now.marks → MakesLive old es fs new (Ok tt)
+    → back now.session (length fs) ≡ Ok new.session → new.marks ≡ now.marks → MakesLive old es fs new
 made_live old mid now new es fs at h goes marks = grind (arith, from_old, back_to)
 
 -- Bookmarks
+
+-- the fault of an event of the bookmark of this number, from the event's own fault
+abbrev pub mark_fault : ℕ → LoadTraceFault → LoadTraceFault
+mark_fault mark (TraceStep step cause) = TraceMark mark step cause
+mark_fault mark fault = fault
 
 -- these bookmarks were set so far: the book has just them, its start is the old one, and none of
 -- their events is refused
@@ -213,19 +218,22 @@ module _ (old now : BookState) (ms : List SavedMark) (i : ℕ) (m : SavedMark) (
 
   -- the fault of making the next bookmark's events live, with its number, is a result of setting
   -- all bookmarks
-  pub mark_refused : (new : BookState) (its fault : LoadTraceFault) → RefusesOne now.session.start m.events.items its → fault ≡ mark_fault (i + 1) its
-      → SetsMarks old (map saved_mark ms) new (Err fault)
-  mark_refused new its fault (inl memory) is = inl (is ∙ ap (mark_fault (i + 1)) memory)
-  mark_refused new its fault (inr h) is =
+  pub mark_refused : (new : BookState) (its : LoadTraceFault) → RefusesOne now.session.start m.events.items its → SetsMarks old (map saved_mark ms) new (Err (mark_fault (i + 1) its))
+  mark_refused new its (inl memory) = inl (ap (mark_fault (i + 1)) memory)
+  mark_refused new its (inr h) =
       inr
       (ap (first_refused_mark old.session.start 0) placed
       ∙ from_mark (map saved_mark (drop (i + 1) ms)) (Some (h.0, h.1)) (subst (λ (w : World). first_refused w [] m.events.items ≡ Some (h.0, h.1)) so_far.start h.2)
-      ∙ ap Some (sym (is ∙ ap (mark_fault (i + 1)) h.3)))
+      ∙ ap Some (sym (ap (mark_fault (i + 1)) h.3)))
 
 pub all_set : (old new : BookState) (ms : List SavedMark) (i : ℕ) → length ms ≤ i → HasSet old new (map saved_mark (take i ms)) → SetsMarks old (map saved_mark ms) new (Ok tt)
 all_set old new ms i all k = grind (arith, take_all)
 
 -- Whole traces
+
+-- the fault of making the world of its start is a result of replaying a trace
+pub no_world : {R : ℕ} (t : Trace R) {B : Type 0} (IsBook : B → Type 0) (fault : LoadTraceFault) → MakesWorld t.start (Err fault) → Replays IsBook t (Err fault)
+no_world t IsBook fault h = grind arith
 
 module _ {R : ℕ} (t : Trace R) (flawless : start_flaw t.start ≡ None) where
   -- the fault of a trace whose start has no flaw: the first refused event of its bookmarks, else of
@@ -252,5 +260,5 @@ module _ {R : ℕ} (t : Trace R) (flawless : start_flaw t.start ≡ None) where
       no_steps IsBook fault h = grind (arith, by_steps)
 
       -- if all its events happened, the trace has no fault, and the book is the trace's
-      pub plays : (new : BookState) → MakesLive now t.live t.undone new (Ok tt) → (trace_fault t ≡ None) × (new ≡ loaded_state t)
+      pub plays : (new : BookState) → MakesLive now t.live t.undone new → (trace_fault t ≡ None) × (new ≡ loaded_state t)
       plays new h = grind (arith, by_steps)

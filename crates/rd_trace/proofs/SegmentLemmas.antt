@@ -1,7 +1,7 @@
 -- Segments as JSON values: which cells are read, and the values as which segments are written spell
 -- them.
-use Rattle.rd_trace.proofs.Prelude.{◌≡◌, refl, ℕ, ◌+◌, ◌<◌, ◌≤◌, List, [], ◌∷◌, length, take, set, get_or, Some, None, option_map, ap, ◌∙◌, arith, add-one, take-suc-set, length-set, take_all, none-some, view, items_view, Cell, SegmentParts, Gives, SpellEach, items_by, next_of, next_data, cell_of_items, cell_of, cell_data, IsSegment, segment_data, Value}
-use Rattle.rd_trace.proofs.SpellLemmas.{spell_each-more, spell_each-none}
+use Rattle.rd_trace.proofs.Prelude.{◌≡◌, refl, ℕ, ◌+◌, ◌<◌, ◌≤◌, List, [], ◌∷◌, length, take, set, get_or, Some, None, option_map, ap, arith, add-one, take-suc-set, length-set, take_all, view, items_view, Cell, SegmentParts, Gives, SpellEach, items_by, next_of, next_data, cell_of_items, cell_of, cell_data, IsSegment, segment_data, Value, Data, Items, as_array, Option, Result, Ok, Err, Vec, Global, LoadTraceFault, NoMemory, BadTrace, Reads, elements, itself, SpellEachOf, IsSegmentList, subst, sym}
+use Rattle.rd_trace.proofs.SpellLemmas.{spell_each-more}
 use Rattle.rd_trace.proofs.ActorLemmas.{value_spelled}
 
 -- a list of another length than three spells no cell
@@ -16,15 +16,18 @@ pub record AreRead (n : ℕ) (vs : List Value) (cells : List Cell) (i : ℕ) : T
   pub so_far : SpellEach (Gives cell_of) (items_view (take i vs)) (take i cells)
 
 module _ (n : ℕ) (vs : List Value) (cells : List Cell) (i : ℕ) (h : AreRead n vs cells i) where
-  module _ (v : Value) (within : i < length vs) (is : v ≡ get_or vs i v) where
-    pub one_more_cell : (c : Cell) → i < n → Some c ≡ cell_of (view v) → AreRead n vs (set cells i c) (i + 1)
-    one_more_cell c room read = grind (arith, set, add-one, take-suc-set, length-set, spell_each-more)
-
-    pub no_cell_here : None ≡ cell_of (view v) → (cs : List Cell) → SpellEach (Gives cell_of) (items_view vs) cs → ⊥
-    no_cell_here read = spell_each-none (Gives cell_of) vs i v within is (λ c k. none-some c (read ∙ k))
+  pub one_more_cell : (v : Value) → i < length vs → v ≡ get_or vs i v → (c : Cell) → i < n → Gives cell_of (view v) c → AreRead n vs (set cells i c) (i + 1)
+  one_more_cell v within is c room read = grind (arith, set, add-one, take-suc-set, length-set, spell_each-more)
 
   pub all_cells : length vs ≤ i → length vs ≡ n → SpellEach (Gives cell_of) (items_view vs) cells
   all_cells past count = grind (arith, take_all)
+
+-- the result of reading a list of segments is the result of reading the JSON value that has it
+pub segments_read : {R : ℕ} (d : Data) (o : Option Items) → o ≡ as_array d → (r : Result (Vec (SegmentParts R) Global) LoadTraceFault) → Reads elements (SpellEachOf IsSegment o) r → Reads itself (IsSegmentList d) r
+segments_read d o is (Ok v) h = subst (λ p. SpellEachOf IsSegment p v.items) is h
+segments_read d o is (Err NoMemory) h = tt
+segments_read d o is (Err BadTrace) h = λ v k. h v.items (subst (λ p. SpellEachOf IsSegment p v.items) (sym is) k)
+segments_read d o is (Err _) h = absurd h
 
 -- ---- what is written is read again
 

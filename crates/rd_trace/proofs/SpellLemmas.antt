@@ -1,5 +1,5 @@
 -- Reading a value by reading a part of it; and lists of values: what they spell, and their lengths.
-use Rattle.rd_trace.proofs.Prelude.{◌≡◌, ℕ, suc, ◌+◌, ◌<◌, List, [], ◌∷◌, ◌++◌, length, take, drop, get_or, slice_get, Option, Some, IfSome, IfNone, ok_or, Result, Err, Vec, Global, refl, sym, ap, ap₂, ◌∙◌, subst, map, map-id, arith, IsErrAnd, same_Some, take_more, drop_more, take-append-drop, Data, Items, no_items, item, view, items_view, items_at, Reads, itself, elements, Gives, SpellEach, SpellEachAt, items_by, AreSpelled, LoadTraceFault, BadTrace, get_or_from_slice_get, slice_get-get_or, slice_get_within, Value}
+use Rattle.rd_trace.proofs.Prelude.{◌≡◌, ℕ, suc, ◌+◌, ◌<◌, List, [], ◌∷◌, ◌++◌, length, take, drop, get_or, slice_get, Option, Some, IfSome, IfNone, ok_or, Result, Err, refl, sym, ap, ap₂, ◌∙◌, subst, map, map-id, arith, IsErrAnd, same_Some, take_more, drop_more, take-append-drop, Data, Items, no_items, item, view, items_view, Reads, itself, Gives, SpellEach, items_by, AreSpelled, LoadTraceFault, BadTrace, get_or_from_slice_get, slice_get-get_or, slice_get_within, Value}
 
 -- ---- faults
 
@@ -15,12 +15,8 @@ module _ {V W X Y : Type 0} (part : V → X) (whole : W → Y) (IsPart : X → T
   part_passed_up fault r is h = grind arith
 
 -- a result that is an option's value, or `BadTrace` if the option is none
-module _ {X : Type 0} (o : Option X) (r : Result X LoadTraceFault) (is : r ≡ ok_or o BadTrace) where
-  pub read_or_bad : (P : X → Type 0) → IfSome o P → IfNone o ((x : X) → P x → ⊥) → Reads itself P r
-  read_or_bad P some none = grind arith
-
-  pub given_or_bad : (f : Data → Option X) (d : Data) → o ≡ f d → Reads itself (Gives f d) r
-  given_or_bad f d same = grind arith
+pub read_or_bad : {X : Type 0} (o : Option X) (r : Result X LoadTraceFault) → r ≡ ok_or o BadTrace → (P : X → Type 0) → IfSome o P → IfNone o ((x : X) → P x → ⊥) → Reads itself P r
+read_or_bad o r is P some none = grind arith
 
 -- ---- lists of values
 
@@ -125,12 +121,6 @@ module _ {X : Type 0} (Spells : Data → X → Type 0) (one : (d : Data) (x y : 
 
   pub same_each_at : (o : Option Items) (xs ys : List X) → (ds : Items) × (o ≡ Some ds) × SpellEach Spells ds xs → (ds : Items) × (o ≡ Some ds) × SpellEach Spells ds ys → xs ≡ ys
   same_each_at o xs ys h k = sym (map-id xs) ∙ same_seen_at Spells itself one o xs ys h k ∙ map-id ys
-
--- the result of reading a list is the result of reading the list at a key of an object, if it is
--- there
-pub list_read : {X : Type 0} (Spells : Data → X → Type 0) (key : List ℕ) (d : Data) (ds : Items) → items_at key d ≡ Some ds → (r : Result (Vec X Global) LoadTraceFault)
-    → Reads elements (SpellEach Spells ds) r → Reads elements (SpellEachAt Spells key d) r
-list_read Spells key d ds there r k = grind arith
 
 -- a function gives at most one thing for a JSON value
 pub one_given : {X : Type 0} (f : Data → Option X) (d : Data) (x y : X) → Gives f d x → Gives f d y → x ≡ y

@@ -2,7 +2,6 @@
 use Rattle.std.specs.Prelude.{◌≡◌, ◌≤◌, ℕ, List, length, map, codes, Some, Vec}
 use Rattle.std.specs.Global.{Global}
 use Rattle.serde_json.specs.Data.{Data, string, array, object, Items, no_members, member}
-use Rattle.rd_marks.specs.declared.names.MarkName.{MarkName}
 use Rattle.rd_marks.specs.Names.{bytes_of}
 use Rattle.rd_marks.specs.Rules.{HaveDifferentNames}
 use Rattle.rd_marks.specs.NameBytes.{MOST_MARKS}
@@ -12,15 +11,11 @@ use Rattle.rd_trace.specs.Spelled.{Gives, SpellEach, SpellEachAt, items_by}
 use Rattle.rd_trace.specs.Events.{event_of, event_data}
 use Rattle.rd_trace.specs.declared.bookmarks.SavedMark.{SavedMark}
 
--- a JSON value is an object of two members, one of them this bookmark's name at the key `name`
-pub record HasMarkName (d : Data) (name : MarkName) : Type 0 where
-  pub members : member_count d ≡ Some 2
-  pub text : text_at (codes "name") d ≡ Some (bytes_of name)
-
 -- a JSON value spells a bookmark: it is an object of two members, its name and the list of its
 -- events
 pub record IsMark (d : Data) (m : Mark) : Type 0 where
-  pub name : HasMarkName d m.name
+  pub members : member_count d ≡ Some 2
+  pub name : text_at (codes "name") d ≡ Some (bytes_of m.name)
   pub events : SpellEachAt (Gives event_of) (codes "events") d m.events
 
 -- the JSON values spell these bookmarks, one each; the bookmarks have different names, and there

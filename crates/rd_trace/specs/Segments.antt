@@ -7,7 +7,7 @@ use Rattle.serde_json.specs.Find.{get, as_bool, as_array}
 use Rattle.rd_cell.specs.declared.cells.Cell.{Cell}
 use Rattle.rd_ring.specs.declared.parts.SegmentParts.{SegmentParts}
 use Rattle.rd_trace.specs.Numbers.{whole_number, member_count, number_at, bit_at}
-use Rattle.rd_trace.specs.Spelled.{Gives, SpellEach, SpellEachAt, items_by}
+use Rattle.rd_trace.specs.Spelled.{Gives, SpellEachOf, SpellEachAt, items_by}
 use Rattle.rd_trace.specs.Names.{next_of, next_data}
 use Rattle.rd_trace.specs.Actors.{value_of, value_data}
 
@@ -38,7 +38,7 @@ pub record IsSegment {R : ℕ} (d : Data) (s : SegmentParts R) : Type 0 where
 
 -- a JSON value spells the list of a maker's segments
 abbrev pub IsSegmentList : {R : ℕ} → Data → Vec (SegmentParts R) Global → Type 0
-IsSegmentList d list = (ds : Items) × (as_array d ≡ Some ds) × SpellEach IsSegment ds list.items
+IsSegmentList d list = SpellEachOf IsSegment (as_array d) list.items
 
 -- the JSON value as which a segment is written
 abbrev pub segment_data : {R : ℕ} → SegmentParts R → Data

@@ -36,9 +36,13 @@ SpellEach Spells no_items (x ∷ xs) = ⊥
 SpellEach Spells (item d ds) [] = ⊥
 SpellEach Spells (item d ds) (x ∷ xs) = Spells d x × SpellEach Spells ds xs
 
+-- there are JSON values, and they spell these things one by one
+abbrev pub SpellEachOf : {X : Type 0} → (Data → X → Type 0) → Option Items → List X → Type 0
+SpellEachOf Spells o xs = (ds : Items) × (o ≡ Some ds) × SpellEach Spells ds xs
+
 -- the JSON values of the list at this key of an object spell these things one by one
 abbrev pub SpellEachAt : {X : Type 0} → (Data → X → Type 0) → List ℕ → Data → List X → Type 0
-SpellEachAt Spells key d xs = (ds : Items) × (items_at key d ≡ Some ds) × SpellEach Spells ds xs
+SpellEachAt Spells key d xs = SpellEachOf Spells (items_at key d) xs
 
 -- the JSON values as which these things are written, in order
 abbrev pub items_by : {X : Type 0} → (X → Data) → List X → Items

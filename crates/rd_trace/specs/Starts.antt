@@ -3,7 +3,6 @@
 use Rattle.std.specs.Prelude.{◌≡◌, ◌≤◌, ◌⊎◌, ℕ, List, codes, Option, Some, None}
 use Rattle.serde_json.specs.Data.{Data, number, array, object, unsigned, Items, no_members, member}
 use Rattle.serde_json.specs.Find.{get}
-use Rattle.rd_segments.specs.declared.array.ArrayParts.{ArrayParts}
 use Rattle.rd_step.specs.Prelude.{World, MOST_ACTORS}
 use Rattle.rd_step.specs.Starts.{fresh_world}
 use Rattle.rd_step.specs.Parts.{world_of_parts, first_flaw}
@@ -35,16 +34,12 @@ abbrev pub HasActorsInRange : {R : ℕ} → Start R → Type 0
 HasActorsInRange (start.Fresh count) = (1 ≤ count) × (count ≤ MOST_ACTORS)
 HasActorsInRange (start.Parts p) = Unit {0}
 
--- an object has this array at the key `array`
-abbrev pub HasArray : Data → ArrayParts → Type 0
-HasArray d a = (e : Data) × (get (codes "array") d ≡ Some e) × IsArray e a
-
 -- a JSON value spells parts of a world: it is an object of just five members, one for each of the
 -- parts
 pub record IsParts {R : ℕ} (d : Data) (p : Parts R) : Type 0 where
   pub members : member_count d ≡ Some 5
   pub actors : SpellEachAt IsActor (codes "actors") d p.actors.items
-  pub array : HasArray d p.array
+  pub array : (e : Data) × (get (codes "array") d ≡ Some e) × IsArray e p.array
   pub qhead : name_at (codes "qhead") d ≡ Some p.qhead
   pub qtail : name_at (codes "qtail") d ≡ Some p.qtail
   pub segments : SpellEachAt IsSegmentList (codes "segments") d p.segments.items

@@ -1,12 +1,11 @@
 -- The results of the parts of replaying a trace: worlds, steps, bookmarks. No public clause cites
 -- them.
-use Rattle.std.specs.Prelude.{◌≡◌, ◌⊎◌, ◌++◌, ℕ, List, [], Some, None, Result, Ok, Err}
+use Rattle.std.specs.Prelude.{◌≡◌, ◌⊎◌, ℕ, List, [], Some, None, Result, Ok, Err}
 use Rattle.rd_step.specs.Prelude.{World, Refusal, model}
-use Rattle.rd_cell.specs.declared.refusal.Refusal.TheVariants as refusal
 use Rattle.rd_step.specs.declared.worlds.World.{World as CodeWorld}
 use Rattle.rd_step.specs.declared.entries.Event.{Event}
 use Rattle.serde_json.specs.Data.{Data}
-use Rattle.rd_marks.specs.BookState.{Mark, BookState, with_session, at_events}
+use Rattle.rd_marks.specs.BookState.{Mark, BookState, at_events}
 use Rattle.rd_marks.specs.Book.{book_state}
 use Rattle.rd_marks.specs.declared.books.Book.{Book}
 use Rattle.rd_trace.specs.declared.faults.LoadTraceFault.{LoadTraceFault}
@@ -27,18 +26,6 @@ MakesWorld start (Err BadTrace) = ⊥
 MakesWorld start (Err (TraceMark m n cause)) = ⊥
 MakesWorld start (Err (TraceStep n cause)) = ⊥
 
--- the fault of loading for an event of this number that is refused with this cause: `NoMemory` for
--- refused memory, else `TraceStep`
-abbrev pub step_fault : ℕ → Refusal → LoadTraceFault
-step_fault step refusal.NoMemory = NoMemory
-step_fault step cause = TraceStep step cause
-
--- the fault of loading for an event of the bookmark of this number, from the event's own fault:
--- `TraceMark` for `TraceStep`, else the same fault
-abbrev pub mark_fault : ℕ → LoadTraceFault → LoadTraceFault
-mark_fault mark (TraceStep step cause) = TraceMark mark step cause
-mark_fault mark fault = fault
-
 -- the fault of making these events happen from the start: `NoMemory`, or the `TraceStep` of the
 -- first event that is refused
 abbrev pub RefusesOne : World → List Event → LoadTraceFault → Type 0
@@ -50,15 +37,6 @@ RefusesOne start events fault =
 abbrev pub GoesTo : BookState → List Event → BookState → Result (Unit {0}) LoadTraceFault → Type 0
 GoesTo old events new (Ok _) = (new ≡ at_events old events) × (first_refused old.session.start [] events ≡ None)
 GoesTo old events new (Err fault) = RefusesOne old.session.start events fault
-
--- the result of making just the first events live and just the second ones undone: it was done, and
--- none of them is refused; or the fault of `RefusesOne` for the first events and the second after
--- them
-abbrev pub MakesLive : BookState → List Event → List Event → BookState → Result (Unit {0}) LoadTraceFault → Type 0
-MakesLive old live undone new (Ok _) =
-    (new ≡ with_session old (record { start = old.session.start; live = live; undone = undone }))
-    × (first_refused old.session.start [] (live ++ undone) ≡ None)
-MakesLive old live undone new (Err fault) = RefusesOne old.session.start (live ++ undone) fault
 
 -- the result of loading a JSON value as a trace over rings of R cells: the result of replaying a
 -- trace that it spells; `BadTrace` if it spells none; or `NoMemory`

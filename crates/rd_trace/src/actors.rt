@@ -1,8 +1,7 @@
 //! Actors as JSON: an object with a member for each part of an actor's record.
 
-ghost use Rattle.std.specs.Prelude.{◌≡◌, Some, IfOk, OnOk, IfSome, IfNone};
+ghost use Rattle.std.specs.Prelude.{◌≡◌, Some, IfOk, OnOk};
 ghost use Rattle.serde_json.specs.Data.{number, string, unsigned};
-ghost use Rattle.serde_json.specs.Find.{as_str};
 ghost use Rattle.serde_json.specs.View.{view};
 ghost use Rattle.rd_actor.specs.declared.actors.Actor.{Actor};
 ghost use Rattle.rd_actor.specs.declared.actors.Pc.{Pc};
@@ -10,11 +9,9 @@ ghost use Rattle.rd_actor.specs.Labels.{label};
 ghost use Rattle.rd_trace.specs.Numbers.{byte_number};
 ghost use Rattle.rd_trace.specs.Actors.{op_of, op_data, value_of, IsActor, actor_data};
 
-use super::faults::LoadTraceFault;
 use super::members::{member_count, number_at};
 use super::names::{name_in, name_value};
-use super::numbers::byte_in;
-use super::spelled::{Spelled, Written};
+use super::spelled::{Plain, Written};
 use rd_actor::{Actor, Op, Pc};
 use serde_json::{Map, Value, json, put};
 use std::alloc::{AllocError, Global};
@@ -46,13 +43,28 @@ const T: &str = "t";
 
 const VAL: &str = "val";
 
-impl Spelled for Actor {
+impl Plain for Actor {
     ghost spells = { IsActor };
 
-    /// Returns the actor that a JSON value spells. Fails only if it spells none, with `BadTrace`.
-    #[tactic(auto, using(crate::proofs::SpellLemmas::read_or_bad))]
-    fn from_value(_alloc: Global, value: &Value) -> Result<Actor, LoadTraceFault> {
-        actor_in(value).ok_or(LoadTraceFault::BadTrace)
+    /// Returns the actor that a JSON value spells; none if it spells none.
+    fn in_value(value: &Value) -> Option<Actor> {
+        if member_count(value)? != MEMBERS {
+            return None;
+        }
+        Some(Actor {
+            pc: Pc::of_label(value.get(PC)?.as_str()?)?,
+            pass: u8::try_from(number_at(value, PASS)?).ok()?,
+            closed: value.get(CLOSED)?.as_bool()?,
+            safe: value.get(SAFE)?.as_bool()?,
+            crq: name_in(value.get(CRQ)?)?,
+            new: name_in(value.get(NEW)?)?,
+            next: name_in(value.get(NEXT)?)?,
+            op: op_in(value.get(OP)?)?,
+            t: number_at(value, T)?,
+            h: number_at(value, H)?,
+            val: value_in(value.get(VAL)?)?,
+            idx: number_at(value, IDX)?,
+        })
     }
 }
 
@@ -63,30 +75,6 @@ impl Written for Actor {
     fn to_value(&self, alloc: Global) -> Result<Value, AllocError> {
         actor_value(alloc, self)
     }
-}
-
-/// Returns the actor that a JSON value spells; none if it spells none.
-fn actor_in(value: &Value) -> Option<Actor>
-    ensures some { IfSome result (IsActor (view value.now)) }
-    ensures none { IfNone result ((actor : Actor) → IsActor (view value.now) actor → ⊥) }
-{
-    if member_count(value)? != MEMBERS {
-        return None;
-    }
-    Some(Actor {
-        pc: pc_in(value.get(PC)?)?,
-        pass: byte_in(value.get(PASS)?)?,
-        closed: value.get(CLOSED)?.as_bool()?,
-        safe: value.get(SAFE)?.as_bool()?,
-        crq: name_in(value.get(CRQ)?)?,
-        new: name_in(value.get(NEW)?)?,
-        next: name_in(value.get(NEXT)?)?,
-        op: op_in(value.get(OP)?)?,
-        t: number_at(value, T)?,
-        h: number_at(value, H)?,
-        val: value_in(value.get(VAL)?)?,
-        idx: number_at(value, IDX)?,
-    })
 }
 
 /// Returns the JSON value of an actor. Fails only if memory is refused.
@@ -166,15 +154,6 @@ fn op_value(alloc: Global, op: Option<Op>) -> Result<Value, AllocError>
         Some(Op::AEnq(x)) => json!(in alloc; ["aenq", x]),
         Some(Op::ADeq) => json!(in alloc; ["adeq"]),
     }
-}
-
-/// Returns the control point whose label a JSON value is; none if it is no such label.
-fn pc_in(value: &Value) -> Option<Pc>
-    ensures some { IfSome result (λ pc. as_str (view value.now) ≡ Some (label pc)) }
-    ensures none { IfNone result ((pc : Pc) → as_str (view value.now) ≡ Some (label pc) → ⊥) }
-{
-    let word = value.as_str()?;
-    Pc::of_label(word)
 }
 
 /// Returns the JSON value of a control point: its label. Fails only if memory is refused.

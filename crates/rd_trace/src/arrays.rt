@@ -7,7 +7,7 @@ ghost use Rattle.rd_step.specs.Prelude.{SLOTS};
 ghost use Rattle.rd_cell.specs.declared.contents.ArrSlot.{ArrSlot};
 ghost use Rattle.rd_segments.specs.declared.array.ArrayParts.{ArrayParts};
 ghost use Rattle.rd_trace.specs.Spelled.{Gives, SpellEach, items_by};
-ghost use Rattle.rd_trace.specs.Arrays.{slot_content, slot_of, content_data, slot_data, filled_slots, IsArray, array_data};
+ghost use Rattle.rd_trace.specs.Arrays.{slot_of, content_data, slot_data, filled_slots, IsArray, array_data};
 
 use super::members::{items_at, member_count, number_at};
 use rd_cell::ArrSlot;
@@ -109,29 +109,19 @@ fn content_value(alloc: Global, slot: ArrSlot) -> Result<Value, AllocError>
 /// The JSON text for the content of a slot that a dequeue reached first.
 const TOP: &str = "top";
 
-/// Returns the position and the content of the slot that a JSON value spells; none if it spells
-/// none.
+/// Returns the position and the content of the slot that a JSON value spells, where `Top` is
+/// spelled `"top"` and a value as its number; none if it spells none.
 #[tactic(auto, using(crate::proofs::ArrayLemmas::no_slot))]
 fn slot_in(value: &Value) -> Option<(usize, ArrSlot)>
     ensures { result ≡ slot_of (view value.now) }
 {
-    let items = value.as_array()?;
-    match items.as_slice() {
-        [position, content] => Some((position.as_u64()? as usize, content_in(content)?)),
-        _ => None,
-    }
-}
-
-/// Returns what a slot that isn't empty holds, by its JSON value: `Top` for `"top"`, a value for a
-/// whole number; none for anything else.
-fn content_in(value: &Value) -> Option<ArrSlot>
-    ensures { result ≡ slot_content (view value.now) }
-{
-    if let Some(word) = value.as_str() {
-        if word == TOP {
-            return Some(ArrSlot::Top);
-        }
+    let [position, content] = value.as_array()?.as_slice() else {
         return None;
+    };
+    let position = position.as_u64()? as usize;
+    match content.as_str() {
+        Some(TOP) => Some((position, ArrSlot::Top)),
+        Some(_) => None,
+        None => Some((position, ArrSlot::Value(content.as_u64()?))),
     }
-    Some(ArrSlot::Value(value.as_u64()?))
 }

@@ -1,6 +1,6 @@
 //! Bookmarks as JSON: an object with the name and the list of events.
 
-ghost use Rattle.std.specs.Prelude.{◌≡◌, OnOk, IfSome, IfNone, string_bytes};
+ghost use Rattle.std.specs.Prelude.{◌≡◌, OnOk, IfSome, string_bytes};
 ghost use Rattle.std.specs.List.{list_any};
 ghost use Rattle.serde_json.specs.View.{view, items_view};
 ghost use Rattle.rd_marks.specs.Book.{book_state};
@@ -9,13 +9,13 @@ ghost use Rattle.rd_marks.specs.Names.{mark_name_eq};
 ghost use Rattle.rd_marks.specs.Rules.{KeepsRules};
 ghost use Rattle.rd_marks.specs.declared.names.MarkName.{MarkName};
 ghost use Rattle.rd_trace.specs.Spelled.{Reads};
-ghost use Rattle.rd_trace.specs.Bookmarks.{AreMarks, IsMark, HasMarkName, saved_mark, saved_marks, mark_data};
+ghost use Rattle.rd_trace.specs.Bookmarks.{AreMarks, IsMark, saved_mark, saved_marks, mark_data};
 ghost use Rattle.rd_trace.specs.Texts.{AreAppended, IsMarkAppended};
 
 use super::events::put_events;
 use super::faults::LoadTraceFault;
-use super::members::member_count;
-use super::spelled::list_at;
+use super::members::{items_at, member_count};
+use super::spelled::list_in;
 use super::texts::comma_after;
 use rd_cell::limits::MOST_MARKS;
 use rd_marks::{Book, MarkName};
@@ -75,30 +75,19 @@ fn is_taken(marks: &[SavedMark], name: MarkName) -> bool
 fn mark_in(alloc: Global, value: &Value) -> Result<SavedMark, LoadTraceFault>
     ensures { Reads saved_mark (IsMark (view value.now)) result }
 {
-    let Some(name) = name_in(value) else {
+    if member_count(value) != Some(MEMBERS) {
+        return Err(LoadTraceFault::BadTrace);
+    }
+    let Some(text) = value.get(NAME).and_then(Value::as_str) else {
+        return Err(LoadTraceFault::BadTrace);
+    };
+    let Ok(name) = MarkName::new(text.as_bytes()) else {
         return Err(LoadTraceFault::BadTrace);
     };
     Ok(SavedMark {
         name,
-        events: list_at(alloc, value, EVENTS)?,
+        events: list_in(alloc, items_at(value, EVENTS))?,
     })
-}
-
-/// Returns the bookmark's name at the key `name` of an object with two members; none if the value
-/// is no such object, or if what it has there isn't a name that a bookmark may have.
-#[tactic(auto, using(crate::proofs::SpellLemmas::passed_up))]
-fn name_in(value: &Value) -> Option<MarkName>
-    ensures some { IfSome result (HasMarkName (view value.now)) }
-    ensures none { IfNone result ((name : MarkName) → HasMarkName (view value.now) name → ⊥) }
-{
-    if member_count(value)? != MEMBERS {
-        return None;
-    }
-    let text = value.get(NAME)?.as_str()?;
-    match MarkName::new(text.as_bytes()) {
-        Err(_) => None,
-        Ok(name) => Some(name),
-    }
 }
 
 /// Appends the texts of a book's bookmarks to the text, in order, with commas between them. Fails

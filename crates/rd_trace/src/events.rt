@@ -5,72 +5,44 @@ ghost use Rattle.std.specs.Prelude.{◌≡◌, ◌++◌, ◌∷◌, [], nat_lt, 
 ghost use Rattle.json.specs.Token.{boolean};
 ghost use Rattle.json.specs.Print.{token_text};
 ghost use Rattle.serde_json.specs.Data.{number, unsigned};
-ghost use Rattle.serde_json.specs.View.{view};
 ghost use Rattle.serde_json.specs.Written.{compact_text, comma_if};
 ghost use Rattle.rd_trace.specs.Spelled.{Gives};
-ghost use Rattle.rd_trace.specs.Events.{act_of_word, act_with, event_of, event_data};
+ghost use Rattle.rd_trace.specs.Events.{event_of, event_data};
 ghost use Rattle.rd_trace.specs.Texts.{IsReadBack, IsSpelledBack, AreAppended};
 
-use super::faults::LoadTraceFault;
-use super::numbers::byte_in;
-use super::spelled::Spelled;
+use super::spelled::Plain;
 use super::texts::{comma_after, put_number};
 use rd_actor::Act;
 use rd_step::Event;
 use serde_json::Value;
-use std::alloc::{AllocError, Global};
+use std::alloc::AllocError;
 
-impl Spelled for Event {
+impl Plain for Event {
     ghost spells = { Gives event_of };
 
-    /// Returns the event that a JSON value spells. Fails only if it spells none, with `BadTrace`.
-    #[tactic(auto, using(crate::proofs::SpellLemmas::given_or_bad))]
-    fn from_value(_alloc: Global, value: &Value) -> Result<Event, LoadTraceFault> {
-        event_in(value).ok_or(LoadTraceFault::BadTrace)
-    }
-}
-
-/// Returns the event that a JSON value spells; none if it spells none.
-#[tactic(auto, using(crate::proofs::EventLemmas::other_length))]
-fn event_in(value: &Value) -> Option<Event>
-    ensures { result ≡ event_of (view value.now) }
-{
-    let items = value.as_array()?;
-    match items.as_slice() {
-        [word, actor] => Some(Event {
-            act: act_of_word(word.as_str()?)?,
-            actor: byte_in(actor)?,
-        }),
-        [word, actor, value] => Some(Event {
-            act: act_with(word.as_str()?, value)?,
-            actor: byte_in(actor)?,
-        }),
-        _ => None,
-    }
-}
-
-/// Returns the act of a word that takes no value; none for any other word.
-fn act_of_word(word: &str) -> Option<Act>
-    ensures { result ≡ act_of_word word.now }
-{
-    match word {
-        "go" => Some(Act::Go),
-        "deq" => Some(Act::Deq),
-        "adeq" => Some(Act::ADeq),
-        _ => None,
-    }
-}
-
-/// Returns the act of a word that takes a number or a choice, with this JSON value; none for any
-/// other word, or if the value is of another kind.
-fn act_with(word: &str, value: &Value) -> Option<Act>
-    ensures { result ≡ act_with word.now (view value.now) }
-{
-    match word {
-        "enq" => Some(Act::Enq(value.as_u64()?)),
-        "aenq" => Some(Act::AEnq(value.as_u64()?)),
-        "starve" => Some(Act::Starve(value.as_bool()?)),
-        _ => None,
+    /// Returns the event that a JSON value spells; none if it spells none.
+    #[tactic(auto, using(crate::proofs::EventLemmas::other_length))]
+    fn in_value(value: &Value) -> Option<Event> {
+        let items = value.as_array()?;
+        let (act, actor) = match items.as_slice() {
+            [word, actor] => match word.as_str()? {
+                "go" => (Act::Go, actor),
+                "deq" => (Act::Deq, actor),
+                "adeq" => (Act::ADeq, actor),
+                _ => return None,
+            },
+            [word, actor, value] => match word.as_str()? {
+                "enq" => (Act::Enq(value.as_u64()?), actor),
+                "aenq" => (Act::AEnq(value.as_u64()?), actor),
+                "starve" => (Act::Starve(value.as_bool()?), actor),
+                _ => return None,
+            },
+            _ => return None,
+        };
+        Some(Event {
+            act,
+            actor: u8::try_from(actor.as_u64()?).ok()?,
+        })
     }
 }
 

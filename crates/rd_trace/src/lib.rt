@@ -17,7 +17,6 @@ pub mod laws;
 mod load;
 mod members;
 mod names;
-mod numbers;
 mod replay;
 mod saved;
 mod segments;

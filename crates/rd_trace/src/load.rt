@@ -1,24 +1,23 @@
 //! Loading a trace: the whole text is read as a JSON value, and the value as a session. The value
 //! is dropped, and then the session's events happen.
 
-ghost use Rattle.std.specs.Prelude.{◌≡◌, ◌≤◌, ◌<◌, Some, IfErr, codes, length};
-ghost use Rattle.rd_trace.specs.declared.faults.LoadTraceFault.TheVariants.{NoMemory};
+ghost use Rattle.std.specs.Prelude.{◌≡◌, ◌≤◌, Some, codes};
 ghost use Rattle.serde_json.specs.View.{view};
 ghost use Rattle.rd_step.specs.Prelude.{MOST_CELLS};
 ghost use Rattle.rd_marks.specs.BookState.{BookState};
 ghost use Rattle.rd_trace.specs.Numbers.{number_at};
 ghost use Rattle.rd_trace.specs.Traces.{IsTraceRing};
-ghost use Rattle.rd_trace.specs.Spelled.{Reads};
-ghost use Rattle.rd_trace.specs.Saved.{HasValue};
 ghost use Rattle.rd_trace.specs.Loading.{LoadsTrace, LoadsAgain};
 ghost use Rattle.rd_trace.specs.Steps.{LoadsValue};
 ghost use Rattle.rd_trace.specs.Writing.{IsTextOf};
 
 use super::faults::LoadTraceFault;
-use super::replay::replay;
-use super::saved::{SavedSession, ring_in, session_in};
+use super::members::number_at;
+use super::replay::{go_to, set_marks, step_all, world_of};
+use super::saved::{SavedSession, session_in};
+use rd_journal::Session;
 use rd_marks::Book;
-use rd_script::{AnyBook, Ring};
+use rd_script::AnyBook;
 use serde_json::Value;
 use std::alloc::Global;
 
@@ -41,32 +40,16 @@ pub fn load_trace(alloc: Global, text: &[u8]) -> Result<AnyBook, LoadTraceFault>
     ensures again { (b : BookState) → IsTraceRing b.session.start.ring → IsTextOf b text.now
         → LoadsAgain b result }
 {
-    let value = parse_value(alloc, text)?;
-    match ring_in(&value) {
-        None => Err(LoadTraceFault::BadTrace),
-        Some(Ring::Two) => book_of(alloc, value).map(AnyBook::Two),
-        Some(Ring::Four) => book_of(alloc, value).map(AnyBook::Four),
-        Some(Ring::Eight) => book_of(alloc, value).map(AnyBook::Eight),
-    }
-}
-
-/// Returns the JSON value of a text.
-///
-/// # Errors
-///
-/// `BadTrace` if the text is no JSON; `NoMemory` if memory was refused, which never happens for an
-/// empty text.
-fn parse_value(alloc: Global, text: &[u8]) -> Result<Value, LoadTraceFault>
-    ensures reads { Reads view (HasValue text.now) result }
-    ensures memory { IfErr result (λ fault. fault ≡ NoMemory → 0 < length text.now) }
-{
-    match Value::from_slice(alloc, text) {
-        Ok(value) => Ok(value),
-        Err(error) => Err(if error.is_memory() {
-            LoadTraceFault::NoMemory
-        } else {
-            LoadTraceFault::BadTrace
-        }),
+    let value = match Value::from_slice(alloc, text) {
+        Ok(value) => value,
+        Err(error) if error.is_memory() => return Err(LoadTraceFault::NoMemory),
+        Err(_) => return Err(LoadTraceFault::BadTrace),
+    };
+    match number_at(&value, "ring") {
+        Some(2) => book_of(alloc, value).map(AnyBook::Two),
+        Some(4) => book_of(alloc, value).map(AnyBook::Four),
+        Some(8) => book_of(alloc, value).map(AnyBook::Eight),
+        _ => Err(LoadTraceFault::BadTrace),
     }
 }
 
@@ -84,5 +67,11 @@ fn book_of<const R: usize>(alloc: Global, value: Value) -> Result<Book<R>, LoadT
 {
     let session: SavedSession<R> = session_in(alloc, &value)?;
     drop(value);
-    replay(alloc, session)
+    let world = world_of(alloc, session.start)?;
+    let mut book = Book::open(alloc, Session::open(alloc, world));
+    set_marks(&mut book, &session.marks)?;
+    go_to(&mut book, &session.events)?;
+    step_all(&mut book, &session.undone)?;
+    book.go_back(session.undone.len() as u64);
+    Ok(book)
 }

@@ -5,7 +5,6 @@ ghost use Rattle.std.specs.Prelude.{◌≡◌, Some, IfOk};
 ghost use Rattle.serde_json.specs.View.{view};
 ghost use Rattle.rd_trace.specs.Names.{name_of, next_of, name_data, next_data};
 
-use super::numbers::{byte_in, u32_in};
 use rd_cell::SegName;
 use serde_json::{Value, json};
 use std::alloc::{AllocError, Global};
@@ -18,8 +17,8 @@ pub fn name_in(value: &Value) -> Option<SegName>
     let items = value.as_array()?;
     match items.as_slice() {
         [maker, n] => Some(SegName {
-            maker: byte_in(maker)?,
-            n: u32_in(n)?,
+            maker: u8::try_from(maker.as_u64()?).ok()?,
+            n: u32::try_from(n.as_u64()?).ok()?,
         }),
         _ => None,
     }
@@ -31,17 +30,6 @@ pub fn name_value(alloc: Global, name: SegName) -> Result<Value, AllocError>
     ensures spelled { name_of (name_data name) ≡ Some name }
 {
     json!(in alloc; [name.maker, name.n])
-}
-
-/// Returns the name of the next segment that a JSON value spells, or no next segment for `null`;
-/// none if the JSON value spells neither.
-pub fn next_in(value: &Value) -> Option<Option<SegName>>
-    ensures { result ≡ next_of (view value.now) }
-{
-    if value.is_null() {
-        return Some(None);
-    }
-    Some(Some(name_in(value)?))
 }
 
 /// Returns the JSON value of the next segment's name, or `null` for no next segment. Fails only if

@@ -1,15 +1,13 @@
 //! Whole sessions as JSON: the object of version 1, which is only read, and the object of version
 //! 2, which is read and written.
 
-ghost use Rattle.std.specs.Prelude.{◌≡◌, ◌≤◌, ◌++◌, ℕ, Some, codes, IfOk, OnOk, IfSome, IfNone, IsUtf8, string_bytes};
+ghost use Rattle.std.specs.Prelude.{◌≡◌, ◌≤◌, ◌++◌, Some, codes, IfOk, OnOk, IsUtf8, string_bytes};
 ghost use Rattle.serde_json.specs.View.{view};
 ghost use Rattle.rd_step.specs.Prelude.{MOST_CELLS};
 ghost use Rattle.rd_journal.specs.Sessions.{state};
 ghost use Rattle.rd_marks.specs.Book.{book_state};
 ghost use Rattle.rd_marks.specs.Rules.{GoThrough};
 ghost use Rattle.rd_trace.specs.Numbers.{member_count, number_at};
-ghost use Rattle.rd_script.specs.Ring.{ring_length};
-ghost use Rattle.rd_trace.specs.Traces.{IsTraceRing};
 ghost use Rattle.rd_trace.specs.Starts.{IsStartValue};
 ghost use Rattle.rd_trace.specs.Spelled.{Reads, Gives};
 ghost use Rattle.rd_trace.specs.Events.{event_of, event_data};
@@ -21,12 +19,11 @@ use super::bookmarks::{SavedMark, marks_in, put_marks};
 use super::events::put_next_event;
 use super::faults::LoadTraceFault;
 use super::members::{items_at, member_count, number_at};
-use super::spelled::list_at;
+use super::spelled::list_in;
 use super::starts::{Start, actors_at, start_in, start_value};
 use super::texts::put_number;
 use rd_journal::Session;
 use rd_marks::Book;
-use rd_script::Ring;
 use rd_step::Event;
 use serde_json::Value;
 use std::alloc::{AllocError, Global};
@@ -46,8 +43,6 @@ const EVENTS: &str = "events";
 
 const MARKS: &str = "marks";
 
-const RING: &str = "ring";
-
 const START: &str = "start";
 
 const UNDONE: &str = "undone";
@@ -65,21 +60,6 @@ pub struct SavedSession<const R: usize> {
     pub events: Vec<Event>,
     /// Its undone events, beginning with the one that was undone last.
     pub undone: Vec<Event>,
-}
-
-/// Returns the size of rings at the key `ring` of an object; none unless it is 2, 4 or 8.
-pub fn ring_in(value: &Value) -> Option<Ring>
-    ensures some { IfSome result (λ ring. number_at (codes "ring") (view value.now)
-        ≡ Some (ring_length ring)) }
-    ensures none { IfNone result ((cells : ℕ)
-        → number_at (codes "ring") (view value.now) ≡ Some cells → IsTraceRing cells → ⊥) }
-{
-    match number_at(value, RING)? {
-        2 => Some(Ring::Two),
-        4 => Some(Ring::Four),
-        8 => Some(Ring::Eight),
-        _ => None,
-    }
 }
 
 /// Returns the session over rings of `R` cells that a JSON value spells, as a trace of version 1 or
@@ -123,7 +103,7 @@ fn version_1_session_in<const R: usize>(
     Ok(SavedSession {
         start: Start::Fresh(actors),
         marks: Vec::new(alloc),
-        events: list_at(alloc, value, EVENTS)?,
+        events: list_in(alloc, items_at(value, EVENTS))?,
         undone: Vec::new(alloc),
     })
 }
@@ -149,8 +129,8 @@ fn version_2_session_in<const R: usize>(
     Ok(SavedSession {
         start: start_in(alloc, start)?,
         marks: marks_in(alloc, marks)?,
-        events: list_at(alloc, value, EVENTS)?,
-        undone: list_at(alloc, value, UNDONE)?,
+        events: list_in(alloc, items_at(value, EVENTS))?,
+        undone: list_in(alloc, items_at(value, UNDONE))?,
     })
 }
 

@@ -1,8 +1,8 @@
 //! Segments as JSON: an object with a member for each part of a segment, and an array of three for
 //! each cell.
 
-ghost use Rattle.std.specs.Prelude.{◌≡◌, ◌≤◌, List, IfOk, OnOk, IfSome, IfNone, length};
-ghost use Rattle.serde_json.specs.View.{view, items_view};
+ghost use Rattle.std.specs.Prelude.{◌≡◌, ◌≤◌, List, IfSome, IfNone, length};
+ghost use Rattle.serde_json.specs.View.{items_view};
 ghost use Rattle.rd_step.specs.Prelude.{MOST_CELLS};
 ghost use Rattle.rd_cell.specs.declared.cells.Cell.{Cell};
 ghost use Rattle.rd_ring.specs.declared.parts.SegmentParts.{SegmentParts};
@@ -12,8 +12,8 @@ ghost use Rattle.rd_trace.specs.Segments.{cell_of, cell_data, IsSegment, IsSegme
 use super::actors::value_in;
 use super::faults::LoadTraceFault;
 use super::members::{items_at, member_count, number_at};
-use super::names::{next_in, next_value};
-use super::spelled::{Spelled, Written, list_in, list_value};
+use super::names::{name_in, next_value};
+use super::spelled::{Plain, Spelled, Written, list_in, list_value};
 use rd_cell::Cell;
 use rd_step::SegmentParts;
 use serde_json::{Value, json};
@@ -40,10 +40,7 @@ impl<const R: usize> Spelled for Vec<SegmentParts<R>> {
     /// Returns the list of segments that a JSON value spells. Fails with `BadTrace` if it spells
     /// none, and with `NoMemory` if memory is refused.
     fn from_value(alloc: Global, value: &Value) -> Result<Vec<SegmentParts<R>>, LoadTraceFault> {
-        match value.as_array() {
-            None => Err(LoadTraceFault::BadTrace),
-            Some(list) => list_in(alloc, list),
-        }
+        list_in(alloc, value.as_array())
     }
 }
 
@@ -56,15 +53,26 @@ impl<const R: usize> Written for Vec<SegmentParts<R>> {
     }
 }
 
-impl<const R: usize> Spelled for SegmentParts<R> {
+impl<const R: usize> Plain for SegmentParts<R> {
     ghost spells = { IsSegment };
 
     ghost fits = { R ≤ MOST_CELLS };
 
-    /// Returns the segment that a JSON value spells. Fails only if it spells none, with `BadTrace`.
-    #[tactic(auto, using(crate::proofs::SpellLemmas::read_or_bad))]
-    fn from_value(_alloc: Global, value: &Value) -> Result<SegmentParts<R>, LoadTraceFault> {
-        segment_in(value).ok_or(LoadTraceFault::BadTrace)
+    /// Returns the segment that a JSON value spells; none if it spells none.
+    fn in_value(value: &Value) -> Option<SegmentParts<R>> {
+        if member_count(value)? != MEMBERS {
+            return None;
+        }
+        Some(SegmentParts {
+            head: number_at(value, HEAD)?,
+            tail: number_at(value, TAIL)?,
+            closed: value.get(CLOSED)?.as_bool()?,
+            next: match value.get(NEXT)? {
+                Value::Null => None,
+                name => Some(name_in(name)?),
+            },
+            cells: cells_in(items_at(value, CELLS)?)?,
+        })
     }
 }
 
@@ -72,67 +80,46 @@ impl<const R: usize> Written for SegmentParts<R> {
     ghost datum = { segment_data };
 
     /// Returns the JSON value of the segment. Fails only if memory is refused.
+    #[tactic(auto, using(crate::proofs::SegmentLemmas::segment_spelled))]
     fn to_value(&self, alloc: Global) -> Result<Value, AllocError> {
-        segment_value(alloc, self)
+        let cells = list_value(alloc, &self.cells[..])?;
+        let next = next_value(alloc, self.next)?;
+        json!(in alloc; {
+            CELLS: cells,
+            CLOSED: self.closed,
+            HEAD: self.head,
+            NEXT: next,
+            TAIL: self.tail
+        })
     }
 }
 
-impl Spelled for Cell {
+impl Plain for Cell {
     ghost spells = { Gives cell_of };
 
-    /// Returns the cell that a JSON value spells. Fails only if it spells none, with `BadTrace`.
-    #[tactic(auto, using(crate::proofs::SpellLemmas::given_or_bad))]
-    fn from_value(_alloc: Global, value: &Value) -> Result<Cell, LoadTraceFault> {
-        cell_in(value).ok_or(LoadTraceFault::BadTrace)
+    /// Returns the cell that a JSON value spells; none if it spells none.
+    #[tactic(auto, using(crate::proofs::SegmentLemmas::no_cell))]
+    fn in_value(value: &Value) -> Option<Cell> {
+        let items = value.as_array()?;
+        match items.as_slice() {
+            [safe, idx, val] => Some(Cell {
+                safe: safe.as_bool()?,
+                idx: idx.as_u64()?,
+                val: value_in(val)?,
+            }),
+            _ => None,
+        }
     }
 }
 
 impl Written for Cell {
     ghost datum = { cell_data };
 
-    /// Returns the JSON value of the cell. Fails only if memory is refused.
+    /// Returns the JSON value of the cell, an array of its safe bit, index and value. Fails only if
+    /// memory is refused.
     fn to_value(&self, alloc: Global) -> Result<Value, AllocError> {
-        cell_value(alloc, self)
+        json!(in alloc; [self.safe, self.idx, self.val])
     }
-}
-
-/// Returns the segment that a JSON value spells; none if it spells none. `R` must be at most 64.
-fn segment_in<const R: usize>(value: &Value) -> Option<SegmentParts<R>>
-    requires { R ≤ MOST_CELLS }
-    ensures some { IfSome result (IsSegment (view value.now)) }
-    ensures none { IfNone result ((segment : SegmentParts R) → IsSegment (view value.now) segment
-        → ⊥) }
-{
-    if member_count(value)? != MEMBERS {
-        return None;
-    }
-    Some(SegmentParts {
-        head: number_at(value, HEAD)?,
-        tail: number_at(value, TAIL)?,
-        closed: value.get(CLOSED)?.as_bool()?,
-        next: next_in(value.get(NEXT)?)?,
-        cells: cells_in(items_at(value, CELLS)?)?,
-    })
-}
-
-/// Returns the JSON value of a segment. Fails only if memory is refused.
-#[tactic(auto, using(crate::proofs::SegmentLemmas::segment_spelled))]
-fn segment_value<const R: usize>(
-    alloc: Global,
-    segment: &SegmentParts<R>,
-) -> Result<Value, AllocError>
-    ensures value { IfOk result (λ value. view value ≡ segment_data segment.now) }
-    ensures spelled { OnOk result (IsSegment (segment_data segment.now) segment.now) }
-{
-    let cells = list_value(alloc, &segment.cells[..])?;
-    let next = next_value(alloc, segment.next)?;
-    json!(in alloc; {
-        CELLS: cells,
-        CLOSED: segment.closed,
-        HEAD: segment.head,
-        NEXT: next,
-        TAIL: segment.tail
-    })
 }
 
 /// Returns the `R` cells that the values of a list spell; none if a value spells no cell, or if
@@ -148,31 +135,7 @@ fn cells_in<const R: usize>(list: &Vec<Value>) -> Option<[Cell; R]>
     }
     let mut cells = [Cell::fresh(0); R];
     for i in 0..R {
-        cells[i] = cell_in(&list[i])?;
+        cells[i] = Cell::in_value(&list[i])?;
     }
     Some(cells)
-}
-
-/// Returns the JSON value of a cell, an array of its safe bit, index and value. Fails only if
-/// memory is refused.
-fn cell_value(alloc: Global, cell: &Cell) -> Result<Value, AllocError>
-    ensures { IfOk result (λ value. view value ≡ cell_data cell.now) }
-{
-    json!(in alloc; [cell.safe, cell.idx, cell.val])
-}
-
-/// Returns the cell that a JSON value spells; none if it spells none.
-#[tactic(auto, using(crate::proofs::SegmentLemmas::no_cell))]
-fn cell_in(value: &Value) -> Option<Cell>
-    ensures { result ≡ cell_of (view value.now) }
-{
-    let items = value.as_array()?;
-    match items.as_slice() {
-        [safe, idx, val] => Some(Cell {
-            safe: safe.as_bool()?,
-            idx: idx.as_u64()?,
-            val: value_in(val)?,
-        }),
-        _ => None,
-    }
 }

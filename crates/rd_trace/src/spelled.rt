@@ -1,13 +1,12 @@
 //! The kinds of things that a trace lists. For each kind: which JSON values spell a thing, and how
 //! a thing or a list of things is read and written.
 
-ghost use Rattle.std.specs.Prelude.{◌≡◌, IfOk, OnOk};
+ghost use Rattle.std.specs.Prelude.{◌≡◌, IfOk, OnOk, IfSome, IfNone, option_map};
 ghost use Rattle.serde_json.specs.Data.{Data};
 ghost use Rattle.serde_json.specs.View.{view, items_view};
-ghost use Rattle.rd_trace.specs.Spelled.{Reads, itself, elements, SpellEach, SpellEachAt, AreSpelled};
+ghost use Rattle.rd_trace.specs.Spelled.{Reads, itself, elements, SpellEachOf, AreSpelled};
 
 use super::faults::LoadTraceFault;
-use super::members::items_at;
 use serde_json::Value;
 use std::alloc::{AllocError, Global};
 
@@ -29,6 +28,33 @@ pub trait Spelled: Sized + Drop {
         ensures { Reads itself (spells (view value.now)) result };
 }
 
+/// A kind of thing of fixed size, so that reading it takes no memory. Each is `Spelled`.
+pub trait Plain: Sized + Drop {
+    /// Whether a JSON value spells a thing.
+    ghost spells: { Data → Self → Type 0 };
+
+    /// What a caller of `in_value` must know; by default nothing.
+    ghost fits: { Type 0 } = { Unit {0} };
+
+    /// Returns the thing of this kind that a JSON value spells; none if it spells none.
+    fn in_value(value: &Value) -> Option<Self>
+        requires { fits }
+        ensures some { IfSome result (spells (view value.now)) }
+        ensures none { IfNone result ((thing : Self) → spells (view value.now) thing → ⊥) };
+}
+
+impl<T: Plain> Spelled for T {
+    ghost spells = { T.spells };
+
+    ghost fits = { T.fits };
+
+    /// Returns the thing that a JSON value spells. Fails only if it spells none, with `BadTrace`.
+    #[tactic(auto, using(crate::proofs::SpellLemmas::read_or_bad))]
+    fn from_value(_alloc: Global, value: &Value) -> Result<T, LoadTraceFault> {
+        T::in_value(value).ok_or(LoadTraceFault::BadTrace)
+    }
+}
+
 /// A kind of thing that is also written as JSON values.
 pub trait Written: Spelled {
     /// The JSON value as which a thing is written.
@@ -44,35 +70,23 @@ pub trait Written: Spelled {
 ///
 /// # Errors
 ///
-/// `BadTrace` if a value spells none; `NoMemory` if memory was refused.
-pub fn list_in<T: Spelled>(alloc: Global, list: &Vec<Value>) -> Result<Vec<T>, LoadTraceFault>
+/// `BadTrace` if there is no list, or if a value spells none; `NoMemory` if memory was refused.
+pub fn list_in<T: Spelled>(
+    alloc: Global,
+    list: Option<&Vec<Value>>,
+) -> Result<Vec<T>, LoadTraceFault>
     requires { T.fits }
-    ensures { Reads elements (SpellEach T.spells (items_view list.now.items)) result }
+    ensures { Reads elements (SpellEachOf T.spells
+        (option_map (λ values. items_view values.now.items) list.entry)) result }
 {
+    let Some(list) = list else {
+        return Err(LoadTraceFault::BadTrace);
+    };
     let mut things = Vec::with_capacity(alloc, list.len())?;
     for value in list {
         things.push_reserved(T::from_value(alloc, value)?);
     }
     Ok(things)
-}
-
-/// Returns the things that the list at a key of an object spells, in order.
-///
-/// # Errors
-///
-/// As `list_in`, and `BadTrace` if there is no list at this key.
-pub fn list_at<T: Spelled>(
-    alloc: Global,
-    value: &Value,
-    key: &str,
-) -> Result<Vec<T>, LoadTraceFault>
-    requires { T.fits }
-    ensures { Reads elements (SpellEachAt T.spells key.now (view value.now)) result }
-{
-    match items_at(value, key) {
-        None => Err(LoadTraceFault::BadTrace),
-        Some(list) => list_in(alloc, list),
-    }
 }
 
 /// Returns the JSON values as which these things are written, in order. Fails only if memory is

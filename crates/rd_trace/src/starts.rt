@@ -3,21 +3,18 @@
 
 ghost use Rattle.std.specs.Prelude.{◌≡◌, ◌≤◌, ℕ, Some, IfOk, OnOk, IfSome, IfNone};
 ghost use Rattle.serde_json.specs.View.{view, items_view};
-ghost use Rattle.rd_segments.specs.declared.array.ArrayParts.{ArrayParts};
 ghost use Rattle.rd_step.specs.Prelude.{MOST_CELLS, model};
-ghost use Rattle.rd_trace.specs.Names.{name_at};
 ghost use Rattle.rd_trace.specs.Numbers.{member_count};
 ghost use Rattle.rd_trace.specs.Spelled.{Reads, itself};
-ghost use Rattle.rd_trace.specs.Starts.{IsActorCount, HasArray, IsParts, IsStart, IsStartValue, fresh_data, parts_object, parts_data};
+ghost use Rattle.rd_trace.specs.Starts.{IsActorCount, IsParts, IsStart, IsStartValue, fresh_data, parts_object, parts_data};
 
 use super::arrays::{array_parts_in, array_parts_value};
 use super::faults::LoadTraceFault;
-use super::members::{member_count, number_at};
+use super::members::{items_at, member_count, number_at};
 use super::names::{name_in, name_value};
-use super::spelled::{list_at, list_value};
-use rd_cell::SegName;
+use super::spelled::{list_in, list_value};
 use rd_cell::limits::MOST_ACTORS;
-use rd_step::{ArrayParts, Parts, World};
+use rd_step::{Parts, World};
 use serde_json::{Value, json};
 use std::alloc::{AllocError, Global};
 
@@ -87,37 +84,22 @@ fn parts_in<const R: usize>(alloc: Global, value: &Value) -> Result<Parts<R>, Lo
     requires members { member_count (view value.now) ≡ Some 5 }
     ensures { Reads itself (IsParts (view value.now)) result }
 {
-    let Some(qhead) = name_at(value, QHEAD) else {
+    let Some(qhead) = value.get(QHEAD).and_then(name_in) else {
         return Err(LoadTraceFault::BadTrace);
     };
-    let Some(qtail) = name_at(value, QTAIL) else {
+    let Some(qtail) = value.get(QTAIL).and_then(name_in) else {
         return Err(LoadTraceFault::BadTrace);
     };
-    let Some(array) = array_member(value) else {
+    let Some(array) = value.get(ARRAY).and_then(array_parts_in) else {
         return Err(LoadTraceFault::BadTrace);
     };
     Ok(Parts {
-        actors: list_at(alloc, value, ACTORS)?,
-        segments: list_at(alloc, value, SEGMENTS)?,
+        actors: list_in(alloc, items_at(value, ACTORS))?,
+        segments: list_in(alloc, items_at(value, SEGMENTS))?,
         qhead,
         qtail,
         array,
     })
-}
-
-/// Returns the array that an object spells at the key `array`; none if it spells no array there.
-fn array_member(value: &Value) -> Option<ArrayParts>
-    ensures some { IfSome result (HasArray (view value.now)) }
-    ensures none { IfNone result ((parts : ArrayParts) → HasArray (view value.now) parts → ⊥) }
-{
-    array_parts_in(value.get(ARRAY)?)
-}
-
-/// Returns the name of a segment at a key of an object; none if it has no name there.
-fn name_at(value: &Value, key: &str) -> Option<SegName>
-    ensures { result ≡ name_at key.now (view value.now) }
-{
-    name_in(value.get(key)?)
 }
 
 /// Returns the JSON value of a session's start in this world: an object with the number of actors

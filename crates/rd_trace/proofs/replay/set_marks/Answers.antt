@@ -1,4 +1,4 @@
-use Rattle.rd_trace.proofs.Prelude.{◌≡◌, ◌⊎◌, Ok, Err, IsOk, refl, ap, sym, subst, ◌∙◌, arith, book_state, get_or_default, mark, SavedMark, RefusesOne, GoesTo}
+use Rattle.rd_trace.proofs.Prelude.{◌≡◌, ◌⊎◌, Ok, Err, IsOk, refl, ap, sym, subst, subst₂, ◌∙◌, arith, book_state, get_or_default, mark, SavedMark, RefusesOne, GoesTo, TraceStep}
 use Rattle.rd_trace.proofs.ReplayLemmas.{one_set, can_mark, mark_refused, all_set}
 use Rattle.rd_trace.proofs.replay.set_marks.Goals as goal
 use Rattle.rd_cell.specs.declared.refusal.Refusal.TheVariants as refusal
@@ -14,8 +14,9 @@ returns-in-Err g c =
     let now = book_state c.loop-i.book in
     let m = c.index-marks-i.result in
     let its = c.deref.ensures.value ∙ ap (λ (x : SavedMark). x.events.items) (sym c.index-marks-i.is) in
-    let why = subst (λ es. RefusesOne now.session.start es c.in-Err.fault) its c.in-Err.ensures in
-    mark_refused (book_state c.args.book.now) now c.args.marks.now c.loop-i.i m (omega arith) c.index-marks-i.is c.loop-i.invariant (book_state c.go_to.new.book) c.in-Err.fault c.mark_fault.result why c.mark_fault.ensures
+    let fault = TraceStep c.in-TraceStep.step c.in-TraceStep.cause in
+    let why = subst₂ (RefusesOne now.session.start) its c.in-TraceStep.is c.in-Err.ensures in
+    mark_refused (book_state c.args.book.now) now c.args.marks.now c.loop-i.i m (omega arith) c.index-marks-i.is c.loop-i.invariant (book_state c.go_to.new.book) fault why
 
 pub unreachable-requires : goal.unreachable-requires
 unreachable-requires g c =

@@ -9,10 +9,10 @@ pub returns-in-Err-clause-goes : goal.returns-in-Err-clause-goes
 returns-in-Err-clause-goes g c =
     let old = book_state c.args.book.now in
     let now = book_state c.loop-event.book in
-    let number : c.len.result + 1 ≡ length now.session.live + 1 =
-    ap (λ n. n + 1) (c.len.ensures.count ∙ ap (λ (s : State). length s.live) (c.session.ensures.state ∙ ap (λ (b : BookState). b.session) c.in-Err.ensures.unchanged)) in
-    one_refused old now c.args.events.now c.loop-event.event-index _ c.loop-event-test.true (get_or_default c.args.events.now c.loop-event.event-index _ _ c.loop-event-test.true) c.loop-event.invariant (c.len.result + 1) c.in-Err.cause c.step_fault.result number
-    (not_happened now (book_state c.apply.new.self) _ c.in-Err.cause c.in-Err.ensures.answer) c.step_fault.ensures
+    let number : c.len-step.result + 1 ≡ length now.session.live + 1 =
+    ap (λ n. n + 1) (c.len-step.ensures.count ∙ ap (λ (s : State). length s.live) (c.session.ensures.state ∙ ap (λ (b : BookState). b.session) c.in-Err.ensures.unchanged)) in
+    one_refused old now c.args.events.now c.loop-event.event-index _ c.loop-event-test.true (get_or_default c.args.events.now c.loop-event.event-index _ _ c.loop-event-test.true) c.loop-event.invariant (c.len-step.result + 1) c.in-Err.cause number
+    c.in_default-cause.not-NoMemory (not_happened now (book_state c.apply.new.self) _ c.in-Err.cause c.in-Err.ensures.answer)
 
 pub loop-event-preserved : goal.loop-event-preserved
 loop-event-preserved g c =
