@@ -2,7 +2,8 @@
 //! scripts beside their reports.
 //!
 //! Rows are borrowed, and one helper walks those of a kind, with one assertion: so their proof is
-//! cheap.
+//! cheap. A function costs far more than a row, and a test that returns a result is two functions:
+//! so many rows share a test, which returns nothing.
 
 mod conversations;
 mod devices;
@@ -25,7 +26,6 @@ use rd_cell::{ArrSlot, Cell, Content, SegName};
 use rd_marks::{MarkName, Reply};
 use rd_script::{LineAnswer, Text, set_answer};
 use std::process::Abort;
-use std::test::Fail;
 
 /// The longest name of a segment.
 const LONGEST: SegName = SegName {
@@ -71,12 +71,11 @@ fn endings_are(rt: &impl Abort, rows: &[(Option<OpReply>, &str)]) {
 }
 
 /// Compares the line of a bookmark of each name and length with its text.
-fn marks_are(rt: &impl Abort, rows: &[(&str, u64, &str)]) -> Result<(), Fail> {
+fn marks_are(rt: &impl Abort, rows: &[(&str, u64, &str)]) {
     for (name, len, line) in rows {
-        let name = MarkName::new(name.as_bytes())?;
+        let name = MarkName::new(name.as_bytes()).expect(rt, "no name");
         reply_is(rt, Reply::Mark { name, len: *len }, *line);
     }
-    Ok(())
 }
 
 #[test]
@@ -107,7 +106,7 @@ fn each_reply_has_its_line(rt: HostRuntime) {
 }
 
 #[test]
-fn a_mark_shows_its_name_and_its_length(rt: HostRuntime) -> Result<(), Fail> {
+fn a_mark_shows_its_name_and_its_length(rt: HostRuntime) {
     marks_are(
         &rt,
         &[
@@ -120,83 +119,6 @@ fn a_mark_shows_its_name_and_its_length(rt: HostRuntime) -> Result<(), Fail> {
             ),
         ],
     )
-}
-
-#[test]
-fn each_content_has_its_words(rt: HostRuntime) {
-    contents_are(
-        &rt,
-        &[
-            (Content::Name(SegName { maker: 0, n: 0 }), "is 0.0\n"),
-            (Content::Name(SegName { maker: 2, n: 41 }), "is 2.41\n"),
-            (Content::Number(10), "is 10\n"),
-            (
-                Content::Tail {
-                    closed: false,
-                    count: 4,
-                },
-                "is open 4\n",
-            ),
-            (
-                Content::Tail {
-                    closed: true,
-                    count: 5,
-                },
-                "is closed 5\n",
-            ),
-            (Content::Next(None), "is none\n"),
-            (
-                Content::Next(Some(SegName { maker: 2, n: 41 })),
-                "is 2.41\n",
-            ),
-            (Content::Whole, "is exists\n"),
-            (Content::Slot(ArrSlot::Empty), "is empty\n"),
-            (Content::Slot(ArrSlot::Top), "is top\n"),
-            (Content::Slot(ArrSlot::Value(0)), "is value 0\n"),
-        ],
-    );
-}
-
-#[test]
-fn a_cell_is_its_safe_bit_its_index_and_its_value(rt: HostRuntime) {
-    contents_are(
-        &rt,
-        &[
-            (
-                Content::Cell(Cell {
-                    safe: true,
-                    idx: 4,
-                    val: None,
-                }),
-                "is 1 4 none\n",
-            ),
-            (
-                Content::Cell(Cell {
-                    safe: false,
-                    idx: 0,
-                    val: Some(7),
-                }),
-                "is 0 0 7\n",
-            ),
-            (
-                Content::Cell(Cell {
-                    safe: true,
-                    idx: u64::MAX,
-                    val: Some(u64::MAX),
-                }),
-                "is 1 18446744073709551615 18446744073709551615\n",
-            ),
-            (Content::Val(None), "is none\n"),
-            (Content::Val(Some(u64::MAX)), "is 18446744073709551615\n"),
-            (
-                Content::Idx {
-                    safe: true,
-                    idx: u64::MAX,
-                },
-                "is 1 18446744073709551615\n",
-            ),
-        ],
-    );
 }
 
 /// The words of an actor that is in no call and has been in none.
@@ -215,90 +137,153 @@ const IDLE: Actor = Actor {
     pass: 0,
 };
 
+/// The line that shows each content.
+const CONTENTS: &[(Content, &str)] = &[
+    // Each content has its words.
+    (Content::Name(SegName { maker: 0, n: 0 }), "is 0.0\n"),
+    (Content::Name(SegName { maker: 2, n: 41 }), "is 2.41\n"),
+    (Content::Number(10), "is 10\n"),
+    (
+        Content::Tail {
+            closed: false,
+            count: 4,
+        },
+        "is open 4\n",
+    ),
+    (
+        Content::Tail {
+            closed: true,
+            count: 5,
+        },
+        "is closed 5\n",
+    ),
+    (Content::Next(None), "is none\n"),
+    (
+        Content::Next(Some(SegName { maker: 2, n: 41 })),
+        "is 2.41\n",
+    ),
+    (Content::Whole, "is exists\n"),
+    (Content::Slot(ArrSlot::Empty), "is empty\n"),
+    (Content::Slot(ArrSlot::Top), "is top\n"),
+    (Content::Slot(ArrSlot::Value(0)), "is value 0\n"),
+    // A cell is its safe bit, its index and its value.
+    (
+        Content::Cell(Cell {
+            safe: true,
+            idx: 4,
+            val: None,
+        }),
+        "is 1 4 none\n",
+    ),
+    (
+        Content::Cell(Cell {
+            safe: false,
+            idx: 0,
+            val: Some(7),
+        }),
+        "is 0 0 7\n",
+    ),
+    (
+        Content::Cell(Cell {
+            safe: true,
+            idx: u64::MAX,
+            val: Some(u64::MAX),
+        }),
+        "is 1 18446744073709551615 18446744073709551615\n",
+    ),
+    (Content::Val(None), "is none\n"),
+    (Content::Val(Some(u64::MAX)), "is 18446744073709551615\n"),
+    (
+        Content::Idx {
+            safe: true,
+            idx: u64::MAX,
+        },
+        "is 1 18446744073709551615\n",
+    ),
+];
+
 #[test]
-fn each_call_of_an_actor_has_its_words(rt: HostRuntime) {
-    actors_are(
-        &rt,
-        &[
-            (
-                IDLE,
-                "actor Idle none crq 0.0 new 0.0 next 0.0 t 0 h 0 closed 0 val none safe 0 idx 0 pass 0\n",
-            ),
-            (
-                Actor {
-                    pc: Pc::E10,
-                    op: Some(Op::Enq(5)),
-                    ..IDLE
-                },
-                "actor E10 enq 5 crq 0.0 new 0.0 next 0.0 t 0 h 0 closed 0 val none safe 0 idx 0 pass 0\n",
-            ),
-            (
-                Actor {
-                    pc: Pc::Q8,
-                    op: Some(Op::Deq),
-                    ..IDLE
-                },
-                "actor Q8 deq crq 0.0 new 0.0 next 0.0 t 0 h 0 closed 0 val none safe 0 idx 0 pass 0\n",
-            ),
-            (
-                Actor {
-                    pc: Pc::A2,
-                    op: Some(Op::AEnq(0)),
-                    ..IDLE
-                },
-                "actor A2 aenq 0 crq 0.0 new 0.0 next 0.0 t 0 h 0 closed 0 val none safe 0 idx 0 pass 0\n",
-            ),
-            (
-                Actor {
-                    pc: Pc::B1,
-                    op: Some(Op::ADeq),
-                    ..IDLE
-                },
-                "actor B1 adeq crq 0.0 new 0.0 next 0.0 t 0 h 0 closed 0 val none safe 0 idx 0 pass 0\n",
-            ),
-        ],
-    );
+fn each_content_has_its_words(rt: HostRuntime) {
+    contents_are(&rt, CONTENTS);
 }
+
+/// The line that shows each actor.
+const ACTORS: &[(Actor, &str)] = &[
+    // Each call of an actor has its words.
+    (
+        IDLE,
+        "actor Idle none crq 0.0 new 0.0 next 0.0 t 0 h 0 closed 0 val none safe 0 idx 0 pass 0\n",
+    ),
+    (
+        Actor {
+            pc: Pc::E10,
+            op: Some(Op::Enq(5)),
+            ..IDLE
+        },
+        "actor E10 enq 5 crq 0.0 new 0.0 next 0.0 t 0 h 0 closed 0 val none safe 0 idx 0 pass 0\n",
+    ),
+    (
+        Actor {
+            pc: Pc::Q8,
+            op: Some(Op::Deq),
+            ..IDLE
+        },
+        "actor Q8 deq crq 0.0 new 0.0 next 0.0 t 0 h 0 closed 0 val none safe 0 idx 0 pass 0\n",
+    ),
+    (
+        Actor {
+            pc: Pc::A2,
+            op: Some(Op::AEnq(0)),
+            ..IDLE
+        },
+        "actor A2 aenq 0 crq 0.0 new 0.0 next 0.0 t 0 h 0 closed 0 val none safe 0 idx 0 pass 0\n",
+    ),
+    (
+        Actor {
+            pc: Pc::B1,
+            op: Some(Op::ADeq),
+            ..IDLE
+        },
+        "actor B1 adeq crq 0.0 new 0.0 next 0.0 t 0 h 0 closed 0 val none safe 0 idx 0 pass 0\n",
+    ),
+    // Each word of an actor stands behind its name.
+    (
+        Actor {
+            pc: Pc::Q12,
+            op: Some(Op::Deq),
+            crq: SegName { maker: 1, n: 2 },
+            new: SegName { maker: 3, n: 4 },
+            next: SegName { maker: 5, n: 6 },
+            t: 7,
+            h: 8,
+            closed: true,
+            val: Some(9),
+            safe: true,
+            idx: 10,
+            pass: 2,
+        },
+        "actor Q12 deq crq 1.2 new 3.4 next 5.6 t 7 h 8 closed 1 val 9 safe 1 idx 10 pass 2\n",
+    ),
+    (
+        Actor {
+            pc: Pc::Idle,
+            op: Some(Op::AEnq(u64::MAX)),
+            crq: LONGEST,
+            new: LONGEST,
+            next: LONGEST,
+            t: u64::MAX,
+            h: u64::MAX,
+            closed: true,
+            val: Some(u64::MAX),
+            safe: true,
+            idx: u64::MAX,
+            pass: u8::MAX,
+        },
+        "actor Idle aenq 18446744073709551615 crq 255.4294967295 new 255.4294967295 next 255.4294967295 t 18446744073709551615 h 18446744073709551615 closed 1 val 18446744073709551615 safe 1 idx 18446744073709551615 pass 255\n",
+    ),
+];
 
 #[test]
 fn each_word_of_an_actor_stands_behind_its_name(rt: HostRuntime) {
-    actors_are(
-        &rt,
-        &[
-            (
-                Actor {
-                    pc: Pc::Q12,
-                    op: Some(Op::Deq),
-                    crq: SegName { maker: 1, n: 2 },
-                    new: SegName { maker: 3, n: 4 },
-                    next: SegName { maker: 5, n: 6 },
-                    t: 7,
-                    h: 8,
-                    closed: true,
-                    val: Some(9),
-                    safe: true,
-                    idx: 10,
-                    pass: 2,
-                },
-                "actor Q12 deq crq 1.2 new 3.4 next 5.6 t 7 h 8 closed 1 val 9 safe 1 idx 10 pass 2\n",
-            ),
-            (
-                Actor {
-                    pc: Pc::Idle,
-                    op: Some(Op::AEnq(u64::MAX)),
-                    crq: LONGEST,
-                    new: LONGEST,
-                    next: LONGEST,
-                    t: u64::MAX,
-                    h: u64::MAX,
-                    closed: true,
-                    val: Some(u64::MAX),
-                    safe: true,
-                    idx: u64::MAX,
-                    pass: u8::MAX,
-                },
-                "actor Idle aenq 18446744073709551615 crq 255.4294967295 new 255.4294967295 next 255.4294967295 t 18446744073709551615 h 18446744073709551615 closed 1 val 18446744073709551615 safe 1 idx 18446744073709551615 pass 255\n",
-            ),
-        ],
-    );
+    actors_are(&rt, ACTORS);
 }

@@ -5,7 +5,6 @@ use rd_script::{ReadSource, WriteSink, run};
 use std::cell::Cell;
 use std::io;
 use std::io::{Read, Write};
-use std::test::Fail;
 
 /// What the two devices of a conversation record of their calls.
 #[derive(Drop)]
@@ -74,7 +73,7 @@ const PIECES: [(&str, u64); 7] = [
 ];
 
 #[test]
-fn each_whole_line_is_answered_before_more_is_read(rt: HostRuntime) -> Result<(), Fail> {
+fn each_whole_line_is_answered_before_more_is_read(rt: HostRuntime) {
     let turns = Turns {
         unanswered: Cell::new(0),
         read_on: Cell::new(false),
@@ -91,10 +90,9 @@ fn each_whole_line_is_answered_before_more_is_read(rt: HostRuntime) -> Result<()
     let lines = run(
         &mut ReadSource::new(reader),
         &mut WriteSink::new(&mut writer),
-        &mut poised::<4>(rt.alloc())?,
+        &mut poised::<4>(&rt, rt.alloc()),
     );
     let wanted = "ok 1\nok 2\nat 1 1\nat 1 1\nrefused 22 BadLine\nat 2 0\nat 2 0\n";
     assert!(&rt; lines == Ok(7) && writer.taken.as_slice() == wanted.as_bytes());
     assert!(&rt; !turns.read_on.get());
-    Ok(())
 }

@@ -6,7 +6,6 @@ use std::alloc::Global;
 use std::io;
 use std::io::{Read, Write};
 use std::process::Abort;
-use std::test::Fail;
 
 /// How the devices of a run work.
 #[derive(Clone, Copy)]
@@ -96,7 +95,7 @@ fn run_is(
     devices: Devices,
     answer: Result<u64, ScriptFault>,
     report: &str,
-) -> Result<(), Fail> {
+) {
     let mut taken = Vec::new(alloc);
     let reader = TestReader {
         rest: script.as_bytes(),
@@ -111,90 +110,37 @@ fn run_is(
     let said = run(
         &mut ReadSource::new(reader),
         &mut WriteSink::new(writer),
-        &mut poised::<4>(alloc)?,
+        &mut poised::<4>(rt, alloc),
     );
     assert!(rt;
         said == answer && taken.as_slice() == report.as_bytes(),
         "report {report}"
     );
-    Ok(())
 }
+
+/// A script and its devices, and what a run answers and writes.
+type Row = (
+    &'static str,
+    Devices,
+    Result<u64, ScriptFault>,
+    &'static str,
+);
 
 /// Runs each script over its devices, and compares what it answers and writes.
-fn runs_are(
-    rt: &impl Abort,
-    alloc: Global,
-    rows: &[(&str, Devices, Result<u64, ScriptFault>, &str)],
-) -> Result<(), Fail> {
+fn runs_are(rt: &impl Abort, alloc: Global, rows: &[Row]) {
     for (script, devices, answer, report) in rows {
-        run_is(rt, alloc, *script, *devices, *answer, *report)?;
+        run_is(rt, alloc, *script, *devices, *answer, *report);
     }
-    Ok(())
-}
-
-#[test]
-fn a_failed_read_leaves_whole_lines_done(rt: HostRuntime) -> Result<(), Fail> {
-    runs_are(
-        &rt,
-        rt.alloc(),
-        &[
-            (
-                "go 1\ngo 2\n",
-                Devices {
-                    good_reads: 0,
-                    ..WORKING
-                },
-                Err(ScriptFault::Read),
-                "",
-            ),
-            (
-                "go 1\ngo 2\n",
-                Devices {
-                    good_reads: 4,
-                    ..WORKING
-                },
-                Err(ScriptFault::Read),
-                "",
-            ),
-            (
-                "go 1\ngo 2\n",
-                Devices {
-                    good_reads: 5,
-                    ..WORKING
-                },
-                Err(ScriptFault::Read),
-                "ok 1\n",
-            ),
-            (
-                "go 1\ngo 2\n",
-                Devices {
-                    good_reads: 9,
-                    ..WORKING
-                },
-                Err(ScriptFault::Read),
-                "ok 1\n",
-            ),
-            (
-                "go 1\ngo 2\n",
-                Devices {
-                    good_reads: 10,
-                    ..WORKING
-                },
-                Err(ScriptFault::Read),
-                "ok 1\nok 2\n",
-            ),
-        ],
-    )
 }
 
 /// Runs two scripts over devices whose reads give this many bytes.
-fn portions_are_read(rt: &impl Abort, alloc: Global, rows: &[usize]) -> Result<(), Fail> {
+fn portions_are_read(rt: &impl Abort, alloc: Global, rows: &[usize]) {
     for most_given in rows {
         let devices = Devices {
             most_given: *most_given,
             ..WORKING
         };
-        run_is(rt, alloc, "", devices, Ok(0), "")?;
+        run_is(rt, alloc, "", devices, Ok(0), "");
         run_is(
             rt,
             alloc,
@@ -202,14 +148,8 @@ fn portions_are_read(rt: &impl Abort, alloc: Global, rows: &[usize]) -> Result<(
             devices,
             Ok(4),
             "ok 1\nrefused 22 BadLine\nat 0 1\nat 0 1\n",
-        )?;
+        );
     }
-    Ok(())
-}
-
-#[test]
-fn a_read_may_give_any_number_of_bytes(rt: HostRuntime) -> Result<(), Fail> {
-    portions_are_read(&rt, rt.alloc(), &[1, 2, 3, 7, 4096, 100_000])
 }
 
 /// Runs 3000 lines over a reader of this many good reads, and compares how many were answered and
@@ -218,22 +158,198 @@ fn long_reads_are(
     rt: &impl Abort,
     alloc: Global,
     rows: &[(usize, usize, Result<u64, ScriptFault>)],
-) -> Result<(), Fail> {
-    let script = "len\n".repeat(alloc, 3000)?;
+) {
+    let script = "len\n".repeat(alloc, 3000).expect(rt, "out of memory");
     for (good_reads, lines, answer) in rows {
         let devices = Devices {
             good_reads: *good_reads,
             most_given: 100_000,
             ..WORKING
         };
-        let report = "at 0 0\n".repeat(alloc, *lines)?;
-        run_is(rt, alloc, &script, devices, *answer, &report)?;
+        let report = "at 0 0\n".repeat(alloc, *lines).expect(rt, "out of memory");
+        run_is(rt, alloc, &script, devices, *answer, &report);
     }
-    Ok(())
+}
+
+/// Devices each of whose reads and writes a signal interrupts once.
+const INTERRUPTED: Devices = Devices {
+    interrupted: true,
+    ..WORKING
+};
+
+/// Runs over devices that fail, take little or are interrupted.
+const RUNS: &[Row] = &[
+    // A failed read leaves whole lines done.
+    (
+        "go 1\ngo 2\n",
+        Devices {
+            good_reads: 0,
+            ..WORKING
+        },
+        Err(ScriptFault::Read),
+        "",
+    ),
+    (
+        "go 1\ngo 2\n",
+        Devices {
+            good_reads: 4,
+            ..WORKING
+        },
+        Err(ScriptFault::Read),
+        "",
+    ),
+    (
+        "go 1\ngo 2\n",
+        Devices {
+            good_reads: 5,
+            ..WORKING
+        },
+        Err(ScriptFault::Read),
+        "ok 1\n",
+    ),
+    (
+        "go 1\ngo 2\n",
+        Devices {
+            good_reads: 9,
+            ..WORKING
+        },
+        Err(ScriptFault::Read),
+        "ok 1\n",
+    ),
+    (
+        "go 1\ngo 2\n",
+        Devices {
+            good_reads: 10,
+            ..WORKING
+        },
+        Err(ScriptFault::Read),
+        "ok 1\nok 2\n",
+    ),
+    // A failed write leaves a beginning of the report.
+    (
+        "go 1\ngo 2\nundo\n",
+        Devices {
+            good_writes: 0,
+            most_taken: 2,
+            ..WORKING
+        },
+        Err(ScriptFault::Write),
+        "",
+    ),
+    (
+        "go 1\ngo 2\nundo\n",
+        Devices {
+            good_writes: 1,
+            most_taken: 2,
+            ..WORKING
+        },
+        Err(ScriptFault::Write),
+        "ok",
+    ),
+    (
+        "go 1\ngo 2\nundo\n",
+        Devices {
+            good_writes: 2,
+            most_taken: 2,
+            ..WORKING
+        },
+        Err(ScriptFault::Write),
+        "ok 1",
+    ),
+    (
+        "go 1\ngo 2\nundo\n",
+        Devices {
+            good_writes: 3,
+            most_taken: 2,
+            ..WORKING
+        },
+        Err(ScriptFault::Write),
+        "ok 1\n",
+    ),
+    (
+        "go 1\ngo 2\nundo\n",
+        Devices {
+            good_writes: 4,
+            most_taken: 2,
+            ..WORKING
+        },
+        Err(ScriptFault::Write),
+        "ok 1\nok",
+    ),
+    // A writer that takes nothing has failed.
+    (
+        "go 1\n",
+        Devices {
+            most_taken: 0,
+            ..WORKING
+        },
+        Err(ScriptFault::Write),
+        "",
+    ),
+    // A writer may take a byte a call.
+    (
+        "go 1\ngo 2\nundo\n",
+        Devices {
+            most_taken: 1,
+            ..WORKING
+        },
+        Ok(3),
+        "ok 1\nok 2\nat 1 1\n",
+    ),
+    // Each answer is one write.
+    (
+        "go 1\nhello\nundo\n",
+        Devices {
+            good_writes: 3,
+            ..WORKING
+        },
+        Ok(3),
+        "ok 1\nrefused 22 BadLine\nat 0 1\n",
+    ),
+    // Reads and writes that a signal interrupts are made again.
+    (
+        "go 1\ngo 2\nundo\n",
+        INTERRUPTED,
+        Ok(3),
+        "ok 1\nok 2\nat 1 1\n",
+    ),
+    (
+        "go 1\ngo 2\nundo\n",
+        Devices {
+            most_taken: 1,
+            ..INTERRUPTED
+        },
+        Ok(3),
+        "ok 1\nok 2\nat 1 1\n",
+    ),
+    (
+        "go 1\ngo 2\nundo\n",
+        Devices {
+            good_reads: 5,
+            ..INTERRUPTED
+        },
+        Err(ScriptFault::Read),
+        "ok 1\n",
+    ),
+    (
+        "go 1\ngo 2\nundo\n",
+        Devices {
+            good_writes: 1,
+            ..INTERRUPTED
+        },
+        Err(ScriptFault::Write),
+        "ok 1\n",
+    ),
+];
+
+#[test]
+fn a_run_ends_as_its_devices_do(rt: HostRuntime) {
+    runs_are(&rt, rt.alloc(), RUNS);
 }
 
 #[test]
-fn a_read_that_fails_behind_others_leaves_what_they_gave_done(rt: HostRuntime) -> Result<(), Fail> {
+fn reads_may_give_any_number_of_bytes_and_what_they_gave_before_one_fails_is_done(rt: HostRuntime) {
+    portions_are_read(&rt, rt.alloc(), &[1, 2, 3, 7, 4096, 100_000]);
     long_reads_are(
         &rt,
         rt.alloc(),
@@ -243,165 +359,5 @@ fn a_read_that_fails_behind_others_leaves_what_they_gave_done(rt: HostRuntime) -
             (2, 2048, Err(ScriptFault::Read)),
             (4, 3000, Ok(3000)),
         ],
-    )
-}
-
-#[test]
-fn a_failed_write_leaves_a_beginning_of_the_report(rt: HostRuntime) -> Result<(), Fail> {
-    runs_are(
-        &rt,
-        rt.alloc(),
-        &[
-            (
-                "go 1\ngo 2\nundo\n",
-                Devices {
-                    good_writes: 0,
-                    most_taken: 2,
-                    ..WORKING
-                },
-                Err(ScriptFault::Write),
-                "",
-            ),
-            (
-                "go 1\ngo 2\nundo\n",
-                Devices {
-                    good_writes: 1,
-                    most_taken: 2,
-                    ..WORKING
-                },
-                Err(ScriptFault::Write),
-                "ok",
-            ),
-            (
-                "go 1\ngo 2\nundo\n",
-                Devices {
-                    good_writes: 2,
-                    most_taken: 2,
-                    ..WORKING
-                },
-                Err(ScriptFault::Write),
-                "ok 1",
-            ),
-            (
-                "go 1\ngo 2\nundo\n",
-                Devices {
-                    good_writes: 3,
-                    most_taken: 2,
-                    ..WORKING
-                },
-                Err(ScriptFault::Write),
-                "ok 1\n",
-            ),
-            (
-                "go 1\ngo 2\nundo\n",
-                Devices {
-                    good_writes: 4,
-                    most_taken: 2,
-                    ..WORKING
-                },
-                Err(ScriptFault::Write),
-                "ok 1\nok",
-            ),
-        ],
-    )
-}
-
-#[test]
-fn a_writer_that_takes_nothing_has_failed(rt: HostRuntime) -> Result<(), Fail> {
-    runs_are(
-        &rt,
-        rt.alloc(),
-        &[(
-            "go 1\n",
-            Devices {
-                most_taken: 0,
-                ..WORKING
-            },
-            Err(ScriptFault::Write),
-            "",
-        )],
-    )
-}
-
-#[test]
-fn a_writer_may_take_a_byte_a_call(rt: HostRuntime) -> Result<(), Fail> {
-    runs_are(
-        &rt,
-        rt.alloc(),
-        &[(
-            "go 1\ngo 2\nundo\n",
-            Devices {
-                most_taken: 1,
-                ..WORKING
-            },
-            Ok(3),
-            "ok 1\nok 2\nat 1 1\n",
-        )],
-    )
-}
-
-#[test]
-fn each_answer_is_one_write(rt: HostRuntime) -> Result<(), Fail> {
-    runs_are(
-        &rt,
-        rt.alloc(),
-        &[(
-            "go 1\nhello\nundo\n",
-            Devices {
-                good_writes: 3,
-                ..WORKING
-            },
-            Ok(3),
-            "ok 1\nrefused 22 BadLine\nat 0 1\n",
-        )],
-    )
-}
-
-/// Devices each of whose reads and writes a signal interrupts once.
-const INTERRUPTED: Devices = Devices {
-    interrupted: true,
-    ..WORKING
-};
-
-#[test]
-fn reads_and_writes_that_a_signal_interrupts_are_made_again(rt: HostRuntime) -> Result<(), Fail> {
-    runs_are(
-        &rt,
-        rt.alloc(),
-        &[
-            (
-                "go 1\ngo 2\nundo\n",
-                INTERRUPTED,
-                Ok(3),
-                "ok 1\nok 2\nat 1 1\n",
-            ),
-            (
-                "go 1\ngo 2\nundo\n",
-                Devices {
-                    most_taken: 1,
-                    ..INTERRUPTED
-                },
-                Ok(3),
-                "ok 1\nok 2\nat 1 1\n",
-            ),
-            (
-                "go 1\ngo 2\nundo\n",
-                Devices {
-                    good_reads: 5,
-                    ..INTERRUPTED
-                },
-                Err(ScriptFault::Read),
-                "ok 1\n",
-            ),
-            (
-                "go 1\ngo 2\nundo\n",
-                Devices {
-                    good_writes: 1,
-                    ..INTERRUPTED
-                },
-                Err(ScriptFault::Write),
-                "ok 1\n",
-            ),
-        ],
-    )
+    );
 }

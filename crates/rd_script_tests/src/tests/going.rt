@@ -1,26 +1,25 @@
 //! Scripts that go to bookmarks and on from there: what lies after a bookmark is not undone then,
 //! although going on to the next one makes the same steps again.
 
-use super::runs::over_fresh;
-use std::test::Fail;
+use super::runs::{Piece, Shown, over_fresh};
 
-/// An enqueue and a dequeue of two steps each, with a bookmark after the enqueue and one at the
-/// end.
-const TWO_MARKS: [(&str, &str); 3] = [
-    ("enq 1 7\ngo 1\nmark a\n", "ok 1\nok 2\nmarked 2\n"),
-    ("deq 2\ngo 2\nmark b\n", "ok 3\nok 4\nmarked 4\n"),
-    ("goto a\n", "at 2 0\n"),
-];
+/// An enqueue of two steps, and a bookmark after it.
+const ENQUEUE: Piece = ("enq 1 7\ngo 1\nmark a\n", "ok 1\nok 2\nmarked 2\n");
 
-#[test]
-fn nothing_behind_a_bookmark_is_undone(rt: HostRuntime) -> Result<(), Fail> {
-    over_fresh::<4>(
-        &rt,
-        rt.alloc(),
+/// A dequeue of two steps after it, and a bookmark at the end.
+const DEQUEUE: Piece = ("deq 2\ngo 2\nmark b\n", "ok 3\nok 4\nmarked 4\n");
+
+/// The way back to the first bookmark.
+const BACK: Piece = ("goto a\n", "at 2 0\n");
+
+/// Scripts that go to bookmarks, over rings of four cells.
+const OVER_FOUR: &[Shown] = &[
+    (
+        "nothing behind a bookmark is undone",
         &[
-            TWO_MARKS[0],
-            TWO_MARKS[1],
-            TWO_MARKS[2],
+            ENQUEUE,
+            DEQUEUE,
+            BACK,
             (
                 "redo\nforward 1\nforward 0\n",
                 "refused 11 NothingToRedo\nrefused 11 NothingToRedo\nat 2 0\n",
@@ -42,22 +41,17 @@ fn nothing_behind_a_bookmark_is_undone(rt: HostRuntime) -> Result<(), Fail> {
                 "at 4 0\nrefused 11 NothingToRedo\nrefused 13 Depended 4\n",
             ),
         ],
-    )
-}
-
-#[test]
-fn going_on_to_the_next_bookmark_makes_its_steps_again(rt: HostRuntime) -> Result<(), Fail> {
-    over_fresh::<4>(
-        &rt,
-        rt.alloc(),
+    ),
+    (
+        "going on to the next bookmark makes its steps again",
         &[
-            TWO_MARKS[0],
-            TWO_MARKS[1],
+            ENQUEUE,
+            DEQUEUE,
             (
                 "actor 2\n",
                 "actor Q2 deq crq 0.0 new 0.0 next 0.0 t 0 h 0 closed 0 val none safe 0 idx 0 pass 1\n",
             ),
-            TWO_MARKS[2],
+            BACK,
             (
                 "actor 2\nstep 3\n",
                 "actor Idle none crq 0.0 new 0.0 next 0.0 t 0 h 0 closed 0 val none safe 0 idx 0 pass 0\nrefused 12 NoSuchStep 2\n",
@@ -72,18 +66,13 @@ fn going_on_to_the_next_bookmark_makes_its_steps_again(rt: HostRuntime) -> Resul
                 "at 2 0\nat 1 1\nat 2 0\nat 4 0\nat 4 0\n",
             ),
         ],
-    )
-}
-
-#[test]
-fn another_step_takes_the_place_of_what_lay_behind_a_bookmark(rt: HostRuntime) -> Result<(), Fail> {
-    over_fresh::<4>(
-        &rt,
-        rt.alloc(),
+    ),
+    (
+        "another step takes the place of what lay behind a bookmark",
         &[
-            TWO_MARKS[0],
-            TWO_MARKS[1],
-            TWO_MARKS[2],
+            ENQUEUE,
+            DEQUEUE,
+            BACK,
             ("deq 3\nmark c\n", "ok 3\nmarked 3\n"),
             ("goto b\ngoto c\ngoto a\n", "at 4 0\nat 3 0\nat 2 0\n"),
             ("deq 2\ngoto b\nsame b c\n", "ok 3\nat 4 0\nsame no\n"),
@@ -93,18 +82,13 @@ fn another_step_takes_the_place_of_what_lay_behind_a_bookmark(rt: HostRuntime) -
                 "at 1 1\nat 3 0\nrefused 11 NothingToRedo\n",
             ),
         ],
-    )
-}
-
-#[test]
-fn what_changes_no_step_leaves_the_way_on_from_a_bookmark(rt: HostRuntime) -> Result<(), Fail> {
-    over_fresh::<4>(
-        &rt,
-        rt.alloc(),
+    ),
+    (
+        "what changes no step leaves the way on from a bookmark",
         &[
-            TWO_MARKS[0],
-            TWO_MARKS[1],
-            TWO_MARKS[2],
+            ENQUEUE,
+            DEQUEUE,
+            BACK,
             (
                 "go 2\nundo 3\nroll 3\ngoto z\ngoto b\n",
                 "refused 3 Idle\nrefused 12 NoSuchStep 2\nrefused 12 NoSuchStep 2\nrefused 14 NoMark\nat 4 0\n",
@@ -119,16 +103,11 @@ fn what_changes_no_step_leaves_the_way_on_from_a_bookmark(rt: HostRuntime) -> Re
             ),
             ("goto c\ngoto d\nsame a c\n", "at 2 0\nat 3 0\nsame yes\n"),
         ],
-    )
-}
-
-#[test]
-fn a_step_undone_in_the_middle_leaves_the_bookmarks_behind_it(rt: HostRuntime) -> Result<(), Fail> {
-    over_fresh::<4>(
-        &rt,
-        rt.alloc(),
+    ),
+    (
+        "a step undone in the middle leaves the bookmarks behind it",
         &[
-            TWO_MARKS[0],
+            ENQUEUE,
             ("deq 2\nenq 3 8\nmark b\n", "ok 3\nok 4\nmarked 4\n"),
             ("undo 3\nlen\n", "at 3 1\nat 3 1\n"),
             ("goto b\ngoto a\n", "at 4 0\nat 2 0\n"),
@@ -138,5 +117,10 @@ fn a_step_undone_in_the_middle_leaves_the_bookmarks_behind_it(rt: HostRuntime) -
                 "at 4 0\nat 3 0\nstep 3; enq 3 8; -; none; -; -\n",
             ),
         ],
-    )
+    ),
+];
+
+#[test]
+fn a_bookmark_is_gone_to_and_left_as_its_row_says(rt: HostRuntime) {
+    over_fresh::<4>(&rt, rt.alloc(), OVER_FOUR);
 }

@@ -7,7 +7,6 @@ use std::alloc::Global;
 use std::io;
 use std::io::{ErrorKind, Read, Write};
 use std::process::Abort;
-use std::test::Fail;
 
 /// The calls of a device, one of which fails.
 #[derive(Clone, Copy)]
@@ -77,7 +76,7 @@ type Row = (ErrorKind, u64, Result<u64, ScriptFault>, &'static str, u64);
 
 /// Runs the script over a reader that fails at one call, and compares what it answers and writes,
 /// and the number of calls.
-fn reads_are(rt: &impl Abort, alloc: Global, rows: &[Row]) -> Result<(), Fail> {
+fn reads_are(rt: &impl Abort, alloc: Global, rows: &[Row]) {
     for (kind, failing, answer, report, made) in rows {
         let mut reader = TestReader {
             rest: SCRIPT.as_bytes(),
@@ -91,7 +90,7 @@ fn reads_are(rt: &impl Abort, alloc: Global, rows: &[Row]) -> Result<(), Fail> {
         let said = run(
             &mut ReadSource::new(&mut reader),
             &mut WriteSink::new(&mut written),
-            &mut poised::<4>(alloc)?,
+            &mut poised::<4>(rt, alloc),
         );
         let wrote = written.as_slice() == report.as_bytes();
         assert!(rt;
@@ -99,50 +98,11 @@ fn reads_are(rt: &impl Abort, alloc: Global, rows: &[Row]) -> Result<(), Fail> {
             "read {failing}"
         );
     }
-    Ok(())
-}
-
-#[test]
-fn a_reader_that_failed_is_not_asked_again(rt: HostRuntime) -> Result<(), Fail> {
-    reads_are(
-        &rt,
-        rt.alloc(),
-        &[
-            (ErrorKind::WouldBlock, 1, Err(ScriptFault::Read), "", 1),
-            (
-                ErrorKind::WouldBlock,
-                2,
-                Err(ScriptFault::Read),
-                "ok 1\n",
-                2,
-            ),
-            (
-                ErrorKind::WouldBlock,
-                3,
-                Err(ScriptFault::Read),
-                "ok 1\nok 2\n",
-                3,
-            ),
-            (ErrorKind::TimedOut, 2, Err(ScriptFault::Read), "ok 1\n", 2),
-        ],
-    )
-}
-
-#[test]
-fn a_reader_that_was_interrupted_is_asked_again(rt: HostRuntime) -> Result<(), Fail> {
-    reads_are(
-        &rt,
-        rt.alloc(),
-        &[
-            (ErrorKind::Interrupted, 1, Ok(2), "ok 1\nok 2\n", 4),
-            (ErrorKind::Interrupted, 3, Ok(2), "ok 1\nok 2\n", 4),
-        ],
-    )
 }
 
 /// Runs the script over a writer that fails at one call, and compares what it answers and writes,
 /// and the number of calls.
-fn writes_are(rt: &impl Abort, alloc: Global, rows: &[Row]) -> Result<(), Fail> {
+fn writes_are(rt: &impl Abort, alloc: Global, rows: &[Row]) {
     for (kind, failing, answer, report, made) in rows {
         let mut writer = TestWriter {
             taken: Vec::new(alloc),
@@ -155,7 +115,7 @@ fn writes_are(rt: &impl Abort, alloc: Global, rows: &[Row]) -> Result<(), Fail> 
         let said = run(
             &mut ReadSource::new(SCRIPT.as_bytes()),
             &mut WriteSink::new(&mut writer),
-            &mut poised::<4>(alloc)?,
+            &mut poised::<4>(rt, alloc),
         );
         let wrote = writer.taken.as_slice() == report.as_bytes();
         assert!(rt;
@@ -163,36 +123,51 @@ fn writes_are(rt: &impl Abort, alloc: Global, rows: &[Row]) -> Result<(), Fail> 
             "write {failing}"
         );
     }
-    Ok(())
 }
 
-#[test]
-fn a_writer_that_failed_is_not_asked_again(rt: HostRuntime) -> Result<(), Fail> {
-    writes_are(
-        &rt,
-        rt.alloc(),
-        &[
-            (ErrorKind::WouldBlock, 1, Err(ScriptFault::Write), "", 1),
-            (
-                ErrorKind::WouldBlock,
-                2,
-                Err(ScriptFault::Write),
-                "ok 1\n",
-                2,
-            ),
-            (ErrorKind::TimedOut, 2, Err(ScriptFault::Write), "ok 1\n", 2),
-        ],
-    )
-}
+/// Reads of which one fails.
+const READS: &[Row] = &[
+    // A reader that failed is not asked again.
+    (ErrorKind::WouldBlock, 1, Err(ScriptFault::Read), "", 1),
+    (
+        ErrorKind::WouldBlock,
+        2,
+        Err(ScriptFault::Read),
+        "ok 1\n",
+        2,
+    ),
+    (
+        ErrorKind::WouldBlock,
+        3,
+        Err(ScriptFault::Read),
+        "ok 1\nok 2\n",
+        3,
+    ),
+    (ErrorKind::TimedOut, 2, Err(ScriptFault::Read), "ok 1\n", 2),
+    // A reader that was interrupted is asked again.
+    (ErrorKind::Interrupted, 1, Ok(2), "ok 1\nok 2\n", 4),
+    (ErrorKind::Interrupted, 3, Ok(2), "ok 1\nok 2\n", 4),
+];
+
+/// Writes of which one fails.
+const WRITES: &[Row] = &[
+    // A writer that failed is not asked again.
+    (ErrorKind::WouldBlock, 1, Err(ScriptFault::Write), "", 1),
+    (
+        ErrorKind::WouldBlock,
+        2,
+        Err(ScriptFault::Write),
+        "ok 1\n",
+        2,
+    ),
+    (ErrorKind::TimedOut, 2, Err(ScriptFault::Write), "ok 1\n", 2),
+    // A writer that was interrupted is asked again.
+    (ErrorKind::Interrupted, 1, Ok(2), "ok 1\nok 2\n", 3),
+    (ErrorKind::Interrupted, 2, Ok(2), "ok 1\nok 2\n", 3),
+];
 
 #[test]
-fn a_writer_that_was_interrupted_is_asked_again(rt: HostRuntime) -> Result<(), Fail> {
-    writes_are(
-        &rt,
-        rt.alloc(),
-        &[
-            (ErrorKind::Interrupted, 1, Ok(2), "ok 1\nok 2\n", 3),
-            (ErrorKind::Interrupted, 2, Ok(2), "ok 1\nok 2\n", 3),
-        ],
-    )
+fn a_device_that_failed_is_not_asked_again_and_one_that_was_interrupted_is(rt: HostRuntime) {
+    reads_are(&rt, rt.alloc(), READS);
+    writes_are(&rt, rt.alloc(), WRITES);
 }

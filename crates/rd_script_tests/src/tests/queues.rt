@@ -1,13 +1,11 @@
 //! Scripts over a fresh world that walk whole calls of the queues.
 
-use super::runs::over_fresh;
-use std::test::Fail;
+use super::runs::{Shown, over_fresh};
 
-#[test]
-fn an_enqueue_is_undone_whole(rt: HostRuntime) -> Result<(), Fail> {
-    over_fresh::<4>(
-        &rt,
-        rt.alloc(),
+/// Whole calls over rings of four cells.
+const OVER_FOUR: &[Shown] = &[
+    (
+        "an enqueue is undone whole",
         &[
             (
                 "enq 1 7\ngo 1\ngo 1\ngo 1\ngo 1\ngo 1\ngo 1\n",
@@ -20,16 +18,9 @@ fn an_enqueue_is_undone_whole(rt: HostRuntime) -> Result<(), Fail> {
                 "actor Idle none crq 0.0 new 0.0 next 0.0 t 0 h 0 closed 0 val none safe 0 idx 0 pass 0\n",
             ),
         ],
-    )
-}
-
-#[test]
-fn a_dequeue_takes_the_value_and_leaves_the_cell_for_the_next_round(
-    rt: HostRuntime,
-) -> Result<(), Fail> {
-    over_fresh::<4>(
-        &rt,
-        rt.alloc(),
+    ),
+    (
+        "a dequeue takes the value and leaves the cell for the next round",
         &[
             (
                 "enq 1 7\ngo 1\ngo 1\ngo 1\ngo 1\ngo 1\ngo 1\n",
@@ -42,14 +33,9 @@ fn a_dequeue_takes_the_value_and_leaves_the_cell_for_the_next_round(
             ("show head 0.0\n", "is 1\n"),
             ("show cell 0.0 0\n", "is 1 4 none\n"),
         ],
-    )
-}
-
-#[test]
-fn a_dequeue_of_an_empty_queue_moves_the_tail_behind_the_head(rt: HostRuntime) -> Result<(), Fail> {
-    over_fresh::<4>(
-        &rt,
-        rt.alloc(),
+    ),
+    (
+        "a dequeue of an empty queue moves the tail behind the head",
         &[
             (
                 "deq 1\ngo 1\ngo 1\ngo 1\ngo 1\ngo 1\ngo 1\ngo 1\ngo 1\ngo 1\ngo 1\ngo 1\n",
@@ -60,16 +46,9 @@ fn a_dequeue_of_an_empty_queue_moves_the_tail_behind_the_head(rt: HostRuntime) -
             ("show tail 0.0\n", "is open 0\n"),
             ("forward 12\n", "at 12 0\n"),
         ],
-    )
-}
-
-#[test]
-fn an_actor_that_starves_closes_the_segment_and_links_a_new_one(
-    rt: HostRuntime,
-) -> Result<(), Fail> {
-    over_fresh::<4>(
-        &rt,
-        rt.alloc(),
+    ),
+    (
+        "an actor that starves closes the segment and links a new one",
         &[
             ("enq 1 7\ngo 1\ngo 1\ngo 1\n", "ok 1\nok 2\nok 3\nok 4\n"),
             (
@@ -90,14 +69,26 @@ fn an_actor_that_starves_closes_the_segment_and_links_a_new_one(
             ("show qtail\n", "is 1.0\n"),
             ("show cell 1.0 0\n", "is 1 0 7\n"),
         ],
-    )
-}
+    ),
+    (
+        "an array dequeue finds a slot empty and its enqueue draws another",
+        &[
+            ("aenq 1 7\ngo 1\nadeq 2\n", "ok 1\nok 2\nok 3\n"),
+            ("go 2\ngo 2\n", "ok 4\nok 5\n"),
+            ("go 1\ngo 2\n", "ok 6\nok 7 empty\n"),
+            ("go 1\ngo 1\n", "ok 8\nok 9 enqueued\n"),
+            ("show acell 0\n", "is value 7\n"),
+            ("show acell 1\n", "is value 7\n"),
+            ("show atail\n", "is 2\n"),
+            ("undo 5\n", "refused 13 Depended 6\n"),
+        ],
+    ),
+];
 
-#[test]
-fn a_dequeue_that_waited_takes_its_value_in_a_second_pass(rt: HostRuntime) -> Result<(), Fail> {
-    over_fresh::<2>(
-        &rt,
-        rt.alloc(),
+/// Whole calls over rings of two cells.
+const OVER_TWO: &[Shown] = &[
+    (
+        "a dequeue that waited takes its value in a second pass",
         &[
             (
                 "deq 2\ngo 2\ngo 2\ngo 2\ngo 2\ngo 2\ngo 2\ngo 2\ngo 2\ngo 2\ngo 2\n",
@@ -125,14 +116,9 @@ fn a_dequeue_that_waited_takes_its_value_in_a_second_pass(rt: HostRuntime) -> Re
             ("writer whole 2.0\n", "refused 19 NoSuchPlace\n"),
             ("writer qhead\n", "writer none\n"),
         ],
-    )
-}
-
-#[test]
-fn a_dequeue_marks_a_cell_unsafe_that_holds_an_earlier_value(rt: HostRuntime) -> Result<(), Fail> {
-    over_fresh::<2>(
-        &rt,
-        rt.alloc(),
+    ),
+    (
+        "a dequeue marks a cell unsafe that holds an earlier value",
         &[
             (
                 "enq 1 7\ngo 1\ngo 1\ngo 1\ngo 1\ngo 1\ngo 1\n",
@@ -159,25 +145,11 @@ fn a_dequeue_marks_a_cell_unsafe_that_holds_an_earlier_value(rt: HostRuntime) ->
             ("show cell 0.0 0\n", "is 0 2 none\n"),
             ("undo 28\n", "refused 13 Depended 30\n"),
         ],
-    )
-}
+    ),
+];
 
 #[test]
-fn an_array_dequeue_finds_a_slot_empty_and_its_enqueue_draws_another(
-    rt: HostRuntime,
-) -> Result<(), Fail> {
-    over_fresh::<4>(
-        &rt,
-        rt.alloc(),
-        &[
-            ("aenq 1 7\ngo 1\nadeq 2\n", "ok 1\nok 2\nok 3\n"),
-            ("go 2\ngo 2\n", "ok 4\nok 5\n"),
-            ("go 1\ngo 2\n", "ok 6\nok 7 empty\n"),
-            ("go 1\ngo 1\n", "ok 8\nok 9 enqueued\n"),
-            ("show acell 0\n", "is value 7\n"),
-            ("show acell 1\n", "is value 7\n"),
-            ("show atail\n", "is 2\n"),
-            ("undo 5\n", "refused 13 Depended 6\n"),
-        ],
-    )
+fn a_whole_call_is_answered_and_undone_step_by_step(rt: HostRuntime) {
+    over_fresh::<4>(&rt, rt.alloc(), OVER_FOUR);
+    over_fresh::<2>(&rt, rt.alloc(), OVER_TWO);
 }

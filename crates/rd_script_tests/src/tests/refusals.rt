@@ -59,121 +59,98 @@ fn each_refusal_of_a_command_has_its_line(rt: HostRuntime) {
     );
 }
 
+/// The line of each refusal that is not a command's.
+const OTHERS: &[(AnyRefusal, &str)] = &[
+    // Each other refusal has its line.
+    (AnyRefusal::HistoryFull, "refused 21 HistoryFull\n"),
+    (
+        AnyRefusal::Unread(LineFault::BadLine),
+        "refused 22 BadLine\n",
+    ),
+    (
+        AnyRefusal::Unread(LineFault::LineTooLong),
+        "refused 23 LineTooLong\n",
+    ),
+    (
+        AnyRefusal::Unread(LineFault::BadName),
+        "refused 17 BadName\n",
+    ),
+    (AnyRefusal::Stopped(ScriptFault::Read), "refused 24 Read\n"),
+    (
+        AnyRefusal::Stopped(ScriptFault::Write),
+        "refused 25 Write\n",
+    ),
+    (AnyRefusal::BadTrace, "refused 27 BadTrace\n"),
+    (AnyRefusal::TicketsEnded, "refused 29 TicketsEnded\n"),
+    (
+        AnyRefusal::Busy { next: 3, served: 2 },
+        "refused 30 Busy next 3 served 2\n",
+    ),
+    (AnyRefusal::NotRecorded, "refused 31 NotRecorded\n"),
+    // Each flaw has its number.
+    (AnyRefusal::Flawed(Flaw::Makers), "refused 26 Flaw 1\n"),
+    (AnyRefusal::Flawed(Flaw::PlaceNames), "refused 26 Flaw 2\n"),
+    (AnyRefusal::Flawed(Flaw::ActorNames), "refused 26 Flaw 3\n"),
+    (AnyRefusal::Flawed(Flaw::Counters), "refused 26 Flaw 4\n"),
+    (AnyRefusal::Flawed(Flaw::Indexes), "refused 26 Flaw 5\n"),
+    (
+        AnyRefusal::Flawed(Flaw::ArrayCounters),
+        "refused 26 Flaw 6\n",
+    ),
+    (
+        AnyRefusal::Flawed(Flaw::ActorNumbers),
+        "refused 26 Flaw 7\n",
+    ),
+    (AnyRefusal::Flawed(Flaw::ActorWords), "refused 26 Flaw 8\n"),
+    // A refused event of a trace shows the cause with its data.
+    (
+        AnyRefusal::TraceStep {
+            step: 1,
+            cause: Refusal::NoActor,
+        },
+        "refused 28 TraceStep 1 cause 1 NoActor\n",
+    ),
+    (
+        AnyRefusal::TraceStep {
+            step: 70_000,
+            cause: Refusal::TooLong,
+        },
+        "refused 28 TraceStep 70000 cause 9 TooLong\n",
+    ),
+    (
+        AnyRefusal::TraceStep {
+            step: 4,
+            cause: Refusal::NoSuchStep(3),
+        },
+        "refused 28 TraceStep 4 cause 12 NoSuchStep 3\n",
+    ),
+    (
+        AnyRefusal::TraceStep {
+            step: u64::MAX,
+            cause: Refusal::NothingToUndo(u64::MAX),
+        },
+        "refused 28 TraceStep 18446744073709551615 cause 10 NothingToUndo 18446744073709551615\n",
+    ),
+    // A refused event of a bookmark shows both numbers and the cause.
+    (
+        AnyRefusal::TraceMark {
+            mark: 1,
+            step: 1,
+            cause: Refusal::Idle,
+        },
+        "refused 32 TraceMark 1 1 cause 3 Idle\n",
+    ),
+    (
+        AnyRefusal::TraceMark {
+            mark: u64::MAX,
+            step: u64::MAX,
+            cause: Refusal::NothingToUndo(u64::MAX),
+        },
+        "refused 32 TraceMark 18446744073709551615 18446744073709551615 cause 10 NothingToUndo 18446744073709551615\n",
+    ),
+];
+
 #[test]
 fn each_other_refusal_has_its_line(rt: HostRuntime) {
-    others_are(
-        &rt,
-        &[
-            (AnyRefusal::HistoryFull, "refused 21 HistoryFull\n"),
-            (
-                AnyRefusal::Unread(LineFault::BadLine),
-                "refused 22 BadLine\n",
-            ),
-            (
-                AnyRefusal::Unread(LineFault::LineTooLong),
-                "refused 23 LineTooLong\n",
-            ),
-            (
-                AnyRefusal::Unread(LineFault::BadName),
-                "refused 17 BadName\n",
-            ),
-            (AnyRefusal::Stopped(ScriptFault::Read), "refused 24 Read\n"),
-            (
-                AnyRefusal::Stopped(ScriptFault::Write),
-                "refused 25 Write\n",
-            ),
-            (AnyRefusal::BadTrace, "refused 27 BadTrace\n"),
-            (AnyRefusal::TicketsEnded, "refused 29 TicketsEnded\n"),
-            (
-                AnyRefusal::Busy { next: 3, served: 2 },
-                "refused 30 Busy next 3 served 2\n",
-            ),
-            (AnyRefusal::NotRecorded, "refused 31 NotRecorded\n"),
-        ],
-    );
-}
-
-#[test]
-fn each_flaw_has_its_number(rt: HostRuntime) {
-    others_are(
-        &rt,
-        &[
-            (AnyRefusal::Flawed(Flaw::Makers), "refused 26 Flaw 1\n"),
-            (AnyRefusal::Flawed(Flaw::PlaceNames), "refused 26 Flaw 2\n"),
-            (AnyRefusal::Flawed(Flaw::ActorNames), "refused 26 Flaw 3\n"),
-            (AnyRefusal::Flawed(Flaw::Counters), "refused 26 Flaw 4\n"),
-            (AnyRefusal::Flawed(Flaw::Indexes), "refused 26 Flaw 5\n"),
-            (
-                AnyRefusal::Flawed(Flaw::ArrayCounters),
-                "refused 26 Flaw 6\n",
-            ),
-            (
-                AnyRefusal::Flawed(Flaw::ActorNumbers),
-                "refused 26 Flaw 7\n",
-            ),
-            (AnyRefusal::Flawed(Flaw::ActorWords), "refused 26 Flaw 8\n"),
-        ],
-    );
-}
-
-#[test]
-fn a_refused_event_of_a_trace_shows_the_cause_with_its_data(rt: HostRuntime) {
-    others_are(
-        &rt,
-        &[
-            (
-                AnyRefusal::TraceStep {
-                    step: 1,
-                    cause: Refusal::NoActor,
-                },
-                "refused 28 TraceStep 1 cause 1 NoActor\n",
-            ),
-            (
-                AnyRefusal::TraceStep {
-                    step: 70_000,
-                    cause: Refusal::TooLong,
-                },
-                "refused 28 TraceStep 70000 cause 9 TooLong\n",
-            ),
-            (
-                AnyRefusal::TraceStep {
-                    step: 4,
-                    cause: Refusal::NoSuchStep(3),
-                },
-                "refused 28 TraceStep 4 cause 12 NoSuchStep 3\n",
-            ),
-            (
-                AnyRefusal::TraceStep {
-                    step: u64::MAX,
-                    cause: Refusal::NothingToUndo(u64::MAX),
-                },
-                "refused 28 TraceStep 18446744073709551615 cause 10 NothingToUndo 18446744073709551615\n",
-            ),
-        ],
-    );
-}
-
-#[test]
-fn a_refused_event_of_a_bookmark_shows_both_numbers_and_the_cause(rt: HostRuntime) {
-    others_are(
-        &rt,
-        &[
-            (
-                AnyRefusal::TraceMark {
-                    mark: 1,
-                    step: 1,
-                    cause: Refusal::Idle,
-                },
-                "refused 32 TraceMark 1 1 cause 3 Idle\n",
-            ),
-            (
-                AnyRefusal::TraceMark {
-                    mark: u64::MAX,
-                    step: u64::MAX,
-                    cause: Refusal::NothingToUndo(u64::MAX),
-                },
-                "refused 32 TraceMark 18446744073709551615 18446744073709551615 cause 10 NothingToUndo 18446744073709551615\n",
-            ),
-        ],
-    );
+    others_are(&rt, OTHERS);
 }

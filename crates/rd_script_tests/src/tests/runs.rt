@@ -2,41 +2,46 @@
 
 ghost use Rattle.std.specs.Prelude.{◌≤◌};
 
-use rd_cell::Refusal;
 use rd_journal::Session;
 use rd_marks::Book;
 use rd_script::{ReadSource, WriteSink, run};
 use rd_step::World;
 use std::alloc::Global;
 use std::process::Abort;
-use std::test::Fail;
 use test_kit::ASKED;
 
+/// A piece of a script, and its report.
+pub type Piece = (&'static str, &'static str);
+
+/// What a script shows, and its pieces.
+pub type Shown = (&'static str, &'static [Piece]);
+
 /// A book over a fresh world of this many actors.
-pub fn fresh<const R: usize>(alloc: Global, actors: u8) -> Result<Book<R>, Refusal>
+pub fn fresh<const R: usize>(rt: &impl Abort, alloc: Global, actors: u8) -> Book<R>
     requires positive { 1 ≤ R }
     requires small { R ≤ 64 }
     requires some { 1 ≤ actors }
     requires few { actors ≤ 16 }
 {
-    let world = World::<R>::fresh(alloc, actors)?;
-    Ok(Book::open(alloc, Session::open(alloc, world)))
+    let world = World::<R>::fresh(alloc, actors).expect(rt, "out of memory");
+    Book::open(alloc, Session::open(alloc, world))
 }
 
 /// A book over a poised world of four actors.
-pub fn poised<const R: usize>(alloc: Global) -> Result<Book<R>, Refusal>
+pub fn poised<const R: usize>(rt: &impl Abort, alloc: Global) -> Book<R>
     requires positive { 1 ≤ R }
     requires small { R ≤ 64 }
 {
-    let world = World::<R>::poised(alloc, 4)?;
-    Ok(Book::open(alloc, Session::open(alloc, world)))
+    let world = World::<R>::poised(alloc, 4).expect(rt, "out of memory");
+    Book::open(alloc, Session::open(alloc, world))
 }
 
-/// Runs a script over a book, and compares its report and its number of lines.
+/// Runs a script over a book, and compares its report and its number of lines. It shows `what`.
 pub fn report_is<const R: usize>(
     rt: &impl Abort,
     alloc: Global,
     book: &mut Book<R>,
+    what: &str,
     script: &str,
     report: &str,
 ) {
@@ -49,7 +54,7 @@ pub fn report_is<const R: usize>(
     let wanted = Ok(report.lines().count() as u64);
     assert!(rt;
         written.as_slice() == report.as_bytes() && lines == wanted,
-        "script {script}"
+        "{what}: {script}"
     );
 }
 
@@ -59,56 +64,42 @@ fn reports_are<const R: usize>(
     rt: &impl Abort,
     alloc: Global,
     book: &mut Book<R>,
-    pieces: &[(&str, &str)],
+    what: &str,
+    pieces: &[Piece],
 ) {
     for (script, report) in pieces {
-        report_is(rt, alloc, book, *script, *report);
+        report_is(rt, alloc, book, what, *script, *report);
     }
 }
 
-/// Runs pieces of a script over a fresh world of four actors, and compares their reports.
-pub fn over_fresh<const R: usize>(
-    rt: &impl Abort,
-    alloc: Global,
-    pieces: &[(&str, &str)],
-) -> Result<(), Fail>
+/// Runs the pieces of each row over a fresh world of four actors of its own, and compares their
+/// reports.
+pub fn over_fresh<const R: usize>(rt: &impl Abort, alloc: Global, rows: &[Shown])
     requires positive { 1 ≤ R }
     requires small { R ≤ 64 }
 {
-    reports_are(rt, alloc, &mut fresh::<R>(alloc, 4)?, pieces);
-    Ok(())
+    for (what, pieces) in rows {
+        reports_are(rt, alloc, &mut fresh::<R>(rt, alloc, 4), *what, *pieces);
+    }
 }
 
-/// Runs pieces of a script over a poised world of four actors, and compares their reports.
-pub fn over_poised<const R: usize>(
-    rt: &impl Abort,
-    alloc: Global,
-    pieces: &[(&str, &str)],
-) -> Result<(), Fail>
+/// Runs the pieces of each row over a poised world of four actors of its own, and compares their
+/// reports.
+pub fn over_poised<const R: usize>(rt: &impl Abort, alloc: Global, rows: &[Shown])
     requires positive { 1 ≤ R }
     requires small { R ≤ 64 }
 {
-    reports_are(rt, alloc, &mut poised::<R>(alloc)?, pieces);
-    Ok(())
+    for (what, pieces) in rows {
+        reports_are(rt, alloc, &mut poised::<R>(rt, alloc), *what, *pieces);
+    }
 }
 
-#[test]
-fn an_empty_script_has_an_empty_report(rt: HostRuntime) -> Result<(), Fail> {
-    over_fresh::<4>(&rt, rt.alloc(), &[("", "")])
-}
-
-#[test]
-fn each_command_is_answered_as_the_manual_says(rt: HostRuntime) -> Result<(), Fail> {
-    over_fresh::<4>(&rt, rt.alloc(), ASKED)
-}
-
-#[test]
-fn a_refused_walk_changes_nothing_and_a_new_step_forgets_the_undone_ones(
-    rt: HostRuntime,
-) -> Result<(), Fail> {
-    over_fresh::<4>(
-        &rt,
-        rt.alloc(),
+/// Scripts over a fresh world with rings of four cells.
+const OVER_FRESH: &[Shown] = &[
+    ("an empty script has an empty report", &[("", "")]),
+    ("each command is answered as the manual says", ASKED),
+    (
+        "a refused walk changes nothing and a new step forgets the undone ones",
         &[
             ("undo\n", "refused 10 NothingToUndo 0\n"),
             ("enq 1 7\ndeq 2\n", "ok 1\nok 2\n"),
@@ -125,14 +116,9 @@ fn a_refused_walk_changes_nothing_and_a_new_step_forgets_the_undone_ones(
             ("roll 3\n", "refused 12 NoSuchStep 2\n"),
             ("forward 1\n", "refused 11 NothingToRedo\n"),
         ],
-    )
-}
-
-#[test]
-fn a_line_that_spells_no_command_changes_nothing(rt: HostRuntime) -> Result<(), Fail> {
-    over_fresh::<4>(
-        &rt,
-        rt.alloc(),
+    ),
+    (
+        "a line that spells no command changes nothing",
         &[
             ("enq 1 18446744073709551616\n", "refused 22 BadLine\n"),
             ("enq 1 18446744073709551615\n", "ok 1\n"),
@@ -148,14 +134,13 @@ fn a_line_that_spells_no_command_changes_nothing(rt: HostRuntime) -> Result<(), 
             ("mark A\n", "refused 17 BadName\n"),
             ("len", "at 1 0\n"),
         ],
-    )
-}
+    ),
+];
 
-#[test]
-fn draws_are_made_and_undone_in_a_poised_world(rt: HostRuntime) -> Result<(), Fail> {
-    over_poised::<4>(
-        &rt,
-        rt.alloc(),
+/// Scripts over a poised world with rings of four cells.
+const OVER_POISED: &[Shown] = &[
+    (
+        "draws are made and undone in a poised world",
         &[
             ("go 1\ngo 2\nundo\n", "ok 1\nok 2\nat 1 1\n"),
             (
@@ -163,26 +148,16 @@ fn draws_are_made_and_undone_in_a_poised_world(rt: HostRuntime) -> Result<(), Fa
                 "at 0 2\nok 1\nat 0 1\nrefused 10 NothingToUndo 0\n",
             ),
         ],
-    )
-}
-
-#[test]
-fn an_enqueue_in_a_poised_world_ends_with_its_reply(rt: HostRuntime) -> Result<(), Fail> {
-    over_poised::<4>(
-        &rt,
-        rt.alloc(),
+    ),
+    (
+        "an enqueue in a poised world ends with its reply",
         &[(
             "go 1\ngo 1\ngo 1\ngo 1\ngo 1\nundo\nredo\n",
             "ok 1\nok 2\nok 3\nok 4 enqueued\nrefused 3 Idle\nat 3 1\nat 4 0\n",
         )],
-    )
-}
-
-#[test]
-fn each_refused_line_says_why(rt: HostRuntime) -> Result<(), Fail> {
-    over_poised::<4>(
-        &rt,
-        rt.alloc(),
+    ),
+    (
+        "each refused line says why",
         &[
             (
                 "undo\ngo 1\ngo 1\ngo 5\nhello\n",
@@ -197,5 +172,11 @@ fn each_refused_line_says_why(rt: HostRuntime) -> Result<(), Fail> {
                 "at 2 0\nat 2 0\nrefused 10 NothingToUndo 2\nrefused 11 NothingToRedo\n",
             ),
         ],
-    )
+    ),
+];
+
+#[test]
+fn each_line_of_a_script_has_its_answer(rt: HostRuntime) {
+    over_fresh::<4>(&rt, rt.alloc(), OVER_FRESH);
+    over_poised::<4>(&rt, rt.alloc(), OVER_POISED);
 }
