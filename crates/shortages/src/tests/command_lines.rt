@@ -51,6 +51,9 @@ fn a_command_line_that_was_refused_memory_is_read_as_ever_the_next_time(rt: Host
     come_to(&rt, alloc, &["lcrqdb", "view", "a", "b", "--ring=2"], view);
 }
 
+/// Words that are a mistake.
+const MISTAKES: &[&[&str]] = &[&["lcrqdb", "run"], &["lcrqdb", "hop"]];
+
 /// Whether the words are refused as a mistake. If not, memory was refused.
 fn are_mistaken(rt: &impl Abort, alloc: Global, words: &[&str]) -> bool {
     match options(alloc, words) {
@@ -62,8 +65,8 @@ fn are_mistaken(rt: &impl Abort, alloc: Global, words: &[&str]) -> bool {
 
 #[test]
 fn a_mistake_is_refused_as_ever_after_memory_was(rt: HostRuntime) {
-    for words in [["lcrqdb", "run"], ["lcrqdb", "hop"]] {
-        let mistaken = are_mistaken(&rt, rt.alloc(), &words);
-        assert!(&rt; mistaken || are_mistaken(&rt, rt.alloc(), &words));
+    for words in MISTAKES {
+        let mistaken = are_mistaken(&rt, rt.alloc(), *words);
+        assert!(&rt; mistaken || are_mistaken(&rt, rt.alloc(), *words));
     }
 }

@@ -121,8 +121,8 @@ fn an_index_that_is_refused_memory_finds_what_it_found_and_takes_the_step_the_ne
     rt: HostRuntime,
 ) {
     let mut indexed = fresh(&rt, rt.alloc());
-    for access in STEPS {
-        assert!(&rt; is_pushed(&mut indexed, record(access)));
+    for access in &STEPS {
+        assert!(&rt; is_pushed(&mut indexed, record(*access)));
     }
     assert!(&rt; indexed.finds_all());
 }
@@ -134,8 +134,8 @@ fn room_that_is_refused_to_an_index_is_made_the_next_time_and_pushes_ask_for_non
     let entries = STEPS.map(record);
     assert!(&rt; has_room(&mut indexed, &entries));
     assert!(&rt; indexed.finds_all());
-    for entry in entries {
-        assert!(&rt; indexed.push(entry).is_ok());
+    for entry in &entries {
+        assert!(&rt; indexed.push(*entry).is_ok());
     }
     assert!(&rt; indexed.finds_all());
 }

@@ -30,24 +30,18 @@ pub(super) fn answer(book: &mut Book<2>, command: &Command) -> Result<Reply, Ref
     }
 }
 
-/// How many of these answers are NoMemory.
-fn count_refused(answers: &[Result<Reply, Refusal>]) -> usize {
-    answers
-        .iter()
-        .filter(|answer| **answer == Err(Refusal::NoMemory))
-        .count()
-}
-
 /// Whether a book answers the commands as this list has it, but for one that was refused memory,
 /// which it does not obey.
 fn follows(book: &mut Book<2>, answers: &[Result<Reply, Refusal>]) -> bool {
+    let mut refused = false;
     for i in 0..COMMANDS.len().min(answers.len()) {
-        let refused = answers[i] == Err(Refusal::NoMemory);
-        if !refused && answer(book, &COMMANDS[i]) != answers[i] {
+        let obeyed = answers[i] != Err(Refusal::NoMemory);
+        if obeyed && answer(book, &COMMANDS[i]) != answers[i] || !obeyed && refused {
             return false;
         }
+        refused = refused || !obeyed;
     }
-    answers.len() == COMMANDS.len() && count_refused(answers) < 2
+    answers.len() == COMMANDS.len()
 }
 
 /// Whether a book was asked the list and its twin follows. If not, the room for the answers was

@@ -14,7 +14,7 @@ const REFUSED: &[u8] = b"refused 20 NoMemory\n";
 
 /// How the lines begin that may be refused memory: those that make a step, set a bookmark, go to
 /// one, or compare two.
-const TAKERS: [&[u8]; 9] = [
+const TAKERS: &[&[u8]] = &[
     b"enq ", b"deq ", b"aenq ", b"adeq ", b"go ", b"starve ", b"mark ", b"goto ", b"same ",
 ];
 
@@ -107,7 +107,7 @@ pub(super) fn on_trial(rt: &impl Abort, alloc: Global) -> Trial {
 /// Whether a line may be refused memory.
 fn may_take_memory(line: &[u8]) -> bool {
     for taker in TAKERS {
-        if line.starts_with(taker) {
+        if line.starts_with(*taker) {
             return true;
         }
     }

@@ -13,7 +13,7 @@ use test_kit::PageWriter;
 pub(super) const USUAL: &[u8] = b"viewer 1\nok 1\nat 1 0\nviewer 2\nis open 0\nhistory 3\n";
 
 /// The texts where a viewer's thread, the record of a call, or a step was refused memory.
-const SHORT: [&[u8]; 5] = [
+const SHORT: &[&[u8]] = &[
     b"viewer 1\nrefused 20 NoMemory\nviewer 2\nis open 0\nhistory 1\n",
     b"viewer 1\nrefused 31 NotRecorded\nat 0 0\nviewer 2\nis open 0\nhistory 2\n",
     b"viewer 1\nrefused 20 NoMemory\nat 0 0\nviewer 2\nis open 0\nhistory 3\n",

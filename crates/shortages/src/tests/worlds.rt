@@ -8,7 +8,7 @@ use std::process::Abort;
 use test_kit::parts;
 
 /// The places of the queue, of the first segment, and of the one that actor 1 makes first.
-const PLACES: [Place; 14] = [
+const PLACES: &[Place] = &[
     Place::QHead,
     Place::QTail,
     Place::Head(SegName::ROOT),
@@ -31,7 +31,7 @@ const MADE: SegName = SegName { maker: 1, n: 0 };
 /// Whether two worlds have the same at each place, and the same actors.
 fn are_same(one: &World<2>, other: &World<2>) -> bool {
     for place in PLACES {
-        if one.content(place) != other.content(place) {
+        if one.content(*place) != other.content(*place) {
             return false;
         }
     }

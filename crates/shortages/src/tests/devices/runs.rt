@@ -28,7 +28,13 @@ fn lines_of(text: &[u8], lines: usize) -> &[u8] {
 
 /// How many line feeds are in a text.
 fn line_feeds(text: &[u8]) -> usize {
-    text.iter().filter(|byte| **byte == b'\n').count()
+    let mut count: usize = 0;
+    for byte in text {
+        if *byte == b'\n' {
+            count = count.saturating_add(1);
+        }
+    }
+    count
 }
 
 /// How a run over these devices ends, if it is at a fault.
@@ -87,49 +93,44 @@ fn write_fails(failed: &mut Trial, twin: &mut Trial, limit: Limit) -> bool {
         && failed.is_as(twin)
 }
 
-/// Whether a run over two fresh books is as `write_fails` says where each call takes one byte.
-fn byte_fails_at(rt: &impl Abort, alloc: Global, calls: usize, end: End) -> bool {
-    let mut failed = on_trial(rt, alloc);
-    let mut twin = on_trial(rt, alloc);
-    let most = 1;
-    write_fails(&mut failed, &mut twin, Limit { calls, most, end }) && failed.report.len() == calls
-}
-
-/// Whether a run over two fresh books is as `write_fails` says where each call takes a whole reply.
-fn reply_fails_at(rt: &impl Abort, alloc: Global, calls: usize, end: End) -> bool {
-    let mut failed = on_trial(rt, alloc);
-    let mut twin = on_trial(rt, alloc);
-    let most = usize::MAX;
-    write_fails(&mut failed, &mut twin, Limit { calls, most, end })
-        && line_feeds(failed.report.as_slice()) == calls
-}
-
-/// Lets the writer end at each byte of the report.
-fn bytes_fail(rt: &impl Abort, alloc: Global, end: End) {
-    let mut usual = on_trial(rt, alloc);
-    assert!(rt; plays(&mut usual.book, &[SCRIPT], &mut usual.report));
-    for calls in 0..usual.report.len() {
-        assert!(rt; byte_fails_at(rt, alloc, calls, end), "{calls} bytes");
+/// In how many calls a writer takes a text: in each, one byte, or else a whole reply.
+fn calls_for(text: &[u8], most: usize) -> usize {
+    if most == 1 {
+        text.len()
+    } else {
+        line_feeds(text)
     }
 }
 
-/// Lets the writer end at each reply.
-fn replies_fail(rt: &impl Abort, alloc: Global, end: End) {
-    for calls in 0..line_feeds(SCRIPT).saturating_add(1) {
-        assert!(rt; reply_fails_at(rt, alloc, calls, end), "{calls} replies");
+/// Whether a run over two fresh books is as `write_fails` says, and each good call took its part.
+fn write_fails_at(rt: &impl Abort, alloc: Global, limit: Limit) -> bool {
+    let mut failed = on_trial(rt, alloc);
+    let mut twin = on_trial(rt, alloc);
+    write_fails(&mut failed, &mut twin, limit)
+        && calls_for(failed.report.as_slice(), limit.most) == limit.calls
+}
+
+/// Lets the writer end at each byte of the report, or else at each reply.
+fn writes_fail(rt: &impl Abort, alloc: Global, most: usize, end: End) {
+    let mut usual = on_trial(rt, alloc);
+    assert!(rt; plays(&mut usual.book, &[SCRIPT], &mut usual.report));
+    assert!(rt; line_feeds(usual.report.as_slice()) == line_feeds(SCRIPT).saturating_add(1));
+    for calls in 0..calls_for(usual.report.as_slice(), most) {
+        let limit = Limit { calls, most, end };
+        assert!(rt; write_fails_at(rt, alloc, limit), "{calls} calls of {most}");
     }
 }
 
 #[test]
 fn a_write_that_fails_at_any_call_leaves_the_lines_up_to_it_done(rt: HostRuntime) {
-    bytes_fail(&rt, rt.alloc(), End::Fails);
-    replies_fail(&rt, rt.alloc(), End::Fails);
+    writes_fail(&rt, rt.alloc(), 1, End::Fails);
+    writes_fail(&rt, rt.alloc(), usize::MAX, End::Fails);
 }
 
 #[test]
 fn a_write_that_takes_nothing_at_any_call_leaves_the_lines_up_to_it_done(rt: HostRuntime) {
-    bytes_fail(&rt, rt.alloc(), End::TakesNone);
-    replies_fail(&rt, rt.alloc(), End::TakesNone);
+    writes_fail(&rt, rt.alloc(), 1, End::TakesNone);
+    writes_fail(&rt, rt.alloc(), usize::MAX, End::TakesNone);
 }
 
 /// Whether a run whose reader gives, and whose writer takes, one byte a call is as one over devices
@@ -169,7 +170,7 @@ struct Row {
 
 /// A reader that gives all that there is and then fails, and a writer that takes three bytes and
 /// then fails.
-const ROWS: [Row; 2] = [
+const ROWS: &[Row] = &[
     Row {
         script: b"enq 1 7\ngo 1\ngo",
         takes: 1000,
@@ -203,7 +204,7 @@ fn ends_so(failed: &mut Trial, row: &Row) -> bool {
 
 #[test]
 fn a_line_that_is_cut_off_is_not_done_and_one_whose_answer_is_cut_off_is_done(rt: HostRuntime) {
-    for row in &ROWS {
+    for row in ROWS {
         let mut failed = on_trial(&rt, rt.alloc());
         assert!(&rt; ends_so(&mut failed, row));
     }
