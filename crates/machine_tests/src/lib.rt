@@ -7,6 +7,8 @@ mod actor;
 #[cfg(test)]
 mod cell;
 #[cfg(test)]
+mod equal;
+#[cfg(test)]
 mod inverse;
 #[cfg(test)]
 mod ring;

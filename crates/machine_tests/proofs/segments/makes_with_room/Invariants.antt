@@ -1,6 +1,6 @@
 use Rattle.std.proofs.Common.{◌≡◌}
 use Rattle.rd_segments.specs.Space.{lists}
-use Rattle.machine_tests.proofs.segments.a_maker_with_room_makes_as_many_segments.Given as goal
+use Rattle.machine_tests.proofs.segments.makes_with_room.Given as goal
 
 -- making a segment leaves the lists of makers as many
 abbrev pub invariant-loop-n : goal.invariant-loop-n
