@@ -10,17 +10,20 @@ mod again;
 mod assembling;
 mod beginnings;
 mod copies;
+mod equal;
 mod limits;
 mod rows;
 mod starts;
 mod touched;
 
+use equal::{same, same_at};
 use rd_actor::{Act, Actor, Op, Pc};
 use rd_cell::{Answer, ArrSlot, Cell, Content, Place, Refusal, SegName, Wrote};
 use rd_ring::SegmentParts;
 use rd_segments::ArrayParts;
 use rd_step::{Entry, Event, Flaw, Parts, Unassembled, World};
 use std::alloc::{AllocError, Global};
+use std::process::Abort;
 use std::test::Fail;
 use test_kit::go;
 
@@ -37,6 +40,11 @@ const ROOT: SegName = SegName::ROOT;
 
 /// The one segment that is there beside the root in a world that is put together here.
 const FIRST: SegName = SegName { maker: 1, n: 0 };
+
+/// The segment of this number that the first actor makes.
+fn made(n: u32) -> SegName {
+    SegName { maker: 1, n }
+}
 
 /// The calls.
 const ENQ: Option<Op> = Some(Op::Enq(7));
@@ -73,20 +81,25 @@ fn actor_at(pc: Pc, op: Option<Op>, words: &[Word]) -> Actor {
 fn with_words(actor: Actor, words: &[Word]) -> Actor {
     let mut changed = actor;
     for word in words {
-        match *word {
-            Word::Crq(name) => changed.crq = name,
-            Word::New(name) => changed.new = name,
-            Word::Next(name) => changed.next = name,
-            Word::T(t) => changed.t = t,
-            Word::H(h) => changed.h = h,
-            Word::Closed(closed) => changed.closed = closed,
-            Word::Val(value) => changed.val = Some(value),
-            Word::Safe(safe) => changed.safe = safe,
-            Word::Idx(idx) => changed.idx = idx,
-            Word::Pass(pass) => changed.pass = pass,
-        }
+        change(&mut changed, *word);
     }
     changed
+}
+
+/// Puts a word into a record.
+fn change(actor: &mut Actor, word: Word) {
+    match word {
+        Word::Crq(name) => actor.crq = name,
+        Word::New(name) => actor.new = name,
+        Word::Next(name) => actor.next = name,
+        Word::T(t) => actor.t = t,
+        Word::H(h) => actor.h = h,
+        Word::Closed(closed) => actor.closed = closed,
+        Word::Val(value) => actor.val = Some(value),
+        Word::Safe(safe) => actor.safe = safe,
+        Word::Idx(idx) => actor.idx = idx,
+        Word::Pass(pass) => actor.pass = pass,
+    }
 }
 
 /// The words of a world beside its actor: the root's, the queue's ends and the array's.
@@ -187,6 +200,22 @@ const EMPTY_2: Cell = Cell { idx: 2, ..EMPTY_0 };
 
 const EMPTY_3: Cell = Cell { idx: 3, ..EMPTY_0 };
 
+/// Open tails.
+const OPEN_3: Content = Content::Tail {
+    closed: false,
+    count: 3,
+};
+
+const OPEN_4: Content = Content::Tail {
+    closed: false,
+    count: 4,
+};
+
+const OPEN_END: Content = Content::Tail {
+    closed: false,
+    count: END,
+};
+
 /// An open tail with this count.
 fn open(count: u64) -> Content {
     Content::Tail {
@@ -195,36 +224,42 @@ fn open(count: u64) -> Content {
     }
 }
 
+/// The world with this one actor, the root and `FIRST`, and these contents.
+fn world_of(alloc: Global, actor: Actor, puts: &[Put]) -> Result<World<4>, Fail> {
+    Ok(World::assemble(alloc, parts(alloc, actor, puts)?)?)
+}
+
+/// Looks at what is at each place of a table.
+fn contents_are(rt: &impl Abort, world: &World<4>, rows: &[Put]) {
+    for row in rows {
+        same_at(rt, world.content(row.0), Some(row.1), row);
+    }
+}
+
+const TAIL: Place = Place::Tail(ROOT);
+
+/// The entry of an add to the root's tail, by a poised actor that found this count.
+fn added(actor: u8, count: u64) -> Entry {
+    Entry {
+        event: go(actor),
+        place: Some(TAIL),
+        wrote: Wrote::Place,
+        answer: Answer::Found(open(count)),
+        reply: None,
+        old_actor: Actor::poised(u64::from(actor)),
+        old_content: Some(open(count)),
+    }
+}
+
 #[test]
 fn two_adds_draw_two_positions(rt: HostRuntime) -> Result<(), Fail> {
     let mut world = World::<4>::poised(rt.alloc(), 4)?;
-    let tail = Place::Tail(SegName::ROOT);
-    let first = Entry {
-        event: go(1),
-        place: Some(tail),
-        wrote: Wrote::Place,
-        answer: Answer::Found(open(0)),
-        reply: None,
-        old_actor: Actor::poised(1),
-        old_content: Some(open(0)),
-    };
-    assert_eq!(rt; world.step(go(1)), Ok(first));
-    let second = Entry {
-        event: go(2),
-        answer: Answer::Found(open(1)),
-        old_actor: Actor::poised(2),
-        old_content: Some(open(1)),
-        ..first
-    };
-    assert_eq!(rt; world.step(go(2)), Ok(second));
-    let drew = Actor {
-        pc: Pc::E5,
-        t: 1,
-        ..Actor::poised(2)
-    };
-    assert_eq!(rt; world.actor(2), Some(drew));
-    assert_eq!(rt; world.actor(3), Some(Actor::poised(3)));
-    assert_eq!(rt; world.content(tail), Some(open(2)));
+    same(&rt, world.step(go(1)), Ok(added(1, 0)));
+    same(&rt, world.step(go(2)), Ok(added(2, 1)));
+    let drew = with_words(Actor::poised(2), &[Word::T(1)]);
+    same(&rt, world.actor(2), Some(Actor { pc: Pc::E5, ..drew }));
+    same(&rt, world.actor(3), Some(Actor::poised(3)));
+    same(&rt, world.content(TAIL), Some(open(2)));
     Ok(())
 }
 
@@ -233,11 +268,11 @@ fn an_actor_that_is_not_there_is_refused_before_one_that_is_idle(
     rt: HostRuntime,
 ) -> Result<(), Fail> {
     let mut poised = World::<4>::poised(rt.alloc(), 4)?;
-    assert_eq!(rt; poised.step(go(0)), Err(Refusal::NoActor));
-    assert_eq!(rt; poised.step(go(5)), Err(Refusal::NoActor));
+    same(&rt, poised.step(go(0)), Err(Refusal::NoActor));
+    same(&rt, poised.step(go(5)), Err(Refusal::NoActor));
     let mut fresh = World::<4>::fresh(rt.alloc(), 1)?;
-    assert_eq!(rt; fresh.step(go(2)), Err(Refusal::NoActor));
-    assert_eq!(rt; fresh.step(go(1)), Err(Refusal::Idle));
+    same(&rt, fresh.step(go(2)), Err(Refusal::NoActor));
+    same(&rt, fresh.step(go(1)), Err(Refusal::Idle));
     Ok(())
 }
 
@@ -262,8 +297,8 @@ fn step_and_revert(world: &mut World<4>, event: Event) -> Result<Entry, Refusal>
 fn a_step_is_reverted_by_the_words_of_its_entry(rt: HostRuntime) -> Result<(), Fail> {
     let mut world = World::<4>::poised(rt.alloc(), 4)?;
     let entry = step_and_revert(&mut world, go(2))?;
-    assert_eq!(rt; entry.old_content, Some(open(0)));
-    assert_eq!(rt; world.actor(2), Some(Actor::poised(2)));
-    assert_eq!(rt; world.content(Place::Tail(SegName::ROOT)), Some(open(0)));
+    same(&rt, entry.old_content, Some(open(0)));
+    same(&rt, world.actor(2), Some(Actor::poised(2)));
+    same(&rt, world.content(TAIL), Some(open(0)));
     Ok(())
 }

@@ -2,10 +2,8 @@
 
 use super::Word::{Crq, New, Pass, T};
 use super::*;
-use std::process::Abort;
 
 /// One step of the first actor, and what the table says of it.
-#[derive(Clone, Copy)]
 struct Row {
     /// The control point at which the actor is.
     at: Pc,
@@ -29,7 +27,7 @@ struct Row {
 const SECOND: SegName = SegName { maker: 1, n: 1 };
 
 /// A read, a write and a making.
-const ROWS: [Row; 3] = [
+const ROWS: &[Row] = &[
     Row {
         at: Pc::Q1,
         op: DEQ,
@@ -62,18 +60,8 @@ const ROWS: [Row; 3] = [
     },
 ];
 
-const OPEN_3: Content = Content::Tail {
-    closed: false,
-    count: 3,
-};
-
-const OPEN_4: Content = Content::Tail {
-    closed: false,
-    count: 4,
-};
-
 /// The places that are compared.
-const PLACES: [Place; 10] = [
+const PLACES: &[Place] = &[
     Place::QHead,
     Place::QTail,
     Place::Head(ROOT),
@@ -96,15 +84,15 @@ fn a_step_made_again_leaves_what_it_left_at_first(rt: HostRuntime) -> Result<(),
 
 /// Makes the step of a row, puts the words of its entry back and makes it again, beside a copy
 /// that is stepped once.
-fn make_again(rt: &impl Abort, alloc: Global, row: Row) -> Result<(), Fail> {
+fn make_again(rt: &impl Abort, alloc: Global, row: &Row) -> Result<(), Fail> {
     let actor = actor_at(row.at, row.op, &[]);
-    let mut world = World::assemble(alloc, parts(alloc, actor, row.puts)?)?;
+    let mut world = world_of(alloc, actor, row.puts)?;
     let mut stepped = world.copy(alloc)?;
     let first = stepped.step(GO)?;
     let entry = step_and_revert(&mut world, GO)?;
-    assert_eq!(rt; entry, first);
-    assert_eq!(rt; entry.wrote, row.wrote, "{entry:?}");
-    assert_eq!(rt; world.actor(1), Some(actor), "{entry:?}");
+    same(rt, entry, first);
+    same_at(rt, entry.wrote, row.wrote, &entry);
+    same_at(rt, world.actor(1), Some(actor), &entry);
     world.step_again(&entry);
     let next = with_words(
         Actor {
@@ -113,15 +101,16 @@ fn make_again(rt: &impl Abort, alloc: Global, row: Row) -> Result<(), Fail> {
         },
         row.changes,
     );
-    assert_eq!(rt; world.actor(1), Some(next), "{entry:?}");
-    assert_eq!(rt; stepped.actor(1), Some(next), "{entry:?}");
-    assert_eq!(rt; world.content(row.place), Some(row.left), "{entry:?}");
-    for place in PLACES {
-        assert_eq!(rt;
-            world.content(place),
-            stepped.content(place),
-            "{place:?}, {entry:?}"
-        );
-    }
+    same_at(rt, stepped.actor(1), Some(next), &entry);
+    contents_are(rt, &world, &[(row.place, row.left)]);
+    are_alike(rt, &world, &stepped);
     Ok(())
+}
+
+/// Compares the actor and what is at each place.
+fn are_alike(rt: &impl Abort, world: &World<4>, stepped: &World<4>) {
+    same(rt, world.actor(1), stepped.actor(1));
+    for place in PLACES {
+        same_at(rt, world.content(*place), stepped.content(*place), place);
+    }
 }

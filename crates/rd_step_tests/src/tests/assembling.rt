@@ -21,11 +21,6 @@ fn flaw_in<const R: usize>(assembled: Result<World<R>, Unassembled>) -> Result<O
 /// A segment that is not there.
 const UNMADE: SegName = SegName { maker: 1, n: 1 };
 
-const OPEN_END: Content = Content::Tail {
-    closed: false,
-    count: END,
-};
-
 const PAST_END: Content = Content::Tail {
     closed: true,
     count: END + 1,
@@ -42,6 +37,15 @@ const PAST_ROUND: Content = Content::Cell(Cell {
     ..EMPTY_0
 });
 
+/// Contents that are as none may be, each at its place.
+const NAMES_NONE: Put = (Place::QTail, Content::Name(UNMADE));
+
+const PAST_TAIL: Put = (Place::Tail(ROOT), PAST_END);
+
+const PAST_CELL: Put = (Place::Cell(ROOT, 0), PAST_ROUND);
+
+const PAST_ARRAY: Put = (Place::ArrTail, Content::Number(65));
+
 /// Contents that are as they may be, each at its place.
 const FITTING: &[Put] = &[
     (Place::QHead, Content::Name(FIRST)),
@@ -57,15 +61,14 @@ const FITTING: &[Put] = &[
 
 #[test]
 fn each_part_is_found_at_its_place(rt: HostRuntime) -> Result<(), Fail> {
-    let world = World::assemble(rt.alloc(), parts(rt.alloc(), Actor::poised(9), FITTING)?)?;
-    for (place, content) in FITTING {
-        assert_eq!(rt; world.content(*place), Some(*content), "{place:?}");
-    }
-    assert_eq!(rt; world.actors(), 1);
-    assert_eq!(rt; world.actor(1), Some(Actor::poised(9)));
-    assert_eq!(rt; world.content(Place::Whole(FIRST)), Some(Content::Whole));
-    assert_eq!(rt; world.content(Place::Whole(UNMADE)), None);
-    assert_eq!(rt; world.content(Place::Cell(ROOT, 4)), None);
+    let world = world_of(rt.alloc(), Actor::poised(9), FITTING)?;
+    contents_are(&rt, &world, FITTING);
+    same(&rt, world.actors(), 1);
+    same(&rt, world.actor(1), Some(Actor::poised(9)));
+    let first = Place::Whole(FIRST);
+    same(&rt, world.content(first), Some(Content::Whole));
+    same(&rt, world.content(Place::Whole(UNMADE)), None);
+    same(&rt, world.content(Place::Cell(ROOT, 4)), None);
     Ok(())
 }
 
@@ -80,11 +83,7 @@ const FLAWED: &[Flawed] = &[
         &[],
         Some(Flaw::PlaceNames),
     ),
-    (
-        &[(Place::QTail, Content::Name(UNMADE))],
-        &[],
-        Some(Flaw::PlaceNames),
-    ),
+    (&[NAMES_NONE], &[], Some(Flaw::PlaceNames)),
     (
         &[(Place::Next(ROOT), Content::Next(Some(UNMADE)))],
         &[],
@@ -98,67 +97,33 @@ const FLAWED: &[Flawed] = &[
         &[],
         Some(Flaw::Counters),
     ),
-    (&[(Place::Tail(ROOT), PAST_END)], &[], Some(Flaw::Counters)),
-    (
-        &[(Place::Cell(ROOT, 0), PAST_ROUND)],
-        &[],
-        Some(Flaw::Indexes),
-    ),
+    (&[PAST_TAIL], &[], Some(Flaw::Counters)),
+    (&[PAST_CELL], &[], Some(Flaw::Indexes)),
     (
         &[(Place::ArrHead, Content::Number(65))],
         &[],
         Some(Flaw::ArrayCounters),
     ),
-    (
-        &[(Place::ArrTail, Content::Number(65))],
-        &[],
-        Some(Flaw::ArrayCounters),
-    ),
+    (&[PAST_ARRAY], &[], Some(Flaw::ArrayCounters)),
     (&[], &[T(END), H(END), Idx(END + 4)], None),
     (&[], &[T(END + 1)], Some(Flaw::ActorNumbers)),
     (&[], &[H(END + 1)], Some(Flaw::ActorNumbers)),
     (&[], &[Idx(END + 5)], Some(Flaw::ActorNumbers)),
     (&[], &[Pass(1)], Some(Flaw::ActorWords)),
-    (
-        &[(Place::QTail, Content::Name(UNMADE))],
-        &[Crq(UNMADE)],
-        Some(Flaw::PlaceNames),
-    ),
-    (
-        &[(Place::Tail(ROOT), PAST_END)],
-        &[Crq(UNMADE)],
-        Some(Flaw::ActorNames),
-    ),
-    (
-        &[
-            (Place::Cell(ROOT, 0), PAST_ROUND),
-            (Place::Tail(ROOT), PAST_END),
-        ],
-        &[],
-        Some(Flaw::Counters),
-    ),
-    (
-        &[
-            (Place::ArrTail, Content::Number(65)),
-            (Place::Cell(ROOT, 0), PAST_ROUND),
-        ],
-        &[],
-        Some(Flaw::Indexes),
-    ),
-    (
-        &[(Place::ArrTail, Content::Number(65))],
-        &[T(END + 1)],
-        Some(Flaw::ArrayCounters),
-    ),
+    (&[NAMES_NONE], &[Crq(UNMADE)], Some(Flaw::PlaceNames)),
+    (&[PAST_TAIL], &[Crq(UNMADE)], Some(Flaw::ActorNames)),
+    (&[PAST_CELL, PAST_TAIL], &[], Some(Flaw::Counters)),
+    (&[PAST_ARRAY, PAST_CELL], &[], Some(Flaw::Indexes)),
+    (&[PAST_ARRAY], &[T(END + 1)], Some(Flaw::ArrayCounters)),
     (&[], &[Pass(1), T(END + 1)], Some(Flaw::ActorNumbers)),
 ];
 
 #[test]
 fn the_first_flaw_is_the_one_that_is_named(rt: HostRuntime) -> Result<(), Fail> {
     for i in 0..FLAWED.len() {
-        let (puts, words, flaw) = FLAWED[i];
-        let actor = actor_at(Pc::E5, ENQ, words);
-        assert_eq!(rt; flaw_of(rt.alloc(), actor, puts)?, flaw, "row {i}");
+        let row = &FLAWED[i];
+        let actor = actor_at(Pc::E5, ENQ, row.1);
+        same_at(&rt, flaw_of(rt.alloc(), actor, row.0)?, row.2, &i);
     }
     Ok(())
 }
@@ -173,7 +138,7 @@ fn a_counter_past_its_end_comes_before_an_idle_actor_with_a_position(
         Content::Number(4_611_686_018_427_387_905),
     );
     let flaw = flaw_of(rt.alloc(), idle, &[head])?;
-    assert_eq!(rt; flaw.map(|found| found.number()), Some(4));
+    same(&rt, flaw.map(|found| found.number()), Some(4));
     Ok(())
 }
 
@@ -263,11 +228,16 @@ const FITS: &[Fit] = &[
 #[test]
 fn the_words_fit_the_control_point(rt: HostRuntime) -> Result<(), Fail> {
     for i in 0..FITS.len() {
-        let (points, op, words, flaw) = FITS[i];
-        for pc in points {
-            let actor = actor_at(*pc, op, words);
-            assert_eq!(rt; flaw_of(rt.alloc(), actor, &[])?, flaw, "row {i} at {pc:?}");
-        }
+        flaw_is(&rt, rt.alloc(), i, &FITS[i])?;
+    }
+    Ok(())
+}
+
+/// Looks for the flaw of the row of this index at each of its control points.
+fn flaw_is(rt: &impl Abort, alloc: Global, i: usize, row: &Fit) -> Result<(), Fail> {
+    for pc in row.0 {
+        let actor = actor_at(*pc, row.1, row.2);
+        same_at(rt, flaw_of(alloc, actor, &[])?, row.3, &(i, *pc));
     }
     Ok(())
 }
@@ -288,12 +258,13 @@ const SHAPES: &[(usize, usize, usize, Option<Flaw>)] = &[
 fn there_are_1_to_16_actors_one_root_and_a_list_for_each_maker(
     rt: HostRuntime,
 ) -> Result<(), Fail> {
-    for &(actors, roots, lists, flaw) in SHAPES {
-        let given = shape(rt.alloc(), actors, roots, lists)?;
-        assert_eq!(rt;
+    for row in SHAPES {
+        let given = shape(rt.alloc(), row.0, row.1, row.2)?;
+        same_at(
+            &rt,
             flaw_in(World::assemble(rt.alloc(), given))?,
-            flaw,
-            "{actors} actors"
+            row.3,
+            row,
         );
     }
     Ok(())
@@ -318,18 +289,20 @@ fn shape(alloc: Global, actors: usize, roots: usize, lists: usize) -> Result<Par
     Ok(given)
 }
 
+const NUMBERS: &[(Flaw, u8)] = &[
+    (Flaw::Makers, 1),
+    (Flaw::PlaceNames, 2),
+    (Flaw::ActorNames, 3),
+    (Flaw::Counters, 4),
+    (Flaw::Indexes, 5),
+    (Flaw::ArrayCounters, 6),
+    (Flaw::ActorNumbers, 7),
+    (Flaw::ActorWords, 8),
+];
+
 #[test]
 fn a_flaw_has_its_number(rt: HostRuntime) {
-    for (flaw, number) in [
-        (Flaw::Makers, 1),
-        (Flaw::PlaceNames, 2),
-        (Flaw::ActorNames, 3),
-        (Flaw::Counters, 4),
-        (Flaw::Indexes, 5),
-        (Flaw::ArrayCounters, 6),
-        (Flaw::ActorNumbers, 7),
-        (Flaw::ActorWords, 8),
-    ] {
-        assert_eq!(rt; flaw.number(), number);
+    for row in NUMBERS {
+        same(&rt, row.0.number(), row.1);
     }
 }

@@ -1,5 +1,6 @@
 //! How many events two lists have in common at their beginning, by examples.
 
+use super::equal::same_at;
 use super::GO;
 use rd_actor::Act;
 use rd_step::{Event, common_beginning_len};
@@ -17,7 +18,7 @@ const CALL: Event = Event {
 };
 
 /// Pairs of lists, and how many events they have in common.
-const PAIRS: [(&[Event], &[Event], usize); 5] = [
+const PAIRS: &[(&[Event], &[Event], usize)] = &[
     (&[], &[GO], 0),
     (&[GO, CALL, GO], &[GO, CALL], 2),
     (&[GO, GO, CALL], &[GO, OTHER, CALL], 1),
@@ -27,7 +28,7 @@ const PAIRS: [(&[Event], &[Event], usize); 5] = [
 
 #[test]
 fn a_common_beginning_ends_at_the_first_other_event(rt: HostRuntime) {
-    for (a, b, common) in &PAIRS {
-        assert_eq!(rt; common_beginning_len(a, b), *common, "{a:?} and {b:?}");
+    for row in PAIRS {
+        same_at(&rt, common_beginning_len(&row.0, &row.1), row.2, row);
     }
 }

@@ -29,26 +29,27 @@ const CLOSED: &[Put] = &[
     (Place::ArrCell(63), Content::Slot(ArrSlot::Value(4))),
 ];
 
+/// What is there besides, where nothing was put.
+const BESIDES: &[Put] = &[
+    (Place::Whole(FIRST), Content::Whole),
+    (Place::ArrCell(0), Content::Slot(ArrSlot::Empty)),
+];
+
 #[test]
 fn parts_and_a_copy_have_what_the_world_has(rt: HostRuntime) -> Result<(), Fail> {
     let alloc = rt.alloc();
-    let world = World::assemble(alloc, parts(alloc, Actor::poised(9), CLOSED)?)?;
-    for same in [
-        World::assemble(alloc, world.parts(alloc)?)?,
-        world.copy(alloc)?,
-    ] {
-        for (place, content) in CLOSED {
-            assert_eq!(rt; same.content(*place), Some(*content), "{place:?}");
-        }
-        assert_eq!(rt; same.actors(), 1);
-        assert_eq!(rt; same.actor(1), Some(Actor::poised(9)));
-        assert_eq!(rt; same.content(Place::Whole(FIRST)), Some(Content::Whole));
-        assert_eq!(rt;
-            same.content(Place::ArrCell(0)),
-            Some(Content::Slot(ArrSlot::Empty))
-        );
-    }
+    let world = world_of(alloc, Actor::poised(9), CLOSED)?;
+    has_contents(&rt, &World::assemble(alloc, world.parts(alloc)?)?);
+    has_contents(&rt, &world.copy(alloc)?);
     Ok(())
+}
+
+/// Looks for those contents, beside a poised actor.
+fn has_contents(rt: &impl Abort, world: &World<4>) {
+    contents_are(rt, world, CLOSED);
+    contents_are(rt, world, BESIDES);
+    same(rt, world.actors(), 1);
+    same(rt, world.actor(1), Some(Actor::poised(9)));
 }
 
 #[test]
@@ -56,8 +57,8 @@ fn a_step_of_a_copy_leaves_the_world_as_it_was(rt: HostRuntime) -> Result<(), Fa
     let world = World::<4>::poised(rt.alloc(), 16)?;
     let mut copy = world.copy(rt.alloc())?;
     copy.step(go(16))?;
-    assert_eq!(rt; copy.content(Place::Tail(ROOT)), Some(open(1)));
-    assert_eq!(rt; world.content(Place::Tail(ROOT)), Some(open(0)));
-    assert_eq!(rt; world.actor(16), Some(Actor::poised(16)));
+    same(&rt, copy.content(TAIL), Some(open(1)));
+    same(&rt, world.content(TAIL), Some(open(0)));
+    same(&rt, world.actor(16), Some(Actor::poised(16)));
     Ok(())
 }

@@ -4,7 +4,6 @@ ghost use Rattle.std.specs.Prelude.{◌≤◌};
 ghost use Rattle.rd_ring.specs.Prelude.{MOST_CELLS};
 
 use super::*;
-use std::process::Abort;
 
 /// One part of a world that is otherwise fresh, with what it is changed to.
 #[derive(Clone, Copy, Debug)]
@@ -190,13 +189,9 @@ fn limits_hold<const R: usize>(rt: &impl Abort, alloc: Global) -> Result<(), Fai
     requires some { 1 ≤ R }
     requires few { R ≤ MOST_CELLS }
 {
-    for (at, above, flaw) in LIMITS {
-        assert_eq!(rt; flaw_if::<R>(alloc, *at)?, None, "{at:?} over {R} cells");
-        assert_eq!(rt;
-            flaw_if::<R>(alloc, *above)?,
-            Some(*flaw),
-            "{above:?} over {R} cells"
-        );
+    for row in LIMITS {
+        same_at(rt, flaw_if::<R>(alloc, row.0)?, None, &(R, row.0));
+        same_at(rt, flaw_if::<R>(alloc, row.1)?, Some(row.2), &(R, row.1));
     }
     Ok(())
 }

@@ -5,10 +5,9 @@
 use super::Word::{Closed, H, Idx, Next, Pass, Safe, T, Val};
 use super::*;
 use rd_actor::OpReply;
-use std::process::Abort;
+use test_kit::record;
 
 /// One step, and what the table says of it.
-#[derive(Clone, Copy)]
 struct Row {
     /// The control point at which the actor is.
     at: Pc,
@@ -40,19 +39,34 @@ enum Then {
 #[test]
 fn each_row_takes_each_branch(rt: HostRuntime) -> Result<(), Fail> {
     for i in 0..ROWS.len() {
-        step_row(&rt, rt.alloc(), i, ROWS[i])?;
+        step_row(&rt, rt.alloc(), i, &ROWS[i])?;
     }
     Ok(())
 }
 
 /// Steps the row of this index, and looks at the entry, the actor and the place.
-fn step_row(rt: &impl Abort, alloc: Global, i: usize, row: Row) -> Result<(), Fail> {
+fn step_row(rt: &impl Abort, alloc: Global, i: usize, row: &Row) -> Result<(), Fail> {
     let actor = actor_at(row.at, row.op, row.words);
-    let (next, reply) = match row.then {
+    let (next, reply) = goes_on(actor, row.then);
+    let mut world = world_of(alloc, actor, &[(row.place, row.found)])?;
+    same_at(rt, world.step(GO), Ok(entry(row, actor, reply)), &i);
+    same_at(rt, world.actor(1), Some(next), &i);
+    let left = row.writes.unwrap_or(row.found);
+    same_at(rt, world.content(row.place), Some(left), &i);
+    Ok(())
+}
+
+/// The record of an actor that goes on so, and its reply.
+fn goes_on(actor: Actor, then: Then) -> (Actor, Option<OpReply>) {
+    match then {
         Then::Goes(pc, words) => (with_words(Actor { pc, ..actor }, words), None),
         Then::Replies(reply) => (Actor::idle(), Some(reply)),
-    };
-    let entry = Entry {
+    }
+}
+
+/// The entry of a row's step.
+fn entry(row: &Row, actor: Actor, reply: Option<OpReply>) -> Entry {
+    Entry {
         event: GO,
         place: Some(row.place),
         wrote: wrote(row),
@@ -60,18 +74,12 @@ fn step_row(rt: &impl Abort, alloc: Global, i: usize, row: Row) -> Result<(), Fa
         reply,
         old_actor: actor,
         old_content: Some(row.found),
-    };
-    let mut world = World::assemble(alloc, parts(alloc, actor, &[(row.place, row.found)])?)?;
-    assert_eq!(rt; world.step(GO), Ok(entry), "row {i}");
-    assert_eq!(rt; world.actor(1), Some(next), "row {i}");
-    let left = row.writes.unwrap_or(row.found);
-    assert_eq!(rt; world.content(row.place), Some(left), "row {i}");
-    Ok(())
+    }
 }
 
 /// What the row's access writes of its place: a double-word compare-and-swap that wins at Q6 or Q7
 /// leaves the value as it was.
-fn wrote(row: Row) -> Wrote {
+fn wrote(row: &Row) -> Wrote {
     match (row.writes, row.at) {
         (None, _) => Wrote::Nothing,
         (Some(_), Pc::Q6 | Pc::Q7) => Wrote::Index,
@@ -84,19 +92,7 @@ const CELL: Place = Place::Cell(ROOT, 1);
 
 const INDEX: Place = Place::Idx(ROOT, 1);
 
-const TAIL: Place = Place::Tail(ROOT);
-
 const HEAD: Place = Place::Head(ROOT);
-
-const OPEN_3: Content = Content::Tail {
-    closed: false,
-    count: 3,
-};
-
-const OPEN_4: Content = Content::Tail {
-    closed: false,
-    count: 4,
-};
 
 const OPEN_5: Content = Content::Tail {
     closed: false,
@@ -574,25 +570,25 @@ const ROWS: &[Row] = &[
 
 #[test]
 fn a_choice_leads_to_the_closing_or_to_the_next_position(rt: HostRuntime) -> Result<(), Fail> {
-    for (starves, pc) in [(true, Pc::E11), (false, Pc::E4)] {
-        let actor = actor_at(Pc::E10, ENQ, &[T(9), H(6)]);
-        let mut world = World::assemble(rt.alloc(), parts(rt.alloc(), actor, &[])?)?;
-        let event = Event {
-            actor: 1,
-            act: Act::Starve(starves),
-        };
-        let entry = Entry {
-            event,
-            place: None,
-            wrote: Wrote::Nothing,
-            answer: Answer::Nothing,
-            reply: None,
-            old_actor: actor,
-            old_content: None,
-        };
-        assert_eq!(rt; world.step(event), Ok(entry));
-        assert_eq!(rt; world.actor(1), Some(Actor { pc, ..actor }));
-    }
+    choice_leads(&rt, rt.alloc(), true, Pc::E11)?;
+    choice_leads(&rt, rt.alloc(), false, Pc::E4)
+}
+
+/// Makes a choice, which leads to this control point.
+fn choice_leads(rt: &impl Abort, alloc: Global, starves: bool, pc: Pc) -> Result<(), Fail> {
+    let actor = actor_at(Pc::E10, ENQ, &[T(9), H(6)]);
+    let mut world = world_of(alloc, actor, &[])?;
+    let event = Event {
+        actor: 1,
+        act: Act::Starve(starves),
+    };
+    let entry = Entry {
+        event,
+        old_actor: actor,
+        ..record((1, None, Wrote::Nothing))
+    };
+    same(rt, world.step(event), Ok(entry));
+    same(rt, world.actor(1), Some(Actor { pc, ..actor }));
     Ok(())
 }
 
@@ -630,11 +626,6 @@ const ENDS: &[AtAnEnd] = &[
     ),
 ];
 
-const OPEN_END: Content = Content::Tail {
-    closed: false,
-    count: END,
-};
-
 const CLOSED_END: Content = Content::Tail {
     closed: true,
     count: END,
@@ -642,13 +633,19 @@ const CLOSED_END: Content = Content::Tail {
 
 #[test]
 fn a_counter_goes_up_to_its_end_and_no_further(rt: HostRuntime) -> Result<(), Fail> {
-    for &(pc, op, words, place, found, refusal) in ENDS {
-        let actor = actor_at(pc, op, words);
-        let given = parts(rt.alloc(), actor, &[(place, found)])?;
-        let mut world = World::assemble(rt.alloc(), given)?;
-        assert_eq!(rt; world.step(GO), Err(refusal), "{pc:?}");
-        assert_eq!(rt; world.actor(1), Some(actor), "{pc:?}");
-        assert_eq!(rt; world.content(place), Some(found), "{pc:?}");
+    for row in ENDS {
+        ends(&rt, rt.alloc(), row)?;
     }
+    Ok(())
+}
+
+/// Makes the step of a row, which is refused and changes nothing.
+fn ends(rt: &impl Abort, alloc: Global, row: &AtAnEnd) -> Result<(), Fail> {
+    let (pc, op, words, place, found, refusal) = *row;
+    let actor = actor_at(pc, op, words);
+    let mut world = world_of(alloc, actor, &[(place, found)])?;
+    same_at(rt, world.step(GO), Err(refusal), &pc);
+    same_at(rt, world.actor(1), Some(actor), &pc);
+    same_at(rt, world.content(place), Some(found), &pc);
     Ok(())
 }

@@ -1,34 +1,45 @@
 //! The tests of fresh and poised worlds, of the room for makings, and of where makings end.
 
+ghost use Rattle.std.specs.Prelude.{◌≤◌};
+
 use super::*;
 use rd_actor::OpReply;
+
+/// What is in a fresh world and in a poised one.
+const NAMED: &[Put] = &[
+    (Place::Whole(ROOT), Content::Whole),
+    (Place::QTail, Content::Name(ROOT)),
+];
 
 #[test]
 fn a_fresh_world_has_idle_actors_and_the_root(rt: HostRuntime) -> Result<(), Fail> {
     for actors in [1, 2, 8, 9, 15, 16] {
         let world = World::<4>::fresh(rt.alloc(), actors)?;
-        assert_eq!(rt; world.actors(), actors);
-        assert_eq!(rt; world.actor(0), None);
-        assert_eq!(rt; world.actor(1), Some(Actor::idle()));
-        assert_eq!(rt; world.actor(actors), Some(Actor::idle()));
-        assert_eq!(rt; world.actor(actors + 1), None);
-        assert_eq!(rt; world.content(Place::Whole(ROOT)), Some(Content::Whole));
-        assert_eq!(rt; world.content(Place::QTail), Some(Content::Name(ROOT)));
-        assert!(rt; world.is_fresh());
+        same(&rt, world.is_fresh(), true);
+        actors_are(&rt, &world, actors, Actor::idle(), Actor::idle());
     }
     Ok(())
+}
+
+/// Looks at how many actors there are, which the first and the last are, and at the root.
+fn actors_are(rt: &impl Abort, world: &World<4>, actors: u8, first: Actor, last: Actor)
+    requires { actors ≤ 16 }
+{
+    same(rt, world.actors(), actors);
+    same_at(rt, world.actor(0), None, &actors);
+    same_at(rt, world.actor(1), Some(first), &actors);
+    same_at(rt, world.actor(actors), Some(last), &actors);
+    same_at(rt, world.actor(actors + 1), None, &actors);
+    contents_are(rt, world, NAMED);
 }
 
 #[test]
 fn a_poised_world_has_actors_that_are_to_draw(rt: HostRuntime) -> Result<(), Fail> {
     for actors in [1, 2, 8, 9, 15, 16] {
         let world = World::<4>::poised(rt.alloc(), actors)?;
-        assert_eq!(rt; world.actors(), actors);
-        assert_eq!(rt; world.actor(1), Some(Actor::poised(1)));
-        assert_eq!(rt; world.actor(actors), Some(Actor::poised(u64::from(actors))));
-        assert_eq!(rt; world.actor(actors + 1), None);
-        assert_eq!(rt; world.content(Place::Whole(ROOT)), Some(Content::Whole));
-        assert!(rt; !world.is_fresh());
+        same(&rt, world.is_fresh(), false);
+        let last = Actor::poised(u64::from(actors));
+        actors_are(&rt, &world, actors, Actor::poised(1), last);
     }
     Ok(())
 }
@@ -52,31 +63,35 @@ fn enqueue(world: &mut World<1>) -> Result<Option<OpReply>, Refusal> {
 #[test]
 fn a_world_with_room_takes_as_many_makings(rt: HostRuntime) -> Result<(), Fail> {
     for makings in [0, 1, 2, 10, 40] {
-        let mut world = World::<1>::fresh(rt.alloc(), 1)?;
-        assert!(rt; world.is_fresh());
-        // The first enqueue fills the root's one cell; each later one closes a ring and makes the
-        // next.
-        assert_eq!(rt; enqueue(&mut world)?, Some(OpReply::Enqueued));
-        assert!(rt; !world.is_fresh());
-        assert_eq!(rt; world.make_room(1, usize::MAX), Err(Refusal::NoMemory));
-        assert_eq!(rt; world.make_room(1, makings as usize), Ok(()));
-        for n in 0..makings {
-            assert_eq!(rt; enqueue(&mut world)?, Some(OpReply::Enqueued));
-            let made = SegName { maker: 1, n };
-            assert_eq!(rt; world.content(Place::QTail), Some(Content::Name(made)));
-        }
-        let next = SegName {
-            maker: 1,
-            n: makings,
-        };
-        assert_eq!(rt; world.content(Place::Whole(next)), None);
+        takes_makings(&rt, rt.alloc(), makings)?;
     }
+    Ok(())
+}
+
+/// Makes room for this many makings, and makes them. The first enqueue fills the root's one cell;
+/// each later one closes a ring and makes the next.
+fn takes_makings(rt: &impl Abort, alloc: Global, makings: u32) -> Result<(), Fail> {
+    let mut world = World::<1>::fresh(alloc, 1)?;
+    same(rt, world.is_fresh(), true);
+    same(rt, enqueue(&mut world), Ok(Some(OpReply::Enqueued)));
+    same(rt, world.is_fresh(), false);
+    same(rt, world.make_room(1, usize::MAX), Err(Refusal::NoMemory));
+    same(rt, world.make_room(1, makings as usize), Ok(()));
+    for n in 0..makings {
+        same(rt, enqueue(&mut world), Ok(Some(OpReply::Enqueued)));
+        same(
+            rt,
+            world.content(Place::QTail),
+            Some(Content::Name(made(n))),
+        );
+    }
+    same(rt, world.content(Place::Whole(made(makings))), None);
     Ok(())
 }
 
 /// The parts of a world of rings of one cell, whose one actor is to make a segment and has made
 /// this many.
-fn makers(alloc: Global, made: u32) -> Result<Parts<1>, AllocError> {
+fn makers(alloc: Global, count: u32) -> Result<Parts<1>, AllocError> {
     let ring = SegmentParts {
         head: 0,
         tail: 0,
@@ -85,7 +100,7 @@ fn makers(alloc: Global, made: u32) -> Result<Parts<1>, AllocError> {
         cells: [EMPTY_0; 1],
     };
     let mut list = Vec::new(alloc);
-    for _ in 0..made {
+    for _ in 0..count {
         list.push(ring)?;
     }
     test_kit::parts(alloc, actor_at(Pc::E12, ENQ, &[]), ring, list)
@@ -94,22 +109,15 @@ fn makers(alloc: Global, made: u32) -> Result<Parts<1>, AllocError> {
 #[test]
 fn an_actor_makes_65535_segments_and_no_more(rt: HostRuntime) -> Result<(), Fail> {
     let mut world = World::assemble(rt.alloc(), makers(rt.alloc(), 65_534)?)?;
-    let last = SegName {
-        maker: 1,
-        n: 65_534,
-    };
-    assert_eq!(rt; world.step(GO)?.answer, Answer::Made(last));
-    assert_eq!(rt; world.content(Place::Whole(last)), Some(Content::Whole));
+    same(&rt, world.step(GO)?.answer, Answer::Made(made(65_534)));
+    let last = Place::Whole(made(65_534));
+    same(&rt, world.content(last), Some(Content::Whole));
     let mut full = World::assemble(rt.alloc(), makers(rt.alloc(), 65_535)?)?;
     let before = full.actor(1);
-    assert_eq!(rt; full.step(GO), Err(Refusal::SegmentsEnd));
-    assert_eq!(rt; full.actor(1), before);
-    let none = SegName {
-        maker: 1,
-        n: 65_535,
-    };
-    assert_eq!(rt; full.content(Place::Whole(none)), None);
+    same(&rt, full.step(GO), Err(Refusal::SegmentsEnd));
+    same(&rt, full.actor(1), before);
+    same(&rt, full.content(Place::Whole(made(65_535))), None);
     let above = World::assemble(rt.alloc(), makers(rt.alloc(), 65_536)?);
-    assert_eq!(rt; above.err(), Some(Unassembled::Flaw(Flaw::Makers)));
+    same(&rt, above.err(), Some(Unassembled::Flaw(Flaw::Makers)));
     Ok(())
 }

@@ -1,11 +1,11 @@
 //! What the entry of a step says that the step touched, by examples.
 
+use super::equal::same_at;
 use rd_cell::{Cell, Content, Place, SegName, Wrote};
 use rd_step::Entry;
 use test_kit::record;
 
 /// An entry, by what matters of it, and what it says.
-#[derive(Clone, Copy)]
 struct Row {
     place: Option<Place>,
     wrote: Wrote,
@@ -28,7 +28,7 @@ const FULL: Content = Content::Cell(Cell {
 });
 
 /// A call, a read, a write, a making, and a swap of a cell that keeps its value.
-const ROWS: [Row; 5] = [
+const ROWS: &[Row] = &[
     Row {
         place: None,
         wrote: Wrote::Nothing,
@@ -73,7 +73,7 @@ fn an_entry_says_what_its_step_wrote_and_made(rt: HostRuntime) {
             old_content: row.old_content,
             ..record((2, row.place, row.wrote))
         };
-        assert_eq!(rt; entry.written(), row.written, "{entry:?}");
-        assert_eq!(rt; entry.made(), row.made, "{entry:?}");
+        same_at(&rt, entry.written(), row.written, &entry);
+        same_at(&rt, entry.made(), row.made, &entry);
     }
 }
