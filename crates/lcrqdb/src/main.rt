@@ -9,13 +9,13 @@
 //! three streams from `main`. Standard output has no buffer, so that a reply is written at once.
 #![tactic(auto)]
 
-use rd_command_line::{command_line_words, perform};
+use rd_command_line::{command_line_words, run_command_line};
 use rd_script::{ReadSource, WriteSink};
 use std::process::ExitCode;
 
 /// Does what the command line asks for, and returns the exit status.
 fn main(rt: HostRuntime) -> ExitCode {
-    perform(
+    run_command_line(
         &rt,
         rt.alloc(),
         command_line_words(&rt),

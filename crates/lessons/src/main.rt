@@ -12,7 +12,7 @@
 #![tactic(auto)]
 
 use anyhow::Result;
-use rd_program::{Setup, end, play, resume, view};
+use rd_program::{Setup, play, resume, show_program_fault, view};
 use rd_script::{ReadSource, Ring, WriteSink};
 use std::alloc::{Alloc, Global};
 use std::fs::{self, Files};
@@ -44,8 +44,8 @@ const LESSONS: &[&str] = &[
 const GUIDE: &str = "guide";
 
 /// The session of README.md, the examples of docs/MANUAL.md, and two draws from the poised world:
-/// each has a script and a report of this name. The second part is whether it runs over the trace of
-/// this name.
+/// each has a script and a report of this name. The second part is whether it runs over the trace
+/// of this name.
 const SESSIONS: &[(&str, bool)] = &[
     ("session", false),
     ("manual-1", false),
@@ -106,14 +106,14 @@ const TRACE_END: &str = "```\n";
 fn main(rt: HostRuntime) -> Result<ExitCode> {
     let mut all_right = true;
     for &name in LESSONS {
-        let right = is_as_its_page_says(&rt, rt.alloc(), name)?;
-        all_right &= print_whether(&rt, name, right)?;
+        let right = replies_match_page(&rt, rt.alloc(), name)?;
+        all_right &= print_verdict(&rt, name, right)?;
     }
-    let right = is_guide_as_it_says(&rt, rt.alloc())?;
-    all_right &= print_whether(&rt, GUIDE, right)?;
+    let right = guide_matches_page(&rt, rt.alloc())?;
+    all_right &= print_verdict(&rt, GUIDE, right)?;
     for &(name, over_trace) in SESSIONS {
-        let right = is_as_its_report_says(&rt, rt.alloc(), name, over_trace)?;
-        all_right &= print_whether(&rt, name, right)?;
+        let right = replies_match_report(&rt, rt.alloc(), name, over_trace)?;
+        all_right &= print_verdict(&rt, name, right)?;
     }
     Ok(if all_right {
         ExitCode::SUCCESS
@@ -122,8 +122,9 @@ fn main(rt: HostRuntime) -> Result<ExitCode> {
     })
 }
 
-/// Prints a line with this name, which states whether its page or report is right, and returns that.
-fn print_whether<R: Print>(rt: &R, name: &str, right: bool) -> Result<bool> {
+/// Prints a line with this name, which states whether its page or report is right, and returns
+/// that.
+fn print_verdict<R: Print>(rt: &R, name: &str, right: bool) -> Result<bool> {
     let word = if right { "as" } else { "not as" };
     println!(rt; "{name}: {word} its page says")?;
     Ok(right)
@@ -131,12 +132,12 @@ fn print_whether<R: Print>(rt: &R, name: &str, right: bool) -> Result<bool> {
 
 /// Runs the scripts of the lesson of this name, and returns whether its page has just the tables
 /// and traces that they give.
-fn is_as_its_page_says<R: Files + Alloc<A = Global> + Threads + Wait + Sync>(
+fn replies_match_page<R: Files + Alloc<A = Global> + Threads + Wait + Sync>(
     rt: &R,
     alloc: Global,
     name: &str,
 ) -> Result<bool> {
-    let page = page_of(rt, alloc, name)?;
+    let page = page_without_explanations(rt, alloc, name)?;
     let blocks = blocks_of_lesson(rt, alloc, name, page.as_str())?;
     Ok(has_exactly(page.as_str(), blocks.as_slice()))
 }
@@ -174,7 +175,7 @@ fn blocks_over_trace<R: Files + Alloc<A = Global>>(
     let trace = fs::read_to_string(rt, format!(in alloc; "{name}.trace")?.as_str())?;
     let mut blocks = Vec::new(alloc);
     if shows_trace {
-        blocks.push(block_of(alloc, &trace)?)?;
+        blocks.push(trace_block(alloc, &trace)?)?;
     }
     let script = format!(in alloc; "{name}.script")?;
     push_run_over(rt, alloc, &mut blocks, &trace, script.as_str())?;
@@ -190,19 +191,23 @@ fn table_from_start<R: Files + Alloc<A = Global>>(
 ) -> Result<String> {
     let script = fs::read_to_string(rt, format!(in alloc; "{name}.script")?.as_str())?;
     let replies = report_from_start(alloc, ring, &script, false)?;
-    table_of(alloc, &script, &replies)
+    table_of_replies(alloc, &script, &replies)
 }
 
 /// Reads the page of this name, and returns it without the third column of its tables of lines and
 /// replies.
-fn page_of<R: Files + Alloc<A = Global>>(rt: &R, alloc: Global, name: &str) -> Result<String> {
+fn page_without_explanations<R: Files + Alloc<A = Global>>(
+    rt: &R,
+    alloc: Global,
+    name: &str,
+) -> Result<String> {
     let page = fs::read_to_string(rt, format!(in alloc; "{name}.md")?.as_str())?;
     let mut bare = String::new(alloc);
     let mut is_table = false;
     for line in page.lines() {
         is_table = line == HEADINGS || is_table && line.starts_with('|');
         if is_table && line.starts_with(ROW_BEGINS) {
-            write_pair(&mut bare, line)?;
+            write_without_last_cell(&mut bare, line)?;
         } else {
             writeln!(bare, "{line}")?;
         }
@@ -212,7 +217,7 @@ fn page_of<R: Files + Alloc<A = Global>>(rt: &R, alloc: Global, name: &str) -> R
 
 /// Appends a row of a table and a line feed to the text, the row without its last cell. So a row
 /// that doesn't have three cells becomes one that no table of lines and replies has.
-fn write_pair(text: &mut String, row: &str) -> Result<()> {
+fn write_without_last_cell(text: &mut String, row: &str) -> Result<()> {
     match before_last_cell(row) {
         Some(cells) => writeln!(text, "{cells}|")?,
         None => writeln!(text, "{row}")?,
@@ -229,7 +234,7 @@ fn before_last_cell(row: &str) -> Option<&str> {
 
 /// Runs the script of the session of this name, over the fresh world or over the trace of its name,
 /// and returns whether the replies are those of its report.
-fn is_as_its_report_says<R: Files + Alloc<A = Global>>(
+fn replies_match_report<R: Files + Alloc<A = Global>>(
     rt: &R,
     alloc: Global,
     name: &str,
@@ -239,7 +244,7 @@ fn is_as_its_report_says<R: Files + Alloc<A = Global>>(
     let report = fs::read_to_string(rt, format!(in alloc; "{name}.report")?.as_str())?;
     let replies = if over_trace {
         let trace = fs::read_to_string(rt, format!(in alloc; "{name}.trace")?.as_str())?;
-        replies_over(alloc, &trace, &script)?
+        report_over_trace(alloc, &trace, &script)?
     } else {
         report_from_start(alloc, Ring::Four, &script, false)?
     };
@@ -255,7 +260,7 @@ fn blocks_of_starts<R: Files + Alloc<A = Global>>(
     let mut blocks = Vec::new(alloc);
     for part in ["1", "2"] {
         let trace = fs::read_to_string(rt, format!(in alloc; "{name}-{part}.trace")?.as_str())?;
-        blocks.push(block_of(alloc, &trace)?)?;
+        blocks.push(trace_block(alloc, &trace)?)?;
         let script = format!(in alloc; "{name}-{part}.script")?;
         push_run_over(rt, alloc, &mut blocks, &trace, script.as_str())?;
     }
@@ -264,11 +269,11 @@ fn blocks_of_starts<R: Files + Alloc<A = Global>>(
 
 /// Runs the guide's scripts, and returns whether the guide has just the tables and traces that they
 /// give, in order.
-fn is_guide_as_it_says<R: Files + Alloc<A = Global> + Threads + Wait + Sync>(
+fn guide_matches_page<R: Files + Alloc<A = Global> + Threads + Wait + Sync>(
     rt: &R,
     alloc: Global,
 ) -> Result<bool> {
-    let page = page_of(rt, alloc, GUIDE)?;
+    let page = page_without_explanations(rt, alloc, GUIDE)?;
     let blocks = guide_blocks(rt, alloc)?;
     Ok(has_exactly(page.as_str(), blocks.as_slice()))
 }
@@ -295,7 +300,7 @@ fn guide_blocks<R: Files + Alloc<A = Global> + Threads + Wait + Sync>(
     push_run_over(rt, alloc, &mut blocks, &drawn, "guide-2.script")?;
     push_run_over(rt, alloc, &mut blocks, &drawn, "guide-3.script")?;
     let own = fs::read_to_string(rt, "guide-4.trace")?;
-    blocks.push(block_of(alloc, &own)?)?;
+    blocks.push(trace_block(alloc, &own)?)?;
     push_run_over(rt, alloc, &mut blocks, &own, "guide-4.script")?;
     blocks.push(table_of_mistakes(alloc, &own)?)?;
     blocks.push(table_of_viewers(rt, alloc, "guide-5")?)?;
@@ -333,8 +338,8 @@ fn push_run<R: Files + Alloc<A = Global>>(
         None => String::new(alloc),
         Some(line) => format!(in alloc; "{line}\n")?,
     };
-    blocks.push(table_of(alloc, &script, &report)?)?;
-    blocks.push(block_of(alloc, &trace)?)?;
+    blocks.push(table_of_replies(alloc, &script, &report)?)?;
+    blocks.push(trace_block(alloc, &trace)?)?;
     Ok(trace)
 }
 
@@ -348,13 +353,13 @@ fn push_run_over<R: Files + Alloc<A = Global>>(
     name: &str,
 ) -> Result<()> {
     let script = fs::read_to_string(rt, name)?;
-    let replies = replies_over(alloc, trace, &script)?;
-    blocks.push(table_of(alloc, &script, &replies)?)?;
+    let replies = report_over_trace(alloc, trace, &script)?;
+    blocks.push(table_of_replies(alloc, &script, &replies)?)?;
     Ok(())
 }
 
 /// Returns a trace as a page shows it, in a block of JSON. The trace must end with a line feed.
-fn block_of(alloc: Global, trace: &str) -> Result<String> {
+fn trace_block(alloc: Global, trace: &str) -> Result<String> {
     Ok(format!(in alloc; "{TRACE_HEAD}{trace}{TRACE_END}")?)
 }
 
@@ -390,12 +395,12 @@ fn load_message(alloc: Global, trace: &str) -> Result<String> {
         false,
     );
     let mut errors = Vec::new(alloc);
-    end(&outcome, &mut WriteSink::new(&mut errors));
+    show_program_fault(&outcome, &mut WriteSink::new(&mut errors));
     Ok(String::from_utf8(errors)?)
 }
 
 /// Runs a script over the run of a trace, and returns the replies.
-fn replies_over(alloc: Global, trace: &str, script: &str) -> Result<String> {
+fn report_over_trace(alloc: Global, trace: &str, script: &str) -> Result<String> {
     let mut written = Vec::new(alloc);
     resume(
         alloc,
@@ -425,7 +430,7 @@ fn report_from_start(alloc: Global, ring: Ring, script: &str, traced: bool) -> R
 }
 
 /// Returns the table of a script's lines and the replies to them, and the empty line after it.
-fn table_of(alloc: Global, script: &str, replies: &str) -> Result<String> {
+fn table_of_replies(alloc: Global, script: &str, replies: &str) -> Result<String> {
     let mut table = format!(in alloc; "\n{HEADINGS}\n|---|---|---|\n")?;
     for (line, reply) in script.lines().zip(replies.lines()) {
         writeln!(table, "| `{line}` | `{reply}` |")?;
@@ -435,8 +440,8 @@ fn table_of(alloc: Global, script: &str, replies: &str) -> Result<String> {
 }
 
 /// Runs two scripts at once, those of this name with `-1` and `-2`, and returns their table: for
-/// each viewer the file, its heading, and its lines with the replies of `write_certain`; and last
-/// the number of recorded calls.
+/// each viewer the file, its heading, and its lines with the replies of `write_masked_reply`; and
+/// last the number of recorded calls.
 fn table_of_viewers<R: Files + Alloc<A = Global> + Threads + Wait + Sync>(
     rt: &R,
     alloc: Global,
@@ -462,14 +467,14 @@ fn table_of_viewers<R: Files + Alloc<A = Global> + Threads + Wait + Sync>(
     )?;
     let mut replies = String::new(alloc);
     for reply in String::from_utf8(written)?.lines() {
-        write_certain(&mut replies, reply)?;
+        write_masked_reply(&mut replies, reply)?;
     }
-    table_of(alloc, &lines, &replies)
+    table_of_replies(alloc, &lines, &replies)
 }
 
 /// Appends a reply to the text, with letters in place of the numbers that another order of the
 /// viewers' calls would change: those of steps, how many are live, and a tail's counter.
-fn write_certain(text: &mut String, reply: &str) -> Result<()> {
+fn write_masked_reply(text: &mut String, reply: &str) -> Result<()> {
     if let Some(rest) = reply.strip_prefix("ok ") {
         match rest.split_once(' ') {
             Some((_, end)) => writeln!(text, "ok K {end}")?,

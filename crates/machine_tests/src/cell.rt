@@ -43,7 +43,7 @@ fn places_overlap_if_they_are_equal_or_one_names_the_other(rt: HostRuntime) {
 fn place_is(rt: &impl Abort, row: &PlaceRow) {
     let place = row.0;
     same_at(rt, place.segment(), row.1, &place);
-    same_at(rt, place.is_array(), row.2, &place);
+    same_at(rt, place.is_of_array(), row.2, &place);
     let root = Place::Whole(SegName::ROOT);
     same_at(rt, overlaps(root, place), false, &place);
     for other in PLACES {
@@ -166,9 +166,9 @@ fn what_was_done_says_what_it_found(rt: HostRuntime) {
     let added = Done::at(TAIL, OPEN_2, Answer::Found(OPEN_2), Wrote::Place);
     same(&rt, added, ADDED);
     let won = Done::at(TAIL, OPEN_2, Answer::Won, Wrote::Place);
-    same(&rt, Done::swapped(TAIL, OPEN_2, true, Wrote::Place), won);
+    same(&rt, Done::of_cas(TAIL, OPEN_2, true, Wrote::Place), won);
     let lost = Done::at(TAIL, OPEN_2, Answer::Lost, Wrote::Nothing);
-    same(&rt, Done::swapped(TAIL, OPEN_2, false, Wrote::Place), lost);
+    same(&rt, Done::of_cas(TAIL, OPEN_2, false, Wrote::Place), lost);
 }
 
 /// A cell with and without its value, safe and unsafe.
@@ -202,7 +202,7 @@ const PUTS: &[(Cell, Cell, Wrote)] = &[
 #[test]
 fn a_swap_of_a_cell_writes_the_value_half_if_the_values_differ(rt: HostRuntime) {
     for row in PUTS {
-        same_at(&rt, row.0.wrote(row.1), row.2, row);
+        same_at(&rt, row.0.cas2_wrote(row.1), row.2, row);
     }
 }
 

@@ -2,7 +2,7 @@
 
 ghost use Rattle.std.specs.Prelude.{◌≡◌, ◌^◌, ◌≤◌, IsTrue};
 ghost use Rattle.rd_ring.specs.Segments.{counters_fit};
-ghost use Rattle.rd_segments.specs.Space.{lists};
+ghost use Rattle.rd_segments.specs.Space.{list_count};
 
 use super::equal::{same, same_at};
 use rd_cell::limits::SLOTS;
@@ -160,7 +160,7 @@ fn a_made_segment_is_taken_away(rt: HostRuntime) -> Result<(), Fail> {
 
 /// Takes away the last segment of the maker of this one, if this one is there.
 fn unmake_last(space: &mut Space<4>, name: SegName) -> bool
-    ensures { lists space.new ≡ lists space.old }
+    ensures { list_count space.new ≡ list_count space.old }
 {
     match space.content(Place::Head(name)) {
         None => false,

@@ -13,8 +13,8 @@ first_of [] word = Idle
 first_of (pc ∷ pcs) word = if bytes_eq word (label pc) then pc else first_of pcs word
 
 -- each control point is the first in the list of all that has its label
-point_of : (pc : Pc) → first_of ALL (label pc) ≡ pc
-point_of pc = grind arith
+first_of-label : (pc : Pc) → first_of ALL (label pc) ≡ pc
+first_of-label pc = grind arith
 
 -- what holds of Idle and of each control point of a list holds of the first that has a given label
 holds_of_first : (P : Pc → Type 0) (pcs : List Pc) (word : List ℕ) → P Idle → ((k : ℕ) → k < length pcs → P (get_or pcs k Idle)) → P (first_of pcs word)
@@ -25,4 +25,4 @@ holds_of_first P (pc ∷ pcs) word idle each =
 
 -- what holds of each element of the list of all holds of every control point
 pub each_point : (P : Pc → Type 0) → ((k : ℕ) → k < 34 → P (get_or ALL k Idle)) → (pc : Pc) → P pc
-each_point P each pc = subst P (point_of pc) (holds_of_first P ALL (label pc) (each 0 (lit< tt)) each)
+each_point P each pc = subst P (first_of-label pc) (holds_of_first P ALL (label pc) (each 0 (lit< tt)) each)

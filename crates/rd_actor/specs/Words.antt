@@ -35,42 +35,42 @@ has_idle_words a =
     && not a.closed && is_none a.val && not a.safe && (a.idx == 0) && (a.pass == 0)
 
 -- whether the actor is in an enqueue, with pass 0
-abbrev pub enqueue_fits : Actor → Bool
-enqueue_fits a = is_enqueue a.op && (a.pass == 0)
+abbrev pub is_in_enqueue : Actor → Bool
+is_in_enqueue a = is_enqueue a.op && (a.pass == 0)
 
 -- whether the actor is in a dequeue, in pass 1 or 2 over its segment
-abbrev pub pass_fits : Actor → Bool
-pass_fits a = is_dequeue a.op && ((a.pass == 1) || (a.pass == 2))
+abbrev pub is_in_pass : Actor → Bool
+is_in_pass a = is_dequeue a.op && ((a.pass == 1) || (a.pass == 2))
 
 -- whether an actor's words fit this control point
 abbrev pub words_fit_at : Pc → Actor → Bool
 words_fit_at Idle a = has_idle_words a
-words_fit_at E1 a = enqueue_fits a
-words_fit_at E2 a = enqueue_fits a
-words_fit_at E3 a = enqueue_fits a
-words_fit_at E4 a = enqueue_fits a
-words_fit_at E5 a = enqueue_fits a
-words_fit_at E6 a = enqueue_fits a
-words_fit_at E7 a = enqueue_fits a && is_none a.val && not a.safe && nat_le a.idx a.t
-words_fit_at E8 a = enqueue_fits a && is_none a.val && nat_le a.idx a.t
-words_fit_at E9 a = enqueue_fits a
-words_fit_at E10 a = enqueue_fits a
-words_fit_at E11 a = enqueue_fits a
-words_fit_at E12 a = enqueue_fits a
-words_fit_at E13 a = enqueue_fits a
-words_fit_at E14 a = enqueue_fits a
+words_fit_at E1 a = is_in_enqueue a
+words_fit_at E2 a = is_in_enqueue a
+words_fit_at E3 a = is_in_enqueue a
+words_fit_at E4 a = is_in_enqueue a
+words_fit_at E5 a = is_in_enqueue a
+words_fit_at E6 a = is_in_enqueue a
+words_fit_at E7 a = is_in_enqueue a && is_none a.val && not a.safe && nat_le a.idx a.t
+words_fit_at E8 a = is_in_enqueue a && is_none a.val && nat_le a.idx a.t
+words_fit_at E9 a = is_in_enqueue a
+words_fit_at E10 a = is_in_enqueue a
+words_fit_at E11 a = is_in_enqueue a
+words_fit_at E12 a = is_in_enqueue a
+words_fit_at E13 a = is_in_enqueue a
+words_fit_at E14 a = is_in_enqueue a
 words_fit_at Q1 a = is_dequeue a.op && nat_le a.pass 2
-words_fit_at Q2 a = pass_fits a
-words_fit_at Q3 a = pass_fits a
-words_fit_at Q4 a = pass_fits a
-words_fit_at Q5 a = pass_fits a && is_some a.val && (a.idx == a.h)
-words_fit_at Q6 a = pass_fits a && is_some a.val && nat_lt a.idx a.h
-words_fit_at Q7 a = pass_fits a && is_none a.val && nat_le a.idx a.h
-words_fit_at Q8 a = pass_fits a
-words_fit_at Q9 a = pass_fits a
-words_fit_at Q10 a = pass_fits a
-words_fit_at Q11 a = pass_fits a
-words_fit_at Q12 a = pass_fits a && not a.closed && nat_lt a.t a.h
+words_fit_at Q2 a = is_in_pass a
+words_fit_at Q3 a = is_in_pass a
+words_fit_at Q4 a = is_in_pass a
+words_fit_at Q5 a = is_in_pass a && is_some a.val && (a.idx == a.h)
+words_fit_at Q6 a = is_in_pass a && is_some a.val && nat_lt a.idx a.h
+words_fit_at Q7 a = is_in_pass a && is_none a.val && nat_le a.idx a.h
+words_fit_at Q8 a = is_in_pass a
+words_fit_at Q9 a = is_in_pass a
+words_fit_at Q10 a = is_in_pass a
+words_fit_at Q11 a = is_in_pass a
+words_fit_at Q12 a = is_in_pass a && not a.closed && nat_lt a.t a.h
 words_fit_at Q13 a = is_dequeue a.op && (a.pass == 1)
 words_fit_at Q14 a = is_dequeue a.op && (a.pass == 2)
 words_fit_at A1 a = is_array_enqueue a.op && (a.pass == 0)

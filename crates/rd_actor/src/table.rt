@@ -55,11 +55,11 @@ fn need_at<const R: usize>(actor: &Actor) -> Result<Access, Refusal>
         Pc::E3 => Ok(Access::At(Place::QTail, cas_name(actor, actor.next))),
         Pc::E4 => Ok(Access::At(Place::Tail(crq), Operation::Add)),
         Pc::E5 => Ok(Access::At(
-            Place::Val(crq, index_of::<R>(actor.t)),
+            Place::Val(crq, cell_number::<R>(actor.t)),
             Operation::ReadValue,
         )),
         Pc::E6 => Ok(Access::At(
-            Place::Idx(crq, index_of::<R>(actor.t)),
+            Place::Idx(crq, cell_number::<R>(actor.t)),
             Operation::ReadSafeAndIndex,
         )),
         Pc::E7 | Pc::E9 | Pc::Q10 => Ok(Access::At(Place::Head(crq), Operation::Read)),
@@ -72,11 +72,11 @@ fn need_at<const R: usize>(actor: &Actor) -> Result<Access, Refusal>
         Pc::Q1 => Ok(Access::At(Place::QHead, Operation::Read)),
         Pc::Q2 => Ok(Access::At(Place::Head(crq), Operation::Add)),
         Pc::Q3 => Ok(Access::At(
-            Place::Val(crq, index_of::<R>(actor.h)),
+            Place::Val(crq, cell_number::<R>(actor.h)),
             Operation::ReadValue,
         )),
         Pc::Q4 => Ok(Access::At(
-            Place::Idx(crq, index_of::<R>(actor.h)),
+            Place::Idx(crq, cell_number::<R>(actor.h)),
             Operation::ReadSafeAndIndex,
         )),
         Pc::Q5 => Ok(Access::At(
@@ -125,8 +125,8 @@ fn after_at<const R: usize>(actor: &Actor, answer: Answer) -> (Actor, Option<OpR
     ensures { result ≡ after_at R actor.now.pc actor.now answer }
 {
     let next = match (actor.pc, answer) {
-        (Pc::E1, Answer::Found(Content::Name(name))) => with_tail_segment(actor, name),
-        (Pc::E2, Answer::Found(Content::Next(Some(name)))) => with_next_segment(actor, name),
+        (Pc::E1, Answer::Found(Content::Name(name))) => after_enqueue_finds_tail(actor, name),
+        (Pc::E2, Answer::Found(Content::Next(Some(name)))) => after_enqueue_finds_next(actor, name),
         (Pc::E2, Answer::Found(Content::Next(None))) => with_pc(actor, Pc::E4),
         (Pc::E3, _) => with_pc(actor, Pc::E1),
         (Pc::E4, Answer::Found(Content::Tail { closed, count })) => after_tail_add(
@@ -139,11 +139,11 @@ fn after_at<const R: usize>(actor: &Actor, answer: Answer) -> (Actor, Option<OpR
         (Pc::E8, Answer::Lost) => with_pc(actor, Pc::E9),
         (Pc::E9, Answer::Found(Content::Number(head))) => after_full_check::<R>(actor, head),
         (Pc::E11, _) => with_pc(actor, Pc::E12),
-        (Pc::E12, Answer::Made(name)) => with_new(actor, name),
+        (Pc::E12, Answer::Made(name)) => after_segment_made(actor, name),
         (Pc::E13, Answer::Won) => with_pc(actor, Pc::E14),
         (Pc::E13, Answer::Lost) => with_pc(actor, Pc::E1),
         (Pc::E14, _) => return (Actor::idle(), Some(OpReply::Enqueued)),
-        (Pc::Q1, Answer::Found(Content::Name(name))) => with_head_segment(actor, name),
+        (Pc::Q1, Answer::Found(Content::Name(name))) => after_dequeue_finds_head(actor, name),
         (Pc::Q2, Answer::Found(Content::Number(head))) => with_head(actor, head, Pc::Q3),
         (Pc::Q3, Answer::Value(val)) => with_value(actor, val, Pc::Q4),
         (Pc::Q4, Answer::SafeAndIndex { safe, idx }) => after_dequeue_reads_index(actor, safe, idx),
@@ -151,7 +151,7 @@ fn after_at<const R: usize>(actor: &Actor, answer: Answer) -> (Actor, Option<OpR
         (Pc::Q5 | Pc::Q6 | Pc::Q7, Answer::Lost) => with_pc(actor, Pc::Q3),
         (Pc::Q6 | Pc::Q7, Answer::Won) => with_pc(actor, Pc::Q8),
         (Pc::Q8, Answer::Found(Content::Tail { count, .. })) => after_empty_check(actor, count),
-        (Pc::Q9, Answer::Found(Content::Tail { closed, count })) => with_repair_tail(
+        (Pc::Q9, Answer::Found(Content::Tail { closed, count })) => after_repair_reads_tail(
             actor, closed, count,
         ),
         (Pc::Q10, Answer::Found(Content::Number(head))) => with_head(actor, head, Pc::Q11),
@@ -164,9 +164,11 @@ fn after_at<const R: usize>(actor: &Actor, answer: Answer) -> (Actor, Option<OpR
             Actor::idle(),
             Some(OpReply::Empty),
         ),
-        (Pc::Q13, Answer::Found(Content::Next(Some(name)))) => second_pass(actor, name),
+        (Pc::Q13, Answer::Found(Content::Next(Some(name)))) => after_dequeue_finds_next(
+            actor, name,
+        ),
         (Pc::Q14, _) => with_pc(actor, Pc::Q1),
-        (Pc::A1, Answer::Found(Content::Number(tail))) => with_tail(actor, tail),
+        (Pc::A1, Answer::Found(Content::Number(tail))) => after_array_tail_add(actor, tail),
         (Pc::A2, Answer::Found(Content::Slot(ArrSlot::Empty))) => return (
             Actor::idle(),
             Some(OpReply::Enqueued),
@@ -195,7 +197,7 @@ fn with_pc(actor: &Actor, pc: Pc) -> Actor
 }
 
 /// Returns the record after E1: the enqueue works on this segment, which the queue's tail named.
-fn with_tail_segment(actor: &Actor, name: SegName) -> Actor
+fn after_enqueue_finds_tail(actor: &Actor, name: SegName) -> Actor
     ensures { result ≡ record actor.now { crq = name; pc = Pc.E2 } }
 {
     Actor {
@@ -207,7 +209,7 @@ fn with_tail_segment(actor: &Actor, name: SegName) -> Actor
 
 /// Returns the record after an E2 that read this next segment: the enqueue goes on to move the
 /// queue's tail to it.
-fn with_next_segment(actor: &Actor, name: SegName) -> Actor
+fn after_enqueue_finds_next(actor: &Actor, name: SegName) -> Actor
     ensures { result ≡ record actor.now { next = name; pc = Pc.E3 } }
 {
     Actor {
@@ -284,7 +286,7 @@ fn after_full_check<const R: usize>(actor: &Actor, head: u64) -> Actor
 }
 
 /// Returns the record after E12: the enqueue made this segment, and goes on to link it.
-fn with_new(actor: &Actor, name: SegName) -> Actor
+fn after_segment_made(actor: &Actor, name: SegName) -> Actor
     ensures { result ≡ record actor.now { new = name; pc = Pc.E13 } }
 {
     Actor {
@@ -296,7 +298,7 @@ fn with_new(actor: &Actor, name: SegName) -> Actor
 
 /// Returns the record after Q1: the dequeue begins its first pass over this segment, which the
 /// queue's head named.
-fn with_head_segment(actor: &Actor, name: SegName) -> Actor
+fn after_dequeue_finds_head(actor: &Actor, name: SegName) -> Actor
     ensures { result ≡ record actor.now { crq = name; pass = 1; pc = Pc.Q2 } }
 {
     Actor {
@@ -372,7 +374,7 @@ fn after_empty_check(actor: &Actor, count: u64) -> Actor
 }
 
 /// Returns the record after Q9: the dequeue's repair read this tail.
-fn with_repair_tail(actor: &Actor, closed: bool, count: u64) -> Actor
+fn after_repair_reads_tail(actor: &Actor, closed: bool, count: u64) -> Actor
     ensures { result ≡ record actor.now { closed = closed; t = count; pc = Pc.Q10 } }
 {
     Actor {
@@ -410,7 +412,7 @@ fn pc_after_empty_pass(actor: &Actor) -> Pc
 
 /// Returns the record after a Q13 that read this next segment: the dequeue begins its second pass,
 /// at Q2, over the segment on which it works.
-fn second_pass(actor: &Actor, name: SegName) -> Actor
+fn after_dequeue_finds_next(actor: &Actor, name: SegName) -> Actor
     ensures { result ≡ record actor.now { next = name; pass = 2; pc = Pc.Q2 } }
 {
     Actor {
@@ -422,7 +424,7 @@ fn second_pass(actor: &Actor, name: SegName) -> Actor
 }
 
 /// Returns the record after A1: the enqueue on the array drew this position.
-fn with_tail(actor: &Actor, tail: u64) -> Actor
+fn after_array_tail_add(actor: &Actor, tail: u64) -> Actor
     ensures { result ≡ record actor.now { t = tail; pc = Pc.A2 } }
 {
     Actor {
@@ -462,11 +464,11 @@ fn cell_at<const R: usize>(actor: &Actor, position: u64) -> Place
     requires small { R ≤ MOST_CELLS }
     ensures { result ≡ Place.Cell actor.now.crq (position % R) }
 {
-    Place::Cell(actor.crq, index_of::<R>(position))
+    Place::Cell(actor.crq, cell_number::<R>(position))
 }
 
 /// Returns the number of this position's cell in a ring of `R` cells, 1 to 64.
-fn index_of<const R: usize>(position: u64) -> u8
+fn cell_number<const R: usize>(position: u64) -> u8
     requires positive { 1 ≤ R }
     requires small { R ≤ MOST_CELLS }
     ensures { result ≡ position % R }

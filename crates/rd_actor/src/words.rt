@@ -2,7 +2,7 @@
 //! actor in a world fit: `World::assemble` refuses others, and every step keeps this.
 
 ghost use Rattle.std.specs.Prelude.{◌≡◌};
-ghost use Rattle.rd_actor.specs.Words.{words_fit, has_idle_words, is_enqueue, is_dequeue, is_array_enqueue, is_array_dequeue, enqueue_fits, pass_fits};
+ghost use Rattle.rd_actor.specs.Words.{words_fit, has_idle_words, is_enqueue, is_dequeue, is_array_enqueue, is_array_dequeue, is_in_enqueue, is_in_pass};
 
 use super::actors::{Actor, Op, Pc};
 use rd_cell::SegName;
@@ -16,17 +16,17 @@ impl Actor {
     {
         match self.pc {
             Pc::Idle => has_idle_words(self),
-            Pc::E1 | Pc::E2 | Pc::E3 | Pc::E4 | Pc::E5 | Pc::E6 => enqueue_fits(self),
-            Pc::E7 => enqueue_fits(self) && self.val.is_none() && !self.safe && self.idx <= self.t,
-            Pc::E8 => enqueue_fits(self) && self.val.is_none() && self.idx <= self.t,
-            Pc::E9 | Pc::E10 | Pc::E11 | Pc::E12 | Pc::E13 | Pc::E14 => enqueue_fits(self),
+            Pc::E1 | Pc::E2 | Pc::E3 | Pc::E4 | Pc::E5 | Pc::E6 => is_in_enqueue(self),
+            Pc::E7 => is_in_enqueue(self) && self.val.is_none() && !self.safe && self.idx <= self.t,
+            Pc::E8 => is_in_enqueue(self) && self.val.is_none() && self.idx <= self.t,
+            Pc::E9 | Pc::E10 | Pc::E11 | Pc::E12 | Pc::E13 | Pc::E14 => is_in_enqueue(self),
             Pc::Q1 => is_dequeue(self.op) && self.pass <= 2,
-            Pc::Q2 | Pc::Q3 | Pc::Q4 => pass_fits(self),
-            Pc::Q5 => pass_fits(self) && self.val.is_some() && self.idx == self.h,
-            Pc::Q6 => pass_fits(self) && self.val.is_some() && self.idx < self.h,
-            Pc::Q7 => pass_fits(self) && self.val.is_none() && self.idx <= self.h,
-            Pc::Q8 | Pc::Q9 | Pc::Q10 | Pc::Q11 => pass_fits(self),
-            Pc::Q12 => pass_fits(self) && !self.closed && self.t < self.h,
+            Pc::Q2 | Pc::Q3 | Pc::Q4 => is_in_pass(self),
+            Pc::Q5 => is_in_pass(self) && self.val.is_some() && self.idx == self.h,
+            Pc::Q6 => is_in_pass(self) && self.val.is_some() && self.idx < self.h,
+            Pc::Q7 => is_in_pass(self) && self.val.is_none() && self.idx <= self.h,
+            Pc::Q8 | Pc::Q9 | Pc::Q10 | Pc::Q11 => is_in_pass(self),
+            Pc::Q12 => is_in_pass(self) && !self.closed && self.t < self.h,
             Pc::Q13 => is_dequeue(self.op) && self.pass == 1,
             Pc::Q14 => is_dequeue(self.op) && self.pass == 2,
             Pc::A1 => is_array_enqueue(self.op) && self.pass == 0,
@@ -55,15 +55,15 @@ fn has_idle_words(actor: &Actor) -> bool
 }
 
 /// Whether the actor is in an enqueue, with pass 0.
-fn enqueue_fits(actor: &Actor) -> bool
-    ensures { result ≡ enqueue_fits actor.now }
+fn is_in_enqueue(actor: &Actor) -> bool
+    ensures { result ≡ is_in_enqueue actor.now }
 {
     is_enqueue(actor.op) && actor.pass == 0
 }
 
 /// Whether the actor is in a dequeue, in pass 1 or 2 over its segment.
-fn pass_fits(actor: &Actor) -> bool
-    ensures { result ≡ pass_fits actor.now }
+fn is_in_pass(actor: &Actor) -> bool
+    ensures { result ≡ is_in_pass actor.now }
 {
     is_dequeue(actor.op) && (actor.pass == 1 || actor.pass == 2)
 }

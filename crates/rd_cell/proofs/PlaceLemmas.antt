@@ -1,5 +1,5 @@
 -- Equality and overlap of places.
-use Rattle.rd_cell.proofs.Prelude.{◌≡◌, ℕ, true, ◌==◌, refl, eq-eqb, Option, Some, None, arith, and_from, or_left, or_right, SegName, Wrote, name_eq, is_of, is_of_cell, place_eq, covers, overlaps, some_covers, some_overlap, written, interfere}
+use Rattle.rd_cell.proofs.Prelude.{◌≡◌, ℕ, true, ◌==◌, refl, eq-eqb, Option, Some, None, arith, and_from, or_left, or_right, SegName, Wrote, name_eq, is_of_segment, is_of_cell, place_eq, covers, overlaps, some_covers, some_overlap, written, interfere}
 use Rattle.rd_cell.specs.declared.places.Place.{Place}
 use Rattle.rd_cell.specs.declared.places.Place.TheVariants as place
 
@@ -20,12 +20,12 @@ pub place_eq-refl : (p : Place) → place_eq p p ≡ true
 place_eq-refl p = grind arith
 
 -- a place is of one segment only: two segments that it is of have equal names
-pub is_of-name : (s t : SegName) (q : Place) → is_of s q ≡ true → is_of t q ≡ true → name_eq s t ≡ true
-is_of-name s t q h k = grind arith
+pub is_of_segment-name : (s t : SegName) (q : Place) → is_of_segment s q ≡ true → is_of_segment t q ≡ true → name_eq s t ≡ true
+is_of_segment-name s t q h k = grind arith
 
 -- a cell and its halves are of the cell's segment
-pub is_of_cell-of : (s : SegName) (i : ℕ) (q : Place) → is_of_cell s i q ≡ true → is_of s q ≡ true
-is_of_cell-of s i q h = grind arith
+pub is_of_cell-is_of_segment : (s : SegName) (i : ℕ) (q : Place) → is_of_cell s i q ≡ true → is_of_segment s q ≡ true
+is_of_cell-is_of_segment s i q h = grind arith
 
 -- a place is of one cell only: two cells that it is of are equal
 one_cell : (s t : SegName) (i j : ℕ) (q : Place) → is_of_cell s i q ≡ true → is_of_cell t j q ≡ true → is_of_cell s i (place.Cell t j) ≡ true
@@ -35,7 +35,7 @@ one_cell s t i j q h l = grind arith
 pub data Covering (p q : Place) : Type 0 where
   itself : p ≡ q → Covering p q
   as_cell : (s : SegName) (i : ℕ) → p ≡ place.Cell s i → is_of_cell s i q ≡ true → Covering p q
-  as_whole : (s : SegName) → p ≡ place.Whole s → is_of s q ≡ true → Covering p q
+  as_whole : (s : SegName) → p ≡ place.Whole s → is_of_segment s q ≡ true → Covering p q
 
 -- if p covers q, it does so in one of these ways
 pub covers_cases : (p q : Place) → covers p q ≡ true → Covering p q
@@ -49,7 +49,7 @@ covers-refl p = grind arith
 
 -- two places that cover a third overlap
 pub overlaps_of_covers : (p q r : Place) → covers p r ≡ true → covers q r ≡ true → overlaps p q ≡ true
-overlaps_of_covers p q r h k = grind (arith, covers_cases, or_left, or_right, one_cell, is_of-name, is_of_cell-of)
+overlaps_of_covers p q r h k = grind (arith, covers_cases, or_left, or_right, one_cell, is_of_segment-name, is_of_cell-is_of_segment)
 
 -- Places that may be absent
 
@@ -58,10 +58,10 @@ pub some_overlap-sym : (p q : Option Place) → some_overlap p q ≡ true → so
 some_overlap-sym p q h = grind arith
 
 -- two places, both perhaps absent, overlap if they cover a third
-pub both_cover : (p q : Option Place) (r : Place) → some_covers p r ≡ true → some_covers q r ≡ true → some_overlap p q ≡ true
-both_cover (Some p) (Some q) r h k = overlaps_of_covers p q r h k
-both_cover None q r h k = cc
-both_cover (Some p) None r h k = cc
+pub some_overlap_of_covers : (p q : Option Place) (r : Place) → some_covers p r ≡ true → some_covers q r ≡ true → some_overlap p q ≡ true
+some_overlap_of_covers (Some p) (Some q) r h k = overlaps_of_covers p q r h k
+some_overlap_of_covers None q r h k = cc
+some_overlap_of_covers (Some p) None r h k = cc
 
 -- What was written is of the place
 

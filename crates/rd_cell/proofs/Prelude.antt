@@ -31,11 +31,11 @@ pub use denote.RattleType.{RattleType}
 pub use denote.Struct.Declared.{shape}
 pub use mathlib.Core.Logic.{∥∥₁_map}
 pub use mathlib.Core.Path.{fun_ext}
-pub use Rattle.rd_cell.specs.Access.{HasEffect, Operates, OperatesOn, Performed, Restores, contents_after, effect_at, everywhere, make, no_access, operate, perform}
+pub use Rattle.rd_cell.specs.Access.{HasEffect, Operates, OperatesOn, Performed, Restores, contents_after, performed_at, everywhere, make, no_access, operate, perform}
 unfoldable pub use Rattle.rd_cell.specs.Access.{number_made, number_made_from}
-pub use Rattle.rd_cell.specs.Contents.{Contents, after_write, after_write_at, cell_of_halves, holding, operand, restore, share}
-pub use Rattle.rd_cell.specs.Operations.{Effect, adds, effect, read_answer, swaps, wrote_by}
-pub use Rattle.rd_cell.specs.Places.{covers, index_half, interfere, is_nothing, is_of, is_of_cell, is_of_same_segment, name_eq, overlaps, place_eq, segment_of, some_covers, some_overlap, written}
+pub use Rattle.rd_cell.specs.Contents.{Contents, after_write, after_some_write, cell_of_halves, segment_holding, operand, restore, share}
+pub use Rattle.rd_cell.specs.Operations.{Effect, adds, effect, read_answer, compares_and_swaps, wrote_by}
+pub use Rattle.rd_cell.specs.Places.{covers, index_half, interfere, is_nothing, is_of_segment, is_of_cell, is_of_same_segment, name_eq, overlaps, place_eq, segment_of, some_covers, some_overlap, written}
 pub use Rattle.rd_cell.specs.Results.{and_then, result_map}
 pub use Rattle.rd_cell.specs.declared.cells.Cell.{Cell}
 pub use Rattle.rd_cell.specs.declared.contents.Content.{Content}

@@ -16,7 +16,7 @@ use Rattle.rd_cell.specs.declared.access.Done.{Done}
 use Rattle.rd_cell.specs.declared.refusal.Refusal.{Refusal}
 use Rattle.rd_cell.specs.declared.refusal.Refusal.TheVariants as refusal
 use Rattle.rd_cell.specs.Places.{place_eq, written}
-use Rattle.rd_cell.specs.Contents.{Contents, share, after_write_at, restore, operand, holding}
+use Rattle.rd_cell.specs.Contents.{Contents, share, after_some_write, restore, operand, segment_holding}
 use Rattle.rd_cell.specs.Operations.{Effect, effect, wrote_by, suits}
 use Rattle.rd_cell.specs.Results.{and_then, result_map}
 
@@ -32,7 +32,7 @@ pub record Performed : Type 0 where
 
 -- the contents of all places after this access, given those before it
 abbrev pub contents_after : Performed → Contents → Contents
-contents_after did = after_write_at (written did.place did.wrote) did.given
+contents_after did = after_some_write (written did.place did.wrote) did.given
 
 -- the part of what an access did that the entry of its step records
 abbrev pub done_of : Performed → Done
@@ -55,13 +55,13 @@ abbrev pub no_access : Performed
 no_access = record { place = None; old = None; answer = answer.Nothing; wrote = wrote.Nothing; given = λ q. None }
 
 -- what an operation with this effect did at a place that had this content
-abbrev pub effect_at : Place → Content → Effect → Performed
-effect_at p c e = record { place = Some p; old = Some c; answer = e.answer; wrote = wrote_by c e.writes; given = share p e.writes }
+abbrev pub performed_at : Place → Content → Effect → Performed
+performed_at p c e = record { place = Some p; old = Some c; answer = e.answer; wrote = wrote_by c e.writes; given = share p e.writes }
 
 -- what an operation does at a place with this content; it is refused if there is no content, or as
 -- `effect` refuses it
 abbrev pub operate : Place → Operation → Option Content → Result Performed Refusal
-operate p op o = and_then (ok_or o refusal.NoSuchPlace) (λ c. result_map (effect_at p c) (effect op c))
+operate p op o = and_then (ok_or o refusal.NoSuchPlace) (λ c. result_map (performed_at p c) (effect op c))
 
 -- what the making of this segment does: it writes all places of the segment, with the contents
 -- `given`; `SegmentsEnd` if its number is 65,535 or more
@@ -76,7 +76,7 @@ make s given =
 abbrev pub perform : ℕ → ℕ → Contents → Access → Result Performed Refusal
 perform R actor at NoPlace = Ok no_access
 perform R actor at (At p op) = operate p op (operand at p)
-perform R actor at (Make x) = make (record { maker = actor; n = number_made at actor }) (holding R x)
+perform R actor at (Make x) = make (record { maker = actor; n = number_made at actor }) (segment_holding R x)
 
 -- whether the operation of this access suits its place; true without an operation
 abbrev pub access_suits : Access → Bool

@@ -21,10 +21,10 @@ after_write p given at q = if covers p q then given q else at q
 
 -- the part of a cell that each place holds: the value at a value half, safe bit and index at an
 -- index half, and nothing elsewhere
-abbrev pub half : Cell → Contents
-half c (place.Val s i) = Some (content.Val c.val)
-half c (place.Idx s i) = Some (content.Idx c.safe c.idx)
-half c _ = None
+abbrev pub cell_halves : Cell → Contents
+cell_halves c (place.Val s i) = Some (content.Val c.val)
+cell_halves c (place.Idx s i) = Some (content.Idx c.safe c.idx)
+cell_halves c _ = None
 
 -- the cell whose value half and index half these contents are; none unless they are such halves
 abbrev pub cell_of_halves : Option Content → Option Content → Option Content
@@ -40,13 +40,13 @@ is_cell _ = false
 -- gets its half, any other place all of it. What is found at, or written over, a cell's place is
 -- always a cell (`laws::the_content_of_a_cell_is_a_cell`)
 abbrev pub share : Place → Option Content → Contents
-share (place.Cell s i) (Some (content.Cell c)) q = half c q
+share (place.Cell s i) (Some (content.Cell c)) q = cell_halves c q
 share p o q = o
 
 -- the contents after a write at a place; without a place, the contents as they were
-abbrev pub after_write_at : Option Place → Contents → Contents → Contents
-after_write_at None given at = at
-after_write_at (Some p) given at = after_write p given at
+abbrev pub after_some_write : Option Place → Contents → Contents → Contents
+after_some_write None given at = at
+after_some_write (Some p) given at = after_write p given at
 
 -- the contents with this old content put back at a place. Without an old content, the places that
 -- it covers are removed; without a place, nothing changes
@@ -99,7 +99,7 @@ fresh_segment R _ = None
 
 -- the content of each place of a new segment with R cells that already holds x: as in a fresh one,
 -- except that its tail counter is 1 and x is in cell 0
-abbrev pub holding : ℕ → ℕ → Contents
-holding R x (place.Tail s) = Some (content.Tail false 1)
-holding R x (place.Val s u) = if nat_lt u R then Some (content.Val (if u == 0 then Some x else None)) else None
-holding R x p = fresh_segment R p
+abbrev pub segment_holding : ℕ → ℕ → Contents
+segment_holding R x (place.Tail s) = Some (content.Tail false 1)
+segment_holding R x (place.Val s u) = if nat_lt u R then Some (content.Val (if u == 0 then Some x else None)) else None
+segment_holding R x p = fresh_segment R p

@@ -15,7 +15,7 @@ use Rattle.rd_cell.specs.declared.operations.Answer.{Answer}
 use Rattle.rd_cell.specs.declared.operations.Answer.TheVariants as answer
 use Rattle.rd_cell.specs.declared.refusal.Refusal.{Refusal}
 use Rattle.rd_cell.specs.declared.refusal.Refusal.TheVariants as refusal
-use Rattle.rd_cell.specs.Places.{name_eq, is_array}
+use Rattle.rd_cell.specs.Places.{name_eq, is_of_array}
 use Rattle.rd_cell.specs.Cells.{cell_eq}
 
 -- what an operation does to one content: its `answer`, and the content that it `writes`, or none if
@@ -33,16 +33,16 @@ abbrev pub writes : Answer → Content → Result Effect Refusal
 writes said c = Ok (record { answer = said; writes = Some c })
 
 -- the answer of a compare-and-swap, by whether it won
-abbrev pub swap_answer : Bool → Answer
-swap_answer won = if won then answer.Won else answer.Lost
+abbrev pub cas_answer : Bool → Answer
+cas_answer won = if won then answer.Won else answer.Lost
 
 -- which part of its place a compare-and-swap wrote: `written` if it won, else nothing
-abbrev pub swap_wrote : Bool → Wrote → Wrote
-swap_wrote won written = if won then written else wrote.Nothing
+abbrev pub cas_wrote : Bool → Wrote → Wrote
+cas_wrote won written = if won then written else wrote.Nothing
 
 -- the effect of a compare-and-swap: if it `won`, it writes this content, else it writes nothing
-abbrev pub swaps : Bool → Content → Result Effect Refusal
-swaps won c = if won then writes answer.Won c else reads answer.Lost
+abbrev pub compares_and_swaps : Bool → Content → Result Effect Refusal
+compares_and_swaps won c = if won then writes answer.Won c else reads answer.Lost
 
 -- the effect of a fetch-and-add on a counter at n: below the limit it answers the old content and
 -- writes the new one, from the limit on it is refused for this cause
@@ -62,11 +62,11 @@ effect Add (content.Number n) = adds COUNTER_END n refusal.CounterEnd (content.N
 effect Add (content.Tail c n) = adds COUNTER_END n refusal.CounterEnd (content.Tail c n) (content.Tail c (n + 1))
 effect AddArray (content.Number n) = adds SLOTS n refusal.ArrayEnd (content.Number n) (content.Number (n + 1))
 effect Close (content.Tail c n) = writes (answer.WasClosed c) (content.Tail true n)
-effect (CasName old new) (content.Name s) = swaps (name_eq s old) (content.Name new)
-effect (CasNext new) (content.Next None) = swaps true (content.Next (Some new))
-effect (CasNext new) (content.Next (Some m)) = swaps false (content.Next (Some new))
-effect (CasTail old new) (content.Tail c n) = swaps (not c && (n == old)) (content.Tail false new)
-effect (Cas2 old new) (content.Cell c) = swaps (cell_eq c old) (content.Cell new)
+effect (CasName old new) (content.Name s) = compares_and_swaps (name_eq s old) (content.Name new)
+effect (CasNext new) (content.Next None) = compares_and_swaps true (content.Next (Some new))
+effect (CasNext new) (content.Next (Some m)) = compares_and_swaps false (content.Next (Some new))
+effect (CasTail old new) (content.Tail c n) = compares_and_swaps (not c && (n == old)) (content.Tail false new)
+effect (Cas2 old new) (content.Cell c) = compares_and_swaps (cell_eq c old) (content.Cell new)
 effect (Swap new) (content.Slot old) = writes (answer.Found (content.Slot old)) (content.Slot new)
 effect _ _ = Err refusal.NoSuchPlace
 
@@ -111,4 +111,4 @@ suits_array _ = true
 -- that of segments for all others. This is about limits alone: that the place is there, with the
 -- right kind of content, is `SuitsContent` of rd_step
 abbrev pub suits : Place → Operation → Bool
-suits p op = if is_array p then suits_array op else suits_segments op
+suits p op = if is_of_array p then suits_array op else suits_segments op

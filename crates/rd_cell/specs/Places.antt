@@ -17,19 +17,19 @@ name_eq s t = (s.maker == t.maker) && (s.n == t.n)
 
 -- the segment to which a place belongs, or of which it is the whole; none for the queue's ends and
 -- the array's places
-abbrev pub named : Place → Option SegName
-named (place.Head s) = Some s
-named (place.Tail s) = Some s
-named (place.Next s) = Some s
-named (place.Cell s i) = Some s
-named (place.Val s i) = Some s
-named (place.Idx s i) = Some s
-named (place.Whole s) = Some s
-named _ = None
+abbrev pub named_segment : Place → Option SegName
+named_segment (place.Head s) = Some s
+named_segment (place.Tail s) = Some s
+named_segment (place.Next s) = Some s
+named_segment (place.Cell s i) = Some s
+named_segment (place.Val s i) = Some s
+named_segment (place.Idx s i) = Some s
+named_segment (place.Whole s) = Some s
+named_segment _ = None
 
 -- whether a place belongs to this segment, or is the whole of it
-abbrev pub is_of : SegName → Place → Bool
-is_of s p = option_map_or (name_eq s) (named p) false
+abbrev pub is_of_segment : SegName → Place → Bool
+is_of_segment s p = option_map_or (name_eq s) (named_segment p) false
 
 -- whether a place is one of this cell's two halves, or the cell itself
 abbrev pub is_of_cell : SegName → ℕ → Place → Bool
@@ -38,22 +38,22 @@ is_of_cell s i (place.Val t j) = name_eq s t && (i == j)
 is_of_cell s i (place.Idx t j) = name_eq s t && (i == j)
 is_of_cell s i _ = false
 
--- whether the second place is of the segment that the first names (`is_of`); false if the first
--- names none
+-- whether the second place is of the segment that the first names (`is_of_segment`); false if the
+-- first names none
 abbrev pub is_of_same_segment : Place → Place → Bool
-is_of_same_segment p q = option_map_or (λ s. is_of s q) (named p) false
+is_of_same_segment p q = option_map_or (λ s. is_of_segment s q) (named_segment p) false
 
 -- the segment to which a place belongs, if any; the whole of a segment belongs to none
 abbrev pub segment_of : Place → Option SegName
 segment_of (place.Whole s) = None
-segment_of p = named p
+segment_of p = named_segment p
 
 -- whether a place is one of the array's
-abbrev pub is_array : Place → Bool
-is_array place.ArrHead = true
-is_array place.ArrTail = true
-is_array (place.ArrCell i) = true
-is_array _ = false
+abbrev pub is_of_array : Place → Bool
+is_of_array place.ArrHead = true
+is_of_array place.ArrTail = true
+is_of_array (place.ArrCell i) = true
+is_of_array _ = false
 
 -- whether two places are equal
 abbrev pub place_eq : Place → Place → Bool
@@ -71,10 +71,10 @@ place_eq place.ArrTail place.ArrTail = true
 place_eq (place.ArrCell i) (place.ArrCell j) = i == j
 place_eq _ _ = false
 
--- whether a write of p may change what is at q: they are equal, p is the cell and q one of its
--- halves, or p is the whole of q's segment
+-- whether q is p or a part of it: they are equal, p is the cell and q one of its halves, or p is
+-- the whole of q's segment
 abbrev pub covers : Place → Place → Bool
-covers (place.Whole s) q = is_of s q
+covers (place.Whole s) q = is_of_segment s q
 covers (place.Cell s i) q = is_of_cell s i q
 covers p q = place_eq p q
 

@@ -2,7 +2,7 @@
 
 ghost use Rattle.std.specs.Prelude.{◌≡◌, Some, None};
 ghost use Rattle.rd_cell.specs.Access.{done_of, no_access};
-ghost use Rattle.rd_cell.specs.Operations.{swap_answer, swap_wrote};
+ghost use Rattle.rd_cell.specs.Operations.{cas_answer, cas_wrote};
 
 use super::contents::Content;
 use super::operations::{Answer, Operation};
@@ -87,12 +87,12 @@ impl Done {
     /// Returns the record of a compare-and-swap that found this content. If it won, its answer is
     /// `Won`, and it wrote the part `written` of its place. If it lost, its answer is `Lost`, and
     /// it wrote nothing.
-    pub fn swapped(place: Place, found: Content, won: bool, written: Wrote) -> Done
+    pub fn of_cas(place: Place, found: Content, won: bool, written: Wrote) -> Done
         ensures { result ≡ record {
           place = Some place;
           old = Some found;
-          answer = swap_answer won;
-          wrote = swap_wrote won written;
+          answer = cas_answer won;
+          wrote = cas_wrote won written;
         } }
     {
         let (answer, wrote) = if won {

@@ -32,7 +32,7 @@ impl Cell {
 
     /// Returns which part of the cell is written when `new` replaces it: the index half alone if
     /// the values are equal, else the whole cell.
-    pub fn wrote(self, new: Cell) -> Wrote
+    pub fn cas2_wrote(self, new: Cell) -> Wrote
         ensures { result ≡ wrote_cell self new }
     {
         if self.val == new.val {

@@ -12,7 +12,7 @@ ghost use Rattle.rd_cell.specs.Operations.{Effect, effect};
 ghost use Rattle.rd_cell.specs.Places.{root};
 
 /// The constant `ROOT` is the root of the definitions: segment 0 of maker 0.
-pub fn the_root_is_the_first_of_no_maker()
+pub fn the_root_constant_is_the_root()
     ensures { ROOT ≡ root }
 {}
 

@@ -2,7 +2,7 @@
 //! wrote.
 
 ghost use Rattle.std.specs.Prelude.{◌≡◌};
-ghost use Rattle.rd_cell.specs.Places.{covers, is_array, is_of, is_of_cell, overlaps, segment_of, index_half, is_nothing, written};
+ghost use Rattle.rd_cell.specs.Places.{covers, is_of_array, is_of_segment, is_of_cell, overlaps, segment_of, index_half, is_nothing, written};
 
 /// The name of a segment: (maker, n) is the segment that actor `maker` made as its n-th, counted
 /// from 0. The root is (0, 0).
@@ -87,8 +87,8 @@ impl Place {
     }
 
     /// Whether this is one of the array's places.
-    pub fn is_array(self) -> bool
-        ensures { result ≡ is_array self }
+    pub fn is_of_array(self) -> bool
+        ensures { result ≡ is_of_array self }
     {
         matches!(self, Place::ArrHead | Place::ArrTail | Place::ArrCell(_))
     }
@@ -126,20 +126,20 @@ pub fn overlaps(a: Place, b: Place) -> bool
 {
     // A search for a dependant asks this for each step, so two places are compared only once.
     match a {
-        Place::Whole(name) => is_of(name, b),
+        Place::Whole(name) => is_of_segment(name, b),
         Place::Cell(name, i) => is_of_cell(name, i, b) || covers(b, a),
         _ => covers(b, a),
     }
 }
 
-/// Whether a write of `a` may change what is at `b`: they are equal, `b` is a half of the cell `a`,
-/// or `a` is the whole of the segment of `b`.
+/// Whether `b` is `a` or a part of it: they are equal, `b` is a half of the cell `a`, or `a` is the
+/// whole of the segment of `b`.
 #[inline(always)]
 fn covers(a: Place, b: Place) -> bool
     ensures { result ≡ covers a b }
 {
     match a {
-        Place::Whole(name) => is_of(name, b),
+        Place::Whole(name) => is_of_segment(name, b),
         Place::Cell(name, i) => is_of_cell(name, i, b),
         _ => a == b,
     }
@@ -156,8 +156,8 @@ fn is_of_cell(name: SegName, i: u8, place: Place) -> bool
 }
 
 /// Whether a place belongs to this segment, or is the whole of it.
-fn is_of(name: SegName, place: Place) -> bool
-    ensures { result ≡ is_of name place }
+fn is_of_segment(name: SegName, place: Place) -> bool
+    ensures { result ≡ is_of_segment name place }
 {
     match place {
         Place::Head(of)

@@ -1,3 +1,3 @@
 pub mod OptionLemmas
-pub mod ToldLemmas
+pub mod GetterLemmas
 pub mod AnsweringLemmas

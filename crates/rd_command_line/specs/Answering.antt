@@ -9,7 +9,7 @@ use Rattle.rd_script.specs.Ring.{ring_length}
 use Rattle.rd_script.specs.AnyBook.{fresh_state}
 use Rattle.rd_program.specs.declared.faults.ProgramFault.{ProgramFault}
 use Rattle.rd_program.specs.declared.faults.ProgramFault.TheVariants as program
-use Rattle.rd_program.specs.Program.{IsUnread, PlaysScript, ResumesTrace, TouchesNothing}
+use Rattle.rd_program.specs.Program.{IsReadOrNoMemory, PlaysScript, ResumesTrace, AreUnused}
 use Rattle.rd_program.specs.Viewers.{ViewsOver}
 use Rattle.rd_command_line.specs.declared.requests.Options.{Options}
 use Rattle.rd_command_line.specs.declared.requests.Options.TheVariants.{Run, View, Load}
@@ -38,25 +38,26 @@ PlaysFile {F} remaining before traced output result =
     ⊎ ((opened : F) × (file : Stream) × (file.before ≡ remaining opened)
     × PlaysScript before traced (record { input = file; output = output }) result)
 
--- a file was not read whole (`IsUnread` has the faults), and neither stream was used; or it was
--- opened, and its whole text was resumed with the script on the input
-abbrev pub LoadsFile : {F : Type 0} → (F → Option (List ℕ)) → Bool → Devices → Result ℕ ProgramFault → Type 0
-LoadsFile {F} remaining traced d result =
-    (((fault : ProgramFault) × (result ≡ Err fault) × IsUnread fault) × TouchesNothing d)
+-- a file was not read whole (`IsReadOrNoMemory` has the faults), and neither stream was used; or it
+-- was opened, and its whole text was resumed with the script on the input
+abbrev pub ResumesFile : {F : Type 0} → (F → Option (List ℕ)) → Bool → Devices → Result ℕ ProgramFault → Type 0
+ResumesFile {F} remaining traced d result =
+    (((fault : ProgramFault) × (result ≡ Err fault) × IsReadOrNoMemory fault) × AreUnused d)
     ⊎ ((opened : F) × (text : List ℕ) × IsWholeText remaining opened text × ResumesTrace text traced d result)
 
--- a file was not read whole (`IsUnread` has the faults), and the output was not used; or this many
--- files were opened, and their whole texts were viewed as scripts over a book in this state
+-- a file was not read whole (`IsReadOrNoMemory` has the faults), and the output was not used; or
+-- this many files were opened, and their whole texts were viewed as scripts over a book in this
+-- state
 abbrev pub ViewsFiles : {F : Type 0} → (F → Option (List ℕ)) → ℕ → BookState → Stream → Result ℕ ProgramFault → Type 0
 ViewsFiles {F} remaining count before output result =
-    (((fault : ProgramFault) × (result ≡ Err fault) × IsUnread fault) × IsUnused output)
+    (((fault : ProgramFault) × (result ≡ Err fault) × IsReadOrNoMemory fault) × IsUnused output)
     ⊎ ((files : List F) × (scripts : List (Vec ℕ Global)) × (length files ≡ count)
     × AreWholeTexts remaining files scripts × ViewsOver before scripts output result)
 
 -- what `run` did for a file's name over a book in this state. For the name `-` it played the script
 -- on the input; for any other name it played the script in a file, and did not use the input
-abbrev pub PlaysNamed : {F : Type 0} → (F → Option (List ℕ)) → Text → BookState → Bool → Devices → Result ℕ ProgramFault → Type 0
-PlaysNamed remaining name before traced d result =
+abbrev pub PlaysFileOrInput : {F : Type 0} → (F → Option (List ℕ)) → Text → BookState → Bool → Devices → Result ℕ ProgramFault → Type 0
+PlaysFileOrInput remaining name before traced d result =
     ((name ≡ codes "-") × PlaysScript before traced d result)
     ⊎ ((name ≢ codes "-") × IsUnused d.input × PlaysFile remaining before traced d.output result)
 
@@ -64,33 +65,33 @@ PlaysNamed remaining name before traced d result =
 -- fresh world, `load` over the book of a trace
 abbrev pub FollowsOptions : {F : Type 0} → (F → Option (List ℕ)) → Options → Devices → Result ℕ ProgramFault → Type 0
 FollowsOptions remaining (Run file actors ring trace) d result =
-    PlaysNamed remaining file.now (fresh_state (ring_length ring) actors) trace d result
+    PlaysFileOrInput remaining file.now (fresh_state (ring_length ring) actors) trace d result
 FollowsOptions remaining (View files actors ring) d result =
     IsUnused d.input
     × ViewsFiles remaining (length files.items) (fresh_state (ring_length ring) actors) d.output result
-FollowsOptions remaining (Load file trace) d result = LoadsFile remaining trace d result
+FollowsOptions remaining (Load file trace) d result = ResumesFile remaining trace d result
 
 -- the outcome of these words: they give options, and the outcome is the result of doing what these
 -- ask for; or the outcome is a fault with which the words end, and neither stream was used
-abbrev pub ComesTo : {F : Type 0} → (F → Option (List ℕ)) → List Text → Devices → Outcome → Type 0
-ComesTo remaining words d outcome =
+abbrev pub FollowsWords : {F : Type 0} → (F → Option (List ℕ)) → List Text → Devices → Outcome → Type 0
+FollowsWords remaining words d outcome =
     ((options : Options) × (done : Result ℕ ProgramFault) × GivesOptions words options
     × FollowsOptions remaining options d done × (outcome ≡ Ok done))
-    ⊎ ((fault : OptionsFault) × GivesFault words fault × (outcome ≡ Err fault) × TouchesNothing d)
+    ⊎ ((fault : OptionsFault) × GivesFault words fault × (outcome ≡ Err fault) × AreUnused d)
 
 -- the outcome of words that may have been taken from the system: if they were, the outcome of these
 -- words; if not, the fault, with neither stream used
-abbrev pub HasOutcome : {F S : Type 0} → (F → Option (List ℕ)) → (S → Text) → Result (Vec S Global) OptionsFault → Devices → Outcome → Type 0
-HasOutcome remaining text (Ok words) d outcome = ComesTo remaining (map text words.items) d outcome
-HasOutcome remaining text (Err fault) d outcome = (outcome ≡ Err fault) × TouchesNothing d
+abbrev pub FollowsWordsOrFault : {F S : Type 0} → (F → Option (List ℕ)) → (S → Text) → Result (Vec S Global) OptionsFault → Devices → Outcome → Type 0
+FollowsWordsOrFault remaining text (Ok words) d outcome = FollowsWords remaining (map text words.items) d outcome
+FollowsWordsOrFault remaining text (Err fault) d outcome = (outcome ≡ Err fault) × AreUnused d
 
 -- what the program did from its words to its end: `does` has how it came to its outcome, and `ends`
 -- how it ended after the outcome
-pub record Performs {F S : Type 0} (remaining : F → Option (List ℕ)) (text : S → Text) (words : Result (Vec S Global) OptionsFault) (status : ℕ) (d : Devices) (errors : Stream) : Type 0 where
+pub record RunsCommandLine {F S : Type 0} (remaining : F → Option (List ℕ)) (text : S → Text) (words : Result (Vec S Global) OptionsFault) (status : ℕ) (d : Devices) (errors : Stream) : Type 0 where
   pub outcome : Outcome
   -- the bytes that the output had at the outcome, and whether it had failed
   pub reported : Option (List ℕ)
   pub report_failed : Bool
-  pub does : HasOutcome remaining text words
+  pub does : FollowsWordsOrFault remaining text words
       (record d { output = record d.output { after = reported; failed = report_failed } }) outcome
   pub ends : Ends outcome status report_failed (record d.output { before = reported }) errors

@@ -24,8 +24,8 @@ abbrev pub ValueNames : Type 0
 ValueNames = Bor (List (Bor Text))
 
 -- these names are the numbers of cells that a ring may have: 2, 4 and 8
-abbrev pub IsRings : ValueNames → Type 0
-IsRings names = map (λ name. name.now) names.now ≡ codes "2" ∷ codes "4" ∷ codes "8" ∷ []
+abbrev pub AreRingSizes : ValueNames → Type 0
+AreRingSizes names = map (λ name. name.now) names.now ≡ codes "2" ∷ codes "4" ∷ codes "8" ∷ []
 
 -- the argument `file`, which is required
 abbrev pub file_rule : Rule
@@ -74,15 +74,15 @@ abbrev pub load_app : App
 load_app = with_rule (with_rule (new_app (codes "load")) file_rule) trace_rule
 
 -- two lists of ring sizes, as clap is given them: one for `run`, one for `view`
-abbrev pub BothNames : Type 0
-BothNames = ValueNames × ValueNames
+abbrev pub ValueNamesPair : Type 0
+ValueNamesPair = ValueNames × ValueNames
 
 -- both lists are the numbers of cells that a ring may have
-abbrev pub AreRings : BothNames → Type 0
-AreRings names = IsRings names.0 × IsRings names.1
+abbrev pub BothAreRingSizes : ValueNamesPair → Type 0
+BothAreRingSizes names = AreRingSizes names.0 × AreRingSizes names.1
 
 -- the program's command: it has a version, and does nothing without a subcommand
-abbrev pub program_app : BothNames → App
+abbrev pub program_app : ValueNamesPair → App
 program_app names = with_subcommand
     (with_subcommand
     (with_subcommand
@@ -92,13 +92,13 @@ program_app names = with_subcommand
     load_app.top
 
 -- the text is this number in decimal digits, with or without a plus before them
-abbrev pub IsNumber : Text → ℕ → Type 0
-IsNumber text n = IsNumeral 10 (without_leading_plus text) × (digits_value 10 (without_leading_plus text) ≡ n)
+abbrev pub IsNumeralOf : Text → ℕ → Type 0
+IsNumeralOf text n = IsNumeral 10 (without_leading_plus text) × (digits_value 10 (without_leading_plus text) ≡ n)
 
 -- the values that clap found for `--actors` and `--ring` are this number of actors, 1 to 16, and
 -- this ring
 pub record GivesWorld (rows : List Row) (actors : ℕ) (ring : Ring) : Type 0 where
-  pub counted : (text : Text) × (one_of (codes "actors") rows ≡ Some text) × IsNumber text actors
+  pub counted : (text : Text) × (one_of (codes "actors") rows ≡ Some text) × IsNumeralOf text actors
   pub some : 1 ≤ actors
   pub few : actors ≤ MOST_ACTORS
   pub spelled : first_of (codes "ring") rows ≡ Some (ring_text ring)
@@ -135,28 +135,28 @@ GivesSubcommand (Some met) options =
 -- the words give these options: clap, with `names` as the lists of ring sizes, finds no fault in
 -- them, and the values that it finds give the options
 pub record GivesOptions (words : List Text) (options : Options) : Type 0 where
-  pub names : BothNames
-  pub rings : AreRings names
+  pub names : ValueNamesPair
+  pub rings : BothAreRingSizes names
   pub faultless : fault_of (program_app names) words ≡ []
-  pub told : GivesSubcommand (subcommand_of (program_app names) words) options
+  pub gives : GivesSubcommand (subcommand_of (program_app names) words) options
 
 -- whether an error of this kind is a request for help or for the version
-abbrev pub is_request : ErrorKind → Bool
-is_request DisplayHelp = true
-is_request DisplayVersion = true
-is_request _ = false
+abbrev pub is_help_or_version : ErrorKind → Bool
+is_help_or_version DisplayHelp = true
+is_help_or_version DisplayVersion = true
+is_help_or_version _ = false
 
 -- clap, with `names` as the lists of ring sizes, finds a fault of this kind in the words
 pub record HasFault (words : List Text) (kind : ErrorKind) : Type 0 where
-  pub names : BothNames
-  pub rings : AreRings names
+  pub names : ValueNamesPair
+  pub rings : BothAreRingSizes names
   pub among : IsAmong kind (fault_of (program_app names) words)
 
 -- clap, with `names` as the lists of ring sizes, finds no fault in the words, but the values that
 -- it finds give no options
-pub record GivesNoOptions (words : List Text) : Type 0 where
-  pub names : BothNames
-  pub rings : AreRings names
+pub record IsFaultlessWithoutOptions (words : List Text) : Type 0 where
+  pub names : ValueNamesPair
+  pub rings : BothAreRingSizes names
   pub faultless : fault_of (program_app names) words ≡ []
   pub nothing : (options : Options) → GivesSubcommand (subcommand_of (program_app names) words) options → ⊥
 
@@ -166,5 +166,5 @@ pub record GivesNoOptions (words : List Text) : Type 0 where
 abbrev pub GivesFault : List Text → OptionsFault → Type 0
 GivesFault words NoMemory = ⊤
 GivesFault words TooManyFiles = (options : Options) × GivesOptions words options × (MOST_VIEWERS < file_count options)
-GivesFault words (Shown error) = (is_request (kind_of error) ≡ true) × HasFault words (kind_of error)
-GivesFault words (Refused error) = (is_request (kind_of error) ≡ false) × (HasFault words (kind_of error) ⊎ GivesNoOptions words)
+GivesFault words (Shown error) = (is_help_or_version (kind_of error) ≡ true) × HasFault words (kind_of error)
+GivesFault words (Refused error) = (is_help_or_version (kind_of error) ≡ false) × (HasFault words (kind_of error) ⊎ IsFaultlessWithoutOptions words)

@@ -39,20 +39,20 @@ file_count (Load file trace) = 1
 
 -- the fault of a command line for an error of clap with this kind: `Shown` for help or the version,
 -- `NoMemory` for refused memory, `Refused` for any other kind
-abbrev pub fault_by : ErrorKind → Error → OptionsFault
-fault_by DisplayHelp error = Shown error
-fault_by DisplayVersion error = Shown error
-fault_by OutOfMemory error = NoMemory
-fault_by _ error = Refused error
+abbrev pub options_fault_by_kind : ErrorKind → Error → OptionsFault
+options_fault_by_kind DisplayHelp error = Shown error
+options_fault_by_kind DisplayVersion error = Shown error
+options_fault_by_kind OutOfMemory error = NoMemory
+options_fault_by_kind _ error = Refused error
 
 -- the fault of a command line for an error of clap, by the error's own kind
 abbrev pub options_fault : Error → OptionsFault
-options_fault error = fault_by (kind_of error) error
+options_fault error = options_fault_by_kind (kind_of error) error
 
 -- the fault is a mistake in the words, `Refused` with an error of this kind; or it is `NoMemory`,
 -- with which any call may end
-abbrev pub IsMistake : ErrorKind → OptionsFault → Type 0
-IsMistake kind (Refused error) = kind_of error ≡ kind
-IsMistake kind (Shown error) = ⊥
-IsMistake kind TooManyFiles = ⊥
-IsMistake kind NoMemory = ⊤
+abbrev pub IsRefusedOrNoMemory : ErrorKind → OptionsFault → Type 0
+IsRefusedOrNoMemory kind (Refused error) = kind_of error ≡ kind
+IsRefusedOrNoMemory kind (Shown error) = ⊥
+IsRefusedOrNoMemory kind TooManyFiles = ⊥
+IsRefusedOrNoMemory kind NoMemory = ⊤

@@ -4,7 +4,7 @@ use Rattle.std.specs.Global.{Global}
 use Rattle.rd_script.specs.Streams.{GetsNothing, Stream}
 use Rattle.rd_program.specs.declared.faults.ProgramFault.{ProgramFault}
 use Rattle.rd_program.specs.declared.faults.ProgramFault.TheVariants as program
-use Rattle.rd_program.specs.Endings.{EndsAs, Takes}
+use Rattle.rd_program.specs.Endings.{EndsAs, TakesUnlessFailed}
 use Rattle.rd_command_line.specs.declared.requests.OptionsFault.{OptionsFault}
 use Rattle.rd_command_line.specs.declared.requests.OptionsFault.TheVariants.{Shown, Refused, TooManyFiles, NoMemory}
 
@@ -19,19 +19,19 @@ is_shown _ = false
 
 -- how the program ends with this result if standard output gets nothing more: status and standard
 -- error are as `EndsAs` says. The flag says whether standard output had failed before
-abbrev pub EndsDone : Result ℕ ProgramFault → ℕ → Bool → Stream → Stream → Type 0
-EndsDone done status had_failed output errors = EndsAs done status errors × GetsNothing had_failed output
+abbrev pub EndsWithoutOutput : Result ℕ ProgramFault → ℕ → Bool → Stream → Stream → Type 0
+EndsWithoutOutput done status had_failed output errors = EndsAs done status errors × GetsNothing had_failed output
 
 -- how the program ends after an outcome: the status, and what the two streams get, at most one of
 -- them a text. The flag says whether standard output had failed before. If memory for a text of
 -- clap is refused, the program ends as after `NoMemory`
 abbrev pub Ends : Outcome → ℕ → Bool → Stream → Stream → Type 0
-Ends (Ok done) status had_failed output errors = EndsDone done status had_failed output errors
-Ends (Err NoMemory) status had_failed output errors = EndsDone (Err program.NoMemory) status had_failed output errors
-Ends (Err TooManyFiles) status had_failed output errors = (status ≡ 2) × Takes errors (codes "lcrqdb: 1 to 64 files\n") × GetsNothing had_failed output
+Ends (Ok done) status had_failed output errors = EndsWithoutOutput done status had_failed output errors
+Ends (Err NoMemory) status had_failed output errors = EndsWithoutOutput (Err program.NoMemory) status had_failed output errors
+Ends (Err TooManyFiles) status had_failed output errors = (status ≡ 2) × TakesUnlessFailed errors (codes "lcrqdb: 1 to 64 files\n") × GetsNothing had_failed output
 Ends (Err (Shown error)) status had_failed output errors =
-    EndsDone (Err program.NoMemory) status had_failed output errors
-    ⊎ ((text : String Global) × (status ≡ 0) × Takes output (string_bytes text) × GetsNothing false errors)
+    EndsWithoutOutput (Err program.NoMemory) status had_failed output errors
+    ⊎ ((text : String Global) × (status ≡ 0) × TakesUnlessFailed output (string_bytes text) × GetsNothing false errors)
 Ends (Err (Refused error)) status had_failed output errors =
-    EndsDone (Err program.NoMemory) status had_failed output errors
-    ⊎ ((text : String Global) × (status ≡ 2) × Takes errors (string_bytes text) × GetsNothing had_failed output)
+    EndsWithoutOutput (Err program.NoMemory) status had_failed output errors
+    ⊎ ((text : String Global) × (status ≡ 2) × TakesUnlessFailed errors (string_bytes text) × GetsNothing had_failed output)

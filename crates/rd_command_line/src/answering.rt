@@ -8,15 +8,15 @@ ghost use Rattle.rd_script.specs.Streams.{devices, sink_stream};
 ghost use Rattle.rd_script.specs.Ring.{ring_length};
 ghost use Rattle.rd_script.specs.AnyBook.{fresh_state};
 ghost use Rattle.rd_program.specs.declared.faults.ProgramFault.TheVariants.{Read};
-ghost use Rattle.rd_program.specs.Program.{IsUnread};
+ghost use Rattle.rd_program.specs.Program.{IsReadOrNoMemory};
 ghost use Rattle.rd_command_line.specs.Options.{AreInRange};
 ghost use Rattle.rd_command_line.specs.Outcomes.{is_shown};
-ghost use Rattle.rd_command_line.specs.Answering.{AreWholeTexts, ComesTo, FollowsOptions, HasOutcome, LoadsFile, Performs, PlaysFile, PlaysNamed, ViewsFiles};
+ghost use Rattle.rd_command_line.specs.Answering.{AreWholeTexts, FollowsWords, FollowsOptions, FollowsWordsOrFault, ResumesFile, RunsCommandLine, PlaysFile, PlaysFileOrInput, ViewsFiles};
 
 use super::command_line::options;
-use super::outcomes::{Outcome, end};
+use super::outcomes::{Outcome, show_outcome};
 use super::requests::{Options, OptionsFault};
-use rd_program::{ProgramFault, Setup, play, resume, view, whole_text};
+use rd_program::{ProgramFault, Setup, play, read_whole_text, resume, view};
 use rd_script::{ReadSource, Sink, Source};
 use std::alloc::Global;
 use std::convert::AsStr;
@@ -26,11 +26,17 @@ use std::sync::Wait;
 use std::thread::Threads;
 
 /// Does what the words of a command line ask for, over the files and the three streams. Then writes
-/// the outcome's message, if it has one, and returns the exit status: 0, 1 or 2, as `end` does. The
-/// first word is the program's name. If the words could not be taken from the system, `words` has
-/// the fault, which is then the outcome. With `view` it waits for the viewers' threads. None of the
-/// streams may have failed before.
-pub fn perform<R: Files + Threads + Wait + Sync, S: AsStr + Drop, I: Source, O: Sink, E: Sink>(
+/// the outcome's message, if it has one, and returns the exit status: 0, 1 or 2, as `show_outcome`
+/// does. The first word is the program's name. If the words could not be taken from the system,
+/// `words` has the fault, which is then the outcome. With `view` it waits for the viewers' threads.
+/// None of the streams may have failed before.
+pub fn run_command_line<
+    R: Files + Threads + Wait + Sync,
+    S: AsStr + Drop,
+    I: Source,
+    O: Sink,
+    E: Sink,
+>(
     rt: &R,
     alloc: Global,
     words: Result<Vec<S>, OptionsFault>,
@@ -41,17 +47,17 @@ pub fn perform<R: Files + Threads + Wait + Sync, S: AsStr + Drop, I: Source, O: 
     requires input_works { I.has_failed input.old ≡ false }
     requires output_works { O.has_failed output.old ≡ false }
     requires errors_work { E.has_failed errors.old ≡ false }
-    ensures performs { Performs R.File.remaining S.text words (exit_status result)
+    ensures performs { RunsCommandLine R.File.remaining S.text words (exit_status result)
         (devices I.Source O.Sink input.old input.new output.old output.new)
         (sink_stream E.Sink errors.old errors.new) }
 {
-    let outcome = outcome_of(rt, alloc, words, input, output);
-    end(alloc, &outcome, output, errors)
+    let outcome = follow_words_or_fault(rt, alloc, words, input, output);
+    show_outcome(alloc, &outcome, output, errors)
 }
 
-/// Does what the words ask for, as `answer` does, and returns the outcome. If `words` is a fault,
-/// returns this fault, and uses neither stream. Neither may have failed before.
-fn outcome_of<R: Files + Threads + Wait + Sync, S: AsStr + Drop, I: Source, O: Sink>(
+/// Does what the words ask for, as `follow_words` does, and returns the outcome. If `words` is a
+/// fault, returns this fault, and uses neither stream. Neither may have failed before.
+fn follow_words_or_fault<R: Files + Threads + Wait + Sync, S: AsStr + Drop, I: Source, O: Sink>(
     rt: &R,
     alloc: Global,
     words: Result<Vec<S>, OptionsFault>,
@@ -60,19 +66,19 @@ fn outcome_of<R: Files + Threads + Wait + Sync, S: AsStr + Drop, I: Source, O: S
 ) -> Outcome
     requires input_works { I.has_failed input.old ≡ false }
     requires output_works { O.has_failed output.old ≡ false }
-    ensures answers { HasOutcome R.File.remaining S.text words
+    ensures answers { FollowsWordsOrFault R.File.remaining S.text words
         (devices I.Source O.Sink input.old input.new output.old output.new) result }
     ensures shown { is_shown result ≡ true → O.has_failed output.new ≡ false }
 {
     let words = words?;
-    answer(rt, alloc, words.as_slice(), input, output)
+    follow_words(rt, alloc, words.as_slice(), input, output)
 }
 
 /// Does what the words of a command line ask for, and returns the outcome. The first word is the
 /// program's name. If the words give no options, the outcome is the fault of `options`, and neither
 /// stream is used. With `view` it waits for the viewers' threads. Neither stream may have failed
 /// before. If the outcome is `Shown`, the output has not failed.
-pub fn answer<R: Files + Threads + Wait + Sync, S: AsStr, I: Source, O: Sink>(
+pub fn follow_words<R: Files + Threads + Wait + Sync, S: AsStr, I: Source, O: Sink>(
     rt: &R,
     alloc: Global,
     words: &[S],
@@ -81,7 +87,7 @@ pub fn answer<R: Files + Threads + Wait + Sync, S: AsStr, I: Source, O: Sink>(
 ) -> Outcome
     requires input_works { I.has_failed input.old ≡ false }
     requires output_works { O.has_failed output.old ≡ false }
-    ensures answers { ComesTo R.File.remaining (map S.text words.now)
+    ensures answers { FollowsWords R.File.remaining (map S.text words.now)
         (devices I.Source O.Sink input.old input.new output.old output.new) result }
     ensures shown { is_shown result ≡ true → O.has_failed output.new ≡ false }
 {
@@ -90,8 +96,9 @@ pub fn answer<R: Files + Threads + Wait + Sync, S: AsStr, I: Source, O: Sink>(
 }
 
 /// Does what the options ask for. Returns the number of the script's lines, or for `view` the
-/// number of recorded calls. Fails as `play_named`, `view_files` or `load_file` does. There must be
-/// 1 to 16 actors and, for `view`, 1 to 64 files. Neither stream may have failed before.
+/// number of recorded calls. Fails as `play_file_or_input`, `view_files` or `resume_file` does.
+/// There must be 1 to 16 actors and, for `view`, 1 to 64 files. Neither stream may have failed
+/// before.
 fn follow_options<R: Files + Threads + Wait + Sync, I: Source, O: Sink>(
     rt: &R,
     alloc: Global,
@@ -111,7 +118,7 @@ fn follow_options<R: Files + Threads + Wait + Sync, I: Source, O: Sink>(
             actors,
             ring,
             trace,
-        } => play_named(
+        } => play_file_or_input(
             rt,
             alloc,
             file,
@@ -125,14 +132,14 @@ fn follow_options<R: Files + Threads + Wait + Sync, I: Source, O: Sink>(
             actors,
             ring,
         } => view_files(rt, alloc, files.as_slice(), output, Setup { actors, ring }),
-        Options::Load { file, trace } => load_file(rt, alloc, file, input, output, trace),
+        Options::Load { file, trace } => resume_file(rt, alloc, file, input, output, trace),
     }
 }
 
 /// Runs the script on the input if the name is `-`, else the script in the file of this name.
 /// Returns the number of its lines. Fails as `play` does, and with `Read` if the file can't be
 /// opened. Neither stream may have failed before.
-fn play_named<R: Files, I: Source, O: Sink>(
+fn play_file_or_input<R: Files, I: Source, O: Sink>(
     rt: &R,
     alloc: Global,
     name: &str,
@@ -143,7 +150,7 @@ fn play_named<R: Files, I: Source, O: Sink>(
 ) -> Result<u64, ProgramFault>
     requires input_works { I.has_failed input.old ≡ false }
     requires output_works { O.has_failed output.old ≡ false }
-    ensures { PlaysNamed R.File.remaining name.now
+    ensures { PlaysFileOrInput R.File.remaining name.now
         (fresh_state (ring_length setup.ring) setup.actors) trace
         (devices I.Source O.Sink input.old input.new output.old output.new) result }
 {
@@ -173,7 +180,7 @@ fn play_file<R: Files, O: Sink>(
 
 /// Runs the scripts in the files of these names, 1 to 64, each by its own viewer, and returns the
 /// number of recorded calls. All files are read before the first command is asked. Fails as
-/// `whole_files` or `view` does. The output must not have failed before.
+/// `read_files` or `view` does. The output must not have failed before.
 fn view_files<R: Files + Threads + Wait + Sync, O: Sink>(
     rt: &R,
     alloc: Global,
@@ -188,26 +195,22 @@ fn view_files<R: Files + Threads + Wait + Sync, O: Sink>(
         (fresh_state (ring_length setup.ring) setup.actors)
         (sink_stream O.Sink output.old output.new) result }
 {
-    let scripts = whole_files(rt, alloc, names)?;
+    let scripts = read_files(rt, alloc, names)?;
     view(rt, alloc, scripts.as_slice(), output, setup)
 }
 
 /// Opens and reads the files of these names, and returns their whole texts, in order. Fails with
 /// `Read` if one can't be opened or read, and with `NoMemory` if memory is refused.
-fn whole_files<R: Files>(
-    rt: &R,
-    alloc: Global,
-    names: &[&str],
-) -> Result<Vec<Vec<u8>>, ProgramFault>
+fn read_files<R: Files>(rt: &R, alloc: Global, names: &[&str]) -> Result<Vec<Vec<u8>>, ProgramFault>
     ensures ok { IfOk result (λ texts. vec_len texts ≡ length names.now) }
     ensures whole { IfOk result (λ texts. (files : List R.File) × (length files ≡ length names.now)
         × AreWholeTexts R.File.remaining files texts.items) }
-    ensures err { IfErr result IsUnread }
+    ensures err { IfErr result IsReadOrNoMemory }
 {
     let mut texts = Vec::new(alloc);
     for name in names {
         let mut file = open_file(rt, name)?;
-        let text = whole_text(alloc, &mut file)?;
+        let text = read_whole_text(alloc, &mut file)?;
         let Ok(()) = texts.push(text) else {
             return Err(ProgramFault::NoMemory);
         };
@@ -216,9 +219,9 @@ fn whole_files<R: Files>(
 }
 
 /// Loads the trace in the file of this name, and runs the script on the input over its book.
-/// Returns the number of the script's lines. Fails as `whole_text` or `resume` does, and with
+/// Returns the number of the script's lines. Fails as `read_whole_text` or `resume` does, and with
 /// `Read` if the file can't be opened. Neither stream may have failed before.
-fn load_file<R: Files, I: Source, O: Sink>(
+fn resume_file<R: Files, I: Source, O: Sink>(
     rt: &R,
     alloc: Global,
     name: &str,
@@ -228,11 +231,11 @@ fn load_file<R: Files, I: Source, O: Sink>(
 ) -> Result<u64, ProgramFault>
     requires input_works { I.has_failed input.old ≡ false }
     requires output_works { O.has_failed output.old ≡ false }
-    ensures { LoadsFile R.File.remaining trace
+    ensures { ResumesFile R.File.remaining trace
         (devices I.Source O.Sink input.old input.new output.old output.new) result }
 {
     let mut file = open_file(rt, name)?;
-    let text = whole_text(alloc, &mut file)?;
+    let text = read_whole_text(alloc, &mut file)?;
     resume(alloc, text.as_slice(), input, output, trace)
 }
 

@@ -9,11 +9,11 @@ ghost use Rattle.clap.specs.Walk.{Text};
 ghost use Rattle.clap.specs.Words.{app_of, found_of, kind_of, rows_of, rule_of, subcommand_rows_of};
 ghost use Rattle.clap.specs.declared.builder.command.Command.TheViews.{out-Command};
 ghost use Rattle.clap.specs.declared.error.kind.ErrorKind.TheVariants.{InvalidValue};
-ghost use Rattle.rd_command_line.specs.Options.{IsMistake, AreInRange, flag_text};
-ghost use Rattle.rd_command_line.specs.CommandLine.{AreRings, BothNames, IsRings, GivesSubcommand, GivesWorld, GivesFile, GivesRun, GivesView, GivesLoad, GivesOptions, GivesFault};
+ghost use Rattle.rd_command_line.specs.Options.{IsRefusedOrNoMemory, AreInRange, flag_text};
+ghost use Rattle.rd_command_line.specs.CommandLine.{BothAreRingSizes, ValueNamesPair, AreRingSizes, GivesSubcommand, GivesWorld, GivesFile, GivesRun, GivesView, GivesLoad, GivesOptions, GivesFault};
 ghost use Rattle.rd_command_line.specs.CommandLine.{file_rule, files_rule, actors_rule, ring_rule, trace_rule, run_app_without_trace, run_app, view_app, load_app, program_app};
 
-use super::requests::{Options, OptionsFault, ring_of};
+use super::requests::{Options, OptionsFault, parse_ring};
 use clap::error::ErrorKind;
 use clap::{Arg, ArgAction, ArgMatches, Command, Error, value_parser};
 use rd_cell::limits::MOST_ACTORS;
@@ -41,7 +41,7 @@ pub fn options<'a, S: AsStr>(alloc: Global, words: &'a [S]) -> Result<Options<'a
     ensures err { IfErr result (GivesFault (map S.text words.entry.now)) }
     ensures actors { IfOk result AreInRange }
 {
-    let mut command = program(alloc)?;
+    let mut command = program_command(alloc)?;
     let matches = command.try_get_matches_from_mut(words)?;
     let Some(options) = options_from(alloc, &matches)? else {
         let error = command.error(ErrorKind::MissingRequiredArgument, "an option is missing")?;
@@ -59,7 +59,7 @@ pub fn options<'a, S: AsStr>(alloc: Global, words: &'a [S]) -> Result<Options<'a
 ///
 /// `NoMemory` if memory was refused; `Refused` if a word is not UTF-8.
 pub fn command_line_words<R: Env + Alloc<A = Global>>(rt: &R) -> Result<Vec<String>, OptionsFault>
-    ensures err { IfErr result (IsMistake InvalidValue) }
+    ensures err { IfErr result (IsRefusedOrNoMemory InvalidValue) }
 {
     let alloc = rt.alloc();
     match env::args(rt) {
@@ -72,19 +72,19 @@ pub fn command_line_words<R: Env + Alloc<A = Global>>(rt: &R) -> Result<Vec<Stri
 /// Returns the fault for a word that is not UTF-8: `Refused`, or `NoMemory` if memory for the error
 /// is refused.
 pub fn not_utf8_fault(alloc: Global) -> OptionsFault
-    ensures { IsMistake InvalidValue result }
+    ensures { IsRefusedOrNoMemory InvalidValue result }
 {
-    match mistake_in_text(alloc) {
+    match not_utf8_error(alloc) {
         Ok(error) => OptionsFault::Refused(error),
         Err(_) => OptionsFault::NoMemory,
     }
 }
 
 /// Returns `clap`'s error for a word that is not UTF-8. Fails only if memory is refused.
-fn mistake_in_text(alloc: Global) -> Result<Error, AllocError>
+fn not_utf8_error(alloc: Global) -> Result<Error, AllocError>
     ensures { IfOk result (λ error. kind_of error ≡ InvalidValue) }
 {
-    let mut command = program(alloc)?;
+    let mut command = program_command(alloc)?;
     command.error(
         ErrorKind::InvalidValue,
         "invalid UTF-8 was detected in one or more arguments",
@@ -104,25 +104,25 @@ fn options_from<'a>(
         → GivesSubcommand (subcommand_rows_of matches.now) o → ⊥) }
 {
     if let Some(run) = matches.subcommand_matches("run") {
-        return Ok(run_from(run));
+        return Ok(run_options(run));
     }
     if let Some(view) = matches.subcommand_matches("view") {
-        return view_from(alloc, view);
+        return view_options(alloc, view);
     }
     match matches.subcommand_matches("load") {
-        Some(load) => Ok(load_from(load)),
+        Some(load) => Ok(load_options(load)),
         None => Ok(None),
     }
 }
 
 /// Returns the options from the matches of `run`, or none if a value is missing or not one that the
 /// program takes.
-fn run_from<'a>(run: &ArgMatches<'a>) -> Option<Options<'a>>
+fn run_options<'a>(run: &ArgMatches<'a>) -> Option<Options<'a>>
     ensures some { IfSome result (GivesRun (rows_of (found_of run.now))) }
     ensures none { IsNone result → (o : Options) → GivesRun (rows_of (found_of run.now)) o → ⊥ }
 {
-    let (file, trace) = file_from(run)?;
-    let (actors, ring) = world_from(run)?;
+    let (file, trace) = file_and_trace(run)?;
+    let (actors, ring) = actors_and_ring(run)?;
     Some(Options::Run {
         file,
         actors,
@@ -134,7 +134,7 @@ fn run_from<'a>(run: &ArgMatches<'a>) -> Option<Options<'a>>
 /// Returns the options from the matches of `view`, or none if a value is missing or not one that
 /// the program takes, or if there is no file. There may be more than 64 files. Fails only if memory
 /// is refused.
-fn view_from<'a>(alloc: Global, view: &ArgMatches<'a>) -> Result<Option<Options<'a>>, AllocError>
+fn view_options<'a>(alloc: Global, view: &ArgMatches<'a>) -> Result<Option<Options<'a>>, AllocError>
     ensures some { IfOk result (λ asked. IfSome asked (GivesView (rows_of (found_of view.now)))) }
     ensures none { IfOk result (λ asked. IsNone asked → (o : Options)
         → GivesView (rows_of (found_of view.now)) o → ⊥) }
@@ -142,7 +142,7 @@ fn view_from<'a>(alloc: Global, view: &ArgMatches<'a>) -> Result<Option<Options<
     let Some(files) = view.get_strs("files") else {
         return Ok(None);
     };
-    let Some((actors, ring)) = world_from(view) else {
+    let Some((actors, ring)) = actors_and_ring(view) else {
         return Ok(None);
     };
     if files.is_empty() {
@@ -158,14 +158,14 @@ fn view_from<'a>(alloc: Global, view: &ArgMatches<'a>) -> Result<Option<Options<
 
 /// Returns the number of actors, 1 to 16, and the ring from the matches of `run` or `view`, or none
 /// if a value is missing or not one that the program takes.
-fn world_from<'a>(matches: &ArgMatches<'a>) -> Option<(u8, Ring)>
+fn actors_and_ring<'a>(matches: &ArgMatches<'a>) -> Option<(u8, Ring)>
     ensures some { IfSome result (λ world.
         GivesWorld (rows_of (found_of matches.now)) world.0 world.1) }
     ensures none { IsNone result → (actors : ℕ) (ring : Ring)
         → GivesWorld (rows_of (found_of matches.now)) actors ring → ⊥ }
 {
     let actors = matches.get_one::<u8>("actors")?;
-    let ring = ring_of(matches.get_str("ring")?)?;
+    let ring = parse_ring(matches.get_str("ring")?)?;
     if 1 <= actors && usize::from(actors) <= MOST_ACTORS {
         Some((actors, ring))
     } else {
@@ -175,30 +175,30 @@ fn world_from<'a>(matches: &ArgMatches<'a>) -> Option<(u8, Ring)>
 
 /// Returns the options from the matches of `load`, or none if a value is missing or not one that
 /// the program takes.
-fn load_from<'a>(load: &ArgMatches<'a>) -> Option<Options<'a>>
+fn load_options<'a>(load: &ArgMatches<'a>) -> Option<Options<'a>>
     ensures some { IfSome result (GivesLoad (rows_of (found_of load.now))) }
     ensures none { IsNone result → (o : Options) → GivesLoad (rows_of (found_of load.now)) o → ⊥ }
 {
-    let (file, trace) = file_from(load)?;
+    let (file, trace) = file_and_trace(load)?;
     Some(Options::Load { file, trace })
 }
 
 /// Returns the file's name, and whether the trace is asked for, from the matches of `run` or
 /// `load`, or none if a value is missing or not one that the program takes.
-fn file_from<'a>(matches: &ArgMatches<'a>) -> Option<(&'a str, bool)>
+fn file_and_trace<'a>(matches: &ArgMatches<'a>) -> Option<(&'a str, bool)>
     ensures some { IfSome result (λ asked.
         GivesFile (rows_of (found_of matches.now)) asked.0.now asked.1) }
     ensures none { IsNone result → (file : Text) (trace : Bool)
         → GivesFile (rows_of (found_of matches.now)) file trace → ⊥ }
 {
     let file = matches.get_str("file")?;
-    let trace = flag_of(matches.get_str("trace")?)?;
+    let trace = parse_flag(matches.get_str("trace")?)?;
     Some((file, trace))
 }
 
 /// Returns whether a flag is set, by the text that `clap` keeps for it: `true` or `false`. Returns
 /// none for any other text.
-fn flag_of(text: &str) -> Option<bool>
+fn parse_flag(text: &str) -> Option<bool>
     ensures some { IfSome result (λ choice. text.now ≡ flag_text choice) }
     ensures none { IsNone result → (choice : Bool) → text.now ≢ flag_text choice }
 {
@@ -210,78 +210,79 @@ fn flag_of(text: &str) -> Option<bool>
 }
 
 /// Returns the program's command for `clap`, with its subcommands. Fails only if memory is refused.
-fn program<'a>(alloc: Global) -> Result<Command<'a>, AllocError>
-    ensures { IfOk result (λ c. (names : BothNames) × AreRings names
+fn program_command<'a>(alloc: Global) -> Result<Command<'a>, AllocError>
+    ensures { IfOk result (λ c. (names : ValueNamesPair) × BothAreRingSizes names
         × (app_of c ≡ program_app names)) }
 {
     Command::new(alloc, "lcrqdb")
         .version(VERSION)
         .about("A causal reversible debugger for LCRQ")
         .subcommand_required(true)
-        .subcommand(run(alloc)?)?
-        .subcommand(view(alloc)?)?
-        .subcommand(load(alloc)?)
+        .subcommand(run_command(alloc)?)?
+        .subcommand(view_command(alloc)?)?
+        .subcommand(load_command(alloc)?)
 }
 
 /// Returns the subcommand `run` for `clap`, with all its arguments. Fails only if memory is
 /// refused.
-fn run<'a>(alloc: Global) -> Result<Command<'a>, AllocError>
-    ensures app { IfOk result (λ c. (names : _) × IsRings names × (app_of c ≡ run_app names)) }
+fn run_command<'a>(alloc: Global) -> Result<Command<'a>, AllocError>
+    ensures app { IfOk result (λ c. (names : _) × AreRingSizes names × (app_of c ≡ run_app names)) }
     ensures local { IfOk result (λ c. (out-Command c).has_globals ≡ false) }
 {
-    run_without_trace(alloc)?.arg(trace(alloc))
+    run_command_without_trace(alloc)?.arg(trace_arg(alloc))
 }
 
 /// Returns the subcommand `run` for `clap`, with all its arguments but `--trace`. Fails only if
 /// memory is refused.
-fn run_without_trace<'a>(alloc: Global) -> Result<Command<'a>, AllocError>
-    ensures app { IfOk result (λ c. (names : _) × IsRings names
+fn run_command_without_trace<'a>(alloc: Global) -> Result<Command<'a>, AllocError>
+    ensures app { IfOk result (λ c. (names : _) × AreRingSizes names
         × (app_of c ≡ run_app_without_trace names)) }
     ensures local { IfOk result (λ c. (out-Command c).has_globals ≡ false) }
 {
     Command::new(alloc, "run")
         .about("Does the lines of a script and writes a reply to each")
         .after_help(FORMS)
-        .arg(file(alloc, "FILE").help("The script; - is standard input"))?
-        .arg(actors(alloc))?
-        .arg(ring(alloc))
+        .arg(file_arg(alloc, "FILE").help("The script; - is standard input"))?
+        .arg(actors_arg(alloc))?
+        .arg(ring_arg(alloc))
 }
 
 /// Returns the subcommand `view` for `clap`, with all its arguments. Fails only if memory is
 /// refused.
-fn view<'a>(alloc: Global) -> Result<Command<'a>, AllocError>
-    ensures app { IfOk result (λ c. (names : _) × IsRings names × (app_of c ≡ view_app names)) }
+fn view_command<'a>(alloc: Global) -> Result<Command<'a>, AllocError>
+    ensures app { IfOk result (λ c. (names : _) × AreRingSizes names × (app_of c
+        ≡ view_app names)) }
     ensures local { IfOk result (λ c. (out-Command c).has_globals ≡ false) }
 {
     Command::new(alloc, "view")
         .about("Does the lines of several scripts at once, each by a viewer of one world")
-        .arg(files(alloc))?
-        .arg(actors(alloc))?
-        .arg(ring(alloc))
+        .arg(files_arg(alloc))?
+        .arg(actors_arg(alloc))?
+        .arg(ring_arg(alloc))
 }
 
 /// Returns the subcommand `load` for `clap`, with all its arguments. Fails only if memory is
 /// refused.
-fn load<'a>(alloc: Global) -> Result<Command<'a>, AllocError>
+fn load_command<'a>(alloc: Global) -> Result<Command<'a>, AllocError>
     ensures app { IfOk result (λ c. app_of c ≡ load_app) }
     ensures local { IfOk result (λ c. (out-Command c).has_globals ≡ false) }
 {
     Command::new(alloc, "load")
         .about("Does the lines of standard input over the run of a trace")
         .after_help(FORMS)
-        .arg(file(alloc, "TRACE").help("A trace, as --trace writes it"))?
-        .arg(trace(alloc))
+        .arg(file_arg(alloc, "TRACE").help("A trace, as --trace writes it"))?
+        .arg(trace_arg(alloc))
 }
 
 /// Returns the required argument `file`, the name of one file, for `clap`. Help shows it as `name`.
-fn file<'a>(alloc: Global, name: &'a str) -> Arg<'a>
+fn file_arg<'a>(alloc: Global, name: &'a str) -> Arg<'a>
     ensures { (rule_of result ≡ file_rule) × (result.global ≡ false) }
 {
     Arg::new(alloc, "file").value_name(name).required(true)
 }
 
 /// Returns the argument `files` for `clap`: the names of the viewers' scripts, at least one.
-fn files<'a>(alloc: Global) -> Arg<'a>
+fn files_arg<'a>(alloc: Global) -> Arg<'a>
     ensures { (rule_of result ≡ files_rule) × (result.global ≡ false) }
 {
     Arg::new(alloc, "files")
@@ -292,7 +293,7 @@ fn files<'a>(alloc: Global) -> Arg<'a>
 }
 
 /// Returns the option `--trace` for `clap`, a flag without a value.
-fn trace<'a>(alloc: Global) -> Arg<'a>
+fn trace_arg<'a>(alloc: Global) -> Arg<'a>
     ensures { (rule_of result ≡ trace_rule) × (result.global ≡ false) }
 {
     Arg::new(alloc, "trace")
@@ -302,7 +303,7 @@ fn trace<'a>(alloc: Global) -> Arg<'a>
 }
 
 /// Returns the option `--actors` for `clap`: a number from 1 to 16, by default 4.
-fn actors<'a>(alloc: Global) -> Arg<'a>
+fn actors_arg<'a>(alloc: Global) -> Arg<'a>
     ensures { (rule_of result ≡ actors_rule) × (result.global ≡ false) }
 {
     Arg::new(alloc, "actors")
@@ -314,8 +315,8 @@ fn actors<'a>(alloc: Global) -> Arg<'a>
 }
 
 /// Returns the option `--ring` for `clap`: 2, 4 or 8, by default 4.
-fn ring<'a>(alloc: Global) -> Arg<'a>
-    ensures rule { (names : _) × IsRings names × (rule_of result ≡ ring_rule names) }
+fn ring_arg<'a>(alloc: Global) -> Arg<'a>
+    ensures rule { (names : _) × AreRingSizes names × (rule_of result ≡ ring_rule names) }
     ensures local { result.global ≡ false }
 {
     Arg::new(alloc, "ring")

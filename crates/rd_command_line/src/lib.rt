@@ -1,8 +1,8 @@
-//! The command line of the program: `clap` reads its words, and `perform` does what they ask for,
-//! over files and streams.
+//! The command line of the program: `clap` reads its words, and `run_command_line` does what they
+//! ask for, over files and streams.
 //!
-//! `main` gives `perform` the words, the files and the three streams, and nothing else. So a caller
-//! of `perform` with other streams sees all that the program does.
+//! `main` gives `run_command_line` the words, the files and the three streams, and nothing else. So
+//! a caller of `run_command_line` with other streams sees all that the program does.
 #![tactic(auto)]
 
 mod answering;
@@ -10,7 +10,7 @@ mod command_line;
 mod outcomes;
 mod requests;
 
-pub use answering::{answer, perform};
+pub use answering::{follow_words, run_command_line};
 pub use command_line::{command_line_words, not_utf8_fault, options};
-pub use outcomes::{Outcome, end};
+pub use outcomes::{Outcome, show_outcome};
 pub use requests::{Options, OptionsFault};

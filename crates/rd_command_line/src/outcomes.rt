@@ -3,7 +3,7 @@
 ghost use Rattle.std.specs.Prelude.{◌≡◌, false, true, Err};
 ghost use Rattle.std.specs.Process.{exit_status};
 ghost use Rattle.rd_script.specs.Streams.{sink_stream};
-ghost use Rattle.rd_program.specs.Endings.{Takes};
+ghost use Rattle.rd_program.specs.Endings.{TakesUnlessFailed};
 ghost use Rattle.rd_command_line.specs.Outcomes.{Ends, is_shown};
 
 use super::requests::OptionsFault;
@@ -26,7 +26,7 @@ pub type Outcome = Result<Result<u64, ProgramFault>, OptionsFault>;
 /// a text of `clap` is refused, the program ends as after `NoMemory`, with status 1. The status is
 /// the same if a stream fails, and a stream that gets no message is not called. Standard error must
 /// not have failed before, nor must standard output if the outcome is `Shown`.
-pub fn end<O: Sink, E: Sink>(
+pub fn show_outcome<O: Sink, E: Sink>(
     alloc: Global,
     outcome: &Outcome,
     output: &mut O,
@@ -38,7 +38,7 @@ pub fn end<O: Sink, E: Sink>(
         (sink_stream O.Sink output.old output.new) (sink_stream E.Sink errors.old errors.new) }
 {
     match outcome {
-        Ok(done) => rd_program::end(done, errors),
+        Ok(done) => rd_program::show_program_fault(done, errors),
         Err(fault) => show_options_fault(alloc, fault, output, errors),
     }
 }
@@ -64,20 +64,23 @@ fn show_options_fault<O: Sink, E: Sink>(
                 show(output, text.as_str());
                 ExitCode::from(0)
             }
-            Err(_) => rd_program::end(&Err(ProgramFault::NoMemory), errors),
+            Err(_) => rd_program::show_program_fault(&Err(ProgramFault::NoMemory), errors),
         },
         OptionsFault::Refused(error) => match error.to_string(alloc) {
             Ok(text) => {
                 show(errors, text.as_str());
                 ExitCode::from(2)
             }
-            Err(_) => rd_program::end(&Err(ProgramFault::NoMemory), errors),
+            Err(_) => rd_program::show_program_fault(&Err(ProgramFault::NoMemory), errors),
         },
         OptionsFault::TooManyFiles => {
             show(errors, TOO_MANY_FILES);
             ExitCode::from(2)
         }
-        OptionsFault::NoMemory => rd_program::end(&Err(ProgramFault::NoMemory), errors),
+        OptionsFault::NoMemory => rd_program::show_program_fault(
+            &Err(ProgramFault::NoMemory),
+            errors,
+        ),
     }
 }
 
@@ -85,7 +88,7 @@ fn show_options_fault<O: Sink, E: Sink>(
 /// the text, and the failure is ignored.
 fn show<K: Sink>(stream: &mut K, text: &str)
     requires { K.has_failed stream.old ≡ false }
-    ensures { Takes (sink_stream K.Sink stream.old stream.new) text.now }
+    ensures { TakesUnlessFailed (sink_stream K.Sink stream.old stream.new) text.now }
 {
     let _ = write_all(stream, text.as_bytes());
 }

@@ -13,7 +13,7 @@ use std::alloc::AllocError;
 
 /// Returns the ring that a text of the command line spells, `2`, `4` or `8`, or none for any other
 /// text.
-pub fn ring_of(text: &str) -> Option<Ring>
+pub fn parse_ring(text: &str) -> Option<Ring>
     ensures some { IfSome result (λ ring. text.now ≡ ring_text ring) }
     ensures none { IsNone result → (ring : Ring) → text.now ≢ ring_text ring }
 {

@@ -1,6 +1,6 @@
 -- The causal closure is the least set that has its step and, with each member, what depends on it;
 -- and lone undos that remove the step remove all of the closure.
-use Rattle.rd_depend.proofs.Prelude.{nat_tests, list_any-append, ◌≡◌, ◌≢◌, ℕ, zero, suc, ◌+◌, ◌-◌, ◌<◌, ◌≤◌, ◌==◌, ◌||◌, inl, inr, Bool, true, false, nat_lt, if◌then◌else◌, refl, sym, ◌∙◌, ap, subst, arith, List, [], ◌∷◌, ◌++◌, length, take, drop, slice_get, Option, Some, None, eq-eqb, cond-true, AreLoneUndos, IsInClosure, closure_from, number_after, closure, position_from, cases_eq, depends, depends_on_any, false≢true, first_dependant, numbered, or_cases, or_left, or_right, Entry}
+use Rattle.rd_depend.proofs.Prelude.{nat_tests, list_any-append, ◌≡◌, ◌≢◌, ℕ, zero, suc, ◌+◌, ◌-◌, ◌<◌, ◌≤◌, ◌==◌, ◌||◌, inl, inr, Bool, true, false, nat_lt, if◌then◌else◌, refl, sym, ◌∙◌, ap, subst, arith, List, [], ◌∷◌, ◌++◌, length, take, drop, slice_get, Option, Some, None, eq-eqb, cond-true, AreLoneUndos, IsInClosure, closure_from, number_after_undos, closure, position_from, cases_eq, depends, depends_on_any, false≢true, first_dependant, numbered, or_cases, or_left, or_right, Entry}
 use Rattle.rd_depend.proofs.IndexMoves.{number-is}
 use Rattle.std.proofs.lemmas.Option.{same_Some}
 use Rattle.rd_step.specs.Dependence.IsInClosure.{itself, dependant}
@@ -80,9 +80,9 @@ marked_is_member es k p xs (y ∷ ys) (suc j) q e ms at h =
 
 -- with one more entry in front of the list, a member of a closure has a number one greater and is a
 -- member still
-one_further : (e : Entry) (es : List Entry) (k j : ℕ) → IsInClosure es k j → IsInClosure (e ∷ es) (suc k) (suc j)
-one_further e es k _ itself = itself
-one_further e es k j (dependant i _ x y h low at_i at_j d) = dependant (suc i) (suc j) x y (one_further e es k i h) (omega arith) (grind arith) (grind arith) d
+in_closure-cons : (e : Entry) (es : List Entry) (k j : ℕ) → IsInClosure es k j → IsInClosure (e ∷ es) (suc k) (suc j)
+in_closure-cons e es k _ itself = itself
+in_closure-cons e es k j (dependant i _ x y h low at_i at_j d) = dependant (suc i) (suc j) x y (in_closure-cons e es k i h) (omega arith) (grind arith) (grind arith) d
 
 marks_are_members : (es : List Entry) (k j : ℕ) → slice_get (closure es k) j ≡ Some true → IsInClosure es k (suc j)
 marks_are_members es zero j h = cc
@@ -92,7 +92,7 @@ marks_are_members (e ∷ es) (suc zero) (suc j) h =
     marked_is_member (e ∷ es) 1 1 (e ∷ []) es j (suc (suc j)) (omega arith)
     (λ q y low at d. dependant 1 q e y itself low refl at (sym (on_one-last [] e y) ∙ d)) (λ i q y f at. grind (arith, slice_get)) h
 marks_are_members (e ∷ es) (suc (suc k)) zero h = let no : false ≡ true = same_Some false true h in cc
-marks_are_members (e ∷ es) (suc (suc k)) (suc j) h = one_further e es (suc k) (suc j) (marks_are_members es (suc k) j h)
+marks_are_members (e ∷ es) (suc (suc k)) (suc j) h = in_closure-cons e es (suc k) (suc j) (marks_are_members es (suc k) j h)
 
 pub marked_members : (es : List Entry) (k j : ℕ) → numbered (closure es k) j ≡ Some true → IsInClosure es k j
 marked_members es k j h = grind (arith, marks_are_members)
@@ -140,23 +140,23 @@ free_alone es (suc m) zero x y none at_n low at_j = absurd (omega arith)
 free_alone es (suc m) (suc j) x y none at_n low at_j = none_depends x (suc m + 1) (drop (suc m) es) (j - suc m) y (grind arith) (grind (arith, from_there))
 
 -- lone undos that remove an entry also remove each later entry that depends on it
-one_out : (es : List Entry) (ns : List ℕ) (i j : ℕ) (x y : Entry) → AreLoneUndos ns es → i < j → numbered es i ≡ Some x → numbered es j ≡ Some y
-    → depends x y ≡ true → number_after ns i ≡ None → number_after ns j ≡ None
-one_out es [] i j x y undos low at_i at_j d gone = cc
-one_out es (n ∷ ns) i j x y undos low at_i at_j d gone =
+dependant_goes_out : (es : List Entry) (ns : List ℕ) (i j : ℕ) (x y : Entry) → AreLoneUndos ns es → i < j → numbered es i ≡ Some x → numbered es j ≡ Some y
+    → depends x y ≡ true → number_after_undos ns i ≡ None → number_after_undos ns j ≡ None
+dependant_goes_out es [] i j x y undos low at_i at_j d gone = cc
+dependant_goes_out es (n ∷ ns) i j x y undos low at_i at_j d gone =
     elim (cases_eq n j) [
-      | inl e ↦ cond-true (n == j) None (number_after ns (shifted n j)) (eq-eqb n j e)
+      | inl e ↦ cond-true (n == j) None (number_after_undos ns (shifted n j)) (eq-eqb n j e)
       | inr nj ↦
           elim (cases_eq n i) [
             | inl e ↦
                 absurd (false≢true (sym (free_alone es i j x y (subst (λ (m : ℕ). first_dependant es m ≡ None) e undos.2) at_i low at_j) ∙ d))
             | inr ni ↦
-                let out = one_out (take (n - 1) es ++ drop n es) ns (shifted n i) (shifted n j) x y undos.3 (shifted_less n i j (λ e. ni (sym e)) (λ e. nj (sym e)) low)
+                let out = dependant_goes_out (take (n - 1) es ++ drop n es) ns (shifted n i) (shifted n j) x y undos.3 (shifted_less n i j (λ e. ni (sym e)) (λ e. nj (sym e)) low)
                 (new_number es n i x undos.0 (λ e. ni (sym e)) at_i) (new_number es n j y undos.0 (λ e. nj (sym e)) at_j) d in
                 grind (arith, nat_tests, out)
           ]
     ]
 
-pub all_out : (es : List Entry) (ns : List ℕ) (k j : ℕ) → AreLoneUndos ns es → number_after ns k ≡ None → IsInClosure es k j → number_after ns j ≡ None
-all_out es ns k _ undos gone itself = gone
-all_out es ns k j undos gone (dependant i _ x y h low at_i at_j d) = one_out es ns i j x y undos low at_i at_j d (all_out es ns k i undos gone h)
+pub closure_goes_out : (es : List Entry) (ns : List ℕ) (k j : ℕ) → AreLoneUndos ns es → number_after_undos ns k ≡ None → IsInClosure es k j → number_after_undos ns j ≡ None
+closure_goes_out es ns k _ undos gone itself = gone
+closure_goes_out es ns k j undos gone (dependant i _ x y h low at_i at_j d) = dependant_goes_out es ns i j x y undos low at_i at_j d (closure_goes_out es ns k i undos gone h)

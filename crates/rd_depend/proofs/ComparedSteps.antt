@@ -1,13 +1,13 @@
 -- What the code keeps while it compares two runs is right after one more step.
-use Rattle.rd_depend.proofs.Prelude.{common_steps, slice_get_past, and_from, and_parts, map-append, reverse-append, option_to_list, set, is_nothing, slice_get-set_same, slice_get-set_other, Entry, Key, NumberedStep, Reached, is_value_written, key_eq, place_key, value_key, segment_key, key_eq-true, key_eq-sym, is_making, taken_in, taken_in_under, IsInOrder, IsAfter, left_in, reached_or_nothing, with_first, list_at, items_of, ◌≡◌, ◌↔◌, ℕ, ◌+◌, ◌<◌, ◌≤◌, Bool, true, false, not, ◌&&◌, if◌then◌else◌, cond, IsTrue, List, [], ◌∷◌, ◌++◌, length, map, reverse, Vec, Global, Option, Some, IsSome, MatchOption, refl, sym, ap, ◌∙◌, arith}
+use Rattle.rd_depend.proofs.Prelude.{common_steps, slice_get_past, and_from, and_parts, map-append, reverse-append, option_to_list, set, is_nothing, slice_get-set_same, slice_get-set_other, Entry, Key, NumberedStep, Reached, is_value_written, key_eq, place_key, value_key, segment_key, key_eq-true, key_eq-sym, is_whole_segment, taken_in, taken_in_under, IsInOrder, IsAfter, left_in, reached_or_nothing, with_first, list_at, items_of, ◌≡◌, ◌↔◌, ℕ, ◌+◌, ◌<◌, ◌≤◌, Bool, true, false, not, ◌&&◌, if◌then◌else◌, cond, IsTrue, List, [], ◌∷◌, ◌++◌, length, map, reverse, Vec, Global, Option, Some, IsSome, MatchOption, refl, sym, ap, ◌∙◌, arith}
 
 -- How far steps reached, under one key and under all
 
 -- writing a new value under one key, and none under the others, is taking a step in under that key
-pub written_down : (old new : Key → Option Reached) (key : Key) (r : Reached) (w : Bool) (i : ℕ) → ((k : Key) → new k ≡ cond (key_eq key k) (Some r) (old k))
+pub inserted_is_taken_in : (old new : Key → Option Reached) (key : Key) (r : Reached) (w : Bool) (i : ℕ) → ((k : Key) → new k ≡ cond (key_eq key k) (Some r) (old k))
     → r ≡ taken_in (reached_or_nothing key (old key)) w i
     → (λ k. reached_or_nothing k (new k)) ≡ taken_in_under (Some key) w i (λ q. reached_or_nothing q (old q))
-written_down old new key r w i news its = λ j k. (ap (reached_or_nothing k) (news k) ∙ by k (key_eq key k) (key_eq-true key k) (key_eq-sym k key)) j
+inserted_is_taken_in old new key r w i news its = λ j k. (ap (reached_or_nothing k) (news k) ∙ by k (key_eq key k) (key_eq-true key k) (key_eq-sym k key)) j
   where
     s : Key → Reached
     s q = reached_or_nothing q (old q)
@@ -20,7 +20,7 @@ written_down old new key r w i news its = λ j k. (ap (reached_or_nothing k) (ne
 -- another
 pub all_after : (s : Key → Reached) (x : Entry) (i : ℕ) (p v g : Bool) → IsTrue p ↔ IsAfter s (place_key x.place) (not (is_nothing x.wrote)) i
     → IsTrue v ↔ IsAfter (taken_in_under (place_key x.place) (not (is_nothing x.wrote)) i s) (value_key x.place) (is_value_written x.wrote) i
-    → IsTrue g ↔ IsAfter (taken_in_under (value_key x.place) (is_value_written x.wrote) i (taken_in_under (place_key x.place) (not (is_nothing x.wrote)) i s)) (segment_key x.place) (is_making x.place) i
+    → IsTrue g ↔ IsAfter (taken_in_under (value_key x.place) (is_value_written x.wrote) i (taken_in_under (place_key x.place) (not (is_nothing x.wrote)) i s)) (segment_key x.place) (is_whole_segment x.place) i
     → IsTrue (p && v && g) ↔ IsInOrder s x i
 all_after s x i p v g by_place by_value by_segment = grind (arith, and_parts, and_from)
 
@@ -45,5 +45,5 @@ pub popped_or_none : (lists : Lists) (a : ℕ) (list : Vec NumberedStep Global) 
     → MatchOption o (left_in lists a ≡ []) (λ p. (n : ℕ) → left_in lists n ≡ with_first (left_in (set lists a list)) a (p.at, p.entry.now) n)
 popped_or_none lists a list o within items some = grind (arith, common_steps, popped)
 
-pub none_behind : (lists : Lists) (n : ℕ) → length lists ≤ n → left_in lists n ≡ []
-none_behind lists n h = ap (λ (o : Option (Vec NumberedStep Global)). reverse (map (λ (p : NumberedStep). (p.at, p.entry.now)) (items_of o))) (slice_get_past lists n h)
+pub none_left_past_end : (lists : Lists) (n : ℕ) → length lists ≤ n → left_in lists n ≡ []
+none_left_past_end lists n h = ap (λ (o : Option (Vec NumberedStep Global)). reverse (map (λ (p : NumberedStep). (p.at, p.entry.now)) (items_of o))) (slice_get_past lists n h)

@@ -1,11 +1,11 @@
 -- A comparison of two runs as it goes on over the steps of the first one.
-use Rattle.rd_depend.proofs.Prelude.{drop_all, drop-cons, Entry, Key, Reached, DecidesEquivalence, Numbered, all_left, nothing_reached, KeepsOrder, IsOutOfOrder, ◌≡◌, ◌↔◌, ℕ, ◌+◌, ◌<◌, ◌≤◌, Bool, false, IsTrue, List, [], ◌∷◌, length, drop, get_or, refl, sym, ap, subst, arith, length-append}
+use Rattle.rd_depend.proofs.Prelude.{drop_all, drop-cons, Entry, Key, Reached, DecidesEquivalence, Numbered, steps_by_actor, nothing_reached, KeepsOrder, IsOutOfOrder, ◌≡◌, ◌↔◌, ℕ, ◌+◌, ◌<◌, ◌≤◌, Bool, false, IsTrue, List, [], ◌∷◌, length, drop, get_or, refl, sym, ap, subst, arith, length-append}
 use Rattle.rd_depend.proofs.KeepingOrder.{kept_taken, taken_kept}
 use Rattle.rd_depend.proofs.RunsAgree.{taken_equivalent, untaken_different}
 
 -- the steps of the first run keep the order of the second
 abbrev pub KeepsOrderOf : List Entry → List Entry → Type 0
-KeepsOrderOf a b = KeepsOrder nothing_reached a (all_left b)
+KeepsOrderOf a b = KeepsOrder nothing_reached a (steps_by_actor b)
 
 -- the first run keeps the order of the second exactly if its steps after the first k keep the order
 -- of what is left

@@ -1,25 +1,25 @@
 -- Equivalence is symmetric and transitive, since taking out is.
 use Rattle.rd_depend.proofs.Prelude.{◌≡◌, ◌∙◌, ap, List, Ok, arith, World, Ran, run, Event, Entry, IsEquivalent, events, run_entries, IsRunFrom, run_events}
-use Rattle.rd_depend.proofs.TakingOut.{takes_back}
-use Rattle.rd_depend.proofs.TakingOn.{takes_on}
+use Rattle.rd_depend.proofs.TakingOut.{takes_all-sym}
+use Rattle.rd_depend.proofs.TakingOn.{takes_all-trans}
 use Rattle.rd_depend.proofs.RunsAgree.{equivalent_taken, taken_equivalent}
 
 converse : (w : World) (es fs : List Entry) → IsRunFrom w es → IsRunFrom w fs → IsEquivalent w (events es) (events fs)
     → IsEquivalent w (events fs) (events es)
-converse w es fs runs_e runs_f k = grind (arith, taken_equivalent, takes_back, equivalent_taken)
+converse w es fs runs_e runs_f k = grind (arith, taken_equivalent, takes_all-sym, equivalent_taken)
 
 through : (w : World) (es fs gs : List Entry) → IsRunFrom w es → IsRunFrom w fs → IsRunFrom w gs → IsEquivalent w (events es) (events fs)
     → IsEquivalent w (events fs) (events gs) → IsEquivalent w (events es) (events gs)
-through w es fs gs runs_e runs_f runs_g h k = grind (arith, taken_equivalent, takes_on, equivalent_taken)
+through w es fs gs runs_e runs_f runs_g h k = grind (arith, taken_equivalent, takes_all-trans, equivalent_taken)
 
 as_run : (w : World) (es : List Event) (r : Ran) → run w es ≡ Ok r → IsRunFrom w r.entries
 as_run w es r h = ap run_entries (ap (run w) (run_events w es r h) ∙ h)
 
 -- the laws
 
-pub equivalent_either_way : (w : World) (es fs : List Event) (r q : Ran) → run w es ≡ Ok r → run w fs ≡ Ok q → IsEquivalent w es fs
+pub equivalent-sym : (w : World) (es fs : List Event) (r q : Ran) → run w es ≡ Ok r → run w fs ≡ Ok q → IsEquivalent w es fs
     → IsEquivalent w fs es
-equivalent_either_way w es fs r q h k same =
+equivalent-sym w es fs r q h k same =
     let its = run_events w es r h in
     let others = run_events w fs q k in
     grind (arith, converse, as_run)

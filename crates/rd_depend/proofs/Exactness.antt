@@ -1,12 +1,12 @@
 -- If the first entry of one list and an entry of the same event that may come first in the other
 -- are taken out, the rests are equivalent exactly if the lists are.
 use Rattle.rd_depend.proofs.Prelude.{◌≡◌, ◌↔◌, ℕ, suc, ◌-◌, ◌≤◌, Bool, refl, sym, ◌∙◌, ap, subst, arith, List, [], ◌∷◌, ◌++◌, length, take, drop, length-drop, Ok, map-append, take_all, World, Stepped, step, Ran, run, IsFree, Event, Entry, IsEquivalent, events, IsRunFrom, runs_to, FirstStep, first_step, middle, same_Ok, goes_first, stands_in, DecidesEquivalence}
-use Rattle.rd_depend.proofs.FirstOfActor.{MayComeFirst, one_place}
+use Rattle.rd_depend.proofs.FirstOfActor.{MayComeFirst, free_of_event-unique}
 
 -- an entry that depends on no earlier one can be made first, and the others then run on with the
 -- same entries
-pub front : (w : World) (xs : List Entry) (x : Entry) (ys : List Entry) → IsRunFrom w (xs ++ x ∷ ys) → IsFree x xs → FirstStep w x (xs ++ ys)
-front w xs x ys h free =
+pub free-first_step : (w : World) (xs : List Entry) (x : Entry) (ys : List Entry) → IsRunFrom w (xs ++ x ∷ ys) → IsFree x xs → FirstStep w x (xs ++ ys)
+free-first_step w xs x ys h free =
     let to = runs_to w (xs ++ x ∷ ys) h in
     let m = middle w xs x ys to.last to.runs in
     let first = goes_first w x.event (events xs) (events ys) (record { world = m.before; entries = xs })
@@ -65,7 +65,7 @@ stands_first w x u es rest left runs goes m on =
 
 -- the entries that are left are the same, however the entry was found
 one_left : (e : Event) (rest l k : List Entry) → MayComeFirst e rest l → MayComeFirst e rest k → l ≡ k
-one_left e rest l k a b = grind (arith, one_place)
+one_left e rest l k a b = grind (arith, free_of_event-unique)
 
 -- if the first event of one run may come first in another run from the same world, its entry is the
 -- same there, and what is left runs from the world after it
@@ -76,7 +76,7 @@ pub record RunsOn (v : World) (x entry : Entry) (left : List Entry) : Type 0 whe
 pub runs_on : (w : World) (x : Entry) (xs ys left : List Entry) (first : FirstStep w x xs) → IsRunFrom w ys → (m : MayComeFirst x.event ys left)
     → RunsOn first.after x m.entry left
 runs_on w x xs ys left first runs m =
-    let to_front = front w m.earlier m.entry m.later (subst (λ (l : List Entry). IsRunFrom w l) m.stands runs) m.free in
+    let to_front = free-first_step w m.earlier m.entry m.later (subst (λ (l : List Entry). IsRunFrom w l) m.stands runs) m.free in
     let same : record { world = to_front.after; entry = m.entry } ≡ record { world = first.after; entry = x } =
     same_Ok _ _ (sym to_front.goes ∙ ap (step w) m.its_event ∙ first.goes) in
     record {

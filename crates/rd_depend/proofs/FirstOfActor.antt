@@ -28,23 +28,23 @@ pub record AreOne (xs ys zs us : List Entry) (y z : Entry) : Type 0 where
   pub itself : y ≡ z
   pub behind : ys ≡ us
 
-one_first : (n : ℕ) (xs ys zs us : List Entry) (y z : Entry) → xs ++ y ∷ ys ≡ zs ++ z ∷ us → n ≡ y.event.actor
+first_of_actor-unique : (n : ℕ) (xs ys zs us : List Entry) (y z : Entry) → xs ++ y ∷ ys ≡ zs ++ z ∷ us → n ≡ y.event.actor
     → n ≡ z.event.actor → HasNoneBy n xs → HasNoneBy n zs → AreOne xs ys zs us y z
-one_first n [] ys [] us y z h by_y by_z none_x none_z = record { before = refl; itself = cc; behind = cc }
-one_first n [] ys (z' ∷ zs) us y z h by_y by_z none_x none_z = grind arith
-one_first n (x' ∷ xs) ys [] us y z h by_y by_z none_x none_z = grind arith
-one_first n (x' ∷ xs) ys (z' ∷ zs) us y z h by_y by_z none_x none_z =
+first_of_actor-unique n [] ys [] us y z h by_y by_z none_x none_z = record { before = refl; itself = cc; behind = cc }
+first_of_actor-unique n [] ys (z' ∷ zs) us y z h by_y by_z none_x none_z = grind arith
+first_of_actor-unique n (x' ∷ xs) ys [] us y z h by_y by_z none_x none_z = grind arith
+first_of_actor-unique n (x' ∷ xs) ys (z' ∷ zs) us y z h by_y by_z none_x none_z =
     let l : xs ++ y ∷ ys ≡ zs ++ z ∷ us = cc in
-    grind (arith, one_first n xs ys zs us y z l by_y by_z none_x.1 none_z.1)
+    grind (arith, first_of_actor-unique n xs ys zs us y z l by_y by_z none_x.1 none_z.1)
 
-by_actor : (e : Event) (x : Entry) → x.event ≡ e → e.actor ≡ x.event.actor
-by_actor e x h = ap (λ (f : Event). f.actor) (sym h)
+actor_of_event : (e : Event) (x : Entry) → x.event ≡ e → e.actor ≡ x.event.actor
+actor_of_event e x h = ap (λ (f : Event). f.actor) (sym h)
 
 none_before : (e : Event) (x : Entry) (xs : List Entry) → x.event ≡ e → IsFree x xs → HasNoneBy e.actor xs
 none_before e x xs h free = subst (λ (f : Event). HasNoneBy f.actor xs) h (free_none_by x xs free)
 
 -- two entries of one event in a list, neither of which depends on an earlier one, are at the same
 -- index
-pub one_place : (e : Event) (xs ys zs us : List Entry) (y z : Entry) → xs ++ y ∷ ys ≡ zs ++ z ∷ us → y.event ≡ e → z.event ≡ e
+pub free_of_event-unique : (e : Event) (xs ys zs us : List Entry) (y z : Entry) → xs ++ y ∷ ys ≡ zs ++ z ∷ us → y.event ≡ e → z.event ≡ e
     → IsFree y xs → IsFree z zs → AreOne xs ys zs us y z
-one_place e xs ys zs us y z h of_y of_z free_y free_z = search (rules, one_first, by_actor, none_before, arith)
+free_of_event-unique e xs ys zs us y z h of_y of_z free_y free_z = search (rules, first_of_actor-unique, actor_of_event, none_before, arith)

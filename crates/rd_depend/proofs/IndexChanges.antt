@@ -1,7 +1,7 @@
 -- The calls of an index, put together from their changes of its lists.
-use Rattle.rd_depend.proofs.Prelude.{◌≡◌, ℕ, zero, suc, ◌+◌, ◌-◌, ◌<◌, ◌≤◌, Bool, true, false, ◌==◌, if◌then◌else◌, List, [], ◌∷◌, ◌++◌, length, take, drop, Option, Some, slice_get, refl, sym, ap, subst, ◌∙◌, append_assoc, arith, length-append, eq-eqb, rules, Entry, DependIndex, Home, Homes, Key, Table, Lists, list_at, spare_at, cond, kept_in, spare_in, is_kept_in, IsReadyIfSome, KeepsLists, Puts, TakesLast, HasLast, Touch, By, Under, touches, kept, spare, count_by, IsIndexOf, HasRoomFor, GivesRoom, UsesRoom, homes_of, Adds, Keeps, EndsWith}
+use Rattle.rd_depend.proofs.Prelude.{◌≡◌, ℕ, zero, suc, ◌+◌, ◌-◌, ◌<◌, ◌≤◌, Bool, true, false, ◌==◌, if◌then◌else◌, List, [], ◌∷◌, ◌++◌, length, take, drop, Option, Some, slice_get, refl, sym, ap, subst, ◌∙◌, append_assoc, arith, length-append, eq-eqb, rules, Entry, DependIndex, EntryKey, EntryKeys, Key, Table, Lists, list_at, spare_at, cond, kept_in, spare_in, is_kept_in, IsReadyIfSome, KeepsLists, Puts, RemovesLast, HasLast, ListKey, By, Under, touches, kept, spare, count_by, IsIndexOf, HasRoomFor, GivesRoom, UsesRoom, entry_keys, Adds, KeepsPositions, EndsWith}
 use Rattle.rd_depend.proofs.Elements.{take-element, drop-element}
-use Rattle.rd_depend.proofs.IndexKeys.{is_home, is_in, under, separate}
+use Rattle.rd_depend.proofs.IndexKeys.{is_home, is_in, is_under-is_in, separate}
 use Rattle.rd_depend.proofs.IndexPositions.{positions-push, positions-pop, count_by-append, count_by-cons}
 
 -- what is ready stays ready if no list changes
@@ -9,18 +9,18 @@ pub ready_kept : (t u : Table) (k : Option Key) (wrote : Bool) (slot : Option �
 ready_kept t u k wrote slot keeps ready = grind arith
 
 -- what is ready under one key stays ready if a position is put under another
-pub ready_after : (t u : Table) (s : Option Key) (wrote : Bool) (h : Home) (p : ℕ) (slot : Option ℕ)
+pub ready_after : (t u : Table) (s : Option Key) (wrote : Bool) (h : EntryKey) (p : ℕ) (slot : Option ℕ)
     → ((w : Bool) (q : Key) → s ≡ Some q → is_kept_in w wrote ≡ true → is_home h w q ≡ false)
     → IsReadyIfSome t s wrote slot → Puts h.key h.wrote p t u → IsReadyIfSome u s wrote slot
 ready_after t u s wrote h p slot apart ready put = grind arith
 
 -- a list that has a last position keeps it if one is removed under another key
-pub last_after : (t u : Table) (s : Option Key) (wrote : Bool) (h : Home)
+pub last_after : (t u : Table) (s : Option Key) (wrote : Bool) (h : EntryKey)
     → ((w : Bool) (q : Key) → s ≡ Some q → is_kept_in w wrote ≡ true → is_home h w q ≡ false)
-    → HasLast t s wrote → TakesLast h.key h.wrote t u → HasLast u s wrote
+    → HasLast t s wrote → RemovesLast h.key h.wrote t u → HasLast u s wrote
 last_after t u s wrote h apart has took = grind arith
 
-pub adds : (old new : DependIndex) (x : Entry) (h : Homes) (one two : Table) (p actor : ℕ) → h ≡ homes_of x → actor ≡ x.event.actor → p ≡ old.len + 1
+pub adds : (old new : DependIndex) (x : Entry) (h : EntryKeys) (one two : Table) (p actor : ℕ) → h ≡ entry_keys x → actor ≡ x.event.actor → p ≡ old.len + 1
     → new.len ≡ old.len + 1
     → ((i : ℕ) → list_at new.by_actor.items i ≡ (if i == actor then list_at old.by_actor.items i ++ p ∷ [] else list_at old.by_actor.items i))
     → ((i : ℕ) → spare_at old.by_actor.items i ≤ spare_at new.by_actor.items i + cond (i == actor) 1 0)
@@ -31,15 +31,15 @@ adds old new x h one two p actor homes same is len lists_by room_by a b c = grin
 -- the index lost its last entry, which is this one: each list that kept it lost its last position
 -- and has room for one more, and each other list is as before
 pub record Drops (x : Entry) (old new : DependIndex) : Type 0 where
-  pub lists : (t : Touch) → kept new t ≡ (if touches t x then take (length (kept old t) - 1) (kept old t) else kept old t)
-  pub room : (t : Touch) → spare new t ≡ spare old t + cond (touches t x) 1 0
+  pub lists : (t : ListKey) → kept new t ≡ (if touches t x then take (length (kept old t) - 1) (kept old t) else kept old t)
+  pub room : (t : ListKey) → spare new t ≡ spare old t + cond (touches t x) 1 0
   pub len : new.len + 1 ≡ old.len
 
-pub drops : (old new : DependIndex) (x : Entry) (h : Homes) (one two : Table) (actor : ℕ) → h ≡ homes_of x → actor ≡ x.event.actor → new.len + 1 ≡ old.len
+pub drops : (old new : DependIndex) (x : Entry) (h : EntryKeys) (one two : Table) (actor : ℕ) → h ≡ entry_keys x → actor ≡ x.event.actor → new.len + 1 ≡ old.len
     → ((i : ℕ) → list_at new.by_actor.items i ≡ (if i == actor then take (length (list_at old.by_actor.items i) - 1) (list_at old.by_actor.items i) else list_at old.by_actor.items i))
     → ((i : ℕ) → spare_at new.by_actor.items i ≡ spare_at old.by_actor.items i + cond (i == actor) 1 0)
-    → TakesLast h.place.key h.place.wrote old.by_key one → TakesLast h.value.key h.value.wrote one two
-    → TakesLast h.segment.key h.segment.wrote two new.by_key → Drops x old new
+    → RemovesLast h.place.key h.place.wrote old.by_key one → RemovesLast h.value.key h.value.wrote one two
+    → RemovesLast h.segment.key h.segment.wrote two new.by_key → Drops x old new
 drops old new x h one two actor homes same len lists_by room_by a b c =
     let s = separate h x homes in
     record { lists = λ t. search (rules, arith); room = λ t. grind arith; len = len }
@@ -54,7 +54,7 @@ pub touched_by : (x : Entry) → touches (By x.event.actor) x ≡ true
 touched_by x = eq-eqb x.event.actor x.event.actor refl
 
 -- what first made room and then added an entry, added the entry
-pub then_adds : (old mid new : DependIndex) (x : Entry) → Keeps old mid → Adds x mid new → Adds x old new
+pub then_adds : (old mid new : DependIndex) (x : Entry) → KeepsPositions old mid → Adds x mid new → Adds x old new
 then_adds old mid new x keeps more = grind arith
 
 -- the index of the entries, after the calls
@@ -73,17 +73,17 @@ gives_room old new x drop_x = λ t. omega (arith, drop_x.room t)
 
 -- what the calls ask for
 
-pub last_touched : (old : DependIndex) (x : Entry) → EndsWith old (x ∷ []) → (t : Touch) → touches t x ≡ true → 1 ≤ length (kept old t)
+pub last_touched : (old : DependIndex) (x : Entry) → EndsWith old (x ∷ []) → (t : ListKey) → touches t x ≡ true → 1 ≤ length (kept old t)
 last_touched old x last t h = grind (arith, positions-push, length-append)
 
-touched_in : (x : Entry) (h : Homes) → h ≡ homes_of x → (w : Bool) (q : Key) → is_in h w q ≡ true → touches (Under w q) x ≡ true
-touched_in x h homes w q e = under w q x ∙ ap (λ (g : Homes). is_in g w q) (sym homes) ∙ e
+touched_in : (x : Entry) (h : EntryKeys) → h ≡ entry_keys x → (w : Bool) (q : Key) → is_in h w q ≡ true → touches (Under w q) x ≡ true
+touched_in x h homes w q e = is_under-is_in w q x ∙ ap (λ (g : EntryKeys). is_in g w q) (sym homes) ∙ e
 
-pub last_under : (old : DependIndex) (x : Entry) (h : Homes) → h ≡ homes_of x → EndsWith old (x ∷ []) → (w : Bool) (q : Key) → is_in h w q ≡ true
+pub last_under : (old : DependIndex) (x : Entry) (h : EntryKeys) → h ≡ entry_keys x → EndsWith old (x ∷ []) → (w : Bool) (q : Key) → is_in h w q ≡ true
     → 1 ≤ length (kept_in old.by_key w q)
 last_under old x h homes last w q e = last_touched old x last (Under w q) (touched_in x h homes w q e)
 
-pub spare_under : (old : DependIndex) (x : Entry) (h : Homes) → h ≡ homes_of x → ((t : Touch) → touches t x ≡ true → 0 < spare old t)
+pub spare_under : (old : DependIndex) (x : Entry) (h : EntryKeys) → h ≡ entry_keys x → ((t : ListKey) → touches t x ≡ true → 0 < spare old t)
     → (w : Bool) (q : Key) → is_in h w q ≡ true → 0 < spare_in old.by_key w q
 spare_under old x h homes has w q e = has (Under w q) (touched_in x h homes w q e)
 
@@ -93,7 +93,7 @@ spare_under old x h homes has w q e = has (Under w q) (touched_in x h homes w q 
 -- at most
 pub record HasAdded (start now : DependIndex) (entries : List Entry) (n : ℕ) : Type 0 where
   pub index : (es : List Entry) → IsIndexOf start es → IsIndexOf now (es ++ take n entries)
-  pub room : (t : Touch) → spare start t ≤ spare now t + count_by (touches t) (take n entries)
+  pub room : (t : ListKey) → spare start t ≤ spare now t + count_by (touches t) (take n entries)
 
 pub one_added : (start old new : DependIndex) (entries : List Entry) (n : ℕ) (x : Entry) → slice_get entries n ≡ Some x → HasAdded start old entries n
     → ((es : List Entry) → IsIndexOf old es → IsIndexOf new (es ++ x ∷ [])) → UsesRoom old new (x ∷ []) → HasAdded start new entries (n + 1)
@@ -121,7 +121,7 @@ room_next start now entries n x there has was = record { lists = λ t. omega (ar
 -- given their room back
 pub record HasDropped (start now : DependIndex) (entries : List Entry) (left : ℕ) : Type 0 where
   pub index : (es : List Entry) → IsIndexOf start (es ++ entries) → IsIndexOf now (es ++ take left entries)
-  pub room : (t : Touch) → spare now t ≡ spare start t + count_by (touches t) (drop left entries)
+  pub room : (t : ListKey) → spare now t ≡ spare start t + count_by (touches t) (drop left entries)
 
 pub last_left : (start now : DependIndex) (entries : List Entry) (left n : ℕ) (x : Entry) → left ≡ suc n → slice_get entries n ≡ Some x → EndsWith start entries
     → HasDropped start now entries left → EndsWith now (x ∷ [])

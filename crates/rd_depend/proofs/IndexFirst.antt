@@ -2,7 +2,7 @@
 -- place and its segment.
 use Rattle.std.specs.Prelude.{unwrap_or}
 use Rattle.std.proofs.lemmas.List.Sums.{count_by-le-length}
-use Rattle.rd_depend.proofs.Prelude.{list_any, ◌≡◌, ℕ, suc, ◌+◌, ◌<◌, ◌≤◌, Bool, true, false, not, ◌||◌, ◌==◌, nat_lt, List, [], ◌∷◌, length, drop, Option, Some, None, refl, sym, ap, subst, ◌∙◌, arith, nat_tests, is_some, SegName, Place, some_overlap, is_nothing, written, interfere, Entry, Wrote, position_from, depends, depends_on_any, symmetric, DependIndex, At, In, is_under, is_under_some, own_key, value_key_of_place, whole_key, IsAscending, find, earlier, Touch, By, touched_or_written, is_value_written, touches, positions_from, positions, kept, IsIndexOf}
+use Rattle.rd_depend.proofs.Prelude.{list_any, ◌≡◌, ℕ, suc, ◌+◌, ◌<◌, ◌≤◌, Bool, true, false, not, ◌||◌, ◌==◌, nat_lt, List, [], ◌∷◌, length, drop, Option, Some, None, refl, sym, ap, subst, ◌∙◌, arith, nat_tests, is_some, SegName, Place, some_overlap, is_nothing, written, interfere, Entry, Wrote, position_from, depends, depends_on_any, depends_symmetric, DependIndex, At, In, is_under, is_under_some, search_key, value_key_of_place, whole_key, IsAscending, find, earlier, ListKey, By, touched_or_written, is_value_written, touches, positions_from, positions, kept, IsIndexOf}
 use Rattle.rd_depend.proofs.IndexPositions.{positions-number, ascending}
 use Rattle.rd_cell.specs.declared.places.Place.TheVariants as place
 
@@ -19,7 +19,8 @@ scanned : (test : Entry → Bool) (k n : ℕ) (es : List Entry) → k < n → fi
 scanned test k n [] h = refl
 scanned test k n (y ∷ ys) h = grind (arith, nat_tests, scanned test k (n + 1) ys (omega arith))
 
--- the first position above k that passes is the first one in a scan of the entries after the first k
+-- the first position above k that passes is the first one in a scan of the entries after the first
+-- k
 pub first-after : (test : Entry → Bool) (k : ℕ) (es : List Entry) → find (nat_lt k) (positions test es) ≡ position_from test (k + 1) (drop k es)
 first-after test k es = grind (arith, skipped test k 1 k es (omega arith), scanned test k (k + 1) (drop k es) (omega arith))
 
@@ -47,7 +48,7 @@ scanned-any test n (y ∷ ys) = grind (arith, scanned-any test (n + 1) ys)
 
 -- a scan finds an entry that depends on x exactly if x depends on one of the entries
 pub found-on : (x : Entry) (n : ℕ) (ys : List Entry) → is_some (position_from (depends x) n ys) ≡ depends_on_any ys x
-found-on x n ys = scanned-any (depends x) n ys ∙ (λ i. list_any (λ y. symmetric x y i) ys)
+found-on x n ys = scanned-any (depends x) n ys ∙ (λ i. list_any (λ y. depends_symmetric x y i) ys)
 
 -- a position above k is found exactly if the step depends on one of the entries after the first k
 pub found-after : (x : Entry) (k : ℕ) (es : List Entry) → is_some (find (nat_lt k) (positions (depends x) es)) ≡ depends_on_any (drop k es) x
@@ -67,17 +68,17 @@ overlaps-cell s i o = grind arith
 -- whether a step at a place is kept under one of the three keys at which a search for place p
 -- looks: of a cell's value half, of what else p names, and of the whole of its segment
 abbrev pub overlaps_under : Place → Option Place → Bool
-overlaps_under p o = is_under_some (value_key_of_place p) o || (is_under (own_key p) o || is_under_some (whole_key p) o)
+overlaps_under p o = is_under_some (value_key_of_place p) o || (is_under (search_key p) o || is_under_some (whole_key p) o)
 
 pub overlaps-keys : (p : Place) (o : Option Place) → some_overlap (Some p) o ≡ overlaps_under p o
 overlaps-keys p o = grind (arith, overlaps-whole, overlaps-cell)
 
 -- the lists of an index
 
-pub kept-ascends : (index : DependIndex) (es : List Entry) → IsIndexOf index es → (t : Touch) → IsAscending (kept index t)
+pub kept-ascends : (index : DependIndex) (es : List Entry) → IsIndexOf index es → (t : ListKey) → IsAscending (kept index t)
 kept-ascends index es is t = subst (λ (l : List ℕ). IsAscending l) (sym (is.lists t)) (ascending (touches t) es)
 
-pub kept-short : (index : DependIndex) (es : List Entry) → IsIndexOf index es → (t : Touch) → length (kept index t) < 131072
+pub kept-short : (index : DependIndex) (es : List Entry) → IsIndexOf index es → (t : ListKey) → length (kept index t) < 131072
 kept-short index es is t = let few = index.few in grind (arith, positions-number, count_by-le-length (touches t) es)
 
 -- a step depends on those of its actor, and on those that interfere with its access
@@ -95,7 +96,7 @@ under_either p o v = grind arith
 
 -- what the searches find
 
-pub found_in : (index : DependIndex) (es : List Entry) → IsIndexOf index es → (t : Touch) (k : ℕ) (r : Option ℕ)
+pub found_in : (index : DependIndex) (es : List Entry) → IsIndexOf index es → (t : ListKey) (k : ℕ) (r : Option ℕ)
     → (IsAscending (kept index t) → length (kept index t) < 131072 → r ≡ find (nat_lt k) (kept index t)) → r ≡ find (nat_lt k) (positions (touches t) es)
 found_in index es is t k r found = found (kept-ascends index es is t) (kept-short index es is t) ∙ ap (find (nat_lt k)) (is.lists t)
 
@@ -109,7 +110,7 @@ meets p v y = interfere (Some p) v y.place y.wrote
 abbrev pub looks : Place → Wrote → Entry → Bool
 looks p v y =
     is_under_some (value_key_of_place p) (touched_or_written (not (is_value_written v)) y)
-    || (is_under (own_key p) (touched_or_written (is_nothing v) y) || is_under_some (whole_key p) (touched_or_written (is_nothing v) y))
+    || (is_under (search_key p) (touched_or_written (is_nothing v) y) || is_under_some (whole_key p) (touched_or_written (is_nothing v) y))
 
 looked : (p : Place) (v : Wrote) (y : Entry) → looks p v y ≡ meets p v y
 looked p v y = grind (arith, overlaps-keys, under_either)
@@ -122,22 +123,22 @@ none_found k n (x ∷ xs) = none_found k (n + 1) xs
 -- the first of what is found under the three keys is the first step that interferes with the access
 pub found_at : (p : Place) (v : Wrote) (k : ℕ) (es : List Entry) (value own whole both all : Option ℕ)
     → value ≡ find (nat_lt k) (positions (λ y. is_under_some (value_key_of_place p) (touched_or_written (not (is_value_written v)) y)) es)
-    → own ≡ find (nat_lt k) (positions (λ y. is_under (own_key p) (touched_or_written (is_nothing v) y)) es)
+    → own ≡ find (nat_lt k) (positions (λ y. is_under (search_key p) (touched_or_written (is_nothing v) y)) es)
     → whole ≡ find (nat_lt k) (positions (λ y. is_under_some (whole_key p) (touched_or_written (is_nothing v) y)) es)
     → both ≡ earlier own whole → all ≡ earlier value both → all ≡ find (nat_lt k) (positions (meets p v) es)
 found_at p v k es value own whole both all a b c two three =
-    let rest = λ (y : Entry). is_under (own_key p) (touched_or_written (is_nothing v) y) || is_under_some (whole_key p) (touched_or_written (is_nothing v) y) in
+    let rest = λ (y : Entry). is_under (search_key p) (touched_or_written (is_nothing v) y) || is_under_some (whole_key p) (touched_or_written (is_nothing v) y) in
     let in_two : both ≡ find (nat_lt k) (positions rest es) = two ∙ (λ i. earlier (b i) (c i)) ∙ earlier-first _ _ rest (λ y. refl) k es in
     three ∙ (λ i. earlier (a i) (in_two i)) ∙ earlier-first _ rest (meets p v) (λ y. sym (looked p v y)) k es
 
-pub found_either : (x : Entry) (p : Place) → x.place ≡ Some p → (k : ℕ) (es : List Entry)
+pub found-with_place : (x : Entry) (p : Place) → x.place ≡ Some p → (k : ℕ) (es : List Entry)
     → earlier (find (nat_lt k) (positions (touches (By x.event.actor)) es)) (find (nat_lt k) (positions (meets p x.wrote) es))
     ≡ find (nat_lt k) (positions (depends x) es)
-found_either x p h k es = earlier-first (touches (By x.event.actor)) (meets p x.wrote) (depends x) (λ y. depends-some x y p h) k es
+found-with_place x p h k es = earlier-first (touches (By x.event.actor)) (meets p x.wrote) (depends x) (λ y. depends-some x y p h) k es
 
-pub found_by : (x : Entry) → x.place ≡ None → (k : ℕ) (es : List Entry)
+pub found-without_place : (x : Entry) → x.place ≡ None → (k : ℕ) (es : List Entry)
     → find (nat_lt k) (positions (touches (By x.event.actor)) es) ≡ find (nat_lt k) (positions (depends x) es)
-found_by x h k es = ap (find (nat_lt k)) (positions-same (touches (By x.event.actor)) (depends x) (λ y. depends-none x y h) 1 es)
+found-without_place x h k es = ap (find (nat_lt k)) (positions-same (touches (By x.event.actor)) (depends x) (λ y. depends-none x y h) 1 es)
 
 -- if a later step of the actor is found, the step depends on one of the later entries
 pub found_of_actor : (x : Entry) (k : ℕ) (es : List Entry) → is_some (find (nat_lt k) (positions (touches (By x.event.actor)) es)) ≡ true

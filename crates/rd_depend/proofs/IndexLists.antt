@@ -1,6 +1,6 @@
 -- Ascending positions: the search for the first that is above a number, and what they become when
 -- one is moved.
-use Rattle.rd_depend.proofs.Prelude.{◌≡◌, ℕ, suc, ◌+◌, ◌-◌, ◌*◌, ◌/◌, ◌^◌, ◌<◌, ◌≤◌, ◌==◌, Bool, true, false, not, nat_lt, List, [], ◌∷◌, ◌++◌, length, get_or, map, drop, take, cond, if◌then◌else◌, ◌||◌, ◌≢◌, refl, sym, ap, ◌∙◌, arith, append_assoc, eqb-true, length-drop, subst, nat_tests, eqb-false, take_all, take-append-drop, AscendsFrom, IsAscending, before_first, contains, moved_position, position_or_len, turned, IsMoved, prefix_len-le-length, prefix_len_is, list_any-append, leb}
+use Rattle.rd_depend.proofs.Prelude.{◌≡◌, ℕ, suc, ◌+◌, ◌-◌, ◌*◌, ◌/◌, ◌^◌, ◌<◌, ◌≤◌, ◌==◌, Bool, true, false, not, nat_lt, List, [], ◌∷◌, ◌++◌, length, get_or, map, drop, take, cond, if◌then◌else◌, ◌||◌, ◌≢◌, refl, sym, ap, ◌∙◌, arith, append_assoc, eqb-true, length-drop, subst, nat_tests, eqb-false, take_all, take-append-drop, AscendsFrom, IsAscending, before_first, contains, moved_position, position_or_len, lowered_and_rotated, IsMoved, prefix_len-le-length, prefix_len_is, list_any-append, leb}
 use Rattle.std.specs.List.Sorted.{IsNonDecreasingBy, IsPartitionPoint}
 use Rattle.std.proofs.Math.Nat.{pow-succ'}
 use Rattle.std.proofs.lemmas.List.Sums.{fails_before_first}
@@ -23,17 +23,17 @@ non_decreasing n ps h i j d le within = grind (arith, ascends-at)
 -- the number of those before the first that is greater
 
 -- a position that is at most k is before the first that is greater
-pub number-above : (n k : ℕ) (ps : List ℕ) (i d : ℕ) → AscendsFrom n ps → i < length ps → get_or ps i d ≤ k → i < position_or_len (nat_lt k) ps
-number-above n k (p ∷ ps) (suc i) d h within le = grind (arith, nat_tests, ascends-at, number-above (suc p) k ps i d h.1 (omega arith) le)
-number-above n k ps i d h within le = grind arith
+pub index-below_number : (n k : ℕ) (ps : List ℕ) (i d : ℕ) → AscendsFrom n ps → i < length ps → get_or ps i d ≤ k → i < position_or_len (nat_lt k) ps
+index-below_number n k (p ∷ ps) (suc i) d h within le = grind (arith, nat_tests, ascends-at, index-below_number (suc p) k ps i d h.1 (omega arith) le)
+index-below_number n k ps i d h within le = grind arith
 
 -- a position above k is not before the first that is greater
-pub number-below : (k : ℕ) (ps : List ℕ) (i d : ℕ) → i < length ps → k < get_or ps i d → position_or_len (nat_lt k) ps ≤ i
-number-below k ps i d within gt = grind (arith, nat_tests, fails_before_first (nat_lt k) ps i d)
+pub number-up_to_index : (k : ℕ) (ps : List ℕ) (i d : ℕ) → i < length ps → k < get_or ps i d → position_or_len (nat_lt k) ps ≤ i
+number-up_to_index k ps i d within gt = grind (arith, nat_tests, fails_before_first (nat_lt k) ps i d)
 
 -- if there are positions and the last is at most k, all are before the first that is greater
 pub number-all : (k : ℕ) (ps : List ℕ) (d : ℕ) → IsAscending ps → 1 ≤ length ps → get_or ps (length ps - 1) d ≤ k → length ps ≡ position_or_len (nat_lt k) ps
-number-all k ps d up some le = omega (arith, prefix_len-le-length (λ p. not (nat_lt k p)) ps, number-above 0 k ps (length ps - 1) d up (omega arith) le)
+number-all k ps d up some le = omega (arith, prefix_len-le-length (λ p. not (nat_lt k p)) ps, index-below_number 0 k ps (length ps - 1) d up (omega arith) le)
 
 -- if there are no positions, none is before the first that is greater
 pub number-none : (k : ℕ) (ps : List ℕ) → length ps ≡ 0 → length ps ≡ position_or_len (nat_lt k) ps
@@ -83,9 +83,9 @@ lowered-within : (m n : ℕ) (ps : List ℕ) → Within (suc m) n ps → Within 
 lowered-within m n [] h = tt
 lowered-within m n (p ∷ ps) h = grind (arith, lowered-within p n ps h.2)
 
-turned-ascends : (k n : ℕ) (ps qs : List ℕ) → 1 ≤ k → k ≤ n → Within k n ps → AscendsFrom (suc n) qs → AscendsFrom k (turned k n ps ++ qs)
-turned-ascends k n [] qs some order h above = ascends_lower k (suc n) qs (omega arith) above
-turned-ascends k n (p ∷ ps) qs some order h above = by (p == k) (eqb-true p k) (eqb-false p k)
+lowered_and_rotated-ascends : (k n : ℕ) (ps qs : List ℕ) → 1 ≤ k → k ≤ n → Within k n ps → AscendsFrom (suc n) qs → AscendsFrom k (lowered_and_rotated k n ps ++ qs)
+lowered_and_rotated-ascends k n [] qs some order h above = ascends_lower k (suc n) qs (omega arith) above
+lowered_and_rotated-ascends k n (p ∷ ps) qs some order h above = by (p == k) (eqb-true p k) (eqb-false p k)
   where
     by : (b : Bool) → (b ≡ true → p ≡ k) → (b ≡ false → p ≢ k) → AscendsFrom k ((if b then map (λ q. q - 1) ps ++ n ∷ [] else map (λ q. q - 1) (p ∷ ps)) ++ qs)
     by true same other = grind (arith, append_assoc, within-append k (n - 1) (map (λ q. q - 1) ps) (n ∷ qs), lowered-within k n ps)
@@ -106,14 +106,14 @@ lowered-has : (m k n p : ℕ) (ps : List ℕ) → Within m n ps → k < m → co
 lowered-has m k n p [] h above = refl
 lowered-has m k n p (q ∷ qs) h above = grind (arith, nat_tests, lowered-has (suc q) k n p qs h.2 (omega arith))
 
-turned-has : (k n p : ℕ) (ps : List ℕ) → Within k n ps → contains (turned k n ps) (moved_position k n p) ≡ contains ps p
-turned-has k n p [] h = refl
-turned-has k n p (q ∷ qs) h = grind (arith, nat_tests, list_any-append, lowered-has (suc q) k n p qs h.2, lowered-has (suc k) k n p (q ∷ qs))
+lowered_and_rotated-has : (k n p : ℕ) (ps : List ℕ) → Within k n ps → contains (lowered_and_rotated k n ps) (moved_position k n p) ≡ contains ps p
+lowered_and_rotated-has k n p [] h = refl
+lowered_and_rotated-has k n p (q ∷ qs) h = grind (arith, nat_tests, list_any-append, lowered-has (suc q) k n p qs h.2, lowered-has (suc k) k n p (q ∷ qs))
 
 -- if the positions from k up to n are turned and the others stay, k is moved to n
 pub moved : (k n start size : ℕ) (ps turns new : List ℕ) → 1 ≤ k → k ≤ n → (IsAscending ps → start ≡ position_or_len (nat_lt (k - 1)) ps)
     → (IsAscending (take (length ps - start) (drop start ps)) → size ≡ position_or_len (nat_lt n) (take (length ps - start) (drop start ps)))
-    → turns ≡ turned k n (take (start + size - start) (drop start ps)) → new ≡ take start ps ++ (turns ++ drop (start + size - start) (drop start ps)) → IsAscending ps → IsMoved k n ps new
+    → turns ≡ lowered_and_rotated k n (take (start + size - start) (drop start ps)) → new ≡ take start ps ++ (turns ++ drop (start + size - start) (drop start ps)) → IsAscending ps → IsMoved k n ps new
 unfolding IsMoved
 moved k n start size ps turns new some order at until turn is up =
     let low = take start ps in
@@ -128,13 +128,13 @@ moved k n start size ps turns new some order at until turn is up =
     let is_mid : Within k n mid = subst (λ (i : ℕ). Within k n (take i rest)) (sym ends) (front-within k n rest from_k) in
     let is_high : AscendsFrom (suc n) high = subst (λ (i : ℕ). AscendsFrom (suc n) (drop i rest)) (sym ends) (rest-ascends k n rest from_k (omega arith)) in
     let long : start + size - start ≡ size = omega arith in
-    let parts : turns ++ drop (start + size - start) rest ≡ turned k n mid ++ high =
-    λ i. (turn ∙ ap (λ (j : ℕ). turned k n (take j rest)) long) i ++ drop (long i) rest in
+    let parts : turns ++ drop (start + size - start) rest ≡ lowered_and_rotated k n mid ++ high =
+    λ i. (turn ∙ ap (λ (j : ℕ). lowered_and_rotated k n (take j rest)) long) i ++ drop (long i) rest in
     subst (IsMoved k n ps) (sym (is ∙ (λ i. low ++ parts i))) (
-      within-append 0 (k - 1) low _ (omega arith) is_low (ascends_lower (suc (k - 1)) k _ (omega arith) (turned-ascends k n mid high some order is_mid is_high)),
+      within-append 0 (k - 1) low _ (omega arith) is_low (ascends_lower (suc (k - 1)) k _ (omega arith) (lowered_and_rotated-ascends k n mid high some order is_mid is_high)),
       λ p.
-          list_any-append _ low (turned k n mid ++ high)
-          ∙ (λ i. low-has 0 k n p low is_low some order i || (list_any-append (λ q. q == moved_position k n p) (turned k n mid) high ∙ (λ j. turned-has k n p mid is_mid j || high-has (suc n) k n p high is_high (omega arith) order j)) i)
+          list_any-append _ low (lowered_and_rotated k n mid ++ high)
+          ∙ (λ i. low-has 0 k n p low is_low some order i || (list_any-append (λ q. q == moved_position k n p) (lowered_and_rotated k n mid) high ∙ (λ j. lowered_and_rotated-has k n p mid is_mid j || high-has (suc n) k n p high is_high (omega arith) order j)) i)
           ∙ sym (list_any-append _ low (mid ++ high) ∙ ap (λ (b : Bool). contains low p || b) (list_any-append _ mid high))
           ∙ ap (λ (l : List ℕ). contains l p) (ap (λ (l : List ℕ). low ++ l) (take-append-drop size rest) ∙ take-append-drop start ps),
     )

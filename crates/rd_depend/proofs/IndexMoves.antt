@@ -1,6 +1,6 @@
 -- Moving a position in all lists: the index is then that of the entries with that one moved, and
 -- has the same room.
-use Rattle.rd_depend.proofs.Prelude.{◌≡◌, ℕ, zero, suc, ◌+◌, ◌-◌, ◌<◌, ◌≤◌, ◌==◌, Bool, false, nat_lt, if◌then◌else◌, List, [], ◌∷◌, ◌++◌, length, slice_get, take, drop, Option, Some, None, refl, sym, ap, subst, ◌∙◌, append_assoc, arith, length-append, length-drop, option_map_or, nat_tests, drop_of_length-le, length-take-le, take_all, take-append-drop, drop-drop, Entry, numbered, without, DependIndex, AscendsFrom, IsAscending, contains, moved_position, positions_from, positions, count_by, touches, Touch, kept, capacity, IsIndexOf, KeepsRoom, IsMoved, moved_to}
+use Rattle.rd_depend.proofs.Prelude.{◌≡◌, ℕ, zero, suc, ◌+◌, ◌-◌, ◌<◌, ◌≤◌, ◌==◌, Bool, false, nat_lt, if◌then◌else◌, List, [], ◌∷◌, ◌++◌, length, slice_get, take, drop, Option, Some, None, refl, sym, ap, subst, ◌∙◌, append_assoc, arith, length-append, length-drop, option_map_or, nat_tests, drop_of_length-le, length-take-le, take_all, take-append-drop, drop-drop, Entry, numbered, without, DependIndex, AscendsFrom, IsAscending, contains, moved_position, positions_from, positions, count_by, touches, ListKey, kept, capacity, IsIndexOf, HasSameRoom, IsMoved, moved_to}
 use Rattle.rd_depend.proofs.IndexPositions.{positions-ascend, ascending, count_by-append, count_by-cons}
 use Rattle.rd_depend.proofs.Elements.{drop-element}
 use Rattle.rd_depend.proofs.IndexFirst.{kept-ascends}
@@ -112,7 +112,7 @@ length-moved es k n c = grind (arith, length-append)
 
 -- in each list that ascends, position k was moved to n
 abbrev MovesAll : ℕ → ℕ → DependIndex → DependIndex → Type 0
-MovesAll k n old new = (t : Touch) → IsAscending (kept old t) → IsMoved k n (kept old t) (kept new t)
+MovesAll k n old new = (t : ListKey) → IsAscending (kept old t) → IsMoved k n (kept old t) (kept new t)
 
 pub moved_index : (old new : DependIndex) (k n : ℕ) → 1 ≤ k → k ≤ n → n ≤ old.len → MovesAll k n old new → new.len ≡ old.len → (es : List Entry) → IsIndexOf old es
     → IsIndexOf new (moved_to es k n)
@@ -126,7 +126,7 @@ moved_index old new k n some order within moves len es is =
     }
 
 pub moved_room : (old new : DependIndex) (k n : ℕ) → 1 ≤ k → k ≤ n → n ≤ old.len → ((es : List Entry) → IsIndexOf old es → IsIndexOf new (moved_to es k n))
-    → ((t : Touch) → capacity new t ≡ capacity old t) → (es : List Entry) → IsIndexOf old es → KeepsRoom old new
+    → ((t : ListKey) → capacity new t ≡ capacity old t) → (es : List Entry) → IsIndexOf old es → HasSameRoom old new
 moved_room old new k n some order within moves stays es is = λ t.
     omega (arith, room_stays old new es (moved_to es k n) is (moves es is) stays t, count_by-moved (touches t) es k n (cut es k n some order (omega arith)))
 

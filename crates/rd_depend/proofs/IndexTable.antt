@@ -1,5 +1,5 @@
 -- The table of keys: which key has which index, and what a change of the lists means for the keys.
-use Rattle.rd_depend.proofs.Prelude.{nat_tests, slice_get-push_same, slice_get-push_other, Key, Table, key_eq, slot_in, key_eq-true, key_eq-refl, key_eq-sym, Lists, list_at, spare_at, cond, list_of, capacity_of, lists_of, kept_in, spare_in, is_kept_in, IsReady, KeepsLists, Puts, TakesLast, Moves, capacity_at, IsAscending, IsMoved, ◌≡◌, ℕ, suc, ◌+◌, ◌-◌, ◌<◌, ◌≤◌, Bool, true, false, ◌&&◌, ◌==◌, if◌then◌else◌, List, [], ◌∷◌, ◌++◌, length, get_or, take, Option, Some, None, slice_get, slice_get-get_or, option_map, Vec, refl, sym, ap, subst, ◌∙◌, arith, eqb-true, eq-eqb, list_any, IsDistinct, apart_from_distinct, Global}
+use Rattle.rd_depend.proofs.Prelude.{nat_tests, slice_get-push_same, slice_get-push_other, Key, Table, key_eq, slot_in, key_eq-true, key_eq-refl, key_eq-sym, Lists, list_at, spare_at, cond, list_of, capacity_of, lists_of, kept_in, spare_in, is_kept_in, IsReady, KeepsLists, Puts, RemovesLast, Moves, capacity_at, IsAscending, IsMoved, ◌≡◌, ℕ, suc, ◌+◌, ◌-◌, ◌<◌, ◌≤◌, Bool, true, false, ◌&&◌, ◌==◌, if◌then◌else◌, List, [], ◌∷◌, ◌++◌, length, get_or, take, Option, Some, None, slice_get, slice_get-get_or, option_map, Vec, refl, sym, ap, subst, ◌∙◌, arith, eqb-true, eq-eqb, list_any, IsDistinct, apart_from_distinct, Global}
 use Rattle.rd_depend.proofs.IndexLists.{none_moved}
 use Rattle.std.proofs.lemmas.List.Quantifiers.{position-Some}
 use Rattle.std.specs.Cmp.{both_ways}
@@ -115,13 +115,13 @@ puts old new k wrote p i keys all writes room_all room_writes slot = record {
   slots = λ q. ap (λ (ks : List Key). slot_in ks q) keys;
 }
 
-pub takes_last : (old new : Table) (k : Key) (wrote : Bool) (i : ℕ) → new.keys.keys ≡ old.keys.keys
+pub removes_last : (old new : Table) (k : Key) (wrote : Bool) (i : ℕ) → new.keys.keys ≡ old.keys.keys
     → ((j : ℕ) → list_at new.all.items j ≡ (if j == i then take (length (list_at old.all.items j) - 1) (list_at old.all.items j) else list_at old.all.items j))
     → ((j : ℕ) → list_at new.writes.items j ≡ (if wrote && (j == i) then take (length (list_at old.writes.items j) - 1) (list_at old.writes.items j) else list_at old.writes.items j))
     → ((j : ℕ) → spare_at new.all.items j ≡ spare_at old.all.items j + cond (j == i) 1 0)
     → ((j : ℕ) → spare_at new.writes.items j ≡ spare_at old.writes.items j + cond (wrote && (j == i)) 1 0)
-    → slot_in old.keys.keys k ≡ Some i → TakesLast (Some k) wrote old new
-takes_last old new k wrote i keys all writes room_all room_writes slot = record {
+    → slot_in old.keys.keys k ≡ Some i → RemovesLast (Some k) wrote old new
+removes_last old new k wrote i keys all writes room_all room_writes slot = record {
   lists = λ w q. let same = slot-same old.keys.keys k q i slot in grind arith;
   room = λ w q. let same = slot-same old.keys.keys k q i slot in grind arith;
 }

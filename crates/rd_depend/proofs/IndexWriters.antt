@@ -1,6 +1,6 @@
 -- The last writer of a place, from the last positions up to a number in the lists of the place and
 -- its segment.
-use Rattle.rd_depend.proofs.Prelude.{nat_lt, common_steps, Place, some_overlap, Entry, DependIndex, is_under, is_under_some, own_key, value_key_of_place, whole_key, IsAscending, before_first, last_or, later, Touch, touched_or_written, touches, positions_from, positions, kept, IsIndexOf, one_further, last_position, writes_to, ◌≡◌, ℕ, suc, ◌+◌, ◌-◌, ◌<◌, ◌≤◌, Bool, true, false, ◌||◌, List, [], ◌∷◌, length, get_or, take, Option, Some, None, refl, ap, ◌∙◌, arith}
+use Rattle.rd_depend.proofs.Prelude.{nat_lt, common_steps, Place, some_overlap, Entry, DependIndex, is_under, is_under_some, search_key, value_key_of_place, whole_key, IsAscending, before_first, last_or, later, ListKey, touched_or_written, touches, positions_from, positions, kept, IsIndexOf, one_further, last_position, writes_to, ◌≡◌, ℕ, suc, ◌+◌, ◌-◌, ◌<◌, ◌≤◌, Bool, true, false, ◌||◌, List, [], ◌∷◌, length, get_or, take, Option, Some, None, refl, ap, ◌∙◌, arith}
 use Rattle.rd_depend.proofs.IndexCuts.{positions-up_to}
 use Rattle.rd_depend.proofs.IndexFirst.{kept-ascends, kept-short, overlaps-keys}
 
@@ -36,12 +36,12 @@ later-last t u v h (x ∷ xs) = grind (arith, later-last t u v h xs)
 
 -- what the searches find
 
-pub last_in : (index : DependIndex) (es : List Entry) → IsIndexOf index es → (t : Touch) (n : ℕ) (r : Option ℕ)
+pub last_in : (index : DependIndex) (es : List Entry) → IsIndexOf index es → (t : ListKey) (n : ℕ) (r : Option ℕ)
     → (IsAscending (kept index t) → length (kept index t) < 131072 → r ≡ last_or None (before_first (nat_lt n) (kept index t))) → r ≡ last_position (touches t) (take n es)
 last_in index es is t n r found = grind (arith, common_steps, kept-ascends, kept-short, positions-up_to, last-is)
 
-meet : (o p : Option Place) → some_overlap o p ≡ some_overlap p o
-meet o p = grind arith
+some_overlap-swap : (o p : Option Place) → some_overlap o p ≡ some_overlap p o
+some_overlap-swap o p = grind arith
 
 -- a search without a key finds nothing
 pub none_last : (es : List Entry) → last_position (λ (y : Entry). false) es ≡ None
@@ -51,10 +51,10 @@ none_last (x ∷ xs) = ap (one_further false) (none_last xs)
 -- the last of what is found under the three keys is the last step that wrote the place, or one of
 -- the places that it names
 pub last_at : (p : Place) (es : List Entry) (value own whole both all : Option ℕ)
-    → value ≡ last_position (λ y. is_under_some (value_key_of_place p) (touched_or_written true y)) es → own ≡ last_position (λ y. is_under (own_key p) (touched_or_written true y)) es
+    → value ≡ last_position (λ y. is_under_some (value_key_of_place p) (touched_or_written true y)) es → own ≡ last_position (λ y. is_under (search_key p) (touched_or_written true y)) es
     → whole ≡ last_position (λ y. is_under_some (whole_key p) (touched_or_written true y)) es → both ≡ later own whole → all ≡ later value both
     → all ≡ last_position (writes_to p) es
 last_at p es value own whole both all a b c two three =
-    let rest = λ (y : Entry). is_under (own_key p) (touched_or_written true y) || is_under_some (whole_key p) (touched_or_written true y) in
+    let rest = λ (y : Entry). is_under (search_key p) (touched_or_written true y) || is_under_some (whole_key p) (touched_or_written true y) in
     let in_two : both ≡ last_position rest es = two ∙ (λ i. later (b i) (c i)) ∙ later-last _ _ rest (λ y. refl) es in
-    three ∙ (λ i. later (a i) (in_two i)) ∙ later-last _ rest (writes_to p) (λ y. meet (touched_or_written true y) (Some p) ∙ overlaps-keys p (touched_or_written true y)) es
+    three ∙ (λ i. later (a i) (in_two i)) ∙ later-last _ rest (writes_to p) (λ y. some_overlap-swap (touched_or_written true y) (Some p) ∙ overlaps-keys p (touched_or_written true y)) es

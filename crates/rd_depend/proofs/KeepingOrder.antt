@@ -1,6 +1,6 @@
 -- The steps of one list keep the order of another list exactly if they may be taken out of that
 -- list one after another.
-use Rattle.rd_depend.proofs.Prelude.{AllByRecursion, eqb-false, map-append, Entry, Key, Reached, is_under, last_blocking, taken_in, with_step, nothing_reached, AreAlike, Numbered, by_actor, all_left, with_steps, KeepsOrder, ◌≡◌, ◌≢◌, ℕ, ◌+◌, ◌<◌, ◌≤◌, Bool, true, false, ◌==◌, if◌then◌else◌, List, [], ◌∷◌, ◌++◌, length, map, refl, sym, ap, subst, ◌∙◌, arith, eqb-true, length-append, enumerate_from, filter-append}
+use Rattle.rd_depend.proofs.Prelude.{AllByRecursion, eqb-false, map-append, Entry, Key, Reached, is_under, last_blocking, taken_in, with_step, nothing_reached, AreAlike, Numbered, by_actor, steps_by_actor, with_steps, KeepsOrder, ◌≡◌, ◌≢◌, ℕ, ◌+◌, ◌<◌, ◌≤◌, Bool, true, false, ◌==◌, if◌then◌else◌, List, [], ◌∷◌, ◌++◌, length, map, refl, sym, ap, subst, ◌∙◌, arith, eqb-true, length-append, enumerate_from, filter-append}
 use Rattle.rd_depend.proofs.Elements.{all-append, all-parts, all-weaker, map-nil}
 use Rattle.rd_depend.proofs.FirstOfActor.{HasNoneBy}
 use Rattle.rd_depend.proofs.TouchedKeys.{wrote_under, wrote_touched, passed_at, in_order_at, in_order_from}
@@ -72,11 +72,11 @@ entries-numbered i (x ∷ xs) = ap (λ (l : List Entry). x ∷ l) (entries-numbe
 
 -- The steps of one actor
 
-own : (n : ℕ) (p : Numbered) (ps : List Numbered) → n ≡ p.1.event.actor → by_actor n (p ∷ ps) ≡ p ∷ by_actor n ps
-own n p ps h = grind arith
+by_actor-own : (n : ℕ) (p : Numbered) (ps : List Numbered) → n ≡ p.1.event.actor → by_actor n (p ∷ ps) ≡ p ∷ by_actor n ps
+by_actor-own n p ps h = grind arith
 
-other : (n : ℕ) (p : Numbered) (ps : List Numbered) → n ≢ p.1.event.actor → by_actor n (p ∷ ps) ≡ by_actor n ps
-other n p ps h = grind arith
+by_actor-other : (n : ℕ) (p : Numbered) (ps : List Numbered) → n ≢ p.1.event.actor → by_actor n (p ∷ ps) ≡ by_actor n ps
+by_actor-other n p ps h = grind arith
 
 -- the first step of an actor in a list, with the steps before it and those after it
 record FirstBy (n : ℕ) (ps : List Numbered) (p : Numbered) (rest : List Numbered) : Type 0 where
@@ -95,22 +95,22 @@ first_by n (q ∷ ps) p rest h = by (n == q.1.event.actor) refl h (first_by n ps
         → (by_actor n ps ≡ p ∷ rest → FirstBy n ps p rest) → FirstBy n (q ∷ ps) p rest
     by true e g later =
         let same : q ≡ p = cc in
-        let own = eqb-true n q.1.event.actor e in
+        let by_actor-own = eqb-true n q.1.event.actor e in
         record { earlier = []; later = ps; stands = cc; actor = cc; none = tt; left = cc }
     by false e g later =
         let f = later g in
         let other_actor = eqb-false n q.1.event.actor e in
-        record { earlier = q ∷ f.earlier; later = f.later; stands = cc; actor = f.actor; none = (other_actor, f.none); left = f.left ∙ sym (other n q (f.earlier ++ f.later) other_actor) }
+        record { earlier = q ∷ f.earlier; later = f.later; stands = cc; actor = f.actor; none = (other_actor, f.none); left = f.left ∙ sym (by_actor-other n q (f.earlier ++ f.later) other_actor) }
 
 -- without the first step of its actor, that actor has the steps after it, and other actors have the
 -- same steps
 by_actor-first : (n : ℕ) (ps qs : List Numbered) (p : Numbered) → n ≡ p.1.event.actor → HasNoneBy n (entries_of ps) → by_actor n (ps ++ p ∷ qs) ≡ p ∷ by_actor n (ps ++ qs)
-by_actor-first n [] qs p e none = own n p qs e
+by_actor-first n [] qs p e none = by_actor-own n p qs e
 by_actor-first n (r ∷ ps) qs p e none = grind (arith, by_actor-first n ps qs p e none.1)
 
 taken_out : (n : ℕ) (ps qs : List Numbered) (p : Numbered) → n ≡ p.1.event.actor → (m : ℕ)
     → with_steps (λ k. by_actor k (ps ++ p ∷ qs)) n (by_actor n (ps ++ qs)) m ≡ by_actor m (ps ++ qs)
-taken_out n ps qs p e m = grind (arith, filter-append, other)
+taken_out n ps qs p e m = grind (arith, filter-append, by_actor-other)
 
 nobody_left : (ps : List Numbered) → ((n : ℕ) → by_actor n ps ≡ []) → ps ≡ []
 nobody_left [] h = refl
@@ -166,7 +166,7 @@ kept s (x ∷ xs) ps ascends h =
     (kept (with_step s x p.0) xs (f.earlier ++ f.later) (around f.earlier p f.later asc).rest
     (subst (λ (l : ℕ → List Numbered). KeepsOrder (with_step s x p.0) xs l) (λ i m. left m i) h.3)))
 
-pub kept_taken : (xs ys : List Entry) → KeepsOrder nothing_reached xs (all_left ys) → TakesAll xs ys
+pub kept_taken : (xs ys : List Entry) → KeepsOrder nothing_reached xs (steps_by_actor ys) → TakesAll xs ys
 kept_taken xs ys h =
     subst (λ (l : List Entry). TakesAll xs l) (entries-numbered 1 ys) (kept nothing_reached xs (enumerate_from 1 ys) (numbers-ascend 1 ys) h).taken
 
@@ -182,11 +182,11 @@ record Found (ps : List Numbered) (xs : List Entry) (y : Entry) (ys : List Entry
   itself : step.1 ≡ y
   after : entries_of later ≡ ys
 
-find : (ps : List Numbered) (xs : List Entry) (y : Entry) (ys : List Entry) → entries_of ps ≡ xs ++ y ∷ ys → Found ps xs y ys
-find [] xs y ys h = absurd (omega (arith, ap length h, length-append xs (y ∷ ys)))
-find (p ∷ ps) [] y ys h = record { earlier = []; step = p; later = ps; stands = refl; before = refl; itself = cc; after = cc }
-find (p ∷ ps) (x ∷ xs) y ys h =
-    let f = find ps xs y ys (let e : entries_of ps ≡ xs ++ y ∷ ys = cc in e) in
+found_step : (ps : List Numbered) (xs : List Entry) (y : Entry) (ys : List Entry) → entries_of ps ≡ xs ++ y ∷ ys → Found ps xs y ys
+found_step [] xs y ys h = absurd (omega (arith, ap length h, length-append xs (y ∷ ys)))
+found_step (p ∷ ps) [] y ys h = record { earlier = []; step = p; later = ps; stands = refl; before = refl; itself = cc; after = cc }
+found_step (p ∷ ps) (x ∷ xs) y ys h =
+    let f = found_step ps xs y ys (let e : entries_of ps ≡ xs ++ y ∷ ys = cc in e) in
     record { earlier = p ∷ f.earlier; step = f.step; later = f.later; stands = cc; before = cc; itself = f.itself; after = f.after }
 
 none_by : (y : Entry) (xs : List Entry) → IsApartFrom y xs → HasNoneBy y.event.actor xs
@@ -224,7 +224,7 @@ taken : (s : Key → Reached) (xs : List Entry) (ps : List Numbered) → Ascends
 taken s [] ps ascends order h = λ n. ap (by_actor n) (map-nil (λ (p : Numbered). p.1) ps h)
 taken s (x ∷ xs) ps ascends order h =
     let t = h.1 in
-    let f = find ps t.earlier t.entry t.later t.stands in
+    let f = found_step ps t.earlier t.entry t.later t.stands in
     let asc = subst Ascends f.stands ascends in
     let left : h.0 ≡ entries_of (f.earlier ++ f.later) =
     t.leaves ∙ (λ i. sym f.before i ++ sym f.after i) ∙ sym (map-append (λ (q : Numbered). q.1) f.earlier f.later) in
@@ -237,7 +237,7 @@ taken s (x ∷ xs) ps ascends order h =
 at_first : (ps : List Numbered) → AllByRecursion (λ (p : Numbered). 1 ≤ p.0) ps → AreAfterAll nothing_reached ps
 at_first ps h = all-weaker _ _ ps (λ p later k touched. grind arith) h
 
-pub taken_kept : (xs ys : List Entry) → TakesAll xs ys → KeepsOrder nothing_reached xs (all_left ys)
+pub taken_kept : (xs ys : List Entry) → TakesAll xs ys → KeepsOrder nothing_reached xs (steps_by_actor ys)
 taken_kept xs ys h =
     taken nothing_reached xs (enumerate_from 1 ys) (numbers-ascend 1 ys) (at_first (enumerate_from 1 ys) (numbers-from (λ j. 1 ≤ j) 1 ys (λ j l. l)))
     (subst (λ (l : List Entry). TakesAll xs l) (sym (entries-numbered 1 ys)) h)

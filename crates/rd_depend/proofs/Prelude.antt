@@ -5,35 +5,35 @@ unfoldable pub use Rattle.rd_cell.proofs.Prelude.{IsDistinct}
 pub use Rattle.rd_step.proofs.Prelude.{IsEquivalent, IsFree, IsRunFrom, Place, Ran, Stepped, World, Wrote, closure, depends, depends_on_any, events, first_dependant, interfere, numbered, overlaps, run, run_entries, some_overlap, step, without, written}
 pub use Rattle.rd_cell.proofs.ResultLemmas.{same_Ok}
 pub use Rattle.rd_cell.proofs.ListLemmas.{slice_get-push_other, slice_get-push_same, slice_get-set_other, slice_get-set_same}
-pub use Rattle.rd_cell.proofs.PlaceLemmas.{both_cover, covers-refl, name_eq-refl, some_overlap-sym, written-covers}
+pub use Rattle.rd_cell.proofs.PlaceLemmas.{some_overlap_of_covers, covers-refl, name_eq-refl, some_overlap-sym, written-covers}
 pub use Rattle.rd_cell.specs.declared.places.SegName.{SegName}
 pub use Rattle.rd_step.proofs.Commute.{commutes}
-pub use Rattle.rd_step.proofs.Equivalence.{goes_first, ran_through, reflexive, run_events, stands_in, swapped_within}
+pub use Rattle.rd_step.proofs.Equivalence.{goes_first, ran_through, equivalence_reflexive, run_events, stands_in, swapped_within}
 pub use Rattle.rd_step.proofs.Inverse.{undoes}
 pub use Rattle.rd_step.proofs.RunParts.{FirstStep, Middle, beginning, first_step, free_parts, middle, ran_on, run-cons, runs_to}
-pub use Rattle.rd_step.proofs.Symmetry.{symmetric}
-pub use Rattle.rd_step.specs.Dependence.{AreLoneUndos, IsInClosure, closure_from, number_after}
+pub use Rattle.rd_step.proofs.Symmetry.{depends_symmetric}
+pub use Rattle.rd_step.specs.Dependence.{AreLoneUndos, IsInClosure, closure_from, number_after_undos}
 pub use Rattle.rd_step.specs.declared.entries.Entry.{Entry}
 pub use Rattle.rd_step.specs.declared.entries.Event.{Event}
 pub use Rattle.rd_depend.specs.Beginnings.{Begins, NeitherBegins}
-pub use Rattle.rd_depend.specs.Changes.{Adds, Keeps, homes_of}
-pub use Rattle.rd_depend.specs.ComparedSteps.{GoesOn, IsOutOfOrder, all_left, by_actor, left_in, left_of, reached_of, reached_or_nothing, with_first}
+pub use Rattle.rd_depend.specs.Changes.{Adds, KeepsPositions, entry_keys}
+pub use Rattle.rd_depend.specs.ComparedSteps.{IsMatched, IsOutOfOrder, steps_by_actor, by_actor, left_in, left_of, reached_of, reached_or_nothing, with_first}
 pub use Rattle.rd_depend.specs.Equivalence.{DecidesEquivalence}
-pub use Rattle.rd_depend.specs.Index.{By, EndsWith, GivesRoom, HasRoomFor, HasRoomInstead, IsIndexOf, KeepsRoom, Touch, Under, UsesRoom, capacity, kept, positions, positions_from, spare, touched_or_written, touches}
+pub use Rattle.rd_depend.specs.Index.{By, EndsWith, GivesRoom, HasRoomFor, HasRoomInstead, IsIndexOf, HasSameRoom, ListKey, Under, UsesRoom, capacity, kept, positions, positions_from, spare, touched_or_written, touches}
 unfoldable pub use Rattle.rd_depend.specs.KeepingOrder.{with_step}
-pub use Rattle.rd_depend.specs.KeepingOrder.{AreAlike, IsAfter, IsInOrder, KeepsOrder, Numbered, is_making, last_blocking, nothing_reached, taken_in, taken_in_under, with_steps}
+pub use Rattle.rd_depend.specs.KeepingOrder.{AreAlike, IsAfter, IsInOrder, KeepsOrder, Numbered, is_whole_segment, last_blocking, nothing_reached, taken_in, taken_in_under, with_steps}
 unfoldable pub use Rattle.rd_depend.specs.Keys.{slot_in}
 unfoldable pub use Rattle.rd_depend.specs.Lists.{IsMoved}
 pub use Rattle.rd_depend.specs.KeyLaws.{key_eq-refl, key_eq-sym, key_eq-true}
-pub use Rattle.rd_depend.specs.Keys.{is_that, is_under, is_value_written, is_under_some, key_eq, own_key, place_key, segment_key, value_key, value_key_of_place, whole_key}
-pub use Rattle.rd_depend.specs.Lists.{AscendsFrom, IsAscending, contains, earlier, later, moved_position, turned}
+pub use Rattle.rd_depend.specs.Keys.{some_key_eq, is_under, is_value_written, is_under_some, key_eq, search_key, place_key, segment_key, value_key, value_key_of_place, whole_key}
+pub use Rattle.rd_depend.specs.Lists.{AscendsFrom, IsAscending, contains, earlier, later, moved_position, lowered_and_rotated}
 pub use Rattle.rd_depend.specs.Moved.{moved_to}
-pub use Rattle.rd_depend.specs.Sharing.{SharesPlace, either_wrote, is_of_map, wrote}
-pub use Rattle.rd_depend.specs.Tables.{HasLast, IsReady, IsReadyIfSome, KeepsLists, Lists, Moves, Puts, TakesLast, capacity_at, capacity_in, capacity_of, is_kept_in, is_writes, items_of, kept_in, list_at, list_of, lists_of, spare_at, spare_in}
+pub use Rattle.rd_depend.specs.Sharing.{ShareWrittenPlace, either_wrote, is_of_map, wrote}
+pub use Rattle.rd_depend.specs.Tables.{HasLast, IsReady, IsReadyIfSome, KeepsLists, Lists, Moves, Puts, RemovesLast, capacity_at, capacity_in, capacity_of, is_kept_in, is_writes, items_of, kept_in, list_at, list_of, lists_of, spare_at, spare_in}
 pub use Rattle.rd_depend.specs.Writers.{last_position, one_further, writes_to}
 pub use Rattle.rd_depend.specs.declared.index.DependIndex.{DependIndex}
-pub use Rattle.rd_depend.specs.declared.index.changing.Home.{Home}
-pub use Rattle.rd_depend.specs.declared.index.changing.Homes.{Homes}
+pub use Rattle.rd_depend.specs.declared.index.changing.EntryKey.{EntryKey}
+pub use Rattle.rd_depend.specs.declared.index.changing.EntryKeys.{EntryKeys}
 pub use Rattle.rd_depend.specs.declared.index.keys.Key.{Key}
 pub use Rattle.rd_depend.specs.declared.index.keys.Key.TheVariants.{At, In}
 pub use Rattle.rd_depend.specs.declared.index.table.Table.{Table}

@@ -1,6 +1,6 @@
 -- Lists are equivalent exactly if one comes from the other by swapping neighbours that do not
 -- depend on each other.
-use Rattle.rd_depend.proofs.Prelude.{◌≡◌, ◌↔◌, false, refl, sym, ◌∙◌, ap, subst, List, [], ◌∷◌, ◌++◌, Ok, World, Ran, Stepped, run, step, Event, depends, symmetric, free_parts, IsFree, IsEquivalent, same_Ok, goes_first, ran_through, reflexive, swapped_within, commutes, ran_on, run-cons, arith}
+use Rattle.rd_depend.proofs.Prelude.{◌≡◌, ◌↔◌, false, refl, sym, ◌∙◌, ap, subst, List, [], ◌∷◌, ◌++◌, Ok, World, Ran, Stepped, run, step, Event, depends, depends_symmetric, free_parts, IsFree, IsEquivalent, same_Ok, goes_first, ran_through, equivalence_reflexive, swapped_within, commutes, ran_on, run-cons, arith}
 use Rattle.rd_depend.specs.Reordering.{IsReordered}
 use Rattle.rd_depend.specs.Reordering.IsReordered.{unchanged, swapped}
 use Rattle.rd_depend.proofs.Converse.{equivalent_through}
@@ -27,7 +27,7 @@ to_front w e (f ∷ fs) later r s h k free =
     let goes : step ran.rest.world e ≡ Ok s = ap (λ (y : Ran). step y.world e) ran.joins ∙ k in
     let parts = free_parts s.entry ran.one.entry ran.rest.entries (subst (λ (y : Ran). IsFree s.entry y.entries) (sym ran.joins) free) in
     let first = goes_first ran.one.world e fs [] ran.rest s (record { world = s.world; entries = [] }) ran.goes_on goes parts.1 refl in
-    let independent : depends ran.one.entry s.entry ≡ false = symmetric ran.one.entry s.entry ∙ parts.0 in
+    let independent : depends ran.one.entry s.entry ≡ false = depends_symmetric ran.one.entry s.entry ∙ parts.0 in
     let sq = commutes w f e ran.one (record { world = first.after; entry = s.entry }) ran.goes first.goes independent in
     let apart : depends sq.first.entry sq.second.entry ≡ false = (λ i. depends (sq.same_entry i) (sq.entry_unchanged i)) ∙ parts.0 in
     swapped [] e f (fs ++ later) (f ∷ (fs ++ e ∷ later)) (record { world = w; entries = [] }) sq.first sq.second refl sq.goes_first sq.goes_second apart
@@ -83,7 +83,7 @@ record IsRunAlike (w : World) (es fs : List Event) : Type 0 where
   same : IsEquivalent w es fs
 
 run_alike : (w : World) (es fs : List Event) (r : Ran) → IsReordered w es fs → run w es ≡ Ok r → IsRunAlike w es fs
-run_alike w es fs r (unchanged xs) runs = record { ran = r; runs = runs; same = reflexive w xs r runs }
+run_alike w es fs r (unchanged xs) runs = record { ran = r; runs = runs; same = equivalence_reflexive w xs r runs }
 run_alike w es fs r (swapped before e f later _ b s u g h k free rest) runs =
     let now = goes_swapped w before e f later b s u r g h k free runs in
     grind (arith, goes_swapped, equivalent_through, swapped_within, run_alike w (before ++ f ∷ e ∷ later) fs now.ran rest now.runs)

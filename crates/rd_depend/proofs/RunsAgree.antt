@@ -23,15 +23,15 @@ makings_wrote w (x ∷ xs) h =
 
 -- Free and apart
 
-all_apart : (x : Entry) (ys : List Entry) → MakingWrote x → AllMakingsWrote ys → IsFree x ys → IsApartFrom x ys
-all_apart x [] made_x made_y h = tt
-all_apart x (y ∷ ys) made_x made_y h =
+free-apart_from : (x : Entry) (ys : List Entry) → MakingWrote x → AllMakingsWrote ys → IsFree x ys → IsApartFrom x ys
+free-apart_from x [] made_x made_y h = tt
+free-apart_from x (y ∷ ys) made_x made_y h =
     let free = free_parts x y ys h in
-    (apart_of_free x y made_x made_y.0 free.0, all_apart x ys made_x made_y.1 free.1)
+    (apart_of_free x y made_x made_y.0 free.0, free-apart_from x ys made_x made_y.1 free.1)
 
-all_free : (x : Entry) (ys : List Entry) → IsApartFrom x ys → IsFree x ys
-all_free x [] h = refl
-all_free x (y ∷ ys) h = or_from (depends x y) (list_any (depends x) ys) (free_of_apart x y h.0) (all_free x ys h.1)
+apart_from-free : (x : Entry) (ys : List Entry) → IsApartFrom x ys → IsFree x ys
+apart_from-free x [] h = refl
+apart_from-free x (y ∷ ys) h = or_from (depends x y) (list_any (depends x) ys) (free_of_apart x y h.0) (apart_from-free x ys h.1)
 
 -- What is equivalent may be taken out, one step after another
 
@@ -44,21 +44,21 @@ equivalent_taken w (x ∷ xs) ys runs_x runs_y h =
     let on = runs_on w x xs ys c.left first runs_y m in
     let makings = all-parts MakingWrote m.earlier (m.entry ∷ m.later) (makings_wrote w (m.earlier ++ m.entry ∷ m.later) (subst (λ (l : List Entry). IsRunFrom w l) m.stands runs_y)) in (
       c.left,
-      takes_out m.earlier m.entry m.later m.stands (alike-same x m.entry (sym on.same)) (all_apart m.entry m.earlier makings.1.0 makings.0 m.free) m.leaves,
+      takes_out m.earlier m.entry m.later m.stands (alike-same x m.entry (sym on.same)) (free-apart_from m.entry m.earlier makings.1.0 makings.0 m.free) m.leaves,
       equivalent_taken first.after xs c.left first.rest on.runs ((equivalent_first w x xs ys c.left first runs_y m).0 h),
     )
 
 -- and the way back
 
-taken_first : (x : Entry) (ys left : List Entry) → Takes x ys left → MayComeFirst x.event ys left
-taken_first x ys left t = grind (arith, all_free)
+taken-may_come_first : (x : Entry) (ys left : List Entry) → Takes x ys left → MayComeFirst x.event ys left
+taken-may_come_first x ys left t = grind (arith, apart_from-free)
 
 taken_same : (w : World) (xs ys : List Entry) → IsRunFrom w xs → IsRunFrom w ys → TakesAll xs ys → IsEquivalent w (events xs) (events ys)
 taken_same w [] ys runs_x runs_y h = ap events h
 taken_same w (x ∷ xs) ys runs_x runs_y h =
     let first = first_step w x xs runs_x in
-    let m = taken_first x ys h.0 h.1 in
-    grind (arith, first_step, taken_first, equivalent_first, runs_on, taken_same first.after xs h.0 first.rest (runs_on w x xs ys h.0 first runs_y m).runs h.2)
+    let m = taken-may_come_first x ys h.0 h.1 in
+    grind (arith, first_step, taken-may_come_first, equivalent_first, runs_on, taken_same first.after xs h.0 first.rest (runs_on w x xs ys h.0 first runs_y m).runs h.2)
 
 -- the answers
 

@@ -58,20 +58,20 @@ exchanged x y entries between left apart t u = elim (in_either t.earlier t.later
 ]
 
 -- a step of the list that is apart from those before it may be taken out first
-taken_first : (earlier later entries : List Entry) (x : Entry) → IsApartFrom x earlier → TakesAll (earlier ++ x ∷ later) entries
+takes_all-first : (earlier later entries : List Entry) (x : Entry) → IsApartFrom x earlier → TakesAll (earlier ++ x ∷ later) entries
     → (left : List Entry) × Takes x entries left × TakesAll (earlier ++ later) left
-taken_first [] later entries x apart h = h
-taken_first (y ∷ earlier) later entries x apart h =
-    let rest = taken_first earlier later h.0 x apart.1 h.2 in
+takes_all-first [] later entries x apart h = h
+takes_all-first (y ∷ earlier) later entries x apart h =
+    let rest = takes_all-first earlier later h.0 x apart.1 h.2 in
     let both = exchanged y x entries h.0 rest.0 apart.0 h.1 rest.1 in
     (both.between, both.first, (rest.0, both.second, rest.2))
 
-pub takes_on : (xs ys zs : List Entry) → TakesAll xs ys → TakesAll ys zs → TakesAll xs zs
-takes_on [] ys zs h k = subst (λ (l : List Entry). TakesAll l zs) h k
-takes_on (x ∷ xs) ys zs h k =
+pub takes_all-trans : (xs ys zs : List Entry) → TakesAll xs ys → TakesAll ys zs → TakesAll xs zs
+takes_all-trans [] ys zs h k = subst (λ (l : List Entry). TakesAll l zs) h k
+takes_all-trans (x ∷ xs) ys zs h k =
     let t = h.1 in
-    let first = taken_first t.earlier t.later zs t.entry t.apart (subst (λ (l : List Entry). TakesAll l zs) t.stands k) in (
+    let first = takes_all-first t.earlier t.later zs t.entry t.apart (subst (λ (l : List Entry). TakesAll l zs) t.stands k) in (
       first.0,
       takes-alike x t.entry zs first.0 t.alike first.1,
-      takes_on xs h.0 first.0 h.2 (subst (λ (l : List Entry). TakesAll l first.0) (sym t.leaves) first.2),
+      takes_all-trans xs h.0 first.0 h.2 (subst (λ (l : List Entry). TakesAll l first.0) (sym t.leaves) first.2),
     )

@@ -62,17 +62,17 @@ TakesAll (x ∷ xs) entries = (left : List Entry) × Takes x entries left × Tak
 
 -- if a list can be taken out of another, it still can with a step put in where it is apart from
 -- those before it, and a like step in front of the other list
-put_back : (xs ys zs : List Entry) (x y : Entry) → AreAlike x y → IsApartFrom y xs → TakesAll (xs ++ ys) zs → TakesAll (xs ++ y ∷ ys) (x ∷ zs)
-put_back [] ys zs x y alike apart h = (zs, takes_out [] x zs refl (alike-sym x y alike) tt refl, h)
-put_back (q ∷ xs) ys zs x y alike apart h =
+takes_all-insert : (xs ys zs : List Entry) (x y : Entry) → AreAlike x y → IsApartFrom y xs → TakesAll (xs ++ ys) zs → TakesAll (xs ++ y ∷ ys) (x ∷ zs)
+takes_all-insert [] ys zs x y alike apart h = (zs, takes_out [] x zs refl (alike-sym x y alike) tt refl, h)
+takes_all-insert (q ∷ xs) ys zs x y alike apart h =
     let t = h.1 in (
       x ∷ h.0,
       takes_out (x ∷ t.earlier) t.entry t.later (ap (λ (l : List Entry). x ∷ l) t.stands) t.alike
           (apart-sym x t.entry (apart-alike y q x t.entry (alike-sym x y alike) t.alike apart.0), t.apart) (ap (λ (l : List Entry). x ∷ l) t.leaves),
-      put_back xs ys h.0 x y alike apart.1 h.2,
+      takes_all-insert xs ys h.0 x y alike apart.1 h.2,
     )
 
 -- if one list can be taken out of another, the other can be taken out of it
-pub takes_back : (xs ys : List Entry) → TakesAll xs ys → TakesAll ys xs
-takes_back [] ys h = subst (λ (l : List Entry). TakesAll l []) (sym h) refl
-takes_back (x ∷ xs) ys h = grind (arith, put_back, takes_back xs h.0 h.2)
+pub takes_all-sym : (xs ys : List Entry) → TakesAll xs ys → TakesAll ys xs
+takes_all-sym [] ys h = subst (λ (l : List Entry). TakesAll l []) (sym h) refl
+takes_all-sym (x ∷ xs) ys h = grind (arith, takes_all-insert, takes_all-sym xs h.0 h.2)

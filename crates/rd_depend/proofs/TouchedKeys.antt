@@ -4,15 +4,15 @@ use Rattle.rd_depend.proofs.Prelude.{◌≡◌, ◌⊎◌, ℕ, ◌<◌, Bool, t
 use Rattle.rd_cell.specs.declared.places.Place.TheVariants as place
 
 -- whether there is a place, and it is the whole of this segment
-abbrev pub is_whole_of : SegName → Option Place → Bool
-is_whole_of s (Some (place.Whole t)) = name_eq s t
-is_whole_of s _ = false
+abbrev pub is_whole_of_segment : SegName → Option Place → Bool
+is_whole_of_segment s (Some (place.Whole t)) = name_eq s t
+is_whole_of_segment s _ = false
 
 -- whether a step counts as a write under the key: it wrote there, for the key of a place, or made
 -- the segment, for the key of a segment
 abbrev pub wrote_under : Key → Option Place → Wrote → Bool
 wrote_under (At p) place wrote = is_under (At p) (written place wrote)
-wrote_under (In s) place wrote = is_whole_of s place
+wrote_under (In s) place wrote = is_whole_of_segment s place
 
 -- a step touched each key under which it wrote
 pub wrote_touched : (k : Key) (q : Option Place) (w : Wrote) → wrote_under k q w ≡ true → is_under k q ≡ true

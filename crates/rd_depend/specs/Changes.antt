@@ -3,28 +3,28 @@ use Rattle.std.specs.Prelude.{◌≡◌, ◌+◌, ◌≤◌, ◌<◌, not, cond,
 use Rattle.rd_step.specs.Prelude.{is_nothing}
 use Rattle.rd_step.specs.declared.entries.Entry.{Entry}
 use Rattle.rd_depend.specs.declared.index.DependIndex.{DependIndex}
-use Rattle.rd_depend.specs.declared.index.changing.Homes.{Homes}
+use Rattle.rd_depend.specs.declared.index.changing.EntryKeys.{EntryKeys}
 use Rattle.rd_depend.specs.declared.index.changing.Slots.{Slots}
-use Rattle.rd_depend.specs.Index.{Touch, touches, kept, spare, position_count}
+use Rattle.rd_depend.specs.Index.{ListKey, touches, kept, spare, position_count}
 use Rattle.rd_depend.specs.Keys.{place_key, value_key, segment_key, is_value_written}
 use Rattle.rd_depend.specs.Tables.{spare_at, IsReadyIfSome}
 
 -- the index got this entry at the next position: each list that is to keep it has that position at
 -- its end and lost room for at most one, and each other list is as before
 pub record Adds (x : Entry) (old new : DependIndex) : Type 0 where
-  pub lists : (t : Touch) → kept new t ≡ (if touches t x then kept old t ++ (position_count old + 1) ∷ [] else kept old t)
-  pub room : (t : Touch) → spare old t ≤ spare new t + cond (touches t x) 1 0
+  pub lists : (t : ListKey) → kept new t ≡ (if touches t x then kept old t ++ (position_count old + 1) ∷ [] else kept old t)
+  pub room : (t : ListKey) → spare old t ≤ spare new t + cond (touches t x) 1 0
   pub len : position_count new ≡ position_count old + 1
 
 -- the lists and the number of positions are as before, and no list lost room
-pub record Keeps (old new : DependIndex) : Type 0 where
-  pub lists : (t : Touch) → kept new t ≡ kept old t
-  pub room : (t : Touch) → spare old t ≤ spare new t
+pub record KeepsPositions (old new : DependIndex) : Type 0 where
+  pub lists : (t : ListKey) → kept new t ≡ kept old t
+  pub room : (t : ListKey) → spare old t ≤ spare new t
   pub len : position_count new ≡ position_count old
 
 -- the keys under which an entry is kept, each with whether it is kept there among those that wrote
-abbrev pub homes_of : Entry → Homes
-homes_of x = record {
+abbrev pub entry_keys : Entry → EntryKeys
+entry_keys x = record {
   place = record { key = place_key x.place; wrote = not (is_nothing x.wrote) };
   value = record { key = value_key x.place; wrote = is_value_written x.wrote };
   segment = record { key = segment_key x.place; wrote = not (is_nothing x.wrote) };
@@ -32,7 +32,7 @@ homes_of x = record {
 
 -- there is room for the entry's position in each list that is to keep it, and its keys have these
 -- indices
-pub record IsReadyFor (index : DependIndex) (x : Entry) (homes : Homes) (slots : Slots) : Type 0 where
+pub record IsReadyFor (index : DependIndex) (x : Entry) (homes : EntryKeys) (slots : Slots) : Type 0 where
   pub actor : 0 < spare_at index.by_actor.items x.event.actor
   pub place : IsReadyIfSome index.by_key homes.place.key homes.place.wrote slots.place
   pub value : IsReadyIfSome index.by_key homes.value.key homes.value.wrote slots.value

@@ -27,8 +27,8 @@ abbrev pub by_actor : ℕ → List Numbered → List Numbered
 by_actor n ps = filter (λ p. n == p.1.event.actor) ps
 
 -- all steps of a run by actor, each with its number in the run, from 1
-abbrev pub all_left : List Entry → ℕ → List Numbered
-all_left entries n = by_actor n (enumerate_from 1 entries)
+abbrev pub steps_by_actor : List Entry → ℕ → List Numbered
+steps_by_actor entries n = by_actor n (enumerate_from 1 entries)
 
 -- the steps that these lists have for an actor, in the order of the run; each list has them in the
 -- reverse order
@@ -45,7 +45,7 @@ with_first left n p = with_steps left n (p ∷ left n)
 
 -- the next step of the actor of x in the second run, `step`, is like x and in order there; it was
 -- taken in under its keys, and `rest` is what is left of its actor
-pub record GoesOn (x : Entry) (s t : Key → Reached) (old new : ℕ → List Numbered) : Type 0 where
+pub record IsMatched (x : Entry) (s t : Key → Reached) (old new : ℕ → List Numbered) : Type 0 where
   pub step : Numbered
   pub rest : List Numbered
   pub next : IsNext s x old step rest

@@ -14,9 +14,9 @@ use Rattle.rd_depend.specs.Tables.{kept_in, capacity_in, spare_in}
 
 -- what a list of positions is kept for: the steps of an actor, or the steps under a key, either all
 -- of them or, if the bit is true, only those that wrote there
-pub data Touch : Type 0 where
-  By : ℕ → Touch
-  Under : Bool → Key → Touch
+pub data ListKey : Type 0 where
+  By : ℕ → ListKey
+  Under : Bool → Key → ListKey
 
 -- the place that an entry's step touched; or, if the bit is true, the place that names what it
 -- wrote
@@ -25,7 +25,7 @@ touched_or_written false x = x.place
 touched_or_written true x = written x.place x.wrote
 
 -- whether an entry is to be kept in the list for this actor or key
-abbrev pub touches : Touch → Entry → Bool
+abbrev pub touches : ListKey → Entry → Bool
 touches (By a) x = a == x.event.actor
 touches (Under w k) x = is_under k (touched_or_written w x)
 
@@ -39,12 +39,12 @@ abbrev pub positions : (Entry → Bool) → List Entry → List ℕ
 positions test entries = positions_from test 1 entries
 
 -- the positions that the index keeps in the list for this actor or key
-abbrev pub kept : DependIndex → Touch → List ℕ
+abbrev pub kept : DependIndex → ListKey → List ℕ
 kept index (By a) = list_at index.by_actor.items a
 kept index (Under w k) = kept_in index.by_key w k
 
 -- the number of positions for which the list for this actor or key has room left
-abbrev pub spare : DependIndex → Touch → ℕ
+abbrev pub spare : DependIndex → ListKey → ℕ
 spare index (By a) = spare_at index.by_actor.items a
 spare index (Under w k) = spare_in index.by_key w k
 
@@ -55,33 +55,33 @@ position_count index = index.len
 -- the index is that of these entries: each list has just the positions of the entries that it is to
 -- keep, and there is one position for each entry
 pub record IsIndexOf (index : DependIndex) (entries : List Entry) : Type 0 where
-  pub lists : (t : Touch) → kept index t ≡ positions (touches t) entries
+  pub lists : (t : ListKey) → kept index t ≡ positions (touches t) entries
   pub len : position_count index ≡ length entries
 
 -- each list has room for the positions of all of these entries that it is to keep
 pub record HasRoomFor (index : DependIndex) (entries : List Entry) : Type 0 where
-  pub lists : (t : Touch) → count_by (touches t) entries ≤ spare index t
+  pub lists : (t : ListKey) → count_by (touches t) entries ≤ spare index t
 
 -- each list has room for the positions of all of the given entries that it is to keep, once the
 -- positions of the entries in `gone` are removed
 pub record HasRoomInstead (index : DependIndex) (gone given : List Entry) : Type 0 where
-  pub lists : (t : Touch) → count_by (touches t) given ≤ spare index t + count_by (touches t) gone
+  pub lists : (t : ListKey) → count_by (touches t) given ≤ spare index t + count_by (touches t) gone
 
 -- each list has as much room as before
-abbrev pub KeepsRoom : DependIndex → DependIndex → Type 0
-KeepsRoom old new = (t : Touch) → spare new t ≡ spare old t
+abbrev pub HasSameRoom : DependIndex → DependIndex → Type 0
+HasSameRoom old new = (t : ListKey) → spare new t ≡ spare old t
 
 -- each list has at least as much room as before
-abbrev pub LosesNoRoom : DependIndex → DependIndex → Type 0
-LosesNoRoom old new = (t : Touch) → spare old t ≤ spare new t
+abbrev pub KeepsRoom : DependIndex → DependIndex → Type 0
+KeepsRoom old new = (t : ListKey) → spare old t ≤ spare new t
 
 -- each list has room for as many more positions as it kept of these entries, which were removed
 abbrev pub GivesRoom : DependIndex → DependIndex → List Entry → Type 0
-GivesRoom old new gone = (t : Touch) → spare new t ≡ spare old t + count_by (touches t) gone
+GivesRoom old new gone = (t : ListKey) → spare new t ≡ spare old t + count_by (touches t) gone
 
 -- each list lost room for at most as many positions as it keeps of the given entries
 abbrev pub UsesRoom : DependIndex → DependIndex → List Entry → Type 0
-UsesRoom old new given = (t : Touch) → spare old t ≤ spare new t + count_by (touches t) given
+UsesRoom old new given = (t : ListKey) → spare old t ≤ spare new t + count_by (touches t) given
 
 -- the index is that of a list of entries that ends with these
 pub record EndsWith (index : DependIndex) (last : List Entry) : Type 0 where
@@ -100,6 +100,6 @@ pub record IsIndex (index : DependIndex) : Type 0 where
   pub is : IsIndexOf index entries
 
 -- the number of positions that the list for this actor or key can have before it has to grow
-abbrev pub capacity : DependIndex → Touch → ℕ
+abbrev pub capacity : DependIndex → ListKey → ℕ
 capacity index (By a) = capacity_at index.by_actor.items a
 capacity index (Under w k) = capacity_in index.by_key w k

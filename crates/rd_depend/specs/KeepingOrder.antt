@@ -6,12 +6,12 @@ use Rattle.rd_cell.specs.Places.{is_nothing}
 use Rattle.rd_step.specs.declared.entries.Entry.{Entry}
 use Rattle.rd_depend.specs.declared.index.keys.Key.{Key}
 use Rattle.rd_depend.specs.declared.keeping_order.Reached.{Reached}
-use Rattle.rd_depend.specs.Keys.{is_that, place_key, value_key, segment_key, is_value_written}
+use Rattle.rd_depend.specs.Keys.{some_key_eq, place_key, value_key, segment_key, is_value_written}
 
 -- whether there is a place, and it is the whole of a segment, as for a making
-abbrev pub is_making : Option Place → Bool
-is_making (Some (place.Whole t)) = true
-is_making _ = false
+abbrev pub is_whole_segment : Option Place → Bool
+is_whole_segment (Some (place.Whole t)) = true
+is_whole_segment _ = false
 
 -- the number in the second run after which a step under the key has to come. A step that writes
 -- comes after those that touched the key, and a step that only reads after those that wrote it
@@ -35,7 +35,7 @@ IsAfter s (Some k) wrote i = last_blocking (s k) wrote < i
 -- how far the steps reached under each key after one more under this key, which has the number i in
 -- the second run; as before without a key
 abbrev pub taken_in_under : Option Key → Bool → ℕ → (Key → Reached) → Key → Reached
-taken_in_under key wrote i s k = if is_that k key then taken_in (s k) wrote i else s k
+taken_in_under key wrote i s k = if some_key_eq k key then taken_in (s k) wrote i else s k
 
 -- a step with number i in the second run comes there after all earlier steps that share one of its
 -- three keys and on which it depends. A making counts as a write of its segment, and any other step
@@ -43,12 +43,12 @@ taken_in_under key wrote i s k = if is_that k key then taken_in (s k) wrote i el
 pub record IsInOrder (s : Key → Reached) (x : Entry) (i : ℕ) : Type 0 where
   pub place : IsAfter s (place_key x.place) (not (is_nothing x.wrote)) i
   pub value : IsAfter s (value_key x.place) (is_value_written x.wrote) i
-  pub segment : IsAfter s (segment_key x.place) (is_making x.place) i
+  pub segment : IsAfter s (segment_key x.place) (is_whole_segment x.place) i
 
 -- how far the steps reached under each key after this one, which has the number i in the second run
 unfoldable pub with_step : (Key → Reached) → Entry → ℕ → Key → Reached
 with_step s x i =
-    taken_in_under (segment_key x.place) (is_making x.place) i
+    taken_in_under (segment_key x.place) (is_whole_segment x.place) i
     (taken_in_under (value_key x.place) (is_value_written x.wrote) i (taken_in_under (place_key x.place) (not (is_nothing x.wrote)) i s))
 
 -- two steps have the same event and the same place, and wrote the same part of it

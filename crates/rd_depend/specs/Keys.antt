@@ -6,7 +6,7 @@ use Rattle.rd_cell.specs.declared.places.Place.{Place}
 use Rattle.rd_cell.specs.declared.places.Place.TheVariants as place
 use Rattle.rd_cell.specs.declared.places.Wrote.{Wrote}
 use Rattle.rd_cell.specs.declared.places.Wrote.TheVariants as wrote
-use Rattle.rd_cell.specs.Places.{name_eq, is_of, place_eq, index_half, root, named, segment_of}
+use Rattle.rd_cell.specs.Places.{name_eq, is_of_segment, place_eq, index_half, root, named_segment, segment_of}
 use Rattle.rd_depend.specs.declared.index.keys.Key.{Key}
 use Rattle.rd_depend.specs.declared.index.keys.Key.TheVariants.{At, In}
 
@@ -17,9 +17,9 @@ key_eq (In s) (In t) = name_eq s t
 key_eq _ _ = false
 
 -- whether there is a second key, and it is equal to the first
-abbrev pub is_that : Key → Option Key → Bool
-is_that q None = false
-is_that q (Some k) = key_eq q k
+abbrev pub some_key_eq : Key → Option Key → Bool
+some_key_eq q None = false
+some_key_eq q (Some k) = key_eq q k
 
 -- whether a step at place q is kept under the key of place p: if q is a cell, p is one of its
 -- halves, and if not, the two are equal
@@ -31,7 +31,7 @@ is_kept_at p q = place_eq p q
 abbrev pub is_under : Key → Option Place → Bool
 is_under k None = false
 is_under (At p) (Some q) = is_kept_at p q
-is_under (In s) (Some q) = is_of s q
+is_under (In s) (Some q) = is_of_segment s q
 
 -- whether there are a key and a place, and a step at the place is kept under the key
 abbrev pub is_under_some : Option Key → Option Place → Bool
@@ -54,7 +54,7 @@ value_key o = option_and_then value_key_of_place o
 -- the key of the place's segment, also for the whole of a segment; none for the queue's ends and
 -- the array
 abbrev pub key_of_segment : Place → Option Key
-key_of_segment p = option_map In (named p)
+key_of_segment p = option_map In (named_segment p)
 
 -- the key of the place's segment, if there is a place and it is in a segment or is the whole of one
 abbrev pub segment_key : Option Place → Option Key
@@ -68,9 +68,9 @@ is_value_written _ = false
 -- the key under which a search finds the steps at what a place names, except at the value half of a
 -- cell. The whole of a segment has the segment's key, a cell the key of its index half, and any
 -- other place its own
-abbrev pub own_key : Place → Key
-own_key (place.Whole s) = In s
-own_key p = At (index_half p)
+abbrev pub search_key : Place → Key
+search_key (place.Whole s) = In s
+search_key p = At (index_half p)
 
 -- the key of the whole of the segment to which the place belongs; none for the queue's ends, the
 -- array's places and the whole of a segment
@@ -83,7 +83,7 @@ slot_in keys k = position (key_eq k) keys
 
 -- a kind of key, an index and a segment's name as one number, in which each has digits of its own
 abbrev pub packed : ℕ → SegName → ℕ → ℕ
-packed part s i = ((part * 256 + i) * 256 + s.maker) * 4294967296 + s.n
+packed kind s i = ((kind * 256 + i) * 256 + s.maker) * 4294967296 + s.n
 
 -- the number as which the key of a place itself, `At`, is hashed
 abbrev pub place_number : Place → ℕ

@@ -27,9 +27,9 @@ unfoldable pub IsMoved : ℕ → ℕ → List ℕ → List ℕ → Type 0
 IsMoved k n old new = IsAscending new × ((p : ℕ) → contains new (moved_position k n p) ≡ contains old p)
 
 -- each position, one less; but if the first is k, it goes to the end and becomes n
-abbrev pub turned : ℕ → ℕ → List ℕ → List ℕ
-turned k n [] = []
-turned k n (p ∷ ps) = if p == k then map (λ q. q - 1) ps ++ n ∷ [] else map (λ q. q - 1) (p ∷ ps)
+abbrev pub lowered_and_rotated : ℕ → ℕ → List ℕ → List ℕ
+lowered_and_rotated k n [] = []
+lowered_and_rotated k n (p ∷ ps) = if p == k then map (λ q. q - 1) ps ++ n ∷ [] else map (λ q. q - 1) (p ∷ ps)
 
 -- the greater of two positions, or the one that is there; none if neither is
 abbrev pub later : Option ℕ → Option ℕ → Option ℕ

@@ -21,7 +21,7 @@ abbrev pub wrote : Entry → Place → Bool
 wrote x q = some_covers (written x.place x.wrote) q
 
 -- there is a place of the map that both entries touched and at least one of them wrote
-pub record SharesPlace (x y : Entry) : Type 0 where
+pub record ShareWrittenPlace (x y : Entry) : Type 0 where
   pub common : Place
   pub is_of_the_map : is_of_map common ≡ true
   pub first : touched x common ≡ true

@@ -8,7 +8,7 @@ use Rattle.rd_depend.specs.declared.index.keys.Key.{Key}
 use Rattle.rd_depend.specs.declared.index.table.Table.{Table}
 use Rattle.rd_depend.specs.declared.index.table.Among.{Among}
 use Rattle.rd_depend.specs.declared.index.table.Among.TheVariants as among
-use Rattle.rd_depend.specs.Keys.{is_that, slot_in}
+use Rattle.rd_depend.specs.Keys.{some_key_eq, slot_in}
 use Rattle.rd_depend.specs.Lists.{IsAscending, IsMoved}
 
 -- lists of positions, each known by its number
@@ -33,8 +33,8 @@ abbrev pub spare_at : Lists → ℕ → ℕ
 spare_at lists i = capacity_at lists i - length (list_at lists i)
 
 -- the number of positions for which a list has room left
-abbrev pub spare_of : Vec ℕ Global → ℕ
-spare_of list = vec_capacity list - length list.items
+abbrev pub vec_spare : Vec ℕ Global → ℕ
+vec_spare list = vec_capacity list - length list.items
 
 -- the positions of the list of this number; none without a number
 abbrev pub list_of : Lists → Option ℕ → List ℕ
@@ -101,15 +101,15 @@ pub record KeepsLists (old new : Table) : Type 0 where
 -- the position was put at the end of those of the key's lists that are to keep the step, which lost
 -- room for at most one. The other lists are as before, and the keys have their old indices
 pub record Puts (k : Option Key) (wrote : Bool) (position : ℕ) (old new : Table) : Type 0 where
-  pub lists : (w : Bool) (q : Key) → kept_in new w q ≡ (if is_kept_in w wrote && is_that q k then kept_in old w q ++ position ∷ [] else kept_in old w q)
-  pub room : (w : Bool) (q : Key) → spare_in old w q ≤ spare_in new w q + cond (is_kept_in w wrote && is_that q k) 1 0
+  pub lists : (w : Bool) (q : Key) → kept_in new w q ≡ (if is_kept_in w wrote && some_key_eq q k then kept_in old w q ++ position ∷ [] else kept_in old w q)
+  pub room : (w : Bool) (q : Key) → spare_in old w q ≤ spare_in new w q + cond (is_kept_in w wrote && some_key_eq q k) 1 0
   pub slots : (q : Key) → slot_in new.keys.keys q ≡ slot_in old.keys.keys q
 
 -- those of the key's lists that keep the step lost their last position and have room for one more;
 -- the other lists are as before
-pub record TakesLast (k : Option Key) (wrote : Bool) (old new : Table) : Type 0 where
-  pub lists : (w : Bool) (q : Key) → kept_in new w q ≡ (if is_kept_in w wrote && is_that q k then take (length (kept_in old w q) - 1) (kept_in old w q) else kept_in old w q)
-  pub room : (w : Bool) (q : Key) → spare_in new w q ≡ spare_in old w q + cond (is_kept_in w wrote && is_that q k) 1 0
+pub record RemovesLast (k : Option Key) (wrote : Bool) (old new : Table) : Type 0 where
+  pub lists : (w : Bool) (q : Key) → kept_in new w q ≡ (if is_kept_in w wrote && some_key_eq q k then take (length (kept_in old w q) - 1) (kept_in old w q) else kept_in old w q)
+  pub room : (w : Bool) (q : Key) → spare_in new w q ≡ spare_in old w q + cond (is_kept_in w wrote && some_key_eq q k) 1 0
 
 -- in each list that ascends, k became n, if it was there, and the positions above k up to n became
 -- one less; the capacities are as before

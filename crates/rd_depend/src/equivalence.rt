@@ -8,7 +8,7 @@ ghost use Rattle.std.specs.Prelude.{◌≡◌, ◌≤◌, length, true, false, I
 ghost use Rattle.rd_step.specs.Run.{events};
 ghost use Rattle.rd_depend.specs.Beginnings.{NeitherBegins};
 ghost use Rattle.rd_depend.specs.Equivalence.{DecidesEquivalence};
-ghost use Rattle.rd_depend.specs.ComparedSteps.{GoesOn, IsOutOfOrder, left_of, reached_of};
+ghost use Rattle.rd_depend.specs.ComparedSteps.{IsMatched, IsOutOfOrder, left_of, reached_of};
 
 use super::keeping_order::{ReachedByKey, StepsByActor, are_alike};
 use rd_step::{Entry, common_beginning_len};
@@ -29,13 +29,13 @@ pub fn are_equivalent(alloc: Global, a: &[Entry], b: &[Entry]) -> Result<bool, A
     ensures memory { OnErr result (NeitherBegins (events a.now) (events b.now)) }
 {
     let common = common_beginning_len(&a, &b);
-    compare(alloc, &a[common..], &b[common..])
+    rests_are_equivalent(alloc, &a[common..], &b[common..])
 }
 
 /// Whether two runs from one start are causally equivalent, given their entries. It passes once
 /// over each list, and skips no common beginning. Fails only if memory is refused, and never if one
 /// of the lists is empty.
-fn compare(alloc: Global, a: &[Entry], b: &[Entry]) -> Result<bool, AllocError>
+fn rests_are_equivalent(alloc: Global, a: &[Entry], b: &[Entry]) -> Result<bool, AllocError>
     ensures answer { IfOk result (DecidesEquivalence a.now b.now) }
     ensures memory { OnErr result ((1 ≤ length a.now) × (1 ≤ length b.now)) }
 {
@@ -48,7 +48,7 @@ fn compare(alloc: Global, a: &[Entry], b: &[Entry]) -> Result<bool, AllocError>
     let mut left = StepsByActor::of(alloc, b)?;
     let mut reached = ReachedByKey::new(alloc);
     for entry in a {
-        if !goes_on(&mut left, &mut reached, entry)? {
+        if !match_next(&mut left, &mut reached, entry)? {
             return Ok(false);
         }
     }
@@ -60,18 +60,18 @@ fn compare(alloc: Global, a: &[Entry], b: &[Entry]) -> Result<bool, AllocError>
 /// it comes there after all earlier steps on which it depends. If it is like this step, this step
 /// is taken in under its keys with its number there. Fails only if memory is refused; the step may
 /// then be taken in under some of its keys only.
-fn goes_on(
+fn match_next(
     left: &mut StepsByActor,
     reached: &mut ReachedByKey,
     entry: &Entry,
 ) -> Result<bool, AllocError>
     ensures same { IfOk result (λ ok. ok ≡ true
-        → GoesOn entry.now (reached_of reached.old) (reached_of reached.new) (left_of left.old)
+        → IsMatched entry.now (reached_of reached.old) (reached_of reached.new) (left_of left.old)
         (left_of left.new)) }
     ensures differs { IfOk result (λ ok. ok ≡ false
         → IsOutOfOrder entry.now (reached_of reached.old) (left_of left.old)) }
 {
-    let Some(other) = left.pop(entry.event.actor) else {
+    let Some(other) = left.pop_front(entry.event.actor) else {
         return Ok(false);
     };
     if !are_alike(entry, other.entry) {

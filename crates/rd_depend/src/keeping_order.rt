@@ -10,8 +10,8 @@
 
 ghost use Rattle.std.specs.Prelude.{◌≡◌, ◌↔◌, ◌<◌, [], ℕ, length, Some, None, IsTrue, IfOk, OnOk, MatchOption};
 ghost use Rattle.rd_depend.specs.declared.index.keys.Key.{Key as KeyOf};
-ghost use Rattle.rd_depend.specs.KeepingOrder.{AreAlike, IsAfter, IsInOrder, last_blocking, is_making, nothing_reached, taken_in, with_step, taken_in_under};
-ghost use Rattle.rd_depend.specs.ComparedSteps.{all_left, left_of, reached_of, with_first};
+ghost use Rattle.rd_depend.specs.KeepingOrder.{AreAlike, IsAfter, IsInOrder, last_blocking, is_whole_segment, nothing_reached, taken_in, with_step, taken_in_under};
+ghost use Rattle.rd_depend.specs.ComparedSteps.{steps_by_actor, left_of, reached_of, with_first};
 ghost use Rattle.rd_depend.specs.Tables.{list_at};
 
 use super::index::keys::{Key, is_value_written, is_written, place_key, segment_key, value_key};
@@ -85,7 +85,11 @@ impl ReachedByKey {
         let value_written = is_value_written(entry.wrote);
         let place = self.take_in_under(place_key(entry.place), wrote, at)?;
         let value = self.take_in_under(value_key(entry.place), value_written, at)?;
-        let segment = self.take_in_under(segment_key(entry.place), is_making(entry.place), at)?;
+        let segment = self.take_in_under(
+            segment_key(entry.place),
+            is_whole_segment(entry.place),
+            at,
+        )?;
         Ok(place & value & segment)
     }
 
@@ -122,8 +126,8 @@ impl ReachedByKey {
 }
 
 /// Whether there is a place, and it is the whole of a segment, as for a making.
-fn is_making(place: Option<Place>) -> bool
-    ensures { result ≡ is_making place }
+fn is_whole_segment(place: Option<Place>) -> bool
+    ensures { result ≡ is_whole_segment place }
 {
     matches!(place, Some(Place::Whole(_)))
 }
@@ -151,22 +155,23 @@ impl<'a> StepsByActor<'a> {
     ///
     /// `AllocError` if memory is refused.
     pub(crate) fn of(alloc: Global, entries: &'a [Entry]) -> Result<StepsByActor<'a>, AllocError>
-        ensures { IfOk result (λ steps. (n : ℕ) → left_of steps n ≡ all_left entries.entry.now n) }
+        ensures { IfOk result (λ steps. (n : ℕ) → left_of steps n
+            ≡ steps_by_actor entries.entry.now n) }
     {
         let mut steps = StepsByActor {
-            steps: empty_lists(alloc)?,
+            steps: empty_list_per_actor(alloc)?,
         };
         let mut index = entries.len();
         while index > 0 {
             index -= 1;
-            steps.push(index + 1, &entries[index])?;
+            steps.push_front(index + 1, &entries[index])?;
         }
         Ok(steps)
     }
 
     /// Adds a step, with its number in the run, in front of those of its actor. There must be a
     /// list for each number that an actor may have. Fails only if memory is refused.
-    fn push(&mut self, at: usize, entry: &'a Entry) -> Result<(), AllocError>
+    fn push_front(&mut self, at: usize, entry: &'a Entry) -> Result<(), AllocError>
         requires { length self.old.steps.items ≡ ACTOR_NUMBERS }
         ensures number { length self.new.steps.items ≡ ACTOR_NUMBERS }
         ensures ok { OnOk result ((n : ℕ) → left_of self.new n
@@ -177,7 +182,7 @@ impl<'a> StepsByActor<'a> {
     }
 
     /// Removes and returns the first step that is left of the actor; `None` if none is left.
-    pub(crate) fn pop(&mut self, actor: u8) -> Option<NumberedStep<'a>>
+    pub(crate) fn pop_front(&mut self, actor: u8) -> Option<NumberedStep<'a>>
         ensures { MatchOption result (left_of self.old actor ≡ [])
             (λ p. (n : ℕ) → left_of self.old n
             ≡ with_first (left_of self.new) actor (p.at, p.entry.now) n) }
@@ -209,7 +214,7 @@ pub(crate) fn are_alike(a: &Entry, b: &Entry) -> bool
 }
 
 /// Returns an empty list for each number that an actor may have. Fails only if memory is refused.
-fn empty_lists<'a>(alloc: Global) -> Result<Vec<Vec<NumberedStep<'a>>>, AllocError>
+fn empty_list_per_actor<'a>(alloc: Global) -> Result<Vec<Vec<NumberedStep<'a>>>, AllocError>
     ensures { IfOk result (λ lists. (length lists.items ≡ ACTOR_NUMBERS)
         × ((n : ℕ) → list_at lists.items n ≡ [])) }
 {

@@ -5,17 +5,17 @@ ghost use Rattle.std.specs.Prelude.{◌≡◌, ◌≤◌, ◌↔◌, ◌⊎◌, 
 ghost use Rattle.rd_step.specs.declared.entries.Event.{Event};
 ghost use Rattle.rd_step.specs.declared.entries.Entry.{Entry as SomeEntry};
 ghost use Rattle.rd_step.specs.Prelude.{World, Ran, closure, run, depends};
-ghost use Rattle.rd_step.specs.Dependence.{IsInClosure, AreLoneUndos, number_after};
+ghost use Rattle.rd_step.specs.Dependence.{IsInClosure, AreLoneUndos, number_after_undos};
 ghost use Rattle.rd_step.specs.Lists.{numbered};
 ghost use Rattle.rd_step.specs.Equivalence.{IsEquivalent};
-ghost use Rattle.rd_depend.specs.Sharing.{SharesPlace};
+ghost use Rattle.rd_depend.specs.Sharing.{ShareWrittenPlace};
 ghost use Rattle.rd_depend.specs.Reordering.{IsReordered};
 
 /// Two entries depend on each other exactly if they have the same actor, or if both touched a place
 /// of the map that at least one of them wrote.
-pub fn entries_depend_where_they_share_an_actor_or_a_place()
+pub fn entries_depend_where_they_share_an_actor_or_a_written_place()
     ensures { (x y : SomeEntry) → (depends x y ≡ true)
-        ↔ ((x.event.actor ≡ y.event.actor) ⊎ SharesPlace x y) }
+        ↔ ((x.event.actor ≡ y.event.actor) ⊎ ShareWrittenPlace x y) }
 {}
 
 /// Dependence is symmetric.
@@ -26,7 +26,7 @@ pub fn dependence_is_symmetric()
 /// The marks of a closure are just the least set of positions that has the step's own and, with
 /// each position, every later one whose entry depends on the entry there. A session's `roll` takes
 /// the marked steps out.
-pub fn the_closure_is_the_least_set()
+pub fn the_closure_is_the_least_closed_set()
     ensures { (entries : List SomeEntry) (k j : ℕ) → 1 ≤ k → k ≤ length entries
         → ((numbered (closure entries k) j ≡ Some true) ↔ IsInClosure entries k j) }
 {}
@@ -35,8 +35,8 @@ pub fn the_closure_is_the_least_set()
 /// closure. So a session's `roll` removes no step that could stay.
 pub fn lone_undos_that_take_a_step_out_take_its_closure_out()
     ensures { (entries : List SomeEntry) (ns : List ℕ) (k j : ℕ) → AreLoneUndos ns entries
-        → number_after ns k ≡ None
-        → IsInClosure entries k j → number_after ns j ≡ None }
+        → number_after_undos ns k ≡ None
+        → IsInClosure entries k j → number_after_undos ns j ≡ None }
 {}
 
 /// Causal equivalence of two runs from one start is symmetric.

@@ -10,7 +10,7 @@ use rd_step::Entry;
 use std::alloc::Global;
 use std::process::Abort;
 use std::test::Fail;
-use test_kit::record;
+use test_kit::access_entry;
 
 /// What dependence looks at: the actor, the place, and what the access wrote of it.
 type Access = (u8, Option<Place>, Wrote);
@@ -105,7 +105,11 @@ fn two_steps_depend_on_each_other_or_not(rt: HostRuntime) {
 
 /// Compares whether an access depends on another one with what is wanted.
 fn compare_pair(rt: &impl Abort, a: Access, b: Access, wanted: bool) {
-    assert_eq!(rt; depends(&record(a), &record(b)), wanted, "{a:?} and {b:?}");
+    assert_eq!(rt;
+        depends(&access_entry(a), &access_entry(b)),
+        wanted,
+        "{a:?} and {b:?}"
+    );
 }
 
 /// A run: a call, a read of a tail, a write of another one, a write of it, and a read of it again.
@@ -145,7 +149,7 @@ fn the_first_dependant_is_the_least_later_step(rt: HostRuntime) -> Result<(), Fa
 fn recorded(alloc: Global, accesses: &[Access]) -> Result<Vec<Entry>, Fail> {
     let mut entries = Vec::new(alloc);
     for access in accesses {
-        entries.push(record(*access))?;
+        entries.push(access_entry(*access))?;
     }
     Ok(entries)
 }

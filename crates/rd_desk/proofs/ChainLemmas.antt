@@ -1,5 +1,5 @@
 -- Chains of answers by a gate, and lists whose elements are related pairwise.
-use Rattle.rd_desk.proofs.Prelude.{map, Option, Vec, ◌≡◌, ℕ, List, [], ◌∷◌, ◌++◌, length, arith, ◌+◌, ◌<◌, get_or, take, add-one, AllByRecursion, AllZip, Answer, Command, Global, IsChain, IsDone, IsRan, all_zipped_more, ran_of, take-suc, zip}
+use Rattle.rd_desk.proofs.Prelude.{map, Option, Vec, ◌≡◌, ℕ, List, [], ◌∷◌, ◌++◌, length, arith, ◌+◌, ◌<◌, get_or, take, add-one, AllByRecursion, AllZip, Answer, Command, Global, IsChain, IsDone, IsRan, all_zipped_more, run_ending, take-suc, zip}
 
 module _ {P : Type 0} (told : P → Command → Answer → P → Type 0) where
   -- asking one more command makes a chain longer
@@ -10,34 +10,34 @@ module _ {P : Type 0} (told : P → Command → Answer → P → Type 0) where
 
 module _ {A B : Type 0} (R : A → B → Type 0) where
   -- if the first i elements are related to a list, adding the next pair relates the first i + 1
-  pub next_pair : (xs : List A) (ys : List B) (i : ℕ) (x : A) (y : B) → i < length xs → x ≡ get_or xs i x → AllZip R (take i xs) ys → R x y
+  pub AllZip-take_more : (xs : List A) (ys : List B) (i : ℕ) (x : A) (y : B) → i < length xs → x ≡ get_or xs i x → AllZip R (take i xs) ys → R x y
       → AllZip R (take (i + 1) xs) (ys ++ y ∷ [])
-  next_pair xs ys i x y within is h k = rw (add-one, take-suc xs i x within, ← is) (all_zipped_more R (take i xs) ys x y h k)
+  AllZip-take_more xs ys i x y within is h k = rw (add-one, take-suc xs i x within, ← is) (all_zipped_more R (take i xs) ys x y h k)
 
   -- the elements of related lists at the same position are related
-  pub pair_at : (xs : List A) (ys : List B) (i : ℕ) (d : A × B) → i < length (zip xs ys) → AllZip R xs ys → R (get_or (zip xs ys) i d).0 (get_or (zip xs ys) i d).1
-  pair_at (x ∷ xs) (y ∷ ys) i d within h = grind (arith, pair_at xs ys)
-  pair_at _ _ i d within h = absurd (omega arith)
+  pub AllZip-zip_at : (xs : List A) (ys : List B) (i : ℕ) (d : A × B) → i < length (zip xs ys) → AllZip R xs ys → R (get_or (zip xs ys) i d).0 (get_or (zip xs ys) i d).1
+  AllZip-zip_at (x ∷ xs) (y ∷ ys) i d within h = grind (arith, AllZip-zip_at xs ys)
+  AllZip-zip_at _ _ i d within h = absurd (omega arith)
 
   -- a fact about each element of the first list may be added to the relation
-  pub with_each : (P : A → Type 0) (xs : List A) (ys : List B) → AllByRecursion P xs → AllZip R xs ys → AllZip (λ x y. P x × R x y) xs ys
-  with_each P [] ys each h = grind arith
-  with_each P (x ∷ xs) ys each h = grind (arith, with_each P xs)
+  pub AllZip-with_each : (P : A → Type 0) (xs : List A) (ys : List B) → AllByRecursion P xs → AllZip R xs ys → AllZip (λ x y. P x × R x y) xs ys
+  AllZip-with_each P [] ys each h = grind arith
+  AllZip-with_each P (x ∷ xs) ys each h = grind (arith, AllZip-with_each P xs)
 
 module _ {A B C : Type 0} (R : A → B → Type 0) where
   -- if S relates the first elements of the pairs of xs and ys to zs, it relates xs to zs
-  pub of_firsts : (S : A → C → Type 0) (xs : List A) (ys : List B) (zs : List C) → AllZip R xs ys → AllZip (λ p z. S p.0 z) (zip xs ys) zs → AllZip S xs zs
-  of_firsts S [] ys zs h k = grind arith
-  of_firsts S (x ∷ xs) ys zs h k = grind (arith, of_firsts S xs)
+  pub AllZip-of_firsts : (S : A → C → Type 0) (xs : List A) (ys : List B) (zs : List C) → AllZip R xs ys → AllZip (λ p z. S p.0 z) (zip xs ys) zs → AllZip S xs zs
+  AllZip-of_firsts S [] ys zs h k = grind arith
+  AllZip-of_firsts S (x ∷ xs) ys zs h k = grind (arith, AllZip-of_firsts S xs)
 
   -- two relations from list to list can be composed
-  pub composed : (S : B → C → Type 0) (T : A → C → Type 0) → ((x : A) (y : B) (z : C) → R x y → S y z → T x z) → (xs : List A) (ys : List B) (zs : List C)
+  pub AllZip-compose : (S : B → C → Type 0) (T : A → C → Type 0) → ((x : A) (y : B) (z : C) → R x y → S y z → T x z) → (xs : List A) (ys : List B) (zs : List C)
       → AllZip R xs ys → AllZip S ys zs → AllZip T xs zs
-  composed S T f [] ys zs h k = grind arith
-  composed S T f (x ∷ xs) ys zs h k = grind (arith, composed S T f xs)
+  AllZip-compose S T f [] ys zs h k = grind arith
+  AllZip-compose S T f (x ∷ xs) ys zs h k = grind (arith, AllZip-compose S T f xs)
 
 module _ {P : Type 0} (takes : P → Type 0) (told : P → Command → Answer → P → Type 0) where
   -- if each viewer gave back what `IsDone` allows, its run ended as `IsRan` states
-  pub all_ran : (work : List (P × Vec Command Global)) (dones : List (P × Option (Vec Answer Global))) → AllZip (λ viewer done. IsDone takes told viewer.0 viewer.1.items done) work dones → AllZip (IsRan takes told) work (map ran_of dones)
+  pub all_ran : (work : List (P × Vec Command Global)) (dones : List (P × Option (Vec Answer Global))) → AllZip (λ viewer done. IsDone takes told viewer.0 viewer.1.items done) work dones → AllZip (IsRan takes told) work (map run_ending dones)
   all_ran [] dones h = grind arith
   all_ran (viewer ∷ work) dones h = grind (arith, all_ran work)

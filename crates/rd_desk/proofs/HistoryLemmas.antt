@@ -5,18 +5,18 @@ use Rattle.rd_marks.proofs.Headlines.{book_runs}
 use Rattle.rd_marks.proofs.ObeyLemmas.{one_more_obeyed}
 use Rattle.std.proofs.lemmas.Nat.{pow_pos}
 
-pub nothing_yet : {R : ℕ} (b : BookState) (book : Book R) (es : List (ℕ × Call)) → es ≡ [] → book_state book ≡ b → IsLeftBy b es book
-nothing_yet b book es none same = ∣ record {
+pub left_by_no_call : {R : ℕ} (b : BookState) (book : Book R) (es : List (ℕ × Call)) → es ≡ [] → book_state book ≡ b → IsLeftBy b es book
+left_by_no_call b book es none same = ∣ record {
   answered = rw none same;
   start = ap (λ (s : BookState). s.session.start) same;
   is_run = book_runs book;
 } ∣₁
 
 -- if the entries led to the book, they also do with one more call that it answered as recorded
-pub one_recorded : {R : ℕ} (viewer : ℕ) (b : BookState) (before after : Book R) (old new : List (ℕ × Call)) (c : Command) (answer : Result Reply Refusal)
+pub left_by_one_more_call : {R : ℕ} (viewer : ℕ) (b : BookState) (before after : Book R) (old new : List (ℕ × Call)) (c : Command) (answer : Result Reply Refusal)
     → IsLeftBy b old before → IsObeyed (book_state before) c (record { answer = answer; state = book_state after })
     → (book_state after).session.start ≡ (book_state before).session.start → new ≡ old ++ viewer_entry viewer c answer ∷ [] → IsLeftBy b new after
-one_recorded viewer b before after old new c answer h k start is =
+left_by_one_more_call viewer b before after old new c answer h k start is =
     ∥∥₁_map h (λ l. record {
       answered = rw (is, map-append, map-append) (one_more_obeyed b (book_state before) (book_state after) _ _ c answer l.answered k);
       start = start ∙ l.start;

@@ -10,12 +10,12 @@ pub use Rattle.rd_lock.specs.declared.passes.Pass.{Pass}
 pub use Rattle.rd_lock.specs.declared.views.Recorded.{Ghosts}
 pub use Rattle.rd_marks.specs.declared.commands.Command.{Command}
 pub use Rattle.rd_marks.specs.declared.replies.Reply.{Reply}
-pub use Rattle.rd_desk.specs.Asking.{IsNotBusy, KnowsAfterAsk, KnowsWords, SeesAfter}
+pub use Rattle.rd_desk.specs.Asking.{IsRefusalOfAsk, KnowsAfterAsk, KnowsWords, SeesAfter}
 pub use Rattle.rd_desk.specs.Desks.{IsNewViewer, IsViewerOf, opened_state}
 pub use Rattle.rd_desk.specs.Histories.{Answer, IsCapacity, IsLeftBy, IsLegal, LeavesHistory, entries, viewer_entry}
 pub use Rattle.rd_desk.specs.Rooms.{IsRoomFor}
 pub use Rattle.rd_desk.specs.Threads.{IsJoined, IsStarted}
-pub use Rattle.rd_desk.specs.Viewers.{IsChain, IsDone, IsRan, ran_of}
+pub use Rattle.rd_desk.specs.Viewers.{IsChain, IsDone, IsRan, run_ending}
 pub use Rattle.rd_desk.specs.declared.gates.DeskRefusal.{DeskRefusal}
 pub use Rattle.rd_desk.specs.declared.gates.DeskRefusal.TheVariants.{HistoryFull, NotRecorded}
 pub use Rattle.rd_desk.specs.declared.histories.Call.{Call}

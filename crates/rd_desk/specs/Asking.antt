@@ -13,9 +13,9 @@ use Rattle.rd_desk.specs.declared.histories.Call.{Call}
 use Rattle.rd_desk.specs.Histories.{Answer, IsLegal, LeavesHistory}
 
 -- the refusal is not `Busy`, which only a call that never waits returns
-abbrev pub IsNotBusy : DeskRefusal → Type 0
-IsNotBusy (Busy words) = ⊥
-IsNotBusy _ = Unit {0}
+abbrev pub IsRefusalOfAsk : DeskRefusal → Type 0
+IsRefusalOfAsk (Busy words) = ⊥
+IsRefusalOfAsk _ = Unit {0}
 
 module _ (opened : BookState) where
   -- what a call adds to the history that the viewer of this number has seen, from `old` to `new`. A
@@ -41,7 +41,7 @@ module _ {T O : Type 0} {K : Ghosts T Call O} where
     -- what a viewer knows after a call: its pass has the same number (`same_number`) and has seen
     -- the history that `SeesAfter` allows (`has_seen`). What it knows of the lock's words has only
     -- grown (`grown`), and agrees with a refusal that tells of them (`words`)
-    pub record KnowsOutcome : Type 0 where
+    pub record KnowsAfterCall : Type 0 where
       pub same_number : number new ≡ number old
       pub has_seen : SeesAfter opened (number old) (seen old) command answer (seen new)
       pub grown : KnowsMore old new
@@ -50,6 +50,6 @@ module _ {T O : Type 0} {K : Ghosts T Call O} where
     -- what a viewer knows after a call that may wait. The answer is never `Busy` (`waits`). A
     -- viewer that had seen all tickets drawn gets `TicketsEnded` (`ended`)
     pub record KnowsAfterAsk : Type 0 where
-      pub outcome : KnowsOutcome
-      pub waits : IfErr answer IsNotBusy
+      pub outcome : KnowsAfterCall
+      pub waits : IfErr answer IsRefusalOfAsk
       pub ended : next_seen old ≡ 2 ^ 63 → answer ≡ Err TicketsEnded

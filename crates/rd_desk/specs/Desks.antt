@@ -1,5 +1,5 @@
 -- What contracts state of a desk and its passes. A pass of a desk is one of its lock; what it has
--- seen and asked are the lock's `seen` and `own`.
+-- seen and asked are the lock's `seen` and `own_entries`.
 use Rattle.std.specs.Prelude.{ℕ}
 use Rattle.rd_lock.specs.declared.views.Recorded.{Ghosts}
 use Rattle.rd_lock.specs.declared.passes.Pass.{Pass}

@@ -29,6 +29,6 @@ module _ {P : Type 0} where
   IsRan takes told viewer (outcome.Answered pass answers) = IsDone takes told viewer.0 viewer.1.items (pass, Some answers)
 
   -- how the run of a viewer ended, from what it gave back
-  abbrev pub ran_of : P × Option (Vec Answer Global) → Ran P
-  ran_of (pass, Some answers) = outcome.Answered pass answers
-  ran_of (pass, None) = outcome.NoMemory
+  abbrev pub run_ending : P × Option (Vec Answer Global) → Ran P
+  run_ending (pass, Some answers) = outcome.Answered pass answers
+  run_ending (pass, None) = outcome.NoMemory

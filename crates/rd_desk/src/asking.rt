@@ -7,7 +7,7 @@
 ghost use Rattle.std.specs.Prelude.{◌≡◌, ◌^◌, Err, IfErr};
 ghost use Rattle.rd_lock.specs.Locks.{next_seen, IsPassOf, IsTaken};
 ghost use Rattle.rd_desk.specs.Desks.{opened_state, viewers, IsViewerOf};
-ghost use Rattle.rd_desk.specs.Asking.{KnowsAfterAsk, KnowsOutcome, IsNotBusy};
+ghost use Rattle.rd_desk.specs.Asking.{KnowsAfterAsk, KnowsAfterCall, IsRefusalOfAsk};
 
 use super::desks::{Desk, DeskPass};
 use super::gates::{Answer, DeskRefusal};
@@ -49,9 +49,9 @@ impl<const R: usize> Desk<R> {
     pub fn try_ask(&self, pass: &mut DeskPass<R>, command: Command) -> Answer
         requires own { IsViewerOf self.now pass.old }
         ensures own { IsViewerOf self.now pass.new }
-        ensures outcome { KnowsOutcome (opened_state self.now) pass.old pass.new command result }
+        ensures outcome { KnowsAfterCall (opened_state self.now) pass.old pass.new command result }
         ensures ended { next_seen pass.old ≡ 2 ^ 63 → result ≡ Err TicketsEnded }
-        ensures succeeds { viewers self.now ≡ 1 → IfErr result IsNotBusy }
+        ensures succeeds { viewers self.now ≡ 1 → IfErr result IsRefusalOfAsk }
     {
         match self.lock.try_take(pass) {
             Ok(kept) => self.obey_and_put_back(pass, kept, command),
@@ -72,10 +72,10 @@ impl<const R: usize> Desk<R> {
         requires own { IsPassOf self.now.lock pass.old }
         requires taken { IsTaken self.now.lock pass.old pass.old kept }
         ensures own { IsViewerOf self.now pass.new }
-        ensures outcome { KnowsOutcome (opened_state self.now) pass.old pass.new command result }
-        ensures waits { IfErr result IsNotBusy }
+        ensures outcome { KnowsAfterCall (opened_state self.now) pass.old pass.new command result }
+        ensures waits { IfErr result IsRefusalOfAsk }
     {
-        let answer = kept.record(pass.number(), &command);
+        let answer = kept.obey_and_record(pass.number(), &command);
         self.lock.put_back(pass, kept);
         answer
     }

@@ -2,7 +2,7 @@
 //! closing; the calls are in `asking`.
 
 ghost use Rattle.std.specs.Prelude.{◌≡◌, ◌<◌, ◌≤◌, ◌^◌, map, IfOk, IfErr, IsOk};
-ghost use Rattle.rd_lock.specs.Lists.{AreAll, AreComparable};
+ghost use Rattle.rd_lock.specs.Lists.{HasAllUpTo, AreComparable};
 ghost use Rattle.std.specs.List.{AllByRecursion};
 ghost use Rattle.rd_lock.specs.Locks.{number as number_of, seen, served_seen, IsSamePass};
 ghost use Rattle.rd_lock.specs.Opening.{IsOpened, IsClosedOver, HasSeenUpTo};
@@ -91,7 +91,7 @@ impl<const R: usize> Desk<R> {
         ensures err { IfErr result (λ words. (words.served < words.next) × (words.next ≤ 2 ^ 63)) }
         ensures newest { IfErr result (λ words. AllByRecursion
             (HasSeenUpTo words) passes.entry.items) }
-        ensures succeeds { AreAll (viewers_of self.entry) (map number_of passes.entry.items)
+        ensures succeeds { HasAllUpTo (viewers_of self.entry) (map number_of passes.entry.items)
             → IsOk result }
     {
         let Desk { lock } = self;

@@ -74,7 +74,7 @@ impl<const R: usize> BookWithHistory<R> {
     ///
     /// In this order: `HistoryFull` if the history has `MOST_CALLS` calls; `NotRecorded` if its
     /// list is full and memory for a longer one was refused. Book and history are unchanged then.
-    pub(crate) fn record(&mut self, viewer: u64, command: &Command) -> Answer
+    pub(crate) fn obey_and_record(&mut self, viewer: u64, command: &Command) -> Answer
         ensures recorded { LeavesHistory viewer (entries self.old.history) command.now result
             (entries self.new.history) }
         ensures full { IfErr result (λ refusal. refusal ≡ NotRecorded

@@ -5,7 +5,7 @@
 
 ghost use Rattle.std.specs.Prelude.{◌≡◌, ◌≤◌, [], length, map, vec_capacity, IfOk, IfErr};
 ghost use Rattle.std.specs.List.{AllByRecursion, AllZip};
-ghost use Rattle.rd_desk.specs.Viewers.{IsDone, IsRan, ran_of};
+ghost use Rattle.rd_desk.specs.Viewers.{IsDone, IsRan, run_ending};
 
 use super::gates::{Answer, Gate};
 use super::rooms::Room;
@@ -78,14 +78,14 @@ pub fn run_viewers<R: Threads + Wait + Sync, G: Gate + Sync>(
         return Err((NoMemory, work));
     };
     let dones = ask_viewers(rt, alloc, gate, work)?;
-    Ok(rans_of::<G>(dones, rans))
+    Ok(run_endings::<G>(dones, rans))
 }
 
 /// Returns how the run of each viewer ended, from what it gave back. The list `rans` must be empty
 /// and have room for this. It drops the pass of a viewer without answers.
-fn rans_of<G: Gate>(dones: Vec<Done<G>>, mut rans: Vec<Ran<G::Pass>>) -> Vec<Ran<G::Pass>>
+fn run_endings<G: Gate>(dones: Vec<Done<G>>, mut rans: Vec<Ran<G::Pass>>) -> Vec<Ran<G::Pass>>
     requires { (rans.items ≡ []) × (length dones.items ≤ vec_capacity rans) }
-    ensures { result.items ≡ map ran_of dones.items }
+    ensures { result.items ≡ map run_ending dones.items }
 {
     for (pass, answers) in dones {
         let ran = match answers {

@@ -34,8 +34,8 @@ forward_undone n k old new enough moved =
     let all : n ≡ k + (n - k) = omega arith in
     record { live = grind (arith, take-take); undone = grind (arith, drop-take) }
 
-pub out_undone : (n k : ℕ) (old new : Journal) → 1 ≤ k → k ≤ length old.live → IsUndoneAlone k old new → IsUndoneAlone k (with_undone n old) (with_undone (n + 1) new)
-out_undone n k old new some within moved = grind (arith, length-take-le, length-drop, take_over)
+pub alone_undone : (n k : ℕ) (old new : Journal) → 1 ≤ k → k ≤ length old.live → IsUndoneAlone k old new → IsUndoneAlone k (with_undone n old) (with_undone (n + 1) new)
+alone_undone n k old new some within moved = grind (arith, length-take-le, length-drop, take_over)
 
 -- if no step is ahead, none is undone
 pub none_taken : (n : ℕ) (xs : List Entry) → xs ≡ [] → take n xs ≡ []

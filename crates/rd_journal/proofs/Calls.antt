@@ -1,10 +1,10 @@
 -- What the calls of a session answer, over its journal.
-use Rattle.rd_journal.proofs.Prelude.{◌≡◌, ℕ, ◌+◌, ◌-◌, ◌<◌, ◌≤◌, ◌⊎◌, refl, sym, ◌∙◌, ap, subst, List, [], ◌∷◌, ◌++◌, length, get_or, ok_or, Result, Ok, Err, IsOk, IfErr, inl, inr, arith, ne_eqb, length-append, opened_with, and_then, result_map, cond-false, map-append, length-map, take-map, slice_get_past, slice_get-get_or, slice_get-map, Refusal, Stepped, step, IsWellFormed, MOST_STEPS, Event, Entry, model, room, live_entries, ahead_entries, kept_entries, IsIndexOf, whole_journal, journal, state, MayLackMemory, Journal, events, IsRun, entry_of, IsSession, HasRoom, State, state_of, with_event, apply, back, forward, live_event, IsLengthened, IsMovedBack, IsBeforeLast, AsksForMemory, Entries, slice_get_cases, Session}
+use Rattle.rd_journal.proofs.Prelude.{◌≡◌, ℕ, ◌+◌, ◌-◌, ◌<◌, ◌≤◌, ◌⊎◌, refl, sym, ◌∙◌, ap, subst, List, [], ◌∷◌, ◌++◌, length, get_or, ok_or, Result, Ok, Err, IsOk, IfErr, inl, inr, arith, ne_eqb, length-append, opened_with, and_then, result_map, cond-false, map-append, length-map, take-map, slice_get_past, slice_get-get_or, slice_get-map, Refusal, Stepped, step, IsWellFormed, MOST_STEPS, Event, Entry, model, room, live_entries, ahead_entries, kept_entries, IsIndexOf, whole_journal, journal, state, MayLackMemory, Journal, events, IsRun, entry_of, IsSession, HasRoom, State, state_of, with_event, apply, back, forward, live_event, IsLengthened, IsMovedBack, IsRunWithoutLast, AsksForMemory, Entries, slice_get_cases, Session}
 use Rattle.rd_journal.specs.Sessions.{KeepsItsSteps, MayRefuse, capacity, room as session_room, index}
 use Rattle.std.specs.declared.snapshot.Snapshot.{Snapshot}
 use Rattle.rd_step.specs.declared.worlds.World.{World as CodeWorld}
 use Rattle.rd_journal.proofs.Ahead.{is_session}
-use Rattle.rd_journal.proofs.Runs.{step_event, grown}
+use Rattle.rd_journal.proofs.Runs.{step_event, is_run-with_step}
 use Rattle.rd_cell.specs.declared.refusal.Refusal.TheVariants as refusal
 
 -- Lengths
@@ -38,7 +38,7 @@ pub forward_start : (s : State) (n : ℕ) (t : State) → forward s n ≡ Ok t �
 forward_start s n t h = grind arith
 
 -- after going back, the journal is the run of all but the last events
-pub before_last : (n : ℕ) (old new : Journal) → IsMovedBack n old new → IsRun new → new.start ≡ old.start → IsBeforeLast n old new
+pub before_last : (n : ℕ) (old new : Journal) → IsMovedBack n old new → IsRun new → new.start ≡ old.start → IsRunWithoutLast n old new
 before_last n old new moved runs start = grind (arith, take-map)
 
 -- Entries by number
@@ -71,7 +71,7 @@ longer_session old new e x before after session less h start longer =
     λ i. record { start = start i; world = new.world; live = longer.live i; undone = longer.undone i } in
     record {
       few = omega (arith, ap length longer.live, length-append old.live (x ∷ []), ap length longer.undone);
-      runs = subst (λ (j : Journal). IsRun j) (sym whole) (grown old.start old.world new.world old.live old.undone [] x e session.runs h refl);
+      runs = subst (λ (j : Journal). IsRun j) (sym whole) (is_run-with_step old.start old.world new.world old.live old.undone [] x e session.runs h refl);
       has_room = subst (λ (ys : List Entry). HasRoom ys after) (sym longer.undone) (record { at = λ k. omega arith });
     }
 
@@ -127,11 +127,11 @@ may_lack s e out = record {
 }
 
 -- so what the session may refuse an event with, its state may
-pub said_of_state : {R : ℕ} {X : Type 0} (s : Session R) (e : Event) (r : Result X Refusal) → IfErr r (MayRefuse s e)
+pub may_refuse-state : {R : ℕ} {X : Type 0} (s : Session R) (e : Event) (r : Result X Refusal) → IfErr r (MayRefuse s e)
     → IfErr r (λ cause. (apply (state s) e ≡ Err cause) ⊎ ((cause ≡ refusal.NoMemory) × MayLackMemory (state s) e))
-said_of_state s e (Ok x) h = h
-said_of_state s e (Err cause) (inl h) = inl h
-said_of_state s e (Err cause) (inr h) = inr (h.0, may_lack s e h.1)
+may_refuse-state s e (Ok x) h = h
+may_refuse-state s e (Err cause) (inl h) = inl h
+may_refuse-state s e (Err cause) (inr h) = inr (h.0, may_lack s e h.1)
 
 pub apply_refused : (j : Journal) (e : Event) (refusal : Refusal) → IsRun j → length j.live < MOST_STEPS → step j.world e ≡ Err refusal
     → apply (state_of j) e ≡ Err refusal

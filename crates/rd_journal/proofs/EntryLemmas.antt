@@ -53,9 +53,9 @@ cut_on_rest {X} l m u n enough =
 
 -- the k-th element of the first part, moved to its end, is in front of the second part once the
 -- border has moved back
-pub taken_out : {X : Type 0} (l : List X) (k m u : ℕ) → 1 ≤ k → k ≤ m → m ≤ length l
+pub border-moved_to : {X : Type 0} (l : List X) (k m u : ℕ) → 1 ≤ k → k ≤ m → m ≤ length l
     → take (u + 1) (drop (m - 1) (moved_to l k m)) ≡ take 1 (drop (k - 1) (take m l)) ++ take u (drop m l)
-taken_out {X} l k m u some position within = grind (arith, length-take-le, length-drop, length-append, drop_at, take_over)
+border-moved_to {X} l k m u some position within = grind (arith, length-take-le, length-drop, length-append, drop_at, take_over)
 
 -- an element put after the first part is its last one
 pub put_last : {X : Type 0} (l new : List X) (u : ℕ) (x : X) → u ≤ length l → new ≡ take u l ++ x ∷ drop (u + 1) l → take (u + 1) new ≡ take u l ++ x ∷ []

@@ -4,7 +4,7 @@ use Rattle.rd_journal.proofs.Prelude.{suc, drop-cons, common_steps, count_by, ap
 use Rattle.rd_journal.proofs.Gathering.{Gathering, gathering_first, joins, gathered_outside, gathered_inside}
 use Rattle.rd_journal.proofs.RoomLemmas.{fits_between}
 use Rattle.rd_journal.proofs.ListLemmas.{drop_one_less}
-use Rattle.rd_journal.proofs.Numbers.{one, at-append, at-length, at-take, at-drop, at-get, order_below}
+use Rattle.rd_journal.proofs.Numbers.{take_one-drop, at-append, at-length, at-take, at-drop, at-get, order_below}
 
 -- the live entries among these slots, in their order
 abbrev pub live_of : List Entry → List ℕ → ℕ → List Entry
@@ -36,8 +36,8 @@ pub record Next (es : List Entry) (ns : List ℕ) (live next v : ℕ) : Type 0 w
   pub entry : (x : Entry) → x ≡ get_or es v x → drop next (live_of es ns live) ≡ x ∷ drop (next + 1) (live_of es ns live)
   pub alone : (x : Entry) → x ≡ get_or es v x → at_numbers es (v ∷ []) ≡ x ∷ []
 
-pub live-length : (es : List Entry) (ns : List ℕ) (live : ℕ) → IsOrder (length es) ns → live ≤ length ns → length (live_of es ns live) ≡ live
-live-length es ns live o within = length-take-le live (at_numbers es ns) (omega (arith, at-length es ns (order_below (length es) ns o), within))
+pub live_of-length : (es : List Entry) (ns : List ℕ) (live : ℕ) → IsOrder (length es) ns → live ≤ length ns → length (live_of es ns live) ≡ live
+live_of-length es ns live o within = length-take-le live (at_numbers es ns) (omega (arith, at-length es ns (order_below (length es) ns o), within))
 
 pub next_one : (es : List Entry) (ns now : List ℕ) (live next v : ℕ) → IsOrder (length es) ns → live ≤ length ns → next < live → length now ≡ length ns
     → drop next now ≡ drop next ns → v ≡ get_or now next v → Next es ns live next v
@@ -46,14 +46,14 @@ next_one es ns now live next v o within low long later at =
     let of_old = drop-cons ns next v (omega arith) in
     let same : v ≡ get_or ns next v = (let both : v ∷ drop (next + 1) now ≡ get_or ns next v ∷ drop (suc next) ns = sym there ∙ later ∙ of_old in cc) in
     let below : v < length es = grind (arith, order_below) in
-    let all = live-length es ns live o within in
+    let all = live_of-length es ns live o within in
     let here : (x : Entry) → x ≡ get_or es v x → get_or (live_of es ns live) next x ≡ x = grind (arith, get_or-take, at-get, order_below) in
     record {
       below = below;
       numbers = grind arith;
       here = here;
       entry = λ x e. drop_one_less (live_of es ns live) next x (omega arith) (sym (here x e));
-      alone = λ x e. grind (arith, one);
+      alone = λ x e. grind (arith, take_one-drop);
     }
 
 -- with one more number, one more entry
@@ -81,7 +81,7 @@ pub first_gathered : (es : List Entry) (ns : List ℕ) (old index : DependIndex)
     → UnderWay es ns ns (v ∷ []) old index k live (k - 1) k
 first_gathered es ns old index k live v x o some position within n e is put room =
     let L = live_of es ns live in
-    let all = live-length es ns live o within in
+    let all = live_of-length es ns live o within in
     let next : (k - 1) + 1 ≡ k = omega arith in
     let front : at_numbers es (take (k - 1) ns) ≡ take (k - 1) L =
     sym (at-take es (k - 1) ns (order_below (length es) ns o)) ∙ sym (take-take (k - 1) live (at_numbers es ns) (omega arith)) in
@@ -158,7 +158,7 @@ pub ended : (es : List Entry) (ns now gathered new : List ℕ) (old index : Depe
 ended es ns now gathered new old index k live front next u end o within is =
     let L = live_of es ns live in
     let all : next ≡ live = omega (arith, u.within) in
-    let none : drop next L ≡ [] = grind (arith, drop_all, live-length) in
+    let none : drop next L ≡ [] = grind (arith, drop_all, live_of-length) in
     let cut : Gathering L k (at_numbers es (take front now)) (at_numbers es gathered) [] = grind arith in
     let out = gathered_outside L (at_numbers es (take front now)) (at_numbers es gathered) k cut in
     let in_it = gathered_inside L (at_numbers es (take front now)) (at_numbers es gathered) k cut in

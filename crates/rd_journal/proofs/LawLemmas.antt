@@ -1,13 +1,13 @@
 -- What the laws state: going back and forth, undoing steps out of their order and redoing them, and
 -- the old record and old content of an entry.
-use Rattle.rd_journal.proofs.Prelude.{◌≡◌, ℕ, suc, sym, ◌∙◌, Ok, arith, length-append, length-drop, ◌-◌, ◌≤◌, refl, ap, List, [], ◌∷◌, ◌++◌, length, take, drop, Some, None, slice_get-get_or, Result, subst, get_or, ◌+◌, ◌<◌, append_assoc, drop-drop, drop-take, take-take, take-add, length-take-le, le-ltb, ltb-false, cond-false, take_at, drop_at, take-append-drop, Journal, IsRun, State, state_of, back, forward, length-map, first_dependant, Ran, step, unstep, Entry, IsTakenOut, taken_out, IsMovedLast, IsUndoneAlone, run_of, live_event, undo_at, and_then, Refusal, map-append, World, closure, closure_of, without_closure, Event, events, IsClosureLast, undone_where_true, roll, take-map, run, run_keeps, IsStepAfter, middle, nat_lt}
-use Rattle.rd_journal.proofs.Runs.{as_ok, as_ok-same, step_event, grown}
+use Rattle.rd_journal.proofs.Prelude.{◌≡◌, ℕ, suc, sym, ◌∙◌, Ok, arith, length-append, length-drop, ◌-◌, ◌≤◌, refl, ap, List, [], ◌∷◌, ◌++◌, length, take, drop, Some, None, slice_get-get_or, Result, subst, get_or, ◌+◌, ◌<◌, append_assoc, drop-drop, drop-take, take-take, take-add, length-take-le, le-ltb, ltb-false, cond-false, take_at, drop_at, take-append-drop, Journal, IsRun, State, state_of, back, forward, length-map, first_dependant, Ran, step, unstep, Entry, IsTakenOut, taken_out, IsMovedLast, IsUndoneAlone, run_of, live_event, undo_at, and_then, Refusal, map-append, World, closure, closure_of, without_closure, Event, events, IsClosureLast, undone_where_true, roll, take-map, run, run_keeps_well_formed, IsStepAfter, middle, nat_lt}
+use Rattle.rd_journal.proofs.Runs.{as_ok, as_ok-same, step_event, is_run-with_step}
 use Rattle.rd_journal.proofs.ListLemmas.{IsNumber, nth, from_it, drop_before}
 use Rattle.rd_depend.proofs.Elements.{around-element}
 use Rattle.rd_journal.proofs.LoneUndo.{may_undo_at, undo_at_goes}
 use Rattle.rd_journal.proofs.Calls.{is_live, went_through}
 use Rattle.rd_journal.proofs.Walks.{state_forward}
-use Rattle.rd_journal.proofs.RolledBack.{closure_last, reordered, marked-map, items_where_false-map}
+use Rattle.rd_journal.proofs.RolledBack.{closure_last, closure_last-is_run, marked-map, items_where_false-map}
 use Rattle.rd_step.proofs.OldWords.{keeps_old_words}
 
 -- going back, and then forward by as many steps, restores the state
@@ -89,7 +89,7 @@ again old n x at none runs =
     let is = may.left left refl out moved in
     let its : x.event ≡ may.was.event = step_event v may.was.event (record { world = old.world; entry = x }) out.again in
     let goes : step v x.event ≡ Ok (record { world = old.world; entry = x }) = ap (step v) its ∙ out.again in
-    let back_on = grown old.start v old.world xs (x ∷ old.undone) old.undone x x.event is goes runs.undone_run_on in (
+    let back_on = is_run-with_step old.start v old.world xs (x ∷ old.undone) old.undone x x.event is goes runs.undone_run_on in (
       back_on,
       ap (λ (r : Result State Refusal). and_then r (λ s. forward s 1)) (undo_at_goes n old left runs at.some at.within none moved refl).0
           ∙ state_forward 1 left (again_journal old n x) (omega arith) refl (record { live = refl; undone = refl }),
@@ -121,7 +121,7 @@ closure_redone i j k n ri rk back on =
     let went = rolled (state_of i) (state_of j) (record { world = i.world; entries = i.live }) n ri.live_ran back in
     let its = λ (x : Entry). x.event in
     let within : n ≤ length i.live = omega (arith, went.1, length-map i.live its) in
-    let re = reordered i n went.0 within ri in
+    let re = closure_last-is_run i n went.0 within ri in
     let xs = without_closure i.live n in
     let ys = closure_of i.live n in
     let left : state_of j ≡ record { start = i.start; live = events xs; undone = events ys ++ events i.undone } =
@@ -140,6 +140,6 @@ step_after j k x runs low at =
     let ys = drop (suc k) j.live in
     let cut : j.live ≡ xs ++ x ∷ ys = around-element j.live k x (slice_get-get_or j.live k x low ∙ ap Some (sym at)) in
     let m = middle j.start xs x ys j.world (subst (λ (zs : List Entry). run j.start (events zs) ≡ Ok (record { world = j.world; entries = zs })) cut runs.live_ran) in
-    let formed = run_keeps j.start (events xs) (record { world = m.before; entries = xs }) runs.well_formed m.ran in
+    let formed = run_keeps_well_formed j.start (events xs) (record { world = m.before; entries = xs }) runs.well_formed m.ran in
     let words = keeps_old_words m.before x.event (record { world = m.after; entry = x }) formed m.goes in
     grind (arith, take-map)

@@ -39,9 +39,9 @@ drop_before {X} l k m n h e =
 -- The k-th of the first l elements moved after the others of them
 
 -- to turn the elements from the k-th to the l-th by one is to move the k-th behind them
-pub turned : {X : Type 0} (es : List X) (k l : ℕ) → 1 ≤ k → k ≤ l
+pub rotated-moved_to : {X : Type 0} (es : List X) (k l : ℕ) → 1 ≤ k → k ≤ l
     → put_mid (k - 1) (l - (k - 1)) es (drop 1 (mid_of (k - 1) (l - (k - 1)) es) ++ take 1 (mid_of (k - 1) (l - (k - 1)) es)) ≡ moved_to es k l
-turned {X} es k l some below =
+rotated-moved_to {X} es k l some below =
     let i = k - 1 in
     let m = l - i in
     let mid : take m (drop i es) ≡ drop i (take l es) = sym (drop-take i m es) ∙ (let all : i + m ≡ l = omega arith in ap (λ (n : ℕ). drop i (take n es)) all) in

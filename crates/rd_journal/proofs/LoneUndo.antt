@@ -1,5 +1,5 @@
 -- Undoing one live step alone, on which no later one depends, over whole journals.
-use Rattle.rd_journal.proofs.Prelude.{is_some, common_steps, map-append, take-map, drop-map, depends, first_dependant, MOST_STEPS, Entry, position_from, WasStepped, IsTakenOut, Journal, IsRun, IsUndoneAlone, IsRunWithout, unless_depended, answer_at, state_of, undo_at, and_then, events, numbered, without, ◌≡◌, ℕ, ◌+◌, ◌-◌, ◌<◌, ◌≤◌, ◌⊎◌, sym, ◌∙◌, ap, subst, arith, List, ◌∷◌, ◌++◌, length, take, drop, Some, None, Ok, Err, length-append}
+use Rattle.rd_journal.proofs.Prelude.{is_some, common_steps, map-append, take-map, drop-map, depends, first_dependant, MOST_STEPS, Entry, position_from, WasStepped, IsTakenOut, Journal, IsRun, IsUndoneAlone, IsRunWithout, unless_depended, undo_at_answer, state_of, undo_at, and_then, events, numbered, without, ◌≡◌, ℕ, ◌+◌, ◌-◌, ◌<◌, ◌≤◌, ◌⊎◌, sym, ◌∙◌, ap, subst, arith, List, ◌∷◌, ◌++◌, length, take, drop, Some, None, Ok, Err, length-append}
 use Rattle.rd_depend.proofs.IndexFirst.{scanned-any}
 use Rattle.rd_journal.proofs.ListLemmas.{IsNumber, nth, from_it, around_it}
 use Rattle.rd_journal.proofs.Calls.{entry_missing, entry_found, event_of_entry}
@@ -61,11 +61,11 @@ undo_at_found j k x runs here = grind (arith, event_of_entry)
 undo_at_there : (j : Journal) (k : ℕ) (x : Entry) → IsRun j → IsNumber j.live k x
     → (undo_at (state_of j) k ≡ and_then (unless_depended (first_dependant j.live k))
     (λ _. Ok (record { start = j.start; live = without (events j.live) k; undone = x.event ∷ events j.undone })))
-    × (unless_depended (first_dependant j.live k) ≡ answer_at j k)
+    × (unless_depended (first_dependant j.live k) ≡ undo_at_answer j k)
 undo_at_there j k x runs at = grind (arith, entry_found, undo_at_found, numbered_in)
 
 pub undo_at_goes : (k : ℕ) (old new : Journal) → IsRun old → 1 ≤ k → k ≤ length old.live → first_dependant old.live k ≡ None → IsUndoneAlone k old new
-    → new.start ≡ old.start → (undo_at (state_of old) k ≡ Ok (state_of new)) × (Ok tt ≡ answer_at old k)
+    → new.start ≡ old.start → (undo_at (state_of old) k ≡ Ok (state_of new)) × (Ok tt ≡ undo_at_answer old k)
 undo_at_goes k old new runs some within free moved start =
     let x = nth old.live (k - 1) (omega arith) in
     let at : IsNumber old.live k x.0 = record { some = some; within = within; here = x.1 } in
@@ -74,7 +74,7 @@ undo_at_goes k old new runs some within free moved start =
     grind (arith, without-events)
 
 pub undo_at_refused : (k n : ℕ) (j : Journal) → IsRun j → 1 ≤ k → k ≤ length j.live → first_dependant j.live k ≡ Some n
-    → (undo_at (state_of j) k ≡ Err (refusal.Depended n)) × (Err (refusal.Depended n) ≡ answer_at j k)
+    → (undo_at (state_of j) k ≡ Err (refusal.Depended n)) × (Err (refusal.Depended n) ≡ undo_at_answer j k)
 undo_at_refused k n j runs some within found =
     let x = nth j.live (k - 1) (omega arith) in
     let there = undo_at_there j k x.0 runs (record { some = some; within = within; here = x.1 }) in
@@ -82,5 +82,5 @@ undo_at_refused k n j runs some within found =
 
 -- the answer to undoing the k-th live step, if it is not there
 pub undo_at_missing : (j : Journal) (n k : ℕ) → n ≡ length j.live → (k ≡ 0) ⊎ (n < k)
-    → (undo_at (state_of j) k ≡ Err (refusal.NoSuchStep n)) × (Err (refusal.NoSuchStep n) ≡ answer_at j k)
+    → (undo_at (state_of j) k ≡ Err (refusal.NoSuchStep n)) × (Err (refusal.NoSuchStep n) ≡ undo_at_answer j k)
 undo_at_missing j n k len h = let none = entry_missing j n k len h in (grind (arith, event_of_entry), grind arith)

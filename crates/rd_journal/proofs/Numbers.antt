@@ -8,8 +8,8 @@ abbrev pub AreBelow : ℕ → List ℕ → Type 0
 AreBelow n ns = All (λ m. m < n) ns
 
 -- the list of the entry in one slot
-pub one : {X : Type 0} (es : List X) (n : ℕ) (x : X) → n < length es → x ≡ get_or es n x → take 1 (drop n es) ≡ x ∷ []
-one {X} es n x h e = ap (λ (ys : List X). take 1 ys) (drop_more es n x h) ∙ (λ i. sym e i ∷ [])
+pub take_one-drop : {X : Type 0} (es : List X) (n : ℕ) (x : X) → n < length es → x ≡ get_or es n x → take 1 (drop n es) ≡ x ∷ []
+take_one-drop {X} es n x h e = ap (λ (ys : List X). take 1 ys) (drop_more es n x h) ∙ (λ i. sym e i ∷ [])
 
 -- parts
 
@@ -42,9 +42,9 @@ at-get {X} es ns k d e h below = ap (λ (ys : List X). get_or ys k d) (at-map es
 
 -- one slot written over, and one more
 
-apart : {X : Type 0} (es : List X) (n v : ℕ) (x : X) → (n ≡ v → ⊥) → take 1 (drop n (set es v x)) ≡ take 1 (drop n es)
-apart (y ∷ es) (suc n) (suc v) x h = apart es n v x (λ e. h (ap (λ (m : ℕ). suc m) e))
-apart es n v x h = grind arith
+take_one-set_other : {X : Type 0} (es : List X) (n v : ℕ) (x : X) → (n ≡ v → ⊥) → take 1 (drop n (set es v x)) ≡ take 1 (drop n es)
+take_one-set_other (y ∷ es) (suc n) (suc v) x h = take_one-set_other es n v x (λ e. h (ap (λ (m : ℕ). suc m) e))
+take_one-set_other es n v x h = grind arith
 
 -- a number counts itself at least once
 count-same : (v : ℕ) → 1 ≤ cond (v == v) 1 0
@@ -52,7 +52,7 @@ count-same v = grind (arith, nat_tests)
 
 pub at-set : {X : Type 0} (es : List X) (v : ℕ) (x : X) (ns : List ℕ) → count_by (λ m. m == v) ns ≡ 0 → at_numbers (set es v x) ns ≡ at_numbers es ns
 at-set es v x [] h = refl
-at-set es v x (n ∷ ns) h = grind (arith, nat_tests, sum_by-cons (λ m. cond (m == v) 1 0) n ns, apart, at-set es v x ns)
+at-set es v x (n ∷ ns) h = grind (arith, nat_tests, sum_by-cons (λ m. cond (m == v) 1 0) n ns, take_one-set_other, at-set es v x ns)
 
 pub at-push : {X : Type 0} (es : List X) (x : X) (ns : List ℕ) → AreBelow (length es) ns → at_numbers (es ++ x ∷ []) ns ≡ at_numbers es ns
 at-push es x [] h = refl
@@ -87,7 +87,7 @@ put_over {X} es ns place v x o within here =
     let its : count_by (λ m. m == v) (v ∷ after) ≡ cond (v == v) 1 0 + count_by (λ m. m == v) after = sum_by-cons test v after in
     let none_before : count_by (λ m. m == v) before ≡ 0 = omega (arith, all, split, its, count-same v) in
     let none_after : count_by (λ m. m == v) after ≡ 0 = omega (arith, all, split, its, count-same v) in
-    let written : take 1 (drop v (set es v x)) ≡ x ∷ [] = one (set es v x) v x (omega (arith, length-set es v x)) (sym (get_or-set_same es v x x there)) in
+    let written : take 1 (drop v (set es v x)) ≡ x ∷ [] = take_one-drop (set es v x) v x (omega (arith, length-set es v x)) (sym (get_or-set_same es v x x there)) in
     ap (at_numbers (set es v x)) around
     ∙ at-append (set es v x) before (v ∷ after)
     ∙ (λ i. at-set es v x before none_before i ++ (written i ++ at-set es v x after none_after i))

@@ -1,5 +1,5 @@
 -- Rolling back a live step with all that depends on it, over whole journals.
-use Rattle.rd_journal.proofs.Prelude.{◌≡◌, ℕ, zero, suc, ◌+◌, ◌-◌, ◌≤◌, Bool, refl, sym, ◌∙◌, ap, arith, List, [], ◌∷◌, ◌++◌, length, take, drop, Some, None, slice_get-get_or, ◌<◌, ◌⊎◌, subst, Ok, Err, depends, first_dependant, closure_of, without_closure, items_where_true, items_where_false, closure_from, position_from, Entry, Journal, IsUndoneAlone, IsRolledBack, append_assoc, map-append, World, run, run-cons, events, IsRun, IsWithoutClosure, roll_answer, IsSession, state_of, roll, middle}
+use Rattle.rd_journal.proofs.Prelude.{◌≡◌, ℕ, zero, suc, ◌+◌, ◌-◌, ◌≤◌, Bool, refl, sym, ◌∙◌, ap, arith, List, [], ◌∷◌, ◌++◌, length, take, drop, Some, None, slice_get-get_or, ◌<◌, ◌⊎◌, subst, Ok, Err, depends, first_dependant, closure_of, without_closure, items_where_true, items_where_false, closure_from, position_from, Entry, Journal, IsUndoneAlone, IsRolledBack, append_assoc, map-append, World, run, run-cons, events, IsRun, IsRunWithoutClosure, roll_answer, IsSession, state_of, roll, middle}
 use Rattle.rd_journal.proofs.Gathering.{cut_at, gathered_run}
 use Rattle.rd_journal.proofs.Finding.{numbered_in, scan_is}
 use Rattle.rd_journal.proofs.Runs.{runs_joined}
@@ -50,9 +50,9 @@ reordered_run s w l i low h =
     (runs_joined s m.before w xs (items_where_false ms ys ++ x ∷ items_where_true ms ys) m.ran (gathered_run m.before w (x ∷ []) ys from))
 
 -- the journal with the closure gathered last is a run from the same start
-pub reordered : (j : Journal) (k : ℕ) → 1 ≤ k → k ≤ length j.live → IsRun j → IsRun (closure_last j k)
-reordered j zero some within runs = absurd (omega arith)
-reordered j (suc i) some within runs =
+pub closure_last-is_run : (j : Journal) (k : ℕ) → 1 ≤ k → k ≤ length j.live → IsRun j → IsRun (closure_last j k)
+closure_last-is_run j zero some within runs = absurd (omega arith)
+closure_last-is_run j (suc i) some within runs =
     record {
       well_formed = runs.well_formed;
       live_ran = reordered_run j.start j.world j.live i (omega arith) runs.live_ran;
@@ -71,7 +71,7 @@ pub record IsGatheredLast (k : ℕ) (old new : Journal) : Type 0 where
 
 pub gathered_session : (k : ℕ) (old new : Journal) (room : ℕ → ℕ) → IsSession old room → 1 ≤ k → k ≤ length old.live → IsGatheredLast k old new
     → IsSession new room
-gathered_session k old new room session some within g = grind (arith, reordered)
+gathered_session k old new room session some within g = grind (arith, closure_last-is_run)
 
 -- The state
 
@@ -83,7 +83,7 @@ pub items_where_false-map : (bs : List Bool) (xs : List Entry) → items_where_f
 items_where_false-map (b ∷ bs) (x ∷ xs) = grind (arith, items_where_false-map bs xs)
 items_where_false-map bs xs = grind arith
 
-pub rolled_run : (k : ℕ) (old new : Journal) → IsRolledBack k old new → new.start ≡ old.start → IsRun new → IsWithoutClosure k old new
+pub rolled_run : (k : ℕ) (old new : Journal) → IsRolledBack k old new → new.start ≡ old.start → IsRun new → IsRunWithoutClosure k old new
 rolled_run k old new is start runs = grind (arith, items_where_false-map)
 
 -- The answers

@@ -1,6 +1,6 @@
 -- Runs and their entries: two runs joined, the first and the last step of a run, and journals that
 -- gain or lose a step.
-use Rattle.rd_journal.proofs.Prelude.{runs_to, run_joined, ◌≡◌, refl, sym, ◌∙◌, ap, subst, List, [], ◌∷◌, ◌++◌, Result, Ok, arith, ℕ, ◌-◌, ◌<◌, ◌≤◌, ◌⊎◌, length, get_or, slice_get, option_map, Some, None, map-append, Refusal, World, Stepped, step, unstep, run, IsFree, IsWellFormed, Event, Entry, WasStepped, IsTakenOut, took, run-cons, run_keeps, middle, Journal, events, IsRun, IsRunFrom, append-nil, taken_out, slice_get-map, slice_get_past, slice_get-get_or, LeadsTo, numbered, run_entries}
+use Rattle.rd_journal.proofs.Prelude.{runs_to, run_joined, ◌≡◌, refl, sym, ◌∙◌, ap, subst, List, [], ◌∷◌, ◌++◌, Result, Ok, arith, ℕ, ◌-◌, ◌<◌, ◌≤◌, ◌⊎◌, length, get_or, slice_get, option_map, Some, None, map-append, Refusal, World, Stepped, step, unstep, run, IsFree, IsWellFormed, Event, Entry, WasStepped, IsTakenOut, step_stages, run-cons, run_keeps_well_formed, middle, Journal, events, IsRun, IsRunFrom, append-nil, taken_out, slice_get-map, slice_get_past, slice_get-get_or, LeadsTo, numbered, run_entries}
 
 -- a result that is no refusal
 abbrev pub as_ok : {X : Type 0} → X → Result X Refusal
@@ -12,7 +12,7 @@ as_ok-same x y h = cc
 
 -- a step's entry names its event
 pub step_event : (w : World) (e : Event) (s : Stepped) → step w e ≡ Ok s → s.entry.event ≡ e
-step_event w e s h = let t = took w e s h in ap (λ (x : Stepped). x.entry.event) (sym t.ends)
+step_event w e s h = let t = step_stages w e s h in ap (λ (x : Stepped). x.entry.event) (sym t.ends)
 
 -- a journal is a run if its live entries are those of a run from its start to its world, and its
 -- undone entries run on
@@ -35,13 +35,13 @@ ran_more s w v xs x ran goes =
 
 -- a journal's world is well-formed
 pub now_formed : (j : Journal) → IsRun j → IsWellFormed j.world
-now_formed j runs = run_keeps j.start (events j.live) (record { world = j.world; entries = j.live }) runs.well_formed runs.live_ran
+now_formed j runs = run_keeps_well_formed j.start (events j.live) (record { world = j.world; entries = j.live }) runs.well_formed runs.live_ran
 
 -- a step from a journal's world gives a journal from the same start, with the step's entry last and
 -- any entries undone that run on
-pub grown : (s w v : World) (xs zs ys : List Entry) (x : Entry) (e : Event) → IsRun (record { start = s; world = w; live = xs; undone = zs })
+pub is_run-with_step : (s w v : World) (xs zs ys : List Entry) (x : Entry) (e : Event) → IsRun (record { start = s; world = w; live = xs; undone = zs })
     → step w e ≡ Ok (record { world = v; entry = x }) → IsRunFrom v ys → IsRun (record { start = s; world = v; live = xs ++ x ∷ []; undone = ys })
-grown s w v xs zs ys x e runs h rest =
+is_run-with_step s w v xs zs ys x e runs h rest =
     let its : x.event ≡ e = step_event w e (record { world = v; entry = x }) h in
     record { well_formed = runs.well_formed; live_ran = ran_more s w v xs x runs.live_ran (ap (step w) its ∙ h); undone_run_on = rest }
 
@@ -57,7 +57,7 @@ may_take_out s w xs ys zs x runs free =
     let m = middle s xs x ys w runs.live_ran in
     let was : WasStepped w x = record {
       start = m.before;
-      well_formed = run_keeps s (events xs) (record { world = m.before; entries = xs }) runs.well_formed m.ran;
+      well_formed = run_keeps_well_formed s (events xs) (record { world = m.before; entries = xs }) runs.well_formed m.ran;
       event = x.event;
       stepped = record { world = m.after; entry = x };
       goes = m.goes;

@@ -1,5 +1,5 @@
 -- Entries of a run put after the first live ones, and the room that their makings need.
-use Rattle.rd_journal.proofs.Prelude.{common_steps, take-suc, cases_Bool, map-append, take-map, length-take-le, SegName, Place, Content, after, World, Stepped, step, run, MOST_STEPS, Event, Entry, room_used, room_returned, took, with_actor-other, room_used_returned, Journal, events, IsRun, IsRunFrom, LeadsTo, IsSwitched, IsSession, room_returned_by, room_after_undoing, HasRoom, HasRoomForActors, state_of, switch, run_stays_actor, beginning, first_step, ◌≡◌, ◌≢◌, ℕ, zero, suc, ◌+◌, ◌-◌, ◌<◌, ◌≤◌, ◌==◌, Bool, false, refl, sym, ◌∙◌, ap, subst, arith, inl, inr, List, [], ◌∷◌, ◌++◌, length, take, drop, set, get_or, if◌then◌else◌, Option, Some, None, is_some, IsSome, Ok, length-append, made, made_at}
+use Rattle.rd_journal.proofs.Prelude.{common_steps, take-suc, cases_Bool, map-append, take-map, length-take-le, SegName, Place, Content, after, World, Stepped, step, run, MOST_STEPS, Event, Entry, room_used, room_returned, step_stages, with_actor-other, room_used_returned, Journal, events, IsRun, IsRunFrom, LeadsTo, IsSwitched, IsSession, room_returned_by, room_after_undoing, HasRoom, HasRoomForActors, state_of, switch, run_stays_actor, beginning, first_step, ◌≡◌, ◌≢◌, ℕ, zero, suc, ◌+◌, ◌-◌, ◌<◌, ◌≤◌, ◌==◌, Bool, false, refl, sym, ◌∙◌, ap, subst, arith, inl, inr, List, [], ◌∷◌, ◌++◌, length, take, drop, set, get_or, if◌then◌else◌, Option, Some, None, is_some, IsSome, Ok, length-append, made_segment, made_segment_at}
 use Rattle.rd_journal.proofs.Runs.{runs_joined, as_ok-same, live_lead}
 
 -- Counting makings
@@ -16,7 +16,7 @@ returned_joined [] ys m = omega arith
 returned_joined (x ∷ xs) ys m = omega (arith, returned_joined xs ys m)
 
 -- a making gives the room of one segment back to its maker
-returned_made : (p : Option Place) (c : Option Content) (m : ℕ) (s : SegName) → made_at p c ≡ Some s → room_returned p c m ≡ (if m == s.maker then 1 else 0)
+returned_made : (p : Option Place) (c : Option Content) (m : ℕ) (s : SegName) → made_segment_at p c ≡ Some s → room_returned p c m ≡ (if m == s.maker then 1 else 0)
 returned_made p c m s h = grind (arith, h)
 
 -- the makings among the first entries and the next one
@@ -32,7 +32,7 @@ not_its_actor w e s m k none same = grind arith
 
 brings_no_actor : (w : World) (e : Event) (s : Stepped) (m : ℕ) → step w e ≡ Ok s → is_some (w.actor m) ≡ false
     → is_some (s.world.actor m) ≡ false
-brings_no_actor w e s m k none = grind (arith, took, with_actor-other)
+brings_no_actor w e s m k none = grind (arith, step_stages, with_actor-other)
 
 used_by_other : (made : Bool) (n m : ℕ) → m ≢ n → room_used made n m ≡ 0
 used_by_other made n m ne = grind arith
@@ -49,10 +49,10 @@ none_made w (x ∷ xs) m h none =
 -- Runs cut in two
 
 -- if one run begins another, the other entries run on from the one's last world
-pub runs_on : (s w : World) (xs ys : List Entry) → run s (events xs) ≡ Ok (record { world = w; entries = xs }) → IsRunFrom s (xs ++ ys)
+pub rest_runs_on : (s w : World) (xs ys : List Entry) → run s (events xs) ≡ Ok (record { world = w; entries = xs }) → IsRunFrom s (xs ++ ys)
     → IsRunFrom w ys
-runs_on s w [] ys h k = grind (arith, as_ok-same)
-runs_on s w (x ∷ xs) ys h k = grind (arith, first_step s x (xs ++ ys) k, beginning s x xs w h, runs_on (beginning s x xs w h).after w xs ys (beginning s x xs w h).rest)
+rest_runs_on s w [] ys h k = grind (arith, as_ok-same)
+rest_runs_on s w (x ∷ xs) ys h k = grind (arith, first_step s x (xs ++ ys) k, beginning s x xs w h, rest_runs_on (beginning s x xs w h).after w xs ys (beginning s x xs w h).rest)
 
 -- The session with these entries after the border
 
@@ -100,7 +100,7 @@ may_exchange n old given again steps w before after runs all back_to gives run_o
     let leads : LeadsTo s w kept = subst (λ (xs : List Entry). LeadsTo s w (take n xs)) all (back_to s (live_lead old steps runs all)) in
     let has = room_for_all s old.world old.live given (room_after_undoing (drop n old.live) before) runs.live_ran n run_on makings in
     let gone = ap (λ (xs : List Entry). drop n xs) all in (
-      subst (λ (xs : List Entry). IsRunFrom w xs) (sym same) (runs_on s w kept given leads.ran run_on),
+      subst (λ (xs : List Entry). IsRunFrom w xs) (sym same) (rest_runs_on s w kept given leads.ran run_on),
       subst (λ (xs : List Entry). HasRoom xs after) (sym same)
           (record { at = λ m. omega (arith, has.at m, gives m, ap (λ (xs : List Entry). room_returned_by xs m) gone) }),
     )
@@ -124,22 +124,22 @@ room_for_actors w v xs number room same made none count =
 -- Counting the makings of each actor
 
 -- an entry that isn't a making doesn't change the number of makings
-pub no_making_counted : (xs : List Entry) (i m count : ℕ) (d : Entry) → i < length xs → made (get_or xs i d) ≡ None
+pub no_making_counted : (xs : List Entry) (i m count : ℕ) (d : Entry) → i < length xs → made_segment (get_or xs i d) ≡ None
     → count ≡ room_returned_by (take i xs) m → count ≡ room_returned_by (take (i + 1) xs) m
 no_making_counted xs i m count d h none counted = grind (arith, returned_next xs i m d h)
 
 -- a making adds one to its maker's number
-pub making_counted : (counts : List ℕ) (xs : List Entry) (i k m : ℕ) (d : Entry) (s : SegName) → i < length xs → made (get_or xs i d) ≡ Some s → k ≡ s.maker → k < length counts
+pub making_counted : (counts : List ℕ) (xs : List Entry) (i k m : ℕ) (d : Entry) (s : SegName) → i < length xs → made_segment (get_or xs i d) ≡ Some s → k ≡ s.maker → k < length counts
     → get_or counts m 0 ≡ room_returned_by (take i xs) m → get_or (set counts k (get_or counts k 0 + 1)) m 0 ≡ room_returned_by (take (i + 1) xs) m
 making_counted counts xs i k m d s h makes its within counted = grind (arith, common_steps, returned_next xs i m d h, returned_made (get_or xs i d).place (get_or xs i d).old_content m s makes)
 
 -- a making among the dropped entries takes one off its maker's number
-pub making_missed : (counts : List ℕ) (xs : List Entry) (i k m base : ℕ) (x : Entry) (s : SegName) → i < length xs → x ≡ get_or xs i x → made x ≡ Some s → k ≡ s.maker
+pub making_missed : (counts : List ℕ) (xs : List Entry) (i k m base : ℕ) (x : Entry) (s : SegName) → i < length xs → x ≡ get_or xs i x → made_segment x ≡ Some s → k ≡ s.maker
     → k < length counts → get_or counts m 0 ≡ base - room_returned_by (take i xs) m
     → get_or (set counts k (get_or counts k 0 - 1)) m 0 ≡ base - room_returned_by (take (i + 1) xs) m
 making_missed counts xs i k m base x s h here makes its within counted = grind (arith, common_steps, returned_next xs i m x h, returned_made x.place x.old_content m s makes)
 
 -- an entry that isn't a making takes nothing off
-pub no_making_missed : (xs : List Entry) (i m base count : ℕ) (x : Entry) → i < length xs → x ≡ get_or xs i x → made x ≡ None
+pub no_making_missed : (xs : List Entry) (i m base count : ℕ) (x : Entry) → i < length xs → x ≡ get_or xs i x → made_segment x ≡ None
     → count ≡ base - room_returned_by (take i xs) m → count ≡ base - room_returned_by (take (i + 1) xs) m
 no_making_missed xs i m base count x h here none counted = grind (arith, returned_next xs i m x h)

@@ -1,7 +1,7 @@
 -- Undoing a journal's last live steps, redoing its first undone ones, and how the state changes.
 use Rattle.rd_journal.proofs.Prelude.{run_joined, ◌≡◌, ℕ, ◌+◌, ◌-◌, ◌≤◌, sym, ◌∙◌, ap, subst, List, ◌++◌, length, take, drop, Ok, arith, length-append, le-ltb, cond-false, append_assoc, map-append, length-map, take-map, drop-map, take-append-drop, World, run, Entry, runs_to, Journal, events, IsRun, IsRunFrom, LeadsTo, IsSession, IsMovedBack, IsMovedForward, room_returned_by, HasRoom, state_of, back, forward}
 use Rattle.rd_journal.proofs.Runs.{runs_joined, runs_since, live_lead}
-use Rattle.rd_journal.proofs.Switching.{returned_joined, runs_on}
+use Rattle.rd_journal.proofs.Switching.{returned_joined, rest_runs_on}
 
 -- What is left is a session
 
@@ -12,10 +12,10 @@ whole_run j runs =
     grind (arith, map-append, run_joined j.start (events j.live) (events j.undone) (record { world = j.world; entries = j.live }) (record { world = on.last; entries = j.undone }) runs.live_ran on.runs)
 
 -- a session after n steps back, if the other live steps lead from the start to the new world
-pub moved_back : (n left : ℕ) (old new : Journal) (steps : List Entry) (before after : ℕ → ℕ) → new.start ≡ old.start → n ≤ length old.live → IsSession old before
+pub session_back : (n left : ℕ) (old new : Journal) (steps : List Entry) (before after : ℕ → ℕ) → new.start ≡ old.start → n ≤ length old.live → IsSession old before
     → steps ≡ old.live → left ≡ length old.live - n → ((start : World) → LeadsTo start old.world steps → LeadsTo start new.world (take left steps))
     → ((m : ℕ) → before m + room_returned_by (drop left steps) m ≤ after m) → IsMovedBack n old new → IsSession new after
-moved_back n left old new steps before after start within session all many leads gives moved =
+session_back n left old new steps before after start within session all many leads gives moved =
     let s = old.start in
     let k = length old.live - n in
     let l = take k old.live in
@@ -28,17 +28,17 @@ moved_back n left old new steps before after start within session all many leads
       runs =
           runs_since s new start led.well_formed
           (subst (λ (xs : List Entry). run s (events xs) ≡ Ok (record { world = new.world; entries = xs })) (sym moved.live) led.ran)
-          (runs_on s new.world l new.undone led.ran (subst (λ (xs : List Entry). IsRunFrom s xs) (sym cut) (whole_run old session.runs)));
+          (rest_runs_on s new.world l new.undone led.ran (subst (λ (xs : List Entry). IsRunFrom s xs) (sym cut) (whole_run old session.runs)));
       has_room =
           subst (λ (xs : List Entry). HasRoom xs after) (sym moved.undone)
           (record { at = λ m. omega (arith, session.has_room.at m, gives m, ap (λ (xs : List Entry). room_returned_by xs m) gone, returned_joined (drop k old.live) old.undone m) });
     }
 
 -- a session after n steps forward, if these lead from the old world to the new one
-pub moved_forward : (n : ℕ) (old new : Journal) (steps : List Entry) (before after : ℕ → ℕ) → new.start ≡ old.start → IsSession old before → steps ≡ take n old.undone
+pub session_forward : (n : ℕ) (old new : Journal) (steps : List Entry) (before after : ℕ → ℕ) → new.start ≡ old.start → IsSession old before → steps ≡ take n old.undone
     → run old.world (events steps) ≡ Ok (record { world = new.world; entries = steps }) → ((rest : List Entry) → HasRoom (steps ++ rest) before → HasRoom rest after)
     → IsMovedForward n old new → IsSession new after
-moved_forward n old new steps before after start session first goes has moved =
+session_forward n old new steps before after start session first goes has moved =
     let s = old.start in
     let live : new.live ≡ old.live ++ steps = moved.live ∙ ap (λ (xs : List Entry). old.live ++ xs) (sym first) in
     let cut : steps ++ new.undone ≡ old.undone = (λ i. first i ++ moved.undone i) ∙ take-append-drop n old.undone in
@@ -48,7 +48,7 @@ moved_forward n old new steps before after start session first goes has moved =
           runs_since s new start session.runs.well_formed
           (subst (λ (xs : List Entry). run s (events xs) ≡ Ok (record { world = new.world; entries = xs })) (sym live)
           (runs_joined s old.world new.world old.live steps session.runs.live_ran goes))
-          (runs_on old.world new.world steps new.undone goes (subst (λ (xs : List Entry). IsRunFrom old.world xs) (sym cut) session.runs.undone_run_on));
+          (rest_runs_on old.world new.world steps new.undone goes (subst (λ (xs : List Entry). IsRunFrom old.world xs) (sym cut) session.runs.undone_run_on));
       has_room = has new.undone (subst (λ (xs : List Entry). HasRoom xs before) (sym cut) session.has_room);
     }
 

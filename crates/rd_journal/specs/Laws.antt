@@ -3,7 +3,7 @@ use Rattle.std.specs.Prelude.{◌≡◌, ℕ, ◌++◌, Some, take, Ok}
 use Rattle.rd_step.specs.Prelude.{Place, operand, World, step, without, closure_of, without_closure, run}
 use Rattle.rd_step.specs.declared.entries.Entry.{Entry}
 use Rattle.rd_journal.specs.Journal.{Journal, events, run_entries}
-use Rattle.rd_journal.specs.Numbers.{just}
+use Rattle.rd_journal.specs.Numbers.{only_numbered}
 
 -- x is the entry of the live step after the first k. These lead from the start to the world
 -- `before`, and the step leads from there to `after` and leaves x. The old record and the old
@@ -21,7 +21,7 @@ pub record IsStepAfter (k : ℕ) (j : Journal) (x : Entry) : Type 0 where
 pub record IsMovedLast (n : ℕ) (old new : Journal) : Type 0 where
   pub start : new.start ≡ old.start
   pub world : new.world ≡ old.world
-  pub live : new.live ≡ without old.live n ++ just old.live n
+  pub live : new.live ≡ without old.live n ++ only_numbered old.live n
   pub undone : new.undone ≡ old.undone
 
 -- the live entries of the causal closure of n have become the last, in their order, and the others

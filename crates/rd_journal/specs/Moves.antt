@@ -4,7 +4,7 @@ use Rattle.rd_step.specs.Prelude.{Refusal, step, first_dependant, without, items
 use Rattle.rd_step.specs.declared.entries.Event.{Event}
 use Rattle.rd_step.specs.declared.entries.Entry.{Entry}
 use Rattle.rd_journal.specs.Journal.{Journal, events, entry_of, unless_depended}
-use Rattle.rd_journal.specs.Numbers.{just}
+use Rattle.rd_journal.specs.Numbers.{only_numbered}
 
 -- x has become the last live entry, and no step is undone
 pub record IsLengthened (x : Entry) (old new : Journal) : Type 0 where
@@ -30,15 +30,15 @@ pub record IsMovedForward (n : ℕ) (old new : Journal) : Type 0 where
   pub undone : new.undone ≡ drop n old.undone
 
 -- the new world and live entries are those of the run of the old live events without the last n
-abbrev pub IsBeforeLast : ℕ → Journal → Journal → Type 0
-IsBeforeLast n old new =
+abbrev pub IsRunWithoutLast : ℕ → Journal → Journal → Type 0
+IsRunWithoutLast n old new =
     run old.start (take (length old.live - n) (events old.live)) ≡ Ok (record { world = new.world; entries = new.live })
 
 -- the k-th live entry has become the front of the undone ones; the others are in their order, and
 -- no entry changed
 pub record IsUndoneAlone (k : ℕ) (old new : Journal) : Type 0 where
   pub live : new.live ≡ without old.live k
-  pub undone : new.undone ≡ just old.live k ++ old.undone
+  pub undone : new.undone ≡ only_numbered old.live k ++ old.undone
 
 -- the new world and live entries are those of the run of the old live events without the k-th
 abbrev pub IsRunWithout : ℕ → Journal → Journal → Type 0
@@ -46,8 +46,8 @@ IsRunWithout k old new = run old.start (without (events old.live) k) ≡ Ok (rec
 
 -- the answer to undoing the k-th live step alone: `NoSuchStep` if there is no such step, `Depended`
 -- with the number of the first live step that depends on it if there is one, else done
-abbrev pub answer_at : Journal → ℕ → Result Unit Refusal
-answer_at j k = and_then (entry_of j k) (λ _. unless_depended (first_dependant j.live k))
+abbrev pub undo_at_answer : Journal → ℕ → Result Unit Refusal
+undo_at_answer j k = and_then (entry_of j k) (λ _. unless_depended (first_dependant j.live k))
 
 -- the first n live entries stayed and are followed by the given ones, and no step is undone
 pub record IsSwitched (n : ℕ) (given : List Entry) (old new : Journal) : Type 0 where
@@ -62,8 +62,8 @@ pub record IsRolledBack (k : ℕ) (old new : Journal) : Type 0 where
 
 -- the new world and live entries are those of the run of the old live events outside the causal
 -- closure of k
-abbrev pub IsWithoutClosure : ℕ → Journal → Journal → Type 0
-IsWithoutClosure k old new =
+abbrev pub IsRunWithoutClosure : ℕ → Journal → Journal → Type 0
+IsRunWithoutClosure k old new =
     run old.start (items_where_false (closure old.live k) (events old.live)) ≡ Ok (record { world = new.world; entries = new.live })
 
 -- the answer to rolling back the k-th live step: `NoSuchStep` if there is no such step, else done

@@ -7,8 +7,8 @@ abbrev pub at_numbers : {X : Type 0} → List X → List ℕ → List X
 at_numbers entries numbers = flat_map (λ n. take 1 (drop n entries)) numbers
 
 -- the list of just the k-th element, counted from 1
-abbrev pub just : {X : Type 0} → List X → ℕ → List X
-just xs k = take 1 (drop (k - 1) xs)
+abbrev pub only_numbered : {X : Type 0} → List X → ℕ → List X
+only_numbered xs k = take 1 (drop (k - 1) xs)
 
 -- the list is an order of this many slots: it has the number of each slot once, and no other number
 pub record IsOrder (slots : ℕ) (order : List ℕ) : Type 0 where

@@ -27,7 +27,7 @@ abbrev pub LacksIndexRoom : DependIndex → List Entry → List Entry → Type 0
 LacksIndexRoom index gone given = HasRoomInstead index gone given → ⊥
 
 -- the step succeeds, and the index has no room for its entry, even once the undone ones are removed
-pub record IsNotIndexed (stepped : Result Stepped Refusal) (undone : List Entry) (index : DependIndex) : Type 0 where
+pub record FindsNoIndexRoom (stepped : Result Stepped Refusal) (undone : List Entry) (index : DependIndex) : Type 0 where
   pub after : Stepped
   pub goes : stepped ≡ Ok after
   pub lacks : LacksIndexRoom index undone (after.entry ∷ [])
@@ -38,7 +38,7 @@ pub record IsNotIndexed (stepped : Result Stepped Refusal) (undone : List Entry)
 pub record AsksForMemory (j : Journal) (capacity : ℕ) (room : ℕ → ℕ) (index : DependIndex) (e : Event) : Type 0 where
   pub not_full : length j.live < MOST_STEPS
   pub asked : ((j.undone ≡ []) × (capacity ≡ length j.live)) ⊎ FindsNoRoom (step j.world e) (makes_segment j.world e) (room e.actor)
-      ⊎ IsNotIndexed (step j.world e) j.undone index
+      ⊎ FindsNoIndexRoom (step j.world e) j.undone index
 
 -- a refusal other than `TooLong` and `NoMemory` comes only where there is room for one more entry
 abbrev pub ComesAfterRoom : ℕ → ℕ → Refusal → Type 0

@@ -47,7 +47,7 @@ AnswersAs wanted (Ok _) old new = wanted ≡ Ok (state new)
 AnswersAs wanted (Err cause) old new = (wanted ≡ Err cause) × (new ≡ old)
 
 -- the session goes along its track: the track, the index and the room for entries stay
-pub record GoesAlong {R : ℕ} (old new : Session R) : Type 0 where
+pub record GoesAlongTrack {R : ℕ} (old new : Session R) : Type 0 where
   pub track : track new ≡ track old
   pub index : index new ≡ index old
   pub capacity : capacity new ≡ capacity old

@@ -14,7 +14,7 @@ ghost use Rattle.std.specs.Prelude.{◌≡◌, ◌++◌, ◌+◌, ◌-◌, ◌<�
 ghost use Rattle.rd_step.specs.Prelude.{without, closure_of, without_closure, MOST_STEPS};
 ghost use Rattle.rd_depend.specs.Index.{IsIndexOf, HasRoomFor};
 ghost use Rattle.rd_depend.specs.Moved.{moved_to};
-ghost use Rattle.rd_journal.specs.Numbers.{just, IsOrder};
+ghost use Rattle.rd_journal.specs.Numbers.{only_numbered, IsOrder};
 
 mod gathering;
 mod slots;
@@ -23,7 +23,7 @@ use super::entry_list::{EntryList, entry_at};
 use gathering::gather;
 use rd_depend::DependIndex;
 use rd_step::Entry;
-use slots::{make_room_in, move_after, put_at};
+use slots::{make_room_in, move_to, put_at};
 use std::alloc::{AllocError, Global};
 
 /// The entries of the live steps, in their order, and of the steps ahead of them, the next one in
@@ -71,20 +71,20 @@ impl Entries {
     pub(crate) fn live(&self) -> EntryList<'_>
         ensures { result ≡ live_entries self.now }
     {
-        self.first(self.live)
+        self.first_kept(self.live)
     }
 
     /// Returns the entries of the first `n` steps ahead. At least `n` steps must be ahead.
-    pub(crate) fn ahead(&self, n: usize) -> EntryList<'_>
+    pub(crate) fn first_ahead(&self, n: usize) -> EntryList<'_>
         requires within { n ≤ length (ahead_entries self.now) }
         ensures { result ≡ take n (ahead_entries self.now) }
     {
-        self.first(self.live + n).after(self.live)
+        self.first_kept(self.live + n).after(self.live)
     }
 
     /// Returns the first `n` of the live entries followed by those ahead. There must be at least
     /// `n` of both together.
-    fn first(&self, n: usize) -> EntryList<'_>
+    fn first_kept(&self, n: usize) -> EntryList<'_>
         requires within { n ≤ self.now.live + self.now.ahead }
         ensures { result ≡ take n (all_entries self.now) }
     {
@@ -130,18 +130,18 @@ impl Entries {
         self.at(self.live + position)
     }
 
-    /// Returns the entry whose slot's number is at index `place` of the order, which must be below
-    /// the order's length.
-    fn at(&self, place: usize) -> &Entry
-        requires { place < length (all_entries self.now) }
-        ensures { result.now ≡ get_or (all_entries self.now) place result.now }
+    /// Returns the entry whose slot's number is at index `position` of the order, which must be
+    /// below the order's length.
+    fn at(&self, position: usize) -> &Entry
+        requires { position < length (all_entries self.now) }
+        ensures { result.now ≡ get_or (all_entries self.now) position result.now }
     {
-        entry_at(&self.slots, &self.order, place)
+        entry_at(&self.slots, &self.order, position)
     }
 
     /// Moves the border back: the last `n` live entries become the next ones ahead. At least `n`
     /// must be live.
-    pub(crate) fn step_back(&mut self, n: usize)
+    pub(crate) fn move_border_back(&mut self, n: usize)
         requires enough { n ≤ length (live_entries self.old) }
         ensures live { live_entries self.new ≡ take (length (live_entries self.old) - n)
             (live_entries self.old) }
@@ -157,7 +157,7 @@ impl Entries {
 
     /// Moves the border forward: the next `n` entries ahead become the last live ones. At least `n`
     /// must be ahead.
-    pub(crate) fn step_forward(&mut self, n: usize)
+    pub(crate) fn move_border_forward(&mut self, n: usize)
         requires enough { n ≤ length (ahead_entries self.old) }
         ensures live { live_entries self.new ≡ live_entries self.old
             ++ take n (ahead_entries self.old) }
@@ -171,17 +171,17 @@ impl Entries {
 
     /// Makes the `k`-th live entry, counted from 1, the next one ahead. There must be such an
     /// entry. All others stay in their order.
-    pub(crate) fn undo_alone(&mut self, k: usize)
+    pub(crate) fn make_next_ahead(&mut self, k: usize)
         requires some { 1 ≤ k }
         requires position { k ≤ length (live_entries self.old) }
         ensures live { live_entries self.new ≡ without (live_entries self.old) k }
-        ensures ahead { ahead_entries self.new ≡ just (live_entries self.old) k
+        ensures ahead { ahead_entries self.new ≡ only_numbered (live_entries self.old) k
             ++ ahead_entries self.old }
         ensures kept { kept_entries self.new ≡ moved_to (kept_entries self.old) k
             (length (live_entries self.old)) }
         ensures capacity { entries_capacity self.new ≡ entries_capacity self.old }
     {
-        move_after(&mut self.order, k, self.live);
+        move_to(&mut self.order, k, self.live);
         self.live -= 1;
         self.ahead += 1;
     }
@@ -238,7 +238,7 @@ impl Entries {
     /// Keeps the first `n` live entries, puts the given ones after them, for which there must be
     /// room, and discards all others. At least `n` entries must be live, and at most `MOST_STEPS`
     /// may be kept or given. The kept and the given ones are then live, and none is ahead.
-    pub(crate) fn exchange(&mut self, n: usize, given: &[Entry])
+    pub(crate) fn replace_after(&mut self, n: usize, given: &[Entry])
         requires within { n ≤ length (live_entries self.old) }
         requires room { n + length given.now ≤ entries_capacity self.old }
         requires few { n + length given.now ≤ MOST_STEPS }
@@ -249,14 +249,14 @@ impl Entries {
         self.live = n;
         self.ahead = 0;
         for entry in given {
-            self.push(entry);
+            self.push_live(entry);
         }
     }
 
     /// Makes an entry the last live one. No entry may be ahead, fewer than `MOST_STEPS` may be
     /// live, and there must be room for one more. The entry is written over the first discarded
     /// one, or into a new slot if there is none.
-    fn push(&mut self, entry: &Entry)
+    fn push_live(&mut self, entry: &Entry)
         requires none_ahead { ahead_entries self.old ≡ [] }
         requires room { length (live_entries self.old) < entries_capacity self.old }
         requires few { length (live_entries self.old) < MOST_STEPS }

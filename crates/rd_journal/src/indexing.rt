@@ -90,14 +90,14 @@ pub(crate) fn fill_index(index: &mut DependIndex, entries: &Entries)
     ensures { IsIndexOf index.new (kept_entries entries.now) }
 {
     for next in index.len() as usize..entries.kept_len() {
-        put_back(index, entries.kept_at(next));
+        push_with_room(index, entries.kept_at(next));
     }
 }
 
 /// Puts an entry at the index's next position, for which there must be room, so that it takes no
 /// memory and can't fail. There must be fewer than `MOST_STEPS` positions.
 #[tactic(auto, using(rd_depend::proofs::IndexRoom::room_left))]
-pub(crate) fn put_back(index: &mut DependIndex, entry: &Entry)
+pub(crate) fn push_with_room(index: &mut DependIndex, entry: &Entry)
     requires few { position_count index.old < MOST_STEPS }
     requires room { HasRoomFor index.old (entry.now ∷ []) }
     ensures put { (es : List SomeEntry) → IsIndexOf index.old es

@@ -29,7 +29,7 @@ ghost use Rattle.rd_journal.specs.Room.{ComesAfterRoom, LacksRoom};
 ghost use Rattle.rd_depend.specs.Index.{IsIndexOf};
 ghost use Rattle.rd_journal.specs.Entries.{ahead_entries, kept_entries};
 ghost use Rattle.rd_journal.specs.State.{apply, reply_to, MayLackMemory, undo_at, back, forward, roll, switch};
-ghost use Rattle.rd_journal.specs.Moves.{IsStepOf, IsMovedBack, IsMovedForward, IsBeforeLast, IsUndoneAlone, IsRunWithout, IsSwitched, IsRolledBack, IsWithoutClosure, answer_at, roll_answer};
+ghost use Rattle.rd_journal.specs.Moves.{IsStepOf, IsMovedBack, IsMovedForward, IsRunWithoutLast, IsUndoneAlone, IsRunWithout, IsSwitched, IsRolledBack, IsRunWithoutClosure, undo_at_answer, roll_answer};
 
 use super::entries::Entries;
 use super::indexing::replace_in_index;
@@ -77,7 +77,7 @@ impl<const R: usize> Drop for Session<R> {
 }
 
 impl<const R: usize> Session<R> {
-    ghost use Rattle.rd_journal.specs.Sessions.{journal, state, track, room, capacity, index, MayRefuse, AnswersAs, GoesAlong, KeepsItsSteps};
+    ghost use Rattle.rd_journal.specs.Sessions.{journal, state, track, room, capacity, index, MayRefuse, AnswersAs, GoesAlongTrack, KeepsItsSteps};
 
     /// Opens a session in a world, which is its start. No step is live or undone then, and makers
     /// keep the room that they have in the world. Opening takes no memory.
@@ -145,7 +145,7 @@ impl<const R: usize> Session<R> {
             unstep(&mut self.world, &entry);
             return Err(Refusal::NoMemory);
         }
-        self.entries.exchange(live, from_ref(&entry));
+        self.entries.replace_after(live, from_ref(&entry));
         self.undone = 0;
         Ok((live as u64 + 1, entry))
     }
@@ -159,12 +159,12 @@ impl<const R: usize> Session<R> {
         ensures state { AnswersAs (back (state self.old) 1) result self.old self.new }
         ensures entries { OnOk result (IsMovedBack 1 (journal self.old) (journal self.new)) }
         ensures succeeds { 1 ≤ length (journal self.old).live → IsOk result }
-        ensures along { GoesAlong self.old self.new }
+        ensures along { GoesAlongTrack self.old self.new }
     {
         if self.entries.live_len() == 0 {
             return Err(Refusal::NothingToUndo(0));
         }
-        self.undo_many(1);
+        self.undo_last(1);
         Ok(())
     }
 
@@ -182,7 +182,7 @@ impl<const R: usize> Session<R> {
         ensures state { AnswersAs (undo_at (state self.old) k) result self.old self.new }
         ensures entries { OnOk result (IsUndoneAlone k (journal self.old) (journal self.new)) }
         ensures run { OnOk result (IsRunWithout k (journal self.old) (journal self.new)) }
-        ensures answer { result ≡ answer_at (journal self.old) k }
+        ensures answer { result ≡ undo_at_answer (journal self.old) k }
         ensures capacity { capacity self.new ≡ capacity self.old }
     {
         let len = self.len();
@@ -211,7 +211,7 @@ impl<const R: usize> Session<R> {
     pub fn roll(&mut self, k: u64) -> Result<(), Refusal>
         ensures state { AnswersAs (roll (state self.old) k) result self.old self.new }
         ensures entries { OnOk result (IsRolledBack k (journal self.old) (journal self.new)) }
-        ensures run { OnOk result (IsWithoutClosure k (journal self.old) (journal self.new)) }
+        ensures run { OnOk result (IsRunWithoutClosure k (journal self.old) (journal self.new)) }
         ensures answer { result ≡ roll_answer (journal self.old) k }
         ensures capacity { capacity self.new ≡ capacity self.old }
     {
@@ -233,15 +233,15 @@ impl<const R: usize> Session<R> {
     pub fn back(&mut self, n: u64) -> Result<(), Refusal>
         ensures state { AnswersAs (back (state self.old) n) result self.old self.new }
         ensures entries { OnOk result (IsMovedBack n (journal self.old) (journal self.new)) }
-        ensures run { OnOk result (IsBeforeLast n (journal self.old) (journal self.new)) }
+        ensures run { OnOk result (IsRunWithoutLast n (journal self.old) (journal self.new)) }
         ensures succeeds { n ≤ length (journal self.old).live → IsOk result }
-        ensures along { GoesAlong self.old self.new }
+        ensures along { GoesAlongTrack self.old self.new }
     {
         let len = self.len();
         if n > len {
             return Err(Refusal::NothingToUndo(len));
         }
-        self.undo_many(n);
+        self.undo_last(n);
         Ok(())
     }
 
@@ -253,12 +253,12 @@ impl<const R: usize> Session<R> {
     pub fn redo(&mut self) -> Result<(), Refusal>
         ensures state { AnswersAs (forward (state self.old) 1) result self.old self.new }
         ensures entries { OnOk result (IsMovedForward 1 (journal self.old) (journal self.new)) }
-        ensures along { GoesAlong self.old self.new }
+        ensures along { GoesAlongTrack self.old self.new }
     {
         if self.undone_len() == 0 {
             return Err(Refusal::NothingToRedo);
         }
-        self.redo_many(1);
+        self.redo_front(1);
         Ok(())
     }
 
@@ -271,12 +271,12 @@ impl<const R: usize> Session<R> {
     pub fn forward(&mut self, n: u64) -> Result<(), Refusal>
         ensures state { AnswersAs (forward (state self.old) n) result self.old self.new }
         ensures entries { OnOk result (IsMovedForward n (journal self.old) (journal self.new)) }
-        ensures along { GoesAlong self.old self.new }
+        ensures along { GoesAlongTrack self.old self.new }
     {
         if n > self.undone_len() {
             return Err(Refusal::NothingToRedo);
         }
-        self.redo_many(n);
+        self.redo_front(n);
         Ok(())
     }
 
@@ -308,7 +308,7 @@ impl<const R: usize> Session<R> {
             → capacity self.new ≡ capacity self.old }
     {
         self.make_room_to_switch(n, entries)?;
-        self.exchange(n as usize, entries)
+        self.replace_steps_after(n as usize, entries)
     }
 
     /// Goes along the session's track, which is the live steps with those ahead of them: the
@@ -316,20 +316,20 @@ impl<const R: usize> Session<R> {
     /// finds none. The track must have at least `n` steps, and stays as it is. The call copies no
     /// entry and takes no memory, and its time grows only with the number of steps that it undoes
     /// or makes again.
-    pub fn go_along(&mut self, n: u64)
+    pub fn go_along_track(&mut self, n: u64)
         requires within { n ≤ length (track self.old) }
         ensures state { state self.new ≡ record {
           start = (state self.old).start;
           live = take n (track self.old);
           undone = [];
         } }
-        ensures along { GoesAlong self.old self.new }
+        ensures along { GoesAlongTrack self.old self.new }
     {
         let len = self.len();
         if n > len {
             self.redo_ahead((n - len) as usize);
         } else {
-            self.undo_many(len - n);
+            self.undo_last(len - n);
             self.undone = 0;
         }
     }

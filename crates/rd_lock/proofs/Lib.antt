@@ -1,7 +1,7 @@
 pub mod Prelude
 pub mod Lists
 pub mod Histories
-pub mod Facts
+pub mod Updates
 pub mod Keeps
 pub mod Looks
 pub mod Draws

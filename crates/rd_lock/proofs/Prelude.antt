@@ -13,11 +13,11 @@ pub use Rattle.atomic_table.specs.Table.{Act, Allows, Final, Joins, Me, Seen, Sp
 pub use lib.ListN.{get_elem?}
 pub use native.Mathlib.Decide.{ℕ_discrete}
 pub use prog.Atomic.{either}
-pub use Rattle.rd_lock.specs.Histories.{Adds, Continues, NamesUpTo, placed, put_by, signed}
-pub use Rattle.rd_lock.specs.Lists.{AreAll, AreComparable, IsIn, Pairwise, numbers, only}
-pub use Rattle.rd_lock.specs.Locks.{IsOut, IsPassOf, IsSamePass, IsWaiting, me, next_seen, number, seen}
+pub use Rattle.rd_lock.specs.Histories.{Adds, Continues, NamesUpTo, with_positions, put_by, signed}
+pub use Rattle.rd_lock.specs.Lists.{HasAllUpTo, AreComparable, IsIn, Pairwise, numbers_from, only}
+pub use Rattle.rd_lock.specs.Locks.{IsOut, IsPassOf, IsSamePass, IsWaiting, pass_view, next_seen, number, seen}
 pub use Rattle.rd_lock.specs.Opening.{IsClosedOver, IsEnded, IsEndedWith}
-pub use Rattle.rd_lock.specs.Rule.{Apart, Facts, HasPass, HasTicket, IsAloneAt, IsKept, IsPlaced, KnowsOpening, Lock, LockRule, MemberFits, Place, StageFits, ViewFits, away, home, in_hand, lock_of, newcomer, newcomers, numbers_of, opening_view, single_slot, ticket, view_of}
+pub use Rattle.rd_lock.specs.Rule.{HaveDifferentPasses, LockState, HasPass, HasTicket, IsAloneAt, StateFits, IsPlaced, KnowsOpening, Lock, LockRule, MemberFits, Location, StageFits, ViewFits, away, home, in_hand, lock_of, newcomer, newcomers, pass_numbers, opening_view, single_slot, ticket, view_of}
 pub use Rattle.rd_lock.specs.Steps.{Draws, IsFound, IsNewestNext, IsNewestServed, LoadsNext, LoadsServed, Polls, Releases, Tries, after_next, after_served, with_put, with_next_seen, with_served_seen}
 pub use Rattle.rd_lock.specs.declared.passes.Pass.{Pass}
 pub use Rattle.rd_lock.specs.declared.views.PassView.{PassView}

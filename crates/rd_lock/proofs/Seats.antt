@@ -1,12 +1,12 @@
 -- Joining two seats, and splitting one.
-use Rattle.rd_lock.proofs.Prelude.{◌≡◌, ◌≢◌, ℕ, cond, eqb, List, [], ◌∷◌, ◌++◌, length, set, sym, refl, ap, ◌∙◌, subst, inl, inr, ⊎_elim, eq-eqb, ne_eqb, arith, Facts, HasPass, IsIn, Joins, Lock, LockRule, MemberFits, Out, PassView, Splits, View, ViewFits, at_last, at_longer, dite, get_elem?, numbers_of, set_else, set_here, some, ◌⊎◌, some-injective, ticket, view_of, ℕ_discrete}
+use Rattle.rd_lock.proofs.Prelude.{◌≡◌, ◌≢◌, ℕ, cond, eqb, List, [], ◌∷◌, ◌++◌, length, set, sym, refl, ap, ◌∙◌, subst, inl, inr, ⊎_elim, eq-eqb, ne_eqb, arith, LockState, HasPass, IsIn, Joins, Lock, LockRule, MemberFits, Out, PassView, Splits, View, ViewFits, at_last, at_longer, dite, get_elem?, pass_numbers, set_else, set_here, some, ◌⊎◌, some-injective, ticket, view_of, ℕ_discrete}
 use Rattle.rd_lock.proofs.Lists.{inside, at_end, every_append, every_both, pairwise_append, every_from}
-use Rattle.rd_lock.proofs.Facts.{put, put_here, put_else}
+use Rattle.rd_lock.proofs.Updates.{put, put_here, put_else}
 use Rattle.rd_lock.proofs.Keeps.{each_set, place_still, still}
 use Rattle.rd_lock.proofs.Looks.{others_fit, out_fits}
 
 module _ {E O : Type 0} where
-  is_in_joined : (k : ℕ) (ps qs : List (PassView E O)) → IsIn k (numbers_of ps) ⊎ IsIn k (numbers_of qs) → IsIn k (numbers_of (ps ++ qs))
+  is_in_joined : (k : ℕ) (ps qs : List (PassView E O)) → IsIn k (pass_numbers ps) ⊎ IsIn k (pass_numbers qs) → IsIn k (pass_numbers (ps ++ qs))
   is_in_joined k [] qs h = grind arith
   is_in_joined k (p ∷ ps) qs h = grind (arith, is_in_joined k ps qs)
 
@@ -18,10 +18,10 @@ module _ {E O : Type 0} where
       (λ e. subst (λ (j : ℕ). HasPass (set joining other spent) j k) (sym (ap (λ b. cond b id seat) (eq-eqb seat other e))) (
         both,
         at_end,
-        subst (λ ps. IsIn k (numbers_of ps)) (sym is) (is_in_joined k w.members v.members (inl (subst (λ (x : View E O). IsIn k (numbers_of x.members)) (some-injective has.0 w (sym has.1 ∙ (ap (λ (j : ℕ). get_elem? views j) e ∙ there))) has.2))),
+        subst (λ ps. IsIn k (pass_numbers ps)) (sym is) (is_in_joined k w.members v.members (inl (subst (λ (x : View E O). IsIn k (pass_numbers x.members)) (some-injective has.0 w (sym has.1 ∙ (ap (λ (j : ℕ). get_elem? views j) e ∙ there))) has.2))),
       ))
       (λ ne. subst (λ (j : ℕ). HasPass (set joining other spent) j k) (sym (ap (λ b. cond b id seat) (ne_eqb seat other ne)))
-      (let r = still (λ x. IsIn k (numbers_of x.members)) views id seat v both at (λ h. subst (λ ps. IsIn k (numbers_of ps)) (sym is) (is_in_joined k w.members v.members (inr h))) has in (r.0, set_else joining other seat spent ne ∙ r.1, r.2)))
+      (let r = still (λ x. IsIn k (pass_numbers x.members)) views id seat v both at (λ h. subst (λ ps. IsIn k (pass_numbers ps)) (sym is) (is_in_joined k w.members v.members (inr h))) has in (r.0, set_else joining other seat spent ne ∙ r.1, r.2)))
 
   -- after a split each pass is in the seat that has its view
   parted_passes : (views : List (View E O)) (id : ℕ) (p : PassView E O) (ps : List (PassView E O)) (owner : ℕ → ℕ) (k : ℕ) → get_elem? views id ≡ some (view_of (p ∷ ps) Out) → HasPass views (owner k) k
@@ -29,23 +29,23 @@ module _ {E O : Type 0} where
   parted_passes views id p ps owner k at has = let left : View E O = view_of ps Out in let right : View E O = view_of (p ∷ []) Out in let leaving = set views id left in let new = length leaving in
       dite (ℕ_discrete k p.pass)
       (λ e. rw (put_here owner p.pass new k e) (right, at_last leaving right new refl, inl (sym e)))
-      (λ ne. let r = still (λ x. IsIn k (numbers_of x.members)) views id (owner k) (view_of (p ∷ ps) Out) left at (λ h. grind arith) has in
+      (λ ne. let r = still (λ x. IsIn k (pass_numbers x.members)) views id (owner k) (view_of (p ∷ ps) Out) left at (λ h. grind arith) has in
       rw (put_else owner p.pass new k ne) (r.0, at_longer leaving (right ∷ []) (owner k) r.0 r.1, r.2))
 
 module _ {T E O : Type 0} (lock : Lock T E O) where
   open lock use {seats}
 
   -- the facts after the seat `other` has given its members to the seat `id`
-  abbrev joined : Facts T E → ℕ → ℕ → Facts T E
+  abbrev joined : LockState T E → ℕ → ℕ → LockState T E
   joined f id other = record { next = f.next; served = f.served; log = f.log; owner = λ p. cond (eqb (f.owner p) other) id (f.owner p); taker = f.taker; place = f.place }
 
   -- a member of any other seat still fits after the join
-  stays : (f : Facts T E) (id other j : ℕ) (p : PassView E O) → j ≢ other → MemberFits lock f j p → MemberFits lock (joined f id other) j p
+  stays : (f : LockState T E) (id other j : ℕ) (p : PassView E O) → j ≢ other → MemberFits lock f j p → MemberFits lock (joined f id other) j p
   stays f id other j p ne h = grind arith
 
   -- the join of two seats that are out is allowed, since neither has a ticket or the value
-  pub joins : (id other : ℕ) (v w : View E O) → v.stage ≡ Out → w.stage ≡ Out → Joins (LockRule lock) id v other w (view_of (w.members ++ v.members) Out) (view_of [] Out)
-  joins id other v w out out' s r at apart there = let f = r.0 in let kept = r.3 in let both : View E O = view_of (w.members ++ v.members) Out in let spent : View E O = view_of [] Out in
+  pub join_allowed : (id other : ℕ) (v w : View E O) → v.stage ≡ Out → w.stage ≡ Out → Joins (LockRule lock) id v other w (view_of (w.members ++ v.members) Out) (view_of [] Out)
+  join_allowed id other v w out out' s r at apart there = let f = r.0 in let kept = r.3 in let both : View E O = view_of (w.members ++ v.members) Out in let spent : View E O = view_of [] Out in
       let g = joined f id other in let views = set s.views id both in let was : get_elem? s.views other ≡ some w = sym (set_else s.views id other both apart) ∙ there in
       let mine = kept.each_view id v at in let theirs = kept.each_view other w was in (
         g,
@@ -69,14 +69,14 @@ module _ {T E O : Type 0} (lock : Lock T E O) where
       )
 
   -- the facts after the pass has moved to the seat `new`
-  abbrev parted : Facts T E → ℕ → ℕ → Facts T E
+  abbrev parted : LockState T E → ℕ → ℕ → LockState T E
   parted f pass new = record { next = f.next; served = f.served; log = f.log; owner = put f.owner pass new; taker = f.taker; place = f.place }
 
-  stays_in : (f : Facts T E) (j pass new : ℕ) (q : PassView E O) → q.pass ≢ pass → MemberFits lock f j q → MemberFits lock (parted f pass new) j q
+  stays_in : (f : LockState T E) (j pass new : ℕ) (q : PassView E O) → q.pass ≢ pass → MemberFits lock f j q → MemberFits lock (parted f pass new) j q
   stays_in f j pass new q ne h = grind arith
 
-  pub splits : (id : ℕ) (p : PassView E O) (ps : List (PassView E O)) → Splits (LockRule lock) id (view_of (p ∷ ps) Out) (view_of ps Out) (view_of (p ∷ []) Out)
-  splits id p ps s r at = let f = r.0 in let kept = r.3 in let v : View E O = view_of (p ∷ ps) Out in let left : View E O = view_of ps Out in let right : View E O = view_of (p ∷ []) Out in
+  pub split_allowed : (id : ℕ) (p : PassView E O) (ps : List (PassView E O)) → Splits (LockRule lock) id (view_of (p ∷ ps) Out) (view_of ps Out) (view_of (p ∷ []) Out)
+  split_allowed id p ps s r at = let f = r.0 in let kept = r.3 in let v : View E O = view_of (p ∷ ps) Out in let left : View E O = view_of ps Out in let right : View E O = view_of (p ∷ []) Out in
       let views = set s.views id left in let new = length views in let g = parted f p.pass new in let mine = kept.each_view id v at in let first = mine.members.0 in (
         g,
         r.1,

@@ -18,9 +18,9 @@ module _ {E : Type 0} where
   signed pass es = map (λ (e : E). (pass, e)) es
 
   -- the entries, each with its position; the first has position k
-  abbrev pub placed : ℕ → List E → List (ℕ × E)
-  placed k [] = []
-  placed k (e ∷ es) = (k, e) ∷ placed (suc k) es
+  abbrev pub with_positions : ℕ → List E → List (ℕ × E)
+  with_positions k [] = []
+  with_positions k (e ∷ es) = (k, e) ∷ with_positions (suc k) es
 
   -- `new` is the history `old`, followed by entries of this pass only
   abbrev pub Adds : ℕ → List (ℕ × E) → List (ℕ × E) → Type 0

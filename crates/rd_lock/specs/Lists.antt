@@ -27,10 +27,10 @@ IsIn n [] = ⊥
 IsIn n (x ∷ xs) = (x ≡ n) ⊎ IsIn n xs
 
 -- all numbers from 1 to n are in the list
-abbrev pub AreAll : ℕ → List ℕ → Type 0
-AreAll n xs = (k : ℕ) → 0 < k → k ≤ n → IsIn k xs
+abbrev pub HasAllUpTo : ℕ → List ℕ → Type 0
+HasAllUpTo n xs = (k : ℕ) → 0 < k → k ≤ n → IsIn k xs
 
 -- the list of the n numbers from k on
-abbrev pub numbers : ℕ → ℕ → List ℕ
-numbers k zero = []
-numbers k (suc n) = k ∷ numbers (suc k) n
+abbrev pub numbers_from : ℕ → ℕ → List ℕ
+numbers_from k zero = []
+numbers_from k (suc n) = k ∷ numbers_from (suc k) n

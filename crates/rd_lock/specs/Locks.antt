@@ -7,7 +7,7 @@ use Rattle.rd_lock.specs.declared.passes.Pass.{Pass}
 use Rattle.rd_lock.specs.declared.locks.TicketLock.{TicketLock}
 use Rattle.rd_lock.specs.declared.tickets.TryTakeError.{TryTakeError}
 use Rattle.rd_lock.specs.Lists.{only}
-use Rattle.rd_lock.specs.Histories.{put_by, signed, placed, Adds, Continues}
+use Rattle.rd_lock.specs.Histories.{put_by, signed, with_positions, Adds, Continues}
 use Rattle.rd_lock.specs.Rule.{KnowsOpening}
 
 module _ {T E O : Type 0} where
@@ -21,29 +21,29 @@ module _ {T E O : Type 0} where
 
 module _ {T E O : Type 0} {K : Ghosts T E O} where
   -- what the pass knows: the one member of its seat's view
-  abbrev pub me : Pass T E O K → PassView E O
-  me pass = only pass.seat.me.0.members pass.alone
+  abbrev pub pass_view : Pass T E O K → PassView E O
+  pass_view pass = only pass.seat.me.0.members pass.alone
 
   -- the pass's number, from 1
   abbrev pub number : Pass T E O K → ℕ
-  number pass = (me pass).pass
+  number pass = (pass_view pass).pass
 
   -- the history of the value when the pass last put it back; empty before the first time
   abbrev pub seen : Pass T E O K → List (ℕ × E)
-  seen pass = (me pass).seen
+  seen pass = (pass_view pass).seen
 
   -- the entries that the pass has put, each with its position in the history, from 1
-  abbrev pub own : Pass T E O K → List (ℕ × E)
-  own pass = put_by (number pass) 1 (seen pass)
+  abbrev pub own_entries : Pass T E O K → List (ℕ × E)
+  own_entries pass = put_by (number pass) 1 (seen pass)
 
   -- the greatest value that the pass knows the word `next` to have reached; a load of `served`
   -- counts too, since `next` is never below it
   abbrev pub next_seen : Pass T E O K → ℕ
-  next_seen pass = (me pass).next
+  next_seen pass = (pass_view pass).next
 
   -- the greatest value of the word `served` that the pass has seen
   abbrev pub served_seen : Pass T E O K → ℕ
-  served_seen pass = (me pass).served
+  served_seen pass = (pass_view pass).served
 
   -- the pass neither waits nor holds
   abbrev pub IsOut : Pass T E O K → Type 0
@@ -61,7 +61,7 @@ module _ {T E O : Type 0} {K : Ghosts T E O} where
   -- opened
   pub record IsPassOf (lock : TicketLock T E O) (pass : Pass T E O K) : Type 0 where
     pub table : pass.seat.table_id ≡ lock.table.shared.table_id
-    pub knows_opening : KnowsOpening (seats lock) (opened_origin K.origin lock) (me pass)
+    pub knows_opening : KnowsOpening (seats lock) (opened_origin K.origin lock) (pass_view pass)
 
   -- what the pass knows of the two words has only grown
   abbrev pub KnowsMore : Pass T E O K → Pass T E O K → Type 0
@@ -98,9 +98,9 @@ module _ {T E O : Type 0} {K : Ghosts T E O} where
   -- the words. The history that it found was what it had seen, followed by entries of other passes
   -- only. So its own entries are those that it had, followed by those that it put, each with its
   -- position
-  pub record HasPut (old new : Pass T E O K) (value : T) : Type 0 where
+  pub record HasPutBack (old new : Pass T E O K) (value : T) : Type 0 where
     pub same_number : number new ≡ number old
     pub continues : (ticket : ℕ) (found : List (ℕ × E)) → IsHolding old ticket found → Continues (number old) (seen old) found
     pub has_seen : seen new ≡ K.history value
-    pub own_grows : (ticket : ℕ) (found : List (ℕ × E)) (es : List E) → IsHolding old ticket found → K.history value ≡ found ++ signed (number old) es → own new ≡ own old ++ placed (1 + length found) es
+    pub own_grows : (ticket : ℕ) (found : List (ℕ × E)) (es : List E) → IsHolding old ticket found → K.history value ≡ found ++ signed (number old) es → own_entries new ≡ own_entries old ++ with_positions (1 + length found) es
     pub words : KnowsMore old new

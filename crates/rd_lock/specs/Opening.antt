@@ -7,9 +7,9 @@ use Rattle.rd_lock.specs.declared.views.Recorded.{Ghosts}
 use Rattle.rd_lock.specs.declared.passes.Pass.{Pass}
 use Rattle.rd_lock.specs.declared.tickets.Busy.{Busy}
 use Rattle.rd_lock.specs.declared.locks.TicketLock.{TicketLock}
-use Rattle.rd_lock.specs.Lists.{AreAll, numbers}
+use Rattle.rd_lock.specs.Lists.{HasAllUpTo, numbers_from}
 use Rattle.rd_lock.specs.Histories.{Continues, NamesUpTo}
-use Rattle.rd_lock.specs.Rule.{Lock, numbers_of}
+use Rattle.rd_lock.specs.Rule.{Lock, pass_numbers}
 use Rattle.std.specs.List.{AllByRecursion}
 use Rattle.rd_lock.specs.Locks.{number, seen, next_seen, served_seen, seats, opened_origin, IsOut, IsPassOf}
 
@@ -25,7 +25,7 @@ module _ {T E O : Type 0} (lock : Lock T E O) where
     -- passes of the lock and continues what each member had seen
     pub value : served ≡ next → (x : T) × (slot ≡ Some x) × (lock.origin x ≡ lock.root) × NamesUpTo lock.seats (lock.history x) × AllByRecursion (λ (p : PassView E O). Continues p.pass p.seen (lock.history x)) ps
     -- with all passes as members, the words are equal
-    pub all : AreAll lock.seats (numbers_of ps) → served ≡ next
+    pub all : HasAllUpTo lock.seats (pass_numbers ps) → served ≡ next
 
   -- a table with these words and slots is in such a state: word 0 is `served`, word 1 is `next`,
   -- and slot 0 is the value's
@@ -48,7 +48,7 @@ module _ {T E O : Type 0} {K : Ghosts T E O} where
     pub counted : seats lock ≡ count
     pub rooted : opened_origin K.origin lock ≡ root
     pub are_new : AllByRecursion (IsNewPass lock first) passes
-    pub numbered : map number passes ≡ numbers 1 count
+    pub numbered : map number passes ≡ numbers_from 1 count
 
   -- the lock was closed and leaves this history: each entry names a pass of the lock, and for each
   -- given pass the history is what it had seen, followed by entries of other passes only

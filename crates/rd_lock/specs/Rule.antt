@@ -22,12 +22,12 @@ pub record Lock (T E O : Type 0) : Type 0 where
   pub root : O
 
 -- where the value is: at home in the slot, or away with the seat of this number
-pub data Place (T : Type 0) : Type 0 where
-  home : T → Place T
-  away : ℕ → Place T
+pub data Location (T : Type 0) : Type 0 where
+  home : T → Location T
+  away : ℕ → Location T
 
 -- the whole state of the lock, which no thread knows alone
-pub record Facts (T E : Type 0) : Type 0 where
+pub record LockState (T E : Type 0) : Type 0 where
   -- the word `next`
   pub next : ℕ
   -- the word `served`
@@ -39,7 +39,7 @@ pub record Facts (T E : Type 0) : Type 0 where
   -- the seat of this ticket, if it is drawn and not finished
   pub taker : ℕ → ℕ
   -- where the value is
-  pub place : Place T
+  pub place : Location T
 
 module _ {T E O : Type 0} where
   -- the lock with these ways to read a value's history and origin, this many seats and this origin
@@ -63,8 +63,8 @@ module _ {E O : Type 0} where
   KnowsOpening seats root p = (p.seats ≡ seats) × (p.origin ≡ root)
 
   -- no two members are the same pass
-  abbrev pub Apart : List (PassView E O) → Type 0
-  Apart ps = Pairwise (λ (p q : PassView E O). q.pass ≢ p.pass) ps
+  abbrev pub HaveDifferentPasses : List (PassView E O) → Type 0
+  HaveDifferentPasses ps = Pairwise (λ (p q : PassView E O). q.pass ≢ p.pass) ps
 
   -- a seat at this stage has just one member, if it waits or holds
   abbrev pub IsAloneAt : Stage E → List (PassView E O) → Type 0
@@ -77,12 +77,12 @@ module _ {E O : Type 0} where
   HasTicket views seat t = (v : View E O) × (get_elem? views seat ≡ some v) × (ticket v.stage ≡ some t)
 
   -- the pass numbers of these members
-  abbrev pub numbers_of : List (PassView E O) → List ℕ
-  numbers_of ps = map (λ (p : PassView E O). p.pass) ps
+  abbrev pub pass_numbers : List (PassView E O) → List ℕ
+  pass_numbers ps = map (λ (p : PassView E O). p.pass) ps
 
   -- the seat of this number has this pass as a member
   abbrev pub HasPass : List (View E O) → ℕ → ℕ → Type 0
-  HasPass views seat pass = (v : View E O) × (get_elem? views seat ≡ some v) × IsIn pass (numbers_of v.members)
+  HasPass views seat pass = (v : View E O) × (get_elem? views seat ≡ some v) × IsIn pass (pass_numbers v.members)
 
   -- what this pass knows of a lock that was just opened with this many seats, this origin and both
   -- words at `first`: it has seen no history
@@ -109,13 +109,13 @@ module _ {T E : Type 0} where
 
 module _ {T : Type 0} where
   -- the table's one slot: it has the value if that is at home, and is taken if the value is away
-  abbrev pub single_slot : Place T → List (maybe.Option (Option T))
+  abbrev pub single_slot : Location T → List (maybe.Option (Option T))
   single_slot (home x) = some (Some x) ∷ []
   single_slot (away seat) = none ∷ []
 
 module _ {T E O : Type 0} (lock : Lock T E O) where
   -- what holds of a pass that is a member of the seat of this number
-  pub record MemberFits (f : Facts T E) (seat : ℕ) (p : PassView E O) : Type 0 where
+  pub record MemberFits (f : LockState T E) (seat : ℕ) (p : PassView E O) : Type 0 where
     -- this is the pass's only seat
     pub owned : f.owner p.pass ≡ seat
     -- passes are numbered from 1 to the number of seats
@@ -132,17 +132,17 @@ module _ {T E O : Type 0} (lock : Lock T E O) where
   -- what holds of the seat of this number at this stage. A ticket with which it waits is drawn and
   -- not finished; one by which it holds is the one served, and the seat has the value and found the
   -- present history
-  abbrev pub StageFits : Facts T E → ℕ → Stage E → Type 0
+  abbrev pub StageFits : LockState T E → ℕ → Stage E → Type 0
   StageFits f seat Out = Unit {0}
   StageFits f seat (Waits t) = (f.served ≤ t) × (t < f.next) × (f.taker t ≡ seat)
   StageFits f seat (Holds t found) = (t ≡ f.served) × (t < f.next) × (f.taker t ≡ seat) × (f.place ≡ away seat) × (found ≡ f.log)
 
   -- what holds of the seat of this number with this view
-  pub record ViewFits (f : Facts T E) (seat : ℕ) (v : View E O) : Type 0 where
+  pub record ViewFits (f : LockState T E) (seat : ℕ) (v : View E O) : Type 0 where
     -- each member is a pass of this seat
     pub members : AllByRecursion (MemberFits f seat) v.members
     -- no two members are the same pass
-    pub apart : Apart v.members
+    pub apart : HaveDifferentPasses v.members
     -- a ticket by which the seat waits or holds is drawn, not finished, and its own
     pub stage : StageFits f seat v.stage
     -- a seat that waits or holds has one member
@@ -150,12 +150,12 @@ module _ {T E O : Type 0} (lock : Lock T E O) where
 
   -- the value is where this says: at home with the present history and the lock's origin, or away
   -- with a seat that holds by the ticket `served`
-  abbrev pub IsPlaced : Facts T E → List (View E O) → Place T → Type 0
+  abbrev pub IsPlaced : LockState T E → List (View E O) → Location T → Type 0
   IsPlaced f views (home x) = (lock.history x ≡ f.log) × (lock.origin x ≡ lock.root)
   IsPlaced f views (away seat) = (v : View E O) × (get_elem? views seat ≡ some v) × (v.stage ≡ Holds f.served f.log)
 
   -- the invariant of the lock, apart from what its words and its slot contain
-  pub record IsKept (f : Facts T E) (views : List (View E O)) : Type 0 where
+  pub record StateFits (f : LockState T E) (views : List (View E O)) : Type 0 where
     -- the words are in order, and at most 2^63
     pub order : f.served ≤ f.next
     pub limit : f.next ≤ 2 ^ 63
@@ -172,4 +172,4 @@ module _ {T E O : Type 0} (lock : Lock T E O) where
 
   -- the invariant of the lock: some facts agree with its words, its slot and its seats
   abbrev pub LockRule : State (Option T) (View E O) → Type 0
-  LockRule s = (f : Facts T E) × (s.words ≡ f.served ∷ f.next ∷ []) × (s.homes ≡ single_slot f.place) × IsKept f s.views
+  LockRule s = (f : LockState T E) × (s.words ≡ f.served ∷ f.next ∷ []) × (s.homes ≡ single_slot f.place) × StateFits f s.views

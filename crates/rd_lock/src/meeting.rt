@@ -5,7 +5,7 @@ ghost use Rattle.rd_lock.specs.Locks.{seen, served_seen, IsOut, IsPassOf, IsSame
 
 use super::locks::TicketLock;
 use super::passes::Pass;
-use super::plays::{Joins, LoadsServed, Parts};
+use super::plays::{Joins, LoadsServed, Splits};
 use super::rule::SERVED;
 use super::views::Recorded;
 
@@ -37,7 +37,7 @@ impl<T: Recorded> TicketLock<T> {
         } = other;
         shared.join_seat::<Joins>(&mut both, joined);
         let served = shared.load::<LoadsServed>(&mut both, SERVED);
-        let second = shared.split_seat::<Parts>(&mut both);
+        let second = shared.split_seat::<Splits>(&mut both);
         (
             served,
             Pass { seat: both, number },

@@ -1,13 +1,13 @@
 //! Opening a lock, and closing it.
 ghost use Rattle.std.specs.Prelude.{◌≡◌, ◌<◌, ◌≤◌, ◌^◌, [], map, IfOk, IfErr, IsOk};
 ghost use Rattle.rd_lock.specs.Opening.{IsOpened, IsClosedOver, HasSeenUpTo};
-ghost use Rattle.rd_lock.specs.Lists.{AreAll};
+ghost use Rattle.rd_lock.specs.Lists.{HasAllUpTo};
 ghost use Rattle.std.specs.List.{AllByRecursion};
 ghost use Rattle.rd_lock.specs.Locks.{number as number_of, opened_origin, seats as seats_of, IsPassOf, IsOut};
 
 use super::locks::{NoMemory, TicketLock};
 use super::passes::Pass;
-use super::plays::Parts;
+use super::plays::Splits;
 use super::rule::{NEXT, SERVED, SLOT};
 use super::tables::{close_table, make_table};
 use super::tickets::Busy;
@@ -69,7 +69,7 @@ impl<T: Recorded> TicketLock<T> {
             Err(value) => return Err((NoMemory, value)),
         };
         for number in 0..seats {
-            let pass = table.shared.split_seat::<Parts>(&mut seat);
+            let pass = table.shared.split_seat::<Splits>(&mut seat);
             let Ok(()) = passes.push(Pass {
                 seat: pass,
                 number: number + 1,
@@ -95,7 +95,7 @@ impl<T: Recorded> TicketLock<T> {
         ensures rooted { IfOk result (λ value. T.origin value ≡ opened_origin T.origin self) }
         ensures err { IfErr result (λ words. (words.served < words.next) × (words.next ≤ 2 ^ 63)) }
         ensures newest { IfErr result (λ words. AllByRecursion (HasSeenUpTo words) passes.items) }
-        ensures succeeds { AreAll (seats_of self) (map number_of passes.items) → IsOk result }
+        ensures succeeds { HasAllUpTo (seats_of self) (map number_of passes.items) → IsOk result }
     {
         let TicketLock { table } = self;
         let mut closed = close_table(table, passes);

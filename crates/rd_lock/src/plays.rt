@@ -67,9 +67,9 @@ impl<E, O> Join<View<E, O>> for Joins {
 }
 
 /// The split of a seat: its first member gets a seat of its own.
-pub struct Parts;
+pub struct Splits;
 
-impl<E, O> Split<View<E, O>> for Parts {
+impl<E, O> Split<View<E, O>> for Splits {
     ghost use Rattle.std.specs.Prelude.{drop, take};
     ghost use Rattle.rd_lock.specs.Rule.{view_of};
     ghost use Rattle.rd_lock.specs.declared.views.Stage.TheVariants.{Out};

@@ -2,7 +2,7 @@
 ghost use Rattle.std.specs.Prelude.{◌≡◌, ◌<◌, ◌≤◌, ◌^◌, [], IfOk, IfErr, map};
 ghost use Rattle.std.specs.List.{AllByRecursion};
 ghost use Rattle.std.specs.Mem.Slots.{slots_items, slots_len, IsFull};
-ghost use Rattle.rd_lock.specs.Locks.{me as known_by, IsOut};
+ghost use Rattle.rd_lock.specs.Locks.{pass_view as known_by, IsOut};
 ghost use Rattle.rd_lock.specs.Opening.{IsEndedWith};
 ghost use Rattle.rd_lock.specs.Rule.{lock_of, opening_view};
 

@@ -1,6 +1,6 @@
 //! Tickets: drawing one, waiting for it, holding the value by it, and releasing it.
 ghost use Rattle.std.specs.Prelude.{◌≡◌, ◌^◌, ◌<◌, IfOk, IfErr, OnOk, OnErr};
-ghost use Rattle.rd_lock.specs.Locks.{next_seen, seats, IsOut, IsWaiting, IsPassOf, IsSamePass, IsTaken, IsMissed, MayPutBack, HasPut};
+ghost use Rattle.rd_lock.specs.Locks.{next_seen, seats, IsOut, IsWaiting, IsPassOf, IsSamePass, IsTaken, IsMissed, MayPutBack, HasPutBack};
 
 use super::locks::TicketLock;
 use super::passes::Pass;
@@ -141,7 +141,7 @@ impl<T: Recorded> TicketLock<T> {
         requires value { MayPutBack self.now pass.old value }
         ensures pass { IsPassOf self.now pass.new }
         ensures out { IsOut pass.new }
-        ensures ok { HasPut pass.old pass.new value }
+        ensures ok { HasPutBack pass.old pass.new value }
     {
         let shared = &self.table.shared;
         let found = shared.exchange(&mut pass.seat, SLOT, Some(value));

@@ -1,6 +1,6 @@
 -- The number of entries in the stretches is the number of different lists, except the empty one,
 -- that begin the events of some bookmark.
-use Rattle.rd_marks.proofs.Prelude.{◌≡◌, ℕ, zero, suc, ◌+◌, ◌-◌, ◌<◌, ◌≤◌, inl, inr, refl, sym, ap, ◌∙◌, subst, List, [], ◌∷◌, ◌++◌, length, take, map, sum_by, Contains, length-append, length-take, arith, range_with_len, take-length, cases_lt, cases_eq, nat_tests, get_or-map, length-map, length-take-le, take-map, take-take, sum_by-cons, Contains-append_left, Contains-append_right, Contains-append_cases, Event, Entry, Begins, MarkName, Stretch, Node, marks_of, named_lists, stretch_list, shared_at, entries_at, AreNested, AreFresh, entries_in_stretch, greatest_in, AreNeeded, IsAlong, IsDeepest, entry_count, events}
+use Rattle.rd_marks.proofs.Prelude.{◌≡◌, ℕ, zero, suc, ◌+◌, ◌-◌, ◌<◌, ◌≤◌, inl, inr, refl, sym, ap, ◌∙◌, subst, List, [], ◌∷◌, ◌++◌, length, take, map, sum_by, Contains, length-append, length-take, arith, range_with_len, take-length, cases_lt, cases_eq, nat_tests, get_or-map, length-map, length-take-le, take-map, take-take, sum_by-cons, Contains-append_left, Contains-append_right, Contains-append_cases, Event, Entry, Begins, MarkName, Stretch, Node, marks_of, named_entries, stretch_list, shared_at, entries_at, AreNested, AreFresh, node_len_in_stretch, greatest_len_in_stretch, AreNeeded, IsAlong, IsDeepest, entry_count, events}
 use Rattle.std.proofs.lemmas.List.FromFn.{length-map-range_with_len, get_or-map-range_with_len}
 use Rattle.rd_marks.specs.Beginnings.{IsBeginning, AreDistinct, CountsBeginnings, NeedsNoEntry}
 use Rattle.rd_marks.proofs.MarkLemmas.{mark_of}
@@ -84,9 +84,9 @@ begun_taken : (es : List Event) (xs ys : List Entry) → take (length es) xs ≡
 begun_taken es xs ys same b = grind (arith, take-map)
 
 -- what begins the events of a bookmark begins the events of some stretch's list
-begins_list : (ss : List Stretch) (ms : List (MarkName × Node)) (es : List Event) → IsBeginning (marks_of (named_lists ss ms)) es → (i : ℕ) × Begins es (events (stretch_list ss i))
+begins_list : (ss : List Stretch) (ms : List (MarkName × Node)) (es : List Event) → IsBeginning (marks_of (named_entries ss ms)) es → (i : ℕ) × Begins es (events (stretch_list ss i))
 begins_list ss ms es h =
-    let found = mapped_contains (λ (x : MarkName × List Entry). mark_of x) (named_lists ss ms) h.mark h.kept in
+    let found = mapped_contains (λ (x : MarkName × List Entry). mark_of x) (named_entries ss ms) h.mark h.kept in
     let named = mapped_contains (λ (x : MarkName × Node). (x.0, entries_at ss x.1)) ms found.0 found.1 in
     let p = named.0.1 in
     let xs = stretch_list ss p.stretch in
@@ -95,7 +95,7 @@ begins_list ss ms es h =
 
 -- if a bookmark needs no new entry, the search for its events finds all of them
 pub all_along : (ss : List Stretch) (ms : List (MarkName × Node)) (at n : ℕ) (es : List Event) → IsAlong ss at n es → IsDeepest ss n es
-    → NeedsNoEntry (marks_of (named_lists ss ms)) es → n ≡ length es
+    → NeedsNoEntry (marks_of (named_entries ss ms)) es → n ≡ length es
 all_along ss ms at n es along deepest none =
     elim (cases_lt n (length es)) [
       | inl less ↦
@@ -105,10 +105,10 @@ all_along ss ms at n es along deepest none =
       | inr all ↦ omega (arith, all, along.enough)
     ]
 
-greatest_there : (i n : ℕ) (ps : List Node) → 0 < n → n ≤ greatest_in i ps → (p : Node) × Contains ps p × (p.stretch ≡ i) × (n ≤ p.number)
+greatest_there : (i n : ℕ) (ps : List Node) → 0 < n → n ≤ greatest_len_in_stretch i ps → (p : Node) × Contains ps p × (p.stretch ≡ i) × (n ≤ p.number)
 greatest_there i n [] some h = absurd (omega (arith, some, h))
 greatest_there i n (p ∷ ps) some h =
-    elim (cases_lt (entries_in_stretch i p) n) [
+    elim (cases_lt (node_len_in_stretch i p) n) [
       | inl less ↦ let rest = greatest_there i n ps some (omega (arith, less, h)) in (rest.0, contains_later p rest.0 ps rest.1, rest.2, rest.3)
       | inr fine ↦ (p, contains_first p ps, grind (arith, nat_tests), grind (arith, nat_tests))
     ]
@@ -162,7 +162,7 @@ module _ (ss : List Stretch) (rule : AreNested ss) where
         → (m : MarkName × Node) × Contains ms m × (take n (entries_at ss m.1) ≡ take n (stretch_list ss i))
     reached zero i n enough inside h = absurd (omega (arith, enough, inside))
     reached (suc fuel) i n enough inside h =
-        elim (cases_lt (greatest_in i (map (λ (m : MarkName × Node). m.1) ms)) (length (stretch_list ss i))) [
+        elim (cases_lt (greatest_len_in_stretch i (map (λ (m : MarkName × Node). m.1) ms)) (length (stretch_list ss i))) [
           | inr there ↦
               let p = greatest_there i (length (stretch_list ss i)) (map (λ (m : MarkName × Node). m.1) ms) (omega (arith, rule.some i inside)) there in
               let m = mapped_contains (λ (m : MarkName × Node). m.1) ms p.0 p.1 in
@@ -178,10 +178,10 @@ module _ (ss : List Stretch) (rule : AreNested ss) where
         ]
 
     -- each beginning of a stretch's list begins the entries of some bookmark
-    pub begins_one : (i n : ℕ) → i < length ss → n ≤ length (stretch_list ss i) → (m : MarkName × Node) × Contains ms m × (take n (entries_at ss m.1) ≡ take n (stretch_list ss i))
-    begins_one i n inside h = reached (length ss) i n (omega arith) inside h
+    pub begins_some_bookmark : (i n : ℕ) → i < length ss → n ≤ length (stretch_list ss i) → (m : MarkName × Node) × Contains ms m × (take n (entries_at ss m.1) ≡ take n (stretch_list ss i))
+    begins_some_bookmark i n inside h = reached (length ss) i n (omega arith) inside h
 
-    pub counts : AreFresh ss → CountsBeginnings (marks_of (named_lists ss ms)) (entry_count ss)
+    pub counts : AreFresh ss → CountsBeginnings (marks_of (named_entries ss ms)) (entry_count ss)
     counts fresh = record {
       lists = lists_to ss (length ss);
       distinct = distinct_to fresh (length ss) (omega arith);
@@ -189,21 +189,21 @@ module _ (ss : List Stretch) (rule : AreNested ss) where
       counted = sym (lists_counted ss);
     }
       where
-        begins : (es : List Event) → Contains (lists_to ss (length ss)) es → IsBeginning (marks_of (named_lists ss ms)) es
+        begins : (es : List Event) → Contains (lists_to ss (length ss)) es → IsBeginning (marks_of (named_entries ss ms)) es
         begins es c =
             let l = listed (length ss) es c in
-            let r = begins_one l.0 (length es) l.1 (begun_within ss l.0 es l.3) in
+            let r = begins_some_bookmark l.0 (length es) l.1 (begun_within ss l.0 es l.3) in
             let m = r.0 in
             record {
               some = omega (arith, l.2);
               mark = mark_of (m.0, entries_at ss m.1);
               kept =
-                  contains_mapped (λ (x : MarkName × List Entry). mark_of x) (named_lists ss ms) (m.0, entries_at ss m.1)
+                  contains_mapped (λ (x : MarkName × List Entry). mark_of x) (named_entries ss ms) (m.0, entries_at ss m.1)
                   (contains_mapped (λ (x : MarkName × Node). (x.0, entries_at ss x.1)) ms m r.1);
               begins = begun_taken es (stretch_list ss l.0) (entries_at ss m.1) (sym r.2) l.3;
             }
 
-        is_one : (es : List Event) → IsBeginning (marks_of (named_lists ss ms)) es → Contains (lists_to ss (length ss)) es
+        is_one : (es : List Event) → IsBeginning (marks_of (named_entries ss ms)) es → Contains (lists_to ss (length ss)) es
         is_one es h =
             let b = begins_list ss ms es h in
             let l = owner b.0 es h.some b.1 in
@@ -213,7 +213,7 @@ module _ (ss : List Stretch) (rule : AreNested ss) where
 
 abbrev greatest_to : List Node → ℕ → ℕ
 greatest_to ps zero = 0
-greatest_to ps (suc n) = greatest_to ps n + greatest_in n ps
+greatest_to ps (suc n) = greatest_to ps n + greatest_len_in_stretch n ps
 
 -- another node adds at most its number to the sum, and nothing below its stretch
 greatest_one : (p : Node) (ps : List Node) (n : ℕ)

@@ -29,9 +29,9 @@ may_switch j n zs ys given ran kept h = grind (arith, kept.ran, take-append-drop
 
 -- a session that lacks room for a switch lacks room for going to the events that the switch makes
 -- live
-pub lacked : {R : ℕ} {X : Type 0} (r : Result X Refusal) (s : Session R) (n : ℕ) (given : List Entry) (es : List Event) (P : Type 0) → take n (state s).live ++ events given ≡ es
+pub lacks_room_to_go : {R : ℕ} {X : Type 0} (r : Result X Refusal) (s : Session R) (n : ℕ) (given : List Entry) (es : List Event) (P : Type 0) → take n (state s).live ++ events given ≡ es
     → n ≤ length (journal s).live → IsRunFrom (journal s).start (take n (journal s).live ++ given)
     → IfErr r (λ e. (e ≡ refusal.NoMemory) × LacksRoom n (journal s) given (capacity s) (room s) (index s)) → IfErr r (λ e. (e ≡ refusal.NoMemory) × (LacksRoomFor s es ⊎ P))
-lacked (Ok x) s n given es P all within ran h = tt
-lacked (Err e) s n given es P all within ran h =
+lacks_room_to_go (Ok x) s n given es P all within ran h = tt
+lacks_room_to_go (Err e) s n given es P all within ran h =
     (h.0, inl (record { kept = n; given = given; within = within; ran = ran; all = all; lacks = h.1 }))

@@ -8,11 +8,11 @@ use Rattle.rd_marks.specs.Headline.{IsRunOfLive}
 use Rattle.rd_cell.specs.declared.refusal.Refusal.TheVariants as refusal
 
 -- a lone undo is refused with `Depended n` exactly if n is the dependant that is found
-names : {X : Type 0} (x : X) (n : ℕ) (found : Option ℕ) → (and_then (unless_depended found) (λ _. Ok x) ≡ Err (refusal.Depended n)) ↔ (found ≡ Some n)
-names x n found = grind arith
+refused_exactly_if_found : {X : Type 0} (x : X) (n : ℕ) (found : Option ℕ) → (and_then (unless_depended found) (λ _. Ok x) ≡ Err (refusal.Depended n)) ↔ (found ≡ Some n)
+refused_exactly_if_found x n found = grind arith
 
-frees : {X : Type 0} (x : X) (found : Option ℕ) → IsOk (and_then (unless_depended found) (λ _. Ok x)) ↔ (found ≡ None)
-frees x found = grind arith
+done_exactly_if_none : {X : Type 0} (x : X) (found : Option ℕ) → IsOk (and_then (unless_depended found) (λ _. Ok x)) ↔ (found ≡ None)
+done_exactly_if_none x found = grind arith
 
 -- a lone undo of the k-th live step is refused with `Depended n` exactly if n is its first
 -- dependant
@@ -21,14 +21,14 @@ refused j runs k n = by (numbered j.live k) refl
   where
     by : (o : Option Entry) → numbered j.live k ≡ o → (undo_at (state_of j) k ≡ Err (refusal.Depended n)) ↔ (first_dependant j.live k ≡ Some n)
     by None none = grind (arith, event_of_entry)
-    by (Some x) here = rw (undo_at_found j k x runs here) (names _ n (first_dependant j.live k))
+    by (Some x) here = rw (undo_at_found j k x runs here) (refused_exactly_if_found _ n (first_dependant j.live k))
 
 -- a lone undo of a live step is done exactly if the step has no dependant
 free : (j : Journal) → IsRun j → (k : ℕ) → 1 ≤ k → k ≤ length j.live → IsOk (undo_at (state_of j) k) ↔ (first_dependant j.live k ≡ None)
 free j runs k some within =
     let x = nth j.live (k - 1) (omega arith) in
     let here : numbered j.live k ≡ Some x.0 = numbered_in j.live k x.0 some within x.1 in
-    rw (undo_at_found j k x.0 runs here) (frees _ (first_dependant j.live k))
+    rw (undo_at_found j k x.0 runs here) (done_exactly_if_none _ (first_dependant j.live k))
 
 -- each book keeps the run of its live events
 pub book_runs : {R : ℕ} (b : Book R) → IsRunOfLive (book_state b) (journal (session_of b))

@@ -1,6 +1,6 @@
 -- The marks of a list of names with entries: looking one up, adding one and removing one.
 use Rattle.rd_marks.specs.declared.commands.Command.TheVariants.{GotoMark}
-use Rattle.rd_marks.proofs.Prelude.{inr, is_ok, ◌⊎◌, ◌≢◌, suc, Result, Err, IsOk, IfErr, ne_eqb, ◌≡◌, ℕ, Bool, true, false, cond, map, refl, sym, ap, ◌∙◌, subst, List, [], ◌∷◌, ◌++◌, length, is_some, option_map, Option, Some, All, slice_get, arith, lookup, remove_entry, remove_key, map-id, Entry, Event, MarkName, mark_name_eq, eq-eqb, false≢true, get_or_from_slice_get, slice_get-map, slice_get_within, Refusal, World, MOST_MARKS, Begins, Mark, BookState, marked_events, mark, goto_mark, MakesSteps, AnswersSame, marks_of, events, Node, book_state, entries_at, stretches_in, LacksRoomFor, MayRefuseAsGoing, AreInPieces, Book, numbered, Ok}
+use Rattle.rd_marks.proofs.Prelude.{inr, is_ok, ◌⊎◌, ◌≢◌, suc, Result, Err, IsOk, IfErr, ne_eqb, ◌≡◌, ℕ, Bool, true, false, cond, map, refl, sym, ap, ◌∙◌, subst, List, [], ◌∷◌, ◌++◌, length, is_some, option_map, Option, Some, All, slice_get, arith, lookup, remove_entry, remove_key, map-id, Entry, Event, MarkName, mark_name_eq, eq-eqb, false≢true, get_or_from_slice_get, slice_get-map, slice_get_within, Refusal, World, MOST_MARKS, Begins, Mark, BookState, events_by_name, mark, goto_mark, GotoMakesSteps, AnswersSame, marks_of, events, Node, book_state, entries_at, stretches_in, LacksRoomFor, MayRefuseIfGoto, AreInPieces, Book, numbered, Ok}
 use Rattle.std.proofs.lemmas.Map.Entries.{All-lookup}
 use Rattle.std.proofs.lemmas.Map.Views.{All-map-remove_entry}
 use Rattle.rd_cell.specs.declared.refusal.Refusal.TheVariants as refusal
@@ -34,12 +34,12 @@ all_at P xs k x h at = subst P (get_or_from_slice_get xs k x x at) (h k x (slice
 
 module _ (name : MarkName) where
   -- looking up a name finds the events of its mark
-  pub found_events : (ls : List (MarkName × List Entry)) → marked_events (marks_of ls) name ≡ option_map (λ xs. events xs) (lookup (mark_name_eq name) ls)
+  pub found_events : (ls : List (MarkName × List Entry)) → events_by_name (marks_of ls) name ≡ option_map (λ xs. events xs) (lookup (mark_name_eq name) ls)
   found_events [] = refl
   found_events (l ∷ ls) = grind (arith, option_map, cond, found_events ls)
 
   -- the lookup of a name finds something exactly if there is a mark of that name
-  pub found_marked : (ls : List (MarkName × List Entry)) → is_some (marked_events (marks_of ls) name) ≡ is_some (lookup (mark_name_eq name) ls)
+  pub found_marked : (ls : List (MarkName × List Entry)) → is_some (events_by_name (marks_of ls) name) ≡ is_some (lookup (mark_name_eq name) ls)
   found_marked ls = grind (arith, found_events ls)
 
   -- without the entry of a name, there are just the marks without its mark
@@ -49,11 +49,11 @@ module _ (name : MarkName) where
 
 -- What the result of a lookup tells of the marks
 module _ {X : Type 0} (f : X → List Entry) (name : MarkName) (ls : List (MarkName × List Entry)) (o : Option X) (b : Bool) (found : option_map f o ≡ lookup (mark_name_eq name) ls) (is : b ≡ is_some o) where
-  pub found_at : is_some (marked_events (marks_of ls) name) ≡ b
+  pub found_at : is_some (events_by_name (marks_of ls) name) ≡ b
   found_at = grind (arith, found_marked name ls, found, is)
 
 -- a mark is set if its name is new and there are fewer than MOST_MARKS
-pub mark_goes : (b : BookState) (name : MarkName) → is_some (marked_events b.marks name) ≡ false → length b.marks ≢ MOST_MARKS
+pub mark_goes : (b : BookState) (name : MarkName) → is_some (events_by_name b.marks name) ≡ false → length b.marks ≢ MOST_MARKS
     → mark b name ≡ Ok (with_marks b (b.marks ++ record { name = name; events = b.session.live } ∷ []))
 mark_goes b name new few = rw (new, ne_eqb (length b.marks) MOST_MARKS few) refl
 
@@ -63,9 +63,9 @@ none_removed test [] h = refl
 none_removed test (m ∷ ms) h = grind (arith, cond, none_removed test ms)
 
 -- going to a mark that exists can only be refused with NoMemory, and only if it makes steps
-pub goto_not_done : {X : Type 0} (P : Type 0) (r : Result X Refusal) (b : BookState) (name : MarkName) (es : List Event) → marked_events b.marks name ≡ Some es
+pub goto_not_done : {X : Type 0} (P : Type 0) (r : Result X Refusal) (b : BookState) (name : MarkName) (es : List Event) → events_by_name b.marks name ≡ Some es
     → IfErr r (λ cause. (cause ≡ refusal.NoMemory) × P) → (Begins es b.session.live → IsOk r)
-    → IfErr r (λ cause. (goto_mark b name ≡ Err cause) ⊎ ((cause ≡ refusal.NoMemory) × MakesSteps b name))
+    → IfErr r (λ cause. (goto_mark b name ≡ Err cause) ⊎ ((cause ≡ refusal.NoMemory) × GotoMakesSteps b name))
 goto_not_done P r b name es there h goes = grind arith
 
 -- The comparison of two marks
@@ -81,19 +81,19 @@ pub mark_there : (ls : List (MarkName × List Entry)) (i j : ℕ) (o : Option (M
 mark_there ls i j o e h = rw e (slice_get-map mark_of ls j ∙ ap (option_map mark_of) h)
 
 -- a mark is refused with MarkTaken if its name is taken
-pub mark_taken : (b : BookState) (name : MarkName) → is_some (marked_events b.marks name) ≡ true → mark b name ≡ Err refusal.MarkTaken
+pub mark_taken : (b : BookState) (name : MarkName) → is_some (events_by_name b.marks name) ≡ true → mark b name ≡ Err refusal.MarkTaken
 mark_taken b name h = rw h refl
 
-pub mark_too_many : (b : BookState) (name : MarkName) → is_some (marked_events b.marks name) ≡ false → length b.marks ≡ MOST_MARKS → mark b name ≡ Err refusal.TooManyMarks
+pub mark_too_many : (b : BookState) (name : MarkName) → is_some (events_by_name b.marks name) ≡ false → length b.marks ≡ MOST_MARKS → mark b name ≡ Err refusal.TooManyMarks
 mark_too_many b name new h = rw (new, eq-eqb (length b.marks) MOST_MARKS h) refl
 
 -- a mark isn't both refused and set
 pub mark_refused : {P : Type 0} (b : BookState) (name : MarkName) (refusal : Refusal) → mark b name ≡ Err refusal → IsOk (mark b name) → P
 mark_refused b name refusal h goes = absurd (false≢true (sym (ap is_ok h) ∙ goes))
 
--- a refusal with NoMemory on the way to a mark is one that `MayRefuseAsGoing` allows
-pub goto_lacks : {R : ℕ} {X : Type 0} (r : Result X Refusal) (b : Book R) (name : MarkName) (node : Node) → marked_events (book_state b).marks name ≡ Some (events (entries_at (stretches_in b.bookmarks) node))
-    → IfErr r (λ cause. (cause ≡ refusal.NoMemory) × (LacksRoomFor b.session (events (entries_at (stretches_in b.bookmarks) node)) ⊎ AreInPieces (stretches_in b.bookmarks) node)) → IfErr r (MayRefuseAsGoing b (GotoMark name))
+-- a refusal with NoMemory on the way to a mark is one that `MayRefuseIfGoto` allows
+pub goto_lacks : {R : ℕ} {X : Type 0} (r : Result X Refusal) (b : Book R) (name : MarkName) (node : Node) → events_by_name (book_state b).marks name ≡ Some (events (entries_at (stretches_in b.bookmarks) node))
+    → IfErr r (λ cause. (cause ≡ refusal.NoMemory) × (LacksRoomFor b.session (events (entries_at (stretches_in b.bookmarks) node)) ⊎ AreInPieces (stretches_in b.bookmarks) node)) → IfErr r (MayRefuseIfGoto b (GotoMark name))
 goto_lacks (Ok x) b name node its h = tt
 goto_lacks (Err cause) b name node its h = inr (h.0, record { node = node; its = its; lacks = h.1 })
 

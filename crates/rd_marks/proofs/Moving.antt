@@ -1,5 +1,5 @@
 -- Changing the value of each name, one after another, and reading the values.
-use Rattle.rd_marks.proofs.Prelude.{◌≡◌, ℕ, zero, suc, max, sym, ap, subst, List, [], ◌∷◌, ◌++◌, map, take, drop, slice_get, Some, All, values_of, All-head, All-tail, set_value_at, MarkName, Node, nodes_of, greatest_in, entries_in_stretch}
+use Rattle.rd_marks.proofs.Prelude.{◌≡◌, ℕ, zero, suc, max, sym, ap, subst, List, [], ◌∷◌, ◌++◌, map, take, drop, slice_get, Some, All, values_of, All-head, All-tail, set_value_at, MarkName, Node, nodes_of, greatest_len_in_stretch, node_len_in_stretch}
 
 module _ {K V : Type 0} (f : V → V) where
   -- the list after the values of its first n entries were changed by f
@@ -23,7 +23,7 @@ module _ {K V : Type 0} (f : V → V) where
 -- The greatest number among the nodes that are left to read
 
 pub greatest_next : (i k : ℕ) (ms : List (MarkName × Node)) (m : MarkName × Node) → slice_get ms k ≡ Some m
-    → greatest_in i (nodes_of (drop k ms)) ≡ max (entries_in_stretch i m.1) (greatest_in i (nodes_of (drop (suc k) ms)))
+    → greatest_len_in_stretch i (nodes_of (drop k ms)) ≡ max (node_len_in_stretch i m.1) (greatest_len_in_stretch i (nodes_of (drop (suc k) ms)))
 greatest_next i k [] m h = cc
-greatest_next i zero (n ∷ ms) m h = (let same : n ≡ m = cc in ap (λ (d : MarkName × Node). max (entries_in_stretch i d.1) (greatest_in i (nodes_of ms))) same)
+greatest_next i zero (n ∷ ms) m h = (let same : n ≡ m = cc in ap (λ (d : MarkName × Node). max (node_len_in_stretch i d.1) (greatest_len_in_stretch i (nodes_of ms))) same)
 greatest_next i (suc k) (n ∷ ms) m h = greatest_next i k ms m h

@@ -39,11 +39,11 @@ goto_start : (b : BookState) (name : MarkName) (t : BookState) → goto_mark b n
 goto_start b name t h = grind arith
 
 -- equal answers leave the same things
-as_this : (b : BookState) (a c : Answered) → LeavesStart b c → a ≡ c → LeavesStart b a
-as_this b a c leaves h = subst (λ (x : Answered). LeavesStart b x) (sym h) leaves
+equal_leaves_start : (b : BookState) (a c : Answered) → LeavesStart b c → a ≡ c → LeavesStart b a
+equal_leaves_start b a c leaves h = subst (λ (x : Answered). LeavesStart b x) (sym h) leaves
 
 pub happened_leaves : (b : BookState) (e : Event) (a : Answered) → IsEventAnswer b e a → LeavesStart b a
-happened_leaves b e a k = grind (arith, as_this, state_leaves b (λ s. Applied (length s.live) (reply_to b.session e)) (apply b.session e) (apply_start b.session e))
+happened_leaves b e a k = grind (arith, equal_leaves_start, state_leaves b (λ s. Applied (length s.live) (reply_to b.session e)) (apply b.session e) (apply_start b.session e))
 
 made_leaves : (b : BookState) (reply : BookState → Reply) (r : Result BookState Refusal) (P : Type 0) (a : Answered)
     → ((t : BookState) → r ≡ Ok t → t.session.start ≡ b.session.start) → IsAsDefined b (answer_with b reply (λ c. c) r) P a → LeavesStart b a
@@ -56,14 +56,14 @@ obeyed_leaves b (command.ArrayEnq actor value) a h = happened_leaves b (record {
 obeyed_leaves b (command.ArrayDeq actor) a h = happened_leaves b (record { actor = actor; act = act.ADeq }) a h
 obeyed_leaves b (command.Go actor) a h = happened_leaves b (record { actor = actor; act = act.Go }) a h
 obeyed_leaves b (command.Starve actor choice) a h = happened_leaves b (record { actor = actor; act = act.Starve choice }) a h
-obeyed_leaves b command.Undo a h = as_this b a _ (state_leaves b step_counts (back b.session 1) (back_start b.session 1)) h
-obeyed_leaves b (command.UndoAt k) a h = as_this b a _ (state_leaves b step_counts (undo_at b.session k) (undo_at_start b.session k)) h
-obeyed_leaves b (command.Roll k) a h = as_this b a _ (state_leaves b step_counts (roll b.session k) (roll_start b.session k)) h
-obeyed_leaves b (command.Back n) a h = as_this b a _ (state_leaves b step_counts (back b.session n) (back_start b.session n)) h
-obeyed_leaves b command.Redo a h = as_this b a _ (state_leaves b step_counts (forward b.session 1) (forward_start b.session 1)) h
-obeyed_leaves b (command.Forward n) a h = as_this b a _ (state_leaves b step_counts (forward b.session n) (forward_start b.session n)) h
+obeyed_leaves b command.Undo a h = equal_leaves_start b a _ (state_leaves b step_counts (back b.session 1) (back_start b.session 1)) h
+obeyed_leaves b (command.UndoAt k) a h = equal_leaves_start b a _ (state_leaves b step_counts (undo_at b.session k) (undo_at_start b.session k)) h
+obeyed_leaves b (command.Roll k) a h = equal_leaves_start b a _ (state_leaves b step_counts (roll b.session k) (roll_start b.session k)) h
+obeyed_leaves b (command.Back n) a h = equal_leaves_start b a _ (state_leaves b step_counts (back b.session n) (back_start b.session n)) h
+obeyed_leaves b command.Redo a h = equal_leaves_start b a _ (state_leaves b step_counts (forward b.session 1) (forward_start b.session 1)) h
+obeyed_leaves b (command.Forward n) a h = equal_leaves_start b a _ (state_leaves b step_counts (forward b.session n) (forward_start b.session n)) h
 obeyed_leaves b (command.Mark name) a h = grind (arith, made_leaves)
-obeyed_leaves b (command.DropMark name) a h = grind (arith, as_this)
+obeyed_leaves b (command.DropMark name) a h = grind (arith, equal_leaves_start)
 obeyed_leaves b (command.GotoMark name) a h = made_leaves b _ (goto_mark b name) _ a (goto_start b name) h
 obeyed_leaves b _ a h = grind arith
 

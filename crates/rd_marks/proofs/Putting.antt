@@ -1,10 +1,10 @@
 -- The bookmarks after one was added, and after stretches were cut.
-use Rattle.rd_marks.proofs.Prelude.{◌≡◌, ℕ, zero, suc, ◌^◌, ◌<◌, ◌≤◌, inl, inr, refl, sym, ap, ◌∙◌, subst, List, [], ◌∷◌, ◌++◌, map, length, take, drop, length-append, All, arith, cases_lt, sum_by-le, length-map, map-append, take-append-drop, All-push, All-contains, All-head, All-map, All-nil, All-tail, World, MOST_STEPS, Event, Entry, Begins, MarkName, Node, Stretch, Shift, shifted, Stays, IsGrown, IsShrunk, KeepsItsSteps, MOST_MARKS, AreEntriesOfRun, AreRuns, IsKept, IsPruned, named_lists, nodes_of, entry_count, stretch_list, entries_at, greatest_in, needed_at, IsWithin, IsAlong, AreNested, AreNeeded, AreNeededFrom, nat_tests, events, IsRunFrom, run, take-length, map-id}
+use Rattle.rd_marks.proofs.Prelude.{◌≡◌, ℕ, zero, suc, ◌^◌, ◌<◌, ◌≤◌, inl, inr, refl, sym, ap, ◌∙◌, subst, List, [], ◌∷◌, ◌++◌, map, length, take, drop, length-append, All, arith, cases_lt, sum_by-le, length-map, map-append, take-append-drop, All-push, All-contains, All-head, All-map, All-nil, All-tail, World, MOST_STEPS, Event, Entry, Begins, MarkName, Node, Stretch, Shift, shifted, Stays, IsGrown, IsShrunk, KeepsEntries, MOST_MARKS, AreEntriesOfRun, AreRuns, IsKept, IsPruned, named_entries, nodes_of, entry_count, stretch_list, entries_at, greatest_len_in_stretch, needed_at, IsWithin, IsAlong, AreNested, AreNeeded, AreNeededFrom, nat_tests, events, IsRunFrom, run, take-length, map-id}
 use Rattle.std.proofs.lemmas.Map.Made.{keys_of-map_values}
 use mathlib.Core.List.{map-map}
 use Rattle.rd_marks.specs.declared.stretches.changes.Grown.{Grown}
 use Rattle.rd_marks.specs.declared.stretches.changes.Shift.TheVariants.{Same}
-use Rattle.rd_marks.proofs.Counting.{begins_one, contains_mapped, count_bounded}
+use Rattle.rd_marks.proofs.Counting.{begins_some_bookmark, contains_mapped, count_bounded}
 use Rattle.rd_marks.proofs.EntryLemmas.{begin_alike}
 use Rattle.rd_marks.proofs.Starting.{begins_trans, events_of_first, fewer_begin, stretch_within}
 
@@ -13,7 +13,7 @@ abbrev pub names_shifted : Shift → List (MarkName × Node) → List (MarkName 
 names_shifted shift ms = map (λ (m : MarkName × Node). (m.0, shifted shift m.1)) ms
 
 -- the lists of the names have just the names
-pub names_same : (ss : List Stretch) (ms : List (MarkName × Node)) → map (λ (l : MarkName × List Entry). l.0) (named_lists ss ms) ≡ map (λ (m : MarkName × Node). m.0) ms
+pub names_same : (ss : List Stretch) (ms : List (MarkName × Node)) → map (λ (l : MarkName × List Entry). l.0) (named_entries ss ms) ≡ map (λ (m : MarkName × Node). m.0) ms
 names_same ss ms = keys_of-map_values (entries_at ss) ms
 
 pub nodes_shifted : (shift : Shift) (ms : List (MarkName × Node)) → nodes_of (names_shifted shift ms) ≡ map (shifted shift) (nodes_of ms)
@@ -22,7 +22,7 @@ nodes_shifted shift ms =
 
 module _ (old new : List Stretch) (shift : Shift) where
   -- each name keeps its entries if its node does
-  pub lists_shifted : (ms : List (MarkName × Node)) → All (λ (m : MarkName × Node). Stays old new shift m.1) ms → named_lists new (names_shifted shift ms) ≡ named_lists old ms
+  pub lists_shifted : (ms : List (MarkName × Node)) → All (λ (m : MarkName × Node). Stays old new shift m.1) ms → named_entries new (names_shifted shift ms) ≡ named_entries old ms
   lists_shifted [] h = refl
   lists_shifted (m ∷ ms) h =
       (λ i. (m.0, (All-head (λ (n : MarkName × Node). Stays old new shift n.1) m ms h).same i) ∷ lists_shifted ms (All-tail (λ (n : MarkName × Node). Stays old new shift n.1) m ms h) i)
@@ -33,33 +33,33 @@ module _ (old new : List Stretch) (shift : Shift) where
 
 -- No bookmark was added
 
-module _ (old new : List Stretch) (unchanged : KeepsItsSteps old new) where
-  lists_same : (ms : List (MarkName × Node)) → All (λ (m : MarkName × Node). IsWithin old m.1) ms → named_lists new ms ≡ named_lists old ms
-  lists_same ms h = ap (named_lists new) (sym (map-id ms)) ∙ lists_shifted old new Same ms (λ k d inside. unchanged.stays _ (h k d inside))
+module _ (old new : List Stretch) (unchanged : KeepsEntries old new) where
+  lists_same : (ms : List (MarkName × Node)) → All (λ (m : MarkName × Node). IsWithin old m.1) ms → named_entries new ms ≡ named_entries old ms
+  lists_same ms h = ap (named_entries new) (sym (map-id ms)) ∙ lists_shifted old new Same ms (λ k d inside. unchanged.stays _ (h k d inside))
 
   pub kept_same : (ms es : List (MarkName × Node)) (here : Node) → es ≡ ms → IsKept old ms here
-      → IsKept new es here × (named_lists new es ≡ named_lists old ms) × (entries_at new here ≡ entries_at old here)
+      → IsKept new es here × (named_entries new es ≡ named_entries old ms) × (entries_at new here ≡ entries_at old here)
   kept_same ms es here its kept =
       let within : All (λ (m : MarkName × Node). IsWithin new m.1) ms = λ k d inside. (unchanged.stays _ (kept.within k d inside)).within in
       grind (arith, its, kept, within, lists_same ms kept.within, unchanged.stays here kept.lies, unchanged.needed)
 
 -- A node whose events begin the live ones has the first live entries
 
-pub same_entries : (w : World) (ss : List Stretch) → AreNested ss → (ms : List (MarkName × Node)) → AreNeeded ss (nodes_of ms) → AreRuns w (named_lists ss ms)
+pub same_entries : (w : World) (ss : List Stretch) → AreNested ss → (ms : List (MarkName × Node)) → AreNeeded ss (nodes_of ms) → AreRuns w (named_entries ss ms)
     → (at : Node) → IsWithin ss at → (live : List Entry) → IsRunFrom w live → IsAlong ss at.stretch at.number (events live) → entries_at ss at ≡ take at.number live
 same_entries w ss rule ms needed runs at within live run along = by at.number refl
   where
     by : (n : ℕ) → at.number ≡ n → entries_at ss at ≡ take at.number live
     by zero none = rw none refl
     by (suc n) some =
-        let r = begins_one ss rule ms needed at.stretch at.number (stretch_within ss at within (omega (arith, some))) within in
-        let all = All-contains (λ (l : MarkName × List Entry). AreEntriesOfRun w l.1) (named_lists ss ms) (r.0.0, entries_at ss r.0.1) runs
+        let r = begins_some_bookmark ss rule ms needed at.stretch at.number (stretch_within ss at within (omega (arith, some))) within in
+        let all = All-contains (λ (l : MarkName × List Entry). AreEntriesOfRun w l.1) (named_entries ss ms) (r.0.0, entries_at ss r.0.1) runs
         (contains_mapped (λ (m : MarkName × Node). (m.0, entries_at ss m.1)) ms r.0 r.1) in
         grind (arith, r.2, along, events_of_first at.number (entries_at ss r.0.1), events_of_first at.number (stretch_list ss at.stretch), begin_alike at.number w (entries_at ss r.0.1) live all.ran run)
 
 -- Cutting stretches
 
-pub greatest_of : (i : ℕ) (ms : List (MarkName × Node)) → All (λ (m : MarkName × Node). m.1.stretch ≡ i → m.1.number ≤ greatest_in i (nodes_of ms)) ms
+pub greatest_of : (i : ℕ) (ms : List (MarkName × Node)) → All (λ (m : MarkName × Node). m.1.stretch ≡ i → m.1.number ≤ greatest_len_in_stretch i (nodes_of ms)) ms
 greatest_of i [] = All-nil (λ (m : MarkName × Node). m.1.stretch ≡ i → m.1.number ≤ 0)
 greatest_of i (m ∷ ms) = grind (arith, nat_tests, greatest_of i ms)
 
@@ -83,12 +83,12 @@ module _ (old new : List Stretch) (i n : ℕ) (shift : Shift) (shrunk : IsShrunk
       }
 
 -- before any stretch is cut, `IsPruned` holds after the last one; and cuts in a row compose
-pub not_pruned : (ss : List Stretch) (ms : List (MarkName × Node)) (here : Node) → All (λ (m : MarkName × Node). IsWithin ss m.1) ms → IsWithin ss here
+pub pruned_from_end : (ss : List Stretch) (ms : List (MarkName × Node)) (here : Node) → All (λ (m : MarkName × Node). IsWithin ss m.1) ms → IsWithin ss here
     → IsPruned (length ss) ss ss ms ms here here
-not_pruned ss ms here within lies = grind (arith, take-length)
+pruned_from_end ss ms here within lies = grind (arith, take-length)
 
-pub pruned_on : (i k : ℕ) (a b c : List Stretch) (ms ns ls : List (MarkName × Node)) (p q r : Node) → IsPruned k a b ms ns p q → IsPruned i b c ns ls q r → IsPruned i a c ms ls p r
-pruned_on i k a b c ms ns ls p q r first second = grind (arith, begins_trans)
+pub prunings_compose : (i k : ℕ) (a b c : List Stretch) (ms ns ls : List (MarkName × Node)) (p q r : Node) → IsPruned k a b ms ns p q → IsPruned i b c ns ls q r → IsPruned i a c ms ls p r
+prunings_compose i k a b c ms ns ls p q r first second = grind (arith, begins_trans)
 
 -- The number of all entries fits in 64 bits
 
@@ -108,12 +108,12 @@ count_fits ss rule ms needed within few =
 -- (`lists`), all are runs (`runs`), and `here` begins the track (`stands`)
 pub record IsSet (w : World) (old new : List Stretch) (ms es : List (MarkName × Node)) (name : MarkName) (live : List Entry) (steps : List Event) (there : Node) : Type 0 where
   pub kept : IsKept new es there
-  pub lists : named_lists new es ≡ named_lists old ms ++ (name, live) ∷ []
-  pub runs : AreRuns w (named_lists new es)
+  pub lists : named_entries new es ≡ named_entries old ms ++ (name, live) ∷ []
+  pub runs : AreRuns w (named_entries new es)
   pub stands : Begins (events (entries_at new there)) steps
 
-module _ (w : World) (old new : List Stretch) (rule : AreNested old) (ms : List (MarkName × Node)) (here : Node) (kept : IsKept old ms here) (fewer : length (named_lists old ms) < MOST_MARKS)
-    (runs : AreRuns w (named_lists old ms)) (live : List Entry) (run : AreEntriesOfRun w live) (steps : List Event) (stands : Begins (events (entries_at old here)) steps)
+module _ (w : World) (old new : List Stretch) (rule : AreNested old) (ms : List (MarkName × Node)) (here : Node) (kept : IsKept old ms here) (fewer : length (named_entries old ms) < MOST_MARKS)
+    (runs : AreRuns w (named_entries old ms)) (live : List Entry) (run : AreEntriesOfRun w live) (steps : List Event) (stands : Begins (events (entries_at old here)) steps)
     (began : Begins (events live) steps) (at : Node) (within : IsWithin old at) (along : IsAlong old at.stretch at.number (events live))
     (grown : Grown) (grows : IsGrown old new at live grown) (name : MarkName) where
   stay : All (λ (m : MarkName × Node). Stays old new grown.shift m.1) ms
@@ -127,7 +127,7 @@ module _ (w : World) (old new : List Stretch) (rule : AreNested old) (ms : List 
   abbrev put : List (MarkName × Node)
   put = names_shifted grown.shift ms ++ (name, grown.node) ∷ []
 
-  lists_put : named_lists new put ≡ named_lists old ms ++ (name, live) ∷ []
+  lists_put : named_entries new put ≡ named_entries old ms ++ (name, live) ∷ []
   lists_put =
       map-append (λ (m : MarkName × Node). (m.0, entries_at new m.1)) (names_shifted grown.shift ms) ((name, grown.node) ∷ [])
       ∙ (λ i. lists_shifted old new grown.shift ms stay i ++ (name, its_entries i) ∷ [])
@@ -159,10 +159,10 @@ module _ (w : World) (old new : List Stretch) (rule : AreNested old) (ms : List 
       → (here.number ≤ n → there ≡ grown.node) → (n < here.number → there ≡ shifted grown.shift here) → IsSet w old new ms es name live steps there
   is_set mid es reserved its there n near far =
       let lies = here_put there n near far in
-      let lists : named_lists new es ≡ named_lists old ms ++ (name, live) ∷ [] = rw (its, reserved) lists_put in
+      let lists : named_entries new es ≡ named_entries old ms ++ (name, live) ∷ [] = rw (its, reserved) lists_put in
       record {
         kept = rw (its, reserved) (kept_put there lies.0);
         lists = lists;
-        runs = rw lists (All-push (λ (l : MarkName × List Entry). AreEntriesOfRun w l.1) (named_lists old ms) (name, live) runs run);
+        runs = rw lists (All-push (λ (l : MarkName × List Entry). AreEntriesOfRun w l.1) (named_entries old ms) (name, live) runs run);
         stands = lies.1;
       }

@@ -1,5 +1,5 @@
 -- Reading the entries of a node, and comparing the stretches with other entries.
-use Rattle.rd_marks.proofs.Prelude.{◌≡◌, ◌⊎◌, ℕ, zero, suc, ◌+◌, ◌-◌, ◌<◌, ◌≤◌, length-drop, refl, sym, ap, ◌∙◌, List, [], ◌∷◌, ◌++◌, length, take, drop, get_or, reverse, slice_get, option_map, Some, arith, drop-cons, take-add, cases_lt, append_assoc, drop-map, drop-take, length-map, reverse-append, take-take, slice_get-map, slice_get_read, Event, Entry, Node, Stretch, entry_count, stretch_list, list_before, shared_at, entries_at, IsWithin, IsOwn, IsAlong, AreNested, AreFresh, events, numbered, slice_get_within, get_or_from_slice_get, take-suc}
+use Rattle.rd_marks.proofs.Prelude.{◌≡◌, ◌⊎◌, ℕ, zero, suc, ◌+◌, ◌-◌, ◌<◌, ◌≤◌, length-drop, refl, sym, ap, ◌∙◌, List, [], ◌∷◌, ◌++◌, length, take, drop, get_or, reverse, slice_get, option_map, Some, arith, drop-cons, take-add, cases_lt, append_assoc, drop-map, drop-take, length-map, reverse-append, take-take, slice_get-map, slice_get_read, Event, Entry, Node, Stretch, entry_count, stretch_list, list_before, shared_at, entries_at, IsWithin, IsCanonical, IsAlong, AreNested, AreFresh, events, numbered, slice_get_within, get_or_from_slice_get, take-suc}
 use Rattle.rd_journal.proofs.ListLemmas.{nth}
 use Rattle.rd_marks.proofs.StretchLists.{own_at, stretch_there, total, shared_within, begins_shared, behind_shared, list_past}
 use Rattle.rd_marks.proofs.Fresh.{Follows, follows_compared, follows_skipped, along_itself, along_within, between}
@@ -19,8 +19,8 @@ slice_get_drop [] (suc m) n = refl
 slice_get_drop (x ∷ xs) (suc m) n = slice_get_drop xs m n ∙ ap (slice_get (x ∷ xs)) (let e : suc (m + n) ≡ suc m + n = omega arith in e)
 
 -- one more element of a beginning is the next one of the list
-one_more : {X : Type 0} (xs : List X) (n : ℕ) (x : X) → slice_get xs n ≡ Some x → take (suc n) xs ≡ take n xs ++ x ∷ []
-one_more {X} xs n x h = take-suc xs n x (slice_get_within xs n x h) ∙ ap (λ (y : X). take n xs ++ y ∷ []) (get_or_from_slice_get xs n x x h)
+take_one_more : {X : Type 0} (xs : List X) (n : ℕ) (x : X) → slice_get xs n ≡ Some x → take (suc n) xs ≡ take n xs ++ x ∷ []
+take_one_more {X} xs n x h = take-suc xs n x (slice_get_within xs n x h) ∙ ap (λ (y : X). take n xs ++ y ∷ []) (get_or_from_slice_get xs n x x h)
 
 -- Reading from the last entry to the first
 
@@ -46,9 +46,9 @@ count_on ss i s inside its = grind (arith, drop-cons)
 
 module _ (ss : List Stretch) (rule : AreNested ss) where
   -- if the stretch shares all entries of a node, the list before it has them too
-  pub down : (p : Node) → 0 < p.stretch → p.number ≤ shared_at ss p.stretch
+  pub entries_in_list_before : (p : Node) → 0 < p.stretch → p.number ≤ shared_at ss p.stretch
       → IsWithin ss (record { stretch = p.stretch - 1; number = p.number }) × (entries_at ss (record { stretch = p.stretch - 1; number = p.number }) ≡ entries_at ss p)
-  down p some h = grind (arith, some, h, shared_within ss rule (suc (p.stretch - 1)), begins_shared ss rule (suc (p.stretch - 1)) p.number)
+  entries_in_list_before p some h = grind (arith, some, h, shared_within ss rule (suc (p.stretch - 1)), begins_shared ss rule (suc (p.stretch - 1)) p.number)
 
   -- if the lists from stretch `one` to i begin alike, so does the next one, as far as it shares
   pub common_on : (one i c d : ℕ) → d ≤ c → d ≤ shared_at ss (suc i) → take c (stretch_list ss i) ≡ take c (stretch_list ss one) → take d (stretch_list ss (suc i)) ≡ take d (stretch_list ss one)
@@ -56,10 +56,10 @@ module _ (ss : List Stretch) (rule : AreNested ss) where
       begins_shared ss rule (suc i) d shared ∙ sym (take-take d c (stretch_list ss i) less) ∙ ap (take d) same ∙ take-take d c (stretch_list ss one) less
 
   -- a node whose last entry is its stretch's own has no fewer entries than the stretch shares
-  pub own_number : (p : Node) → IsOwn ss p → shared_at ss p.stretch ≤ p.number
+  pub own_number : (p : Node) → IsCanonical ss p → shared_at ss p.stretch ≤ p.number
   own_number p own = grind (arith, shared_within)
 
-  pub own_less : (p : Node) → IsOwn ss p → 0 < p.number → shared_at ss p.stretch < p.number
+  pub own_less : (p : Node) → IsCanonical ss p → 0 < p.number → shared_at ss p.stretch < p.number
   own_less p own some = grind (arith, shared_within)
 
   -- a node has the entries of the node with one fewer, and its own last one
@@ -68,12 +68,12 @@ module _ (ss : List Stretch) (rule : AreNested ss) where
   without_last p x some its =
       let parts : p.number ≡ suc (p.number - 1) = omega (arith, some) in
       ap (λ (n : ℕ). take n (stretch_list ss p.stretch)) parts
-      ∙ one_more (stretch_list ss p.stretch) (p.number - 1) x (sym (slice_get_take (stretch_list ss p.stretch) p.number (p.number - 1) (omega (arith, some))) ∙ its)
+      ∙ take_one_more (stretch_list ss p.stretch) (p.number - 1) x (sym (slice_get_take (stretch_list ss p.stretch) p.number (p.number - 1) (omega (arith, some))) ∙ its)
 
   -- if the stretch shares at most n entries, a node's entries after the first n are all its own
-  pub lent : (p : Node) (n : ℕ) → IsWithin ss p → shared_at ss p.stretch ≤ n → n ≤ p.number
+  pub own_entries_after : (p : Node) (n : ℕ) → IsWithin ss p → shared_at ss p.stretch ≤ n → n ≤ p.number
       → take (p.number - shared_at ss p.stretch - (n - shared_at ss p.stretch)) (drop (n - shared_at ss p.stretch) (own_at ss p.stretch)) ≡ drop n (entries_at ss p)
-  lent p n within shared fewer = grind (arith, behind_shared ss rule p.stretch n shared, drop-take n (p.number - n) (stretch_list ss p.stretch))
+  own_entries_after p n within shared fewer = grind (arith, behind_shared ss rule p.stretch n shared, drop-take n (p.number - n) (stretch_list ss p.stretch))
 
   -- if a node has more entries than its stretch shares, its last one is its stretch's own
   pub last_own : (p : Node) (x : Entry) → shared_at ss p.stretch < p.number → slice_get (own_at ss p.stretch) (p.number - shared_at ss p.stretch - 1) ≡ Some x

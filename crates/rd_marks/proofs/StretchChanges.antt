@@ -1,6 +1,6 @@
 -- Inserting, removing and changing a stretch keeps the invariant, and each node keeps its entries.
-use Rattle.rd_marks.proofs.Prelude.{◌≡◌, ◌⊎◌, ℕ, zero, suc, ◌+◌, ◌-◌, ◌<◌, ◌≤◌, inl, inr, refl, sym, ap, ◌∙◌, subst, List, [], ◌∷◌, ◌++◌, map, length, take, length-take, arith, cases_lt, cases_eq, cases_order, nat_tests, length-map, take-append-le, take-take, take-map, MOST_STEPS, Event, Entry, Stretch, Node, stretch_list, list_before, shared_at, entries_at, IsWithin, AreNested, AreFresh, greatest_in, needed_at, AreNeeded, AreNeededFrom, IsAlong, IsDeepest, after_insertion, after_removal, events, max}
-use Rattle.rd_marks.proofs.StretchLists.{shared_within, goes_back, IsChanged, IsInserted, IsReplaced}
+use Rattle.rd_marks.proofs.Prelude.{◌≡◌, ◌⊎◌, ℕ, zero, suc, ◌+◌, ◌-◌, ◌<◌, ◌≤◌, inl, inr, refl, sym, ap, ◌∙◌, subst, List, [], ◌∷◌, ◌++◌, map, length, take, length-take, arith, cases_lt, cases_eq, cases_order, nat_tests, length-map, take-append-le, take-take, take-map, MOST_STEPS, Event, Entry, Stretch, Node, stretch_list, list_before, shared_at, entries_at, IsWithin, AreNested, AreFresh, greatest_len_in_stretch, needed_at, AreNeeded, AreNeededFrom, IsAlong, IsDeepest, after_insertion, after_removal, events, max}
+use Rattle.rd_marks.proofs.StretchLists.{shared_within, take_continued, IsChanged, IsInserted, IsReplaced}
 use Rattle.rd_marks.proofs.Fresh.{along_taken, along_itself, along_both, later_apart}
 
 -- Nodes
@@ -9,16 +9,16 @@ use Rattle.rd_marks.proofs.Fresh.{along_taken, along_itself, along_both, later_a
 abbrev pub with_node : List Node → ℕ → ℕ → List Node
 with_node ps i n = ps ++ record { stretch = i; number = n } ∷ []
 
-pub greatest-append : (i : ℕ) (ps qs : List Node) → greatest_in i (ps ++ qs) ≡ max (greatest_in i ps) (greatest_in i qs)
+pub greatest-append : (i : ℕ) (ps qs : List Node) → greatest_len_in_stretch i (ps ++ qs) ≡ max (greatest_len_in_stretch i ps) (greatest_len_in_stretch i qs)
 greatest-append i [] qs = omega arith
 greatest-append i (p ∷ ps) qs = omega (arith, greatest-append i ps qs)
 
 greatest_after_insertion : (i j : ℕ) (ps qs : List Node)
-    → (i < j → greatest_in i ps ≤ greatest_in i (map (after_insertion j) ps ++ qs)) × (j ≤ i → greatest_in i ps ≤ greatest_in (suc i) (map (after_insertion j) ps ++ qs))
+    → (i < j → greatest_len_in_stretch i ps ≤ greatest_len_in_stretch i (map (after_insertion j) ps ++ qs)) × (j ≤ i → greatest_len_in_stretch i ps ≤ greatest_len_in_stretch (suc i) (map (after_insertion j) ps ++ qs))
 greatest_after_insertion i j [] qs = (λ h. omega arith, λ h. omega arith)
 greatest_after_insertion i j (p ∷ ps) qs = let rest = greatest_after_insertion i j ps qs in (λ h. grind (arith, nat_tests, rest.0 h), λ h. grind (arith, nat_tests, rest.1 h))
 
-greatest_after_removal : (i j : ℕ) (ps : List Node) → j ≤ i → greatest_in (suc i) ps ≤ greatest_in i (map (after_removal j) ps)
+greatest_after_removal : (i j : ℕ) (ps : List Node) → j ≤ i → greatest_len_in_stretch (suc i) ps ≤ greatest_len_in_stretch i (map (after_removal j) ps)
 greatest_after_removal i j [] h = omega arith
 greatest_after_removal i j (p ∷ ps) h = grind (arith, nat_tests, greatest_after_removal i j ps h)
 
@@ -67,7 +67,7 @@ module _ (old new : List Stretch) (j more : ℕ) (change : IsChanged old new j m
 
   -- all lists stay needed if the changed one is, and if nodes in the others count for no less
   needed_changed : (ps qs : List Node) (i : ℕ) → i < length new → ((k : ℕ) → IsMoved old new j more i k → length (stretch_list old k) ≤ needed_at old ps k)
-      → length (stretch_list new j) ≤ needed_at new qs j → ((k : ℕ) → IsMoved old new j more i k → greatest_in k ps ≤ greatest_in i qs) → length (stretch_list new i) ≤ needed_at new qs i
+      → length (stretch_list new j) ≤ needed_at new qs j → ((k : ℕ) → IsMoved old new j more i k → greatest_len_in_stretch k ps ≤ greatest_len_in_stretch i qs) → length (stretch_list new i) ≤ needed_at new qs i
   needed_changed ps qs i h needed own nodes = grind (arith, own, cases_eq i j, moved i, needed, nodes)
 
 -- A stretch is inserted or removed
@@ -126,7 +126,7 @@ module _ (old new : List Stretch) (j : ℕ) (s : Stretch) (change : IsInserted o
   pub entries_after_removal : (p : Node) → (p.stretch ≡ j → p.number ≤ s.shared) → entries_at old (after_removal j p) ≡ entries_at new p
   entries_after_removal p own =
       let above = change.changed.above p.stretch (p.stretch - 1) in
-      grind (arith, nat_tests, own, cases_order p.stretch j, change.changed.below p.stretch, above, change.here, change.changed.there, goes_back (list_before old j) s p.number)
+      grind (arith, nat_tests, own, cases_order p.stretch j, change.changed.below p.stretch, above, change.here, change.changed.there, take_continued (list_before old j) s p.number)
 
 -- a node with the same number and the same entries is within the new stretches
 pub within_at : (old new : List Stretch) (p q : Node) → q.number ≡ p.number → entries_at new q ≡ entries_at old p → IsWithin old p → IsWithin new q

@@ -1,6 +1,6 @@
 -- The lists of stretches: how each one continues the list before it, and which stay the same if a
 -- stretch is inserted, removed or changed.
-use Rattle.rd_marks.proofs.Prelude.{◌≡◌, ℕ, zero, suc, ◌+◌, ◌-◌, ◌<◌, ◌≤◌, refl, sym, ap, ◌∙◌, subst, List, [], ◌∷◌, ◌++◌, length, take, drop, get_or, set, insert, remove, length-append, length-set, arith, take-append-add, drop-append-add, cases_lt, cases_eq, append_assoc, take-append-le, take-take, length-take-le, Entry, Stretch, continued, list_after, stretch_list, list_before, shared_at, AreNested, get_or-set_same, get_or-set_other}
+use Rattle.rd_marks.proofs.Prelude.{◌≡◌, ℕ, zero, suc, ◌+◌, ◌-◌, ◌<◌, ◌≤◌, refl, sym, ap, ◌∙◌, subst, List, [], ◌∷◌, ◌++◌, length, take, drop, get_or, set, insert, remove, length-append, length-set, arith, take-append-add, drop-append-add, cases_lt, cases_eq, append_assoc, take-append-le, take-take, length-take-le, Entry, Stretch, continued, list_from, stretch_list, list_before, shared_at, AreNested, get_or-set_same, get_or-set_other}
 use Rattle.std.proofs.lemmas.List.Edits.{length-insert}
 
 -- the entries that the i-th stretch keeps itself; empty if there is no i-th stretch
@@ -10,23 +10,23 @@ own_at (s ∷ ss) zero = s.entries.items
 own_at (s ∷ ss) (suc i) = own_at ss i
 
 -- the list before the i-th stretch, where x is the list before the first one
-abbrev before_after : List Entry → List Stretch → ℕ → List Entry
-before_after x ss zero = x
-before_after x ss (suc i) = list_after x ss i
+abbrev list_before_from : List Entry → List Stretch → ℕ → List Entry
+list_before_from x ss zero = x
+list_before_from x ss (suc i) = list_from x ss i
 
-one_on : (x : List Entry) (s : Stretch) (ss : List Stretch) (i : ℕ) → before_after (continued x s) ss i ≡ list_after x (s ∷ ss) i
-one_on x s ss i = grind arith
+list_before_from_continued : (x : List Entry) (s : Stretch) (ss : List Stretch) (i : ℕ) → list_before_from (continued x s) ss i ≡ list_from x (s ∷ ss) i
+list_before_from_continued x s ss i = grind arith
 
-before_is : (ss : List Stretch) (i : ℕ) → before_after [] ss i ≡ list_before ss i
-before_is ss i = grind arith
+list_before_from_nil : (ss : List Stretch) (i : ℕ) → list_before_from [] ss i ≡ list_before ss i
+list_before_from_nil ss i = grind arith
 
-splits_after : (x : List Entry) (ss : List Stretch) (i : ℕ) → list_after x ss i ≡ take (shared_at ss i) (before_after x ss i) ++ own_at ss i
+splits_after : (x : List Entry) (ss : List Stretch) (i : ℕ) → list_from x ss i ≡ take (shared_at ss i) (list_before_from x ss i) ++ own_at ss i
 splits_after x [] i = refl
 splits_after x (s ∷ ss) zero = refl
-splits_after x (s ∷ ss) (suc i) = splits_after (continued x s) ss i ∙ ap (λ (y : List Entry). take (shared_at ss i) y ++ own_at ss i) (one_on x s ss i)
+splits_after x (s ∷ ss) (suc i) = splits_after (continued x s) ss i ∙ ap (λ (y : List Entry). take (shared_at ss i) y ++ own_at ss i) (list_before_from_continued x s ss i)
 
 pub splits : (ss : List Stretch) (i : ℕ) → stretch_list ss i ≡ take (shared_at ss i) (list_before ss i) ++ own_at ss i
-splits ss i = splits_after [] ss i ∙ ap (λ (y : List Entry). take (shared_at ss i) y ++ own_at ss i) (before_is ss i)
+splits ss i = splits_after [] ss i ∙ ap (λ (y : List Entry). take (shared_at ss i) y ++ own_at ss i) (list_before_from_nil ss i)
 
 pub stretch_there : (ss : List Stretch) (i : ℕ) (d : Stretch) → i < length ss → (shared_at ss i ≡ (get_or ss i d).shared) × (own_at ss i ≡ (get_or ss i d).entries.items)
 stretch_there [] i d h = absurd (omega (arith, h))
@@ -38,7 +38,7 @@ shared_past [] i h = refl
 shared_past (s ∷ ss) zero h = absurd (omega (arith, h))
 shared_past (s ∷ ss) (suc i) h = shared_past ss i (omega (arith, h))
 
-past_after : (x : List Entry) (ss : List Stretch) (i : ℕ) → length ss ≤ i → list_after x ss i ≡ []
+past_after : (x : List Entry) (ss : List Stretch) (i : ℕ) → length ss ≤ i → list_from x ss i ≡ []
 past_after x [] i h = refl
 past_after x (s ∷ ss) zero h = absurd (omega (arith, h))
 past_after x (s ∷ ss) (suc i) h = past_after (continued x s) ss i (omega (arith, h))
@@ -77,13 +77,13 @@ module _ (ss : List Stretch) (rule : AreNested ss) where
 
 -- Changing a list only after the entries that the next stretch shares changes no later list
 
-pub lists_common : (ss : List Stretch) (x y : List Entry) (i : ℕ) → take (shared_at ss 0) x ≡ take (shared_at ss 0) y → list_after x ss i ≡ list_after y ss i
+pub lists_common : (ss : List Stretch) (x y : List Entry) (i : ℕ) → take (shared_at ss 0) x ≡ take (shared_at ss 0) y → list_from x ss i ≡ list_from y ss i
 lists_common [] x y i h = refl
 lists_common (s ∷ ss) x y zero h = ap (λ (z : List Entry). z ++ s.entries.items) h
-lists_common (s ∷ ss) x y (suc i) h = ap (λ (z : List Entry). list_after (z ++ s.entries.items) ss i) h
+lists_common (s ∷ ss) x y (suc i) h = ap (λ (z : List Entry). list_from (z ++ s.entries.items) ss i) h
 
-pub goes_back : (x : List Entry) (s : Stretch) (n : ℕ) → n ≤ s.shared → s.shared ≤ length x → take n (continued x s) ≡ take n x
-goes_back x s n h there = grind (arith, take-append-le, length-take-le, take-take)
+pub take_continued : (x : List Entry) (s : Stretch) (n : ℕ) → n ≤ s.shared → s.shared ≤ length x → take n (continued x s) ≡ take n x
+take_continued x s n h there = grind (arith, take-append-le, length-take-le, take-take)
 
 -- A stretch is inserted or changed
 
@@ -111,53 +111,53 @@ pub record IsReplaced (old new : List Stretch) (j : ℕ) : Type 0 where
   pub shared : shared_at new j ≡ shared_at old j
 
 below_inserted : (x : List Entry) (ss : List Stretch) (j : ℕ) (s : Stretch) (i : ℕ) → i < j → j ≤ length ss
-    → (list_after x (insert ss j s) i ≡ list_after x ss i) × (shared_at (insert ss j s) i ≡ shared_at ss i)
+    → (list_from x (insert ss j s) i ≡ list_from x ss i) × (shared_at (insert ss j s) i ≡ shared_at ss i)
 below_inserted x ss zero s i h k = absurd (omega (arith, h))
 below_inserted x [] (suc j) s i h k = absurd (omega (arith, k))
 below_inserted x (r ∷ ss) (suc j) s zero h k = (refl, refl)
 below_inserted x (r ∷ ss) (suc j) s (suc i) h k = below_inserted (continued x r) ss j s i (omega (arith, h)) (omega (arith, k))
 
 here_inserted : (x : List Entry) (ss : List Stretch) (j : ℕ) (s : Stretch) → j ≤ length ss
-    → (list_after x (insert ss j s) j ≡ continued (before_after x ss j) s) × (shared_at (insert ss j s) j ≡ s.shared)
+    → (list_from x (insert ss j s) j ≡ continued (list_before_from x ss j) s) × (shared_at (insert ss j s) j ≡ s.shared)
 here_inserted x ss zero s k = (refl, refl)
 here_inserted x [] (suc j) s k = absurd (omega (arith, k))
-here_inserted x (r ∷ ss) (suc j) s k = grind (arith, one_on, here_inserted (continued x r) ss j s (omega (arith, k)))
+here_inserted x (r ∷ ss) (suc j) s k = grind (arith, list_before_from_continued, here_inserted (continued x r) ss j s (omega (arith, k)))
 
-above_inserted : (x : List Entry) (ss : List Stretch) (j : ℕ) (s : Stretch) (i : ℕ) → j ≤ i → j ≤ length ss → shared_at ss j ≤ s.shared → s.shared ≤ length (before_after x ss j)
-    → (list_after x (insert ss j s) (suc i) ≡ list_after x ss i) × (shared_at (insert ss j s) (suc i) ≡ shared_at ss i)
-above_inserted x ss zero s i h k less there = (lists_common ss (continued x s) x i (goes_back x s (shared_at ss 0) less there), refl)
+above_inserted : (x : List Entry) (ss : List Stretch) (j : ℕ) (s : Stretch) (i : ℕ) → j ≤ i → j ≤ length ss → shared_at ss j ≤ s.shared → s.shared ≤ length (list_before_from x ss j)
+    → (list_from x (insert ss j s) (suc i) ≡ list_from x ss i) × (shared_at (insert ss j s) (suc i) ≡ shared_at ss i)
+above_inserted x ss zero s i h k less there = (lists_common ss (continued x s) x i (take_continued x s (shared_at ss 0) less there), refl)
 above_inserted x [] (suc j) s i h k less there = absurd (omega (arith, k))
 above_inserted x (r ∷ ss) (suc j) s zero h k less there = absurd (omega (arith, h))
 above_inserted x (r ∷ ss) (suc j) s (suc i) h k less there =
-    above_inserted (continued x r) ss j s i (omega (arith, h)) (omega (arith, k)) less (subst (λ (y : List Entry). s.shared ≤ length y) (sym (one_on x r ss j)) there)
+    above_inserted (continued x r) ss j s i (omega (arith, h)) (omega (arith, k)) less (subst (λ (y : List Entry). s.shared ≤ length y) (sym (list_before_from_continued x r ss j)) there)
 
 pub inserted_at : (ss : List Stretch) (j : ℕ) (s : Stretch) → j ≤ length ss → shared_at ss j ≤ s.shared → s.shared ≤ length (list_before ss j) → IsInserted ss (insert ss j s) j s
-inserted_at ss j s within less there = grind (arith, length-insert, before_is, here_inserted [] ss j s, above_inserted [] ss j s, below_inserted [] ss j s)
+inserted_at ss j s within less there = grind (arith, length-insert, list_before_from_nil, here_inserted [] ss j s, above_inserted [] ss j s, below_inserted [] ss j s)
 
 -- A stretch is removed
 
 -- inserting the removed stretch again gives back the stretches
-put_back : (ss : List Stretch) (j : ℕ) → j < length ss → (s : Stretch) × (insert (remove ss j) j s ≡ ss) × (s.shared ≡ shared_at ss j)
-put_back [] j h = absurd (omega (arith, h))
-put_back (s ∷ ss) zero h = (s, refl, refl)
-put_back (r ∷ ss) (suc j) h =
-    let rest = put_back ss j (omega (arith, h)) in
+insert_removed : (ss : List Stretch) (j : ℕ) → j < length ss → (s : Stretch) × (insert (remove ss j) j s ≡ ss) × (s.shared ≡ shared_at ss j)
+insert_removed [] j h = absurd (omega (arith, h))
+insert_removed (s ∷ ss) zero h = (s, refl, refl)
+insert_removed (r ∷ ss) (suc j) h =
+    let rest = insert_removed ss j (omega (arith, h)) in
     (rest.0, ap (λ (rs : List Stretch). r ∷ rs) rest.1, rest.2)
 
-left_after : (x : List Entry) (ss : List Stretch) (j : ℕ) → j < length ss
-    → (before_after x (remove ss j) j ≡ before_after x ss j) × (shared_at (remove ss j) j ≡ shared_at ss (suc j)) × (suc (length (remove ss j)) ≡ length ss)
-left_after x [] j h = absurd (omega (arith, h))
-left_after x (s ∷ ss) zero h = (refl, refl, refl)
-left_after x (r ∷ ss) (suc j) h = grind (arith, one_on, remove, left_after (continued x r) ss j (omega (arith, h)))
+here_removed : (x : List Entry) (ss : List Stretch) (j : ℕ) → j < length ss
+    → (list_before_from x (remove ss j) j ≡ list_before_from x ss j) × (shared_at (remove ss j) j ≡ shared_at ss (suc j)) × (suc (length (remove ss j)) ≡ length ss)
+here_removed x [] j h = absurd (omega (arith, h))
+here_removed x (s ∷ ss) zero h = (refl, refl, refl)
+here_removed x (r ∷ ss) (suc j) h = grind (arith, list_before_from_continued, remove, here_removed (continued x r) ss j (omega (arith, h)))
 
 -- the old stretches are those that are left, with the removed one inserted
 pub removed_at : (ss : List Stretch) (j : ℕ) → AreNested ss → j < length ss → shared_at ss (suc j) ≤ shared_at ss j
     → (s : Stretch) × (s.shared ≡ shared_at ss j) × IsInserted (remove ss j) ss j s
 removed_at ss j rule h less =
-    let back = put_back ss j h in
-    let left = left_after [] ss j h in
+    let back = insert_removed ss j h in
+    let left = here_removed [] ss j h in
     let its : IsInserted (remove ss j) (insert (remove ss j) j back.0) j back.0 =
-    grind (arith, back.2, left, h, less, before_is (remove ss j) j, before_is ss j, shared_within ss rule j, inserted_at (remove ss j) j back.0) in
+    grind (arith, back.2, left, h, less, list_before_from_nil (remove ss j) j, list_before_from_nil ss j, shared_within ss rule j, inserted_at (remove ss j) j back.0) in
     (back.0, back.2, rw back.1 at its)
 
 shared_replaced : (ss : List Stretch) (j : ℕ) (t : Stretch) (i : ℕ) → t.shared ≡ shared_at ss j → shared_at (set ss j t) i ≡ shared_at ss i
@@ -167,23 +167,23 @@ shared_replaced ss j t i h =
     grind (arith, h, cases_lt i (length ss), cases_eq i j, were, are, shared_past ss i, shared_past (set ss j t) i, get_or-set_same, get_or-set_other, length-set)
 
 others_replaced : (x : List Entry) (ss : List Stretch) (j : ℕ) (t : Stretch) (i : ℕ) → (i ≡ j → ⊥)
-    → take (shared_at ss (suc j)) (continued (before_after x ss j) t) ≡ take (shared_at ss (suc j)) (list_after x ss j) → list_after x (set ss j t) i ≡ list_after x ss i
+    → take (shared_at ss (suc j)) (continued (list_before_from x ss j) t) ≡ take (shared_at ss (suc j)) (list_from x ss j) → list_from x (set ss j t) i ≡ list_from x ss i
 others_replaced x [] j t i apart h = refl
 others_replaced x (s ∷ ss) zero t zero apart h = absurd (apart refl)
 others_replaced x (s ∷ ss) zero t (suc i) apart h = lists_common ss (continued x t) (continued x s) i h
 others_replaced x (s ∷ ss) (suc j) t zero apart h = refl
 others_replaced x (s ∷ ss) (suc j) t (suc i) apart h =
-    others_replaced (continued x s) ss j t i (λ same. apart (ap suc same)) (ap (λ (y : List Entry). take (shared_at ss (suc j)) (continued y t)) (one_on x s ss j) ∙ h)
+    others_replaced (continued x s) ss j t i (λ same. apart (ap suc same)) (ap (λ (y : List Entry). take (shared_at ss (suc j)) (continued y t)) (list_before_from_continued x s ss j) ∙ h)
 
-here_replaced : (x : List Entry) (ss : List Stretch) (j : ℕ) (t : Stretch) → j < length ss → list_after x (set ss j t) j ≡ continued (before_after x ss j) t
+here_replaced : (x : List Entry) (ss : List Stretch) (j : ℕ) (t : Stretch) → j < length ss → list_from x (set ss j t) j ≡ continued (list_before_from x ss j) t
 here_replaced x [] j t h = absurd (omega (arith, h))
 here_replaced x (s ∷ ss) zero t h = refl
-here_replaced x (s ∷ ss) (suc j) t h = here_replaced (continued x s) ss j t (omega (arith, h)) ∙ ap (λ (y : List Entry). continued y t) (one_on x s ss j)
+here_replaced x (s ∷ ss) (suc j) t h = here_replaced (continued x s) ss j t (omega (arith, h)) ∙ ap (λ (y : List Entry). continued y t) (list_before_from_continued x s ss j)
 
 module _ (ss : List Stretch) (rule : AreNested ss) (j : ℕ) (h : j < length ss) (t : Stretch) (shared : t.shared ≡ shared_at ss j) where
   replaced_at : (ys : List Entry) → continued (list_before ss j) t ≡ ys → take (shared_at ss (suc j)) ys ≡ take (shared_at ss (suc j)) (stretch_list ss j)
       → IsReplaced ss (set ss j t) j × (stretch_list (set ss j t) j ≡ ys)
-  replaced_at ys its same = grind (arith, shared_replaced, length-set, here_replaced, before_is, set, others_replaced)
+  replaced_at ys its same = grind (arith, shared_replaced, length-set, here_replaced, list_before_from_nil, set, others_replaced)
 
   -- if entries are appended to a stretch's own, they are appended to its list
   pub appended_at : (rest : List Entry) → t.entries.items ≡ own_at ss j ++ rest → IsReplaced ss (set ss j t) j × (stretch_list (set ss j t) j ≡ stretch_list ss j ++ rest)

@@ -1,5 +1,5 @@
 -- The contracts of adding entries to the stretches and of cutting a stretch.
-use Rattle.rd_marks.proofs.Prelude.{◌≡◌, ℕ, zero, suc, ◌-◌, ◌<◌, ◌≤◌, ◌^◌, refl, sym, ap, ◌∙◌, subst, List, [], ◌∷◌, ◌++◌, length, take, drop, set, insert, remove, length-take, arith, drop-length, nat_tests, append-nil, map-append, map-id, take_all, MOST_STEPS, Entry, Node, Stretch, Shift, greatest_in, stretch_list, list_before, shared_at, entries_at, IsWithin, IsEnd, IsAlong, IsDeepest, AreNested, AreFresh, IsLow, IsGrown, IsShrunk, KeepsItsSteps, events, cases_order}
+use Rattle.rd_marks.proofs.Prelude.{◌≡◌, ℕ, zero, suc, ◌-◌, ◌<◌, ◌≤◌, ◌^◌, refl, sym, ap, ◌∙◌, subst, List, [], ◌∷◌, ◌++◌, length, take, drop, set, insert, remove, length-take, arith, drop-length, nat_tests, append-nil, map-append, map-id, take_all, MOST_STEPS, Entry, Node, Stretch, Shift, greatest_len_in_stretch, stretch_list, list_before, shared_at, entries_at, IsWithin, IsEnd, IsAlong, IsDeepest, AreNested, AreFresh, CanShiftUp, IsGrown, IsShrunk, KeepsEntries, events, cases_order}
 use Rattle.rd_marks.specs.declared.stretches.changes.Shift.TheVariants.{Same, Up, Down}
 use Rattle.rd_marks.proofs.StretchLists.{own_at, shared_within, inserted_at, removed_at, appended_at, cut_at}
 use Rattle.rd_marks.proofs.Fresh.{along_taken}
@@ -8,19 +8,19 @@ use Rattle.rd_marks.proofs.EntryLemmas.{joined_events}
 use Rattle.rd_marks.proofs.Starting.{event_length, events_of_first, stretch_within}
 
 -- if there are fewer than 2^64 stretches, every node is low
-pub is_low : (ss : List Stretch) → length ss < 2 ^ 64 → (p : Node) → IsWithin ss p → IsLow p
-is_low ss few p within some = omega (arith, few, stretch_within ss p within some)
+pub can_shift_up : (ss : List Stretch) → length ss < 2 ^ 64 → (p : Node) → IsWithin ss p → CanShiftUp p
+can_shift_up ss few p within some = omega (arith, few, stretch_within ss p within some)
 
 -- if the node has all entries already, nothing changes
-pub all_there : (ss : List Stretch) (few : length ss < 2 ^ 64) (at : Node) (live : List Entry) → IsWithin ss at → at.number ≡ length live
+pub unchanged_is_grown : (ss : List Stretch) (few : length ss < 2 ^ 64) (at : Node) (live : List Entry) → IsWithin ss at → at.number ≡ length live
     → IsGrown ss ss at live (record { node = at; shift = Same })
-all_there ss few at live within all = record {
+unchanged_is_grown ss few at live within all = record {
   within = within;
   put = sym (append-nil (entries_at ss at)) ∙ (λ i. entries_at ss at ++ (sym (drop-length live) ∙ ap (λ (n : ℕ). drop n live) (sym all)) i);
-  low = is_low ss few;
+  low = can_shift_up ss few;
   stays = λ p is. record { within = is; same = refl };
   needed = λ nodes needed i low inside.
-      omega (arith, needed i low inside, ap (greatest_in i) (ap (λ (ps : List Node). ps ++ at ∷ []) (map-id nodes)), greatest-append i nodes (at ∷ []));
+      omega (arith, needed i low inside, ap (greatest_len_in_stretch i) (ap (λ (ps : List Node). ps ++ at ∷ []) (map-id nodes)), greatest-append i nodes (at ∷ []));
 }
 
 -- the invariants of the new stretches, and what `IsGrown` states of them
@@ -40,9 +40,9 @@ module _ (ss : List Stretch) (few : length ss < 2 ^ 64) (rule : AreNested ss) (f
       (same, sym (event_length xs) ∙ ap length same ∙ event_length live)
 
   -- appending the entries to the stretch whose list ends at the node
-  pub extended : IsEnd ss at → (t : Stretch) → t.shared ≡ shared_at ss at.stretch → t.entries.items ≡ own_at ss at.stretch ++ drop at.number live
+  pub append_grows : IsEnd ss at → (t : Stretch) → t.shared ≡ shared_at ss at.stretch → t.entries.items ≡ own_at ss at.stretch ++ drop at.number live
       → Grows ss (set ss at.stretch t) at live Same (record { stretch = at.stretch; number = length live })
-  extended end t shared its =
+  append_grows end t shared its =
       let j = at.stretch in
       let n = at.number in
       let new = set ss j t in
@@ -61,7 +61,7 @@ module _ (ss : List Stretch) (few : length ss < 2 ^ 64) (rule : AreNested ss) (f
         grown = record {
           within = omega (arith, long);
           put = take_all (length live) (stretch_list new j) (omega (arith, long)) ∙ list;
-          low = is_low ss few;
+          low = can_shift_up ss few;
           stays = grind (arith, both, entries_appended ss new j change rest both.1, within_at);
           needed = λ nodes needed.
               rw (map-id nodes) (needed_appended ss new j change nodes (length live) (omega (arith, long)) needed);
@@ -69,10 +69,10 @@ module _ (ss : List Stretch) (few : length ss < 2 ^ 64) (rule : AreNested ss) (f
       }
 
   -- inserting a stretch with the entries, which shares those of the node
-  pub branched : IsWithin ss at → (j : ℕ) → j ≤ length ss → (0 < length ss → 0 < j) → shared_at ss j ≤ at.number → at.number ≤ length (list_before ss j)
+  pub insertion_grows : IsWithin ss at → (j : ℕ) → j ≤ length ss → (0 < length ss → 0 < j) → shared_at ss j ≤ at.number → at.number ≤ length (list_before ss j)
       → take at.number (list_before ss j) ≡ entries_at ss at → (s : Stretch) → s.shared ≡ at.number → s.entries.items ≡ drop at.number live
       → Grows ss (insert ss j s) at live (Up j) (record { stretch = j; number = length live })
-  branched within j inside first less there begins s shared its =
+  insertion_grows within j inside first less there begins s shared its =
       let n = at.number in
       let new = insert ss j s in
       let rest = drop n live in
@@ -90,7 +90,7 @@ module _ (ss : List Stretch) (few : length ss < 2 ^ 64) (rule : AreNested ss) (f
         grown = record {
           within = omega (arith, long);
           put = take_all (length live) (stretch_list new j) (omega (arith, long)) ∙ list;
-          low = is_low ss few;
+          low = can_shift_up ss few;
           stays = grind (arith, nat_tests, entries_after_insertion ss new j s change, within_at);
           needed = λ nodes needed. needed_inserted ss new j s change nodes (length live) (omega (arith, long)) needed;
         };
@@ -113,8 +113,8 @@ pub record Shrinks (old new : List Stretch) (i n : ℕ) (shift : Shift) : Type 0
 
 module _ (ss : List Stretch) (few : length ss < 2 ^ 64) (rule : AreNested ss) (fresh : AreFresh ss) (j : ℕ) (inside : j < length ss) where
   -- removing a stretch none of whose own entries is left
-  pub gone : (n : ℕ) → shared_at ss (suc j) ≤ n → n ≤ shared_at ss j → Shrinks ss (remove ss j) j n (Down j)
-  gone n next none =
+  pub removal_shrinks : (n : ℕ) → shared_at ss (suc j) ≤ n → n ≤ shared_at ss j → Shrinks ss (remove ss j) j n (Down j)
+  removal_shrinks n next none =
       let found = removed_at ss j rule inside (omega (arith, next, none)) in
       let nested = nested_removed (remove ss j) ss j found.0 found.2 rule in
       record {
@@ -122,15 +122,15 @@ module _ (ss : List Stretch) (few : length ss < 2 ^ 64) (rule : AreNested ss) (f
         fresh = fresh_removed (remove ss j) ss j found.0 found.2 fresh;
         shrunk = record {
           below = omega (arith, found.2.changed.count, inside);
-          low = is_low ss few;
+          low = can_shift_up ss few;
           stays = grind (arith, found, entries_after_removal, within_at, nat_tests);
           needed = λ nodes needed its. needed_removed (remove ss j) ss j found.0 found.2 nodes needed;
         };
       }
 
   -- a stretch whose entries stay, in other room
-  pub same_left : (t : Stretch) → t.shared ≡ shared_at ss j → t.entries.items ≡ own_at ss j → AreNested (set ss j t) × AreFresh (set ss j t) × KeepsItsSteps ss (set ss j t)
-  same_left t shared its =
+  pub equal_stretch_keeps_entries : (t : Stretch) → t.shared ≡ shared_at ss j → t.entries.items ≡ own_at ss j → AreNested (set ss j t) × AreFresh (set ss j t) × KeepsEntries ss (set ss j t)
+  equal_stretch_keeps_entries t shared its =
       let new = set ss j t in
       let both = appended_at ss rule j inside t shared [] (its ∙ sym (append-nil (own_at ss j))) in
       let change = both.0 in
@@ -142,8 +142,8 @@ module _ (ss : List Stretch) (few : length ss < 2 ^ 64) (rule : AreNested ss) (f
       (nested, fresh_cut ss new j change fresh (length (stretch_list ss j)) (rule.some j inside) all, grind (arith, within_at))
 
   -- cutting a stretch some of whose own entries are left
-  pub left : (n : ℕ) → shared_at ss (suc j) ≤ n → shared_at ss j < n → (t : Stretch) → t.shared ≡ shared_at ss j → t.entries.items ≡ take (n - shared_at ss j) (own_at ss j) → Shrinks ss (set ss j t) j n Same
-  left n next some t shared its =
+  pub cut_shrinks : (n : ℕ) → shared_at ss (suc j) ≤ n → shared_at ss j < n → (t : Stretch) → t.shared ≡ shared_at ss j → t.entries.items ≡ take (n - shared_at ss j) (own_at ss j) → Shrinks ss (set ss j t) j n Same
+  cut_shrinks n next some t shared its =
       let new = set ss j t in
       let both = cut_at ss rule j inside t shared n (omega (arith, some)) next its in
       let change = both.0 in
@@ -154,7 +154,7 @@ module _ (ss : List Stretch) (few : length ss < 2 ^ 64) (rule : AreNested ss) (f
         fresh = fresh_cut ss new j change fresh n some both.1;
         shrunk = record {
           below = omega (arith, change.changed.count, inside);
-          low = is_low ss few;
+          low = can_shift_up ss few;
           stays = grind (arith, both, entries_cut, within_at);
           needed = λ nodes needed its. rw (map-id nodes) (needed_cut ss new j change nodes (omega (arith, long, its)) needed);
         };

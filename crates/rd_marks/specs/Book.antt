@@ -10,14 +10,14 @@ use Rattle.rd_marks.specs.declared.commands.Command.{Command}
 use Rattle.rd_marks.specs.declared.commands.Command.TheVariants.{GotoMark}
 use Rattle.rd_marks.specs.declared.names.MarkName.{MarkName}
 use Rattle.rd_marks.specs.declared.stretches.Node.{Node}
-use Rattle.rd_marks.specs.BookState.{BookState, marked_events, goto_mark}
-use Rattle.rd_marks.specs.Bookmarks.{lists_in, marks_of, stretches_in}
+use Rattle.rd_marks.specs.BookState.{BookState, events_by_name, goto_mark}
+use Rattle.rd_marks.specs.Bookmarks.{named_entries_in, marks_of, stretches_in}
 use Rattle.rd_marks.specs.Stretches.{entries_at, AreInPieces}
 use Rattle.rd_cell.specs.declared.refusal.Refusal.TheVariants as refusal
 
 -- the state of a book: its session's state, and its marks with their events
 abbrev pub book_state : {R : ℕ} → Book R → BookState
-book_state b = record { session = state b.session; marks = marks_of (lists_in b.bookmarks) }
+book_state b = record { session = state b.session; marks = marks_of (named_entries_in b.bookmarks) }
 
 -- the session of a book; contracts also use its room and its index
 abbrev pub session_of : {R : ℕ} → Book R → Session R
@@ -32,11 +32,11 @@ name_room b = spare b.bookmarks.names
 -- stretch, so that a copy is needed
 pub record LacksRoomToGo {R : ℕ} (b : Book R) (name : MarkName) : Type 0 where
   pub node : Node
-  pub its : marked_events (book_state b).marks name ≡ Some (events (entries_at (stretches_in b.bookmarks) node))
+  pub its : events_by_name (book_state b).marks name ≡ Some (events (entries_at (stretches_in b.bookmarks) node))
   pub lacks : LacksRoomFor b.session (events (entries_at (stretches_in b.bookmarks) node)) ⊎ AreInPieces (stretches_in b.bookmarks) node
 
 -- if the command goes to a mark, the book may refuse it with this cause: with the refusal of
 -- `goto_mark`, or with NoMemory if it lacks room. Of other commands this states nothing
-abbrev pub MayRefuseAsGoing : {R : ℕ} → Book R → Command → Refusal → Type 0
-MayRefuseAsGoing b (GotoMark name) cause = (goto_mark (book_state b) name ≡ Err cause) ⊎ ((cause ≡ refusal.NoMemory) × LacksRoomToGo b name)
-MayRefuseAsGoing b _ _ = Unit {0}
+abbrev pub MayRefuseIfGoto : {R : ℕ} → Book R → Command → Refusal → Type 0
+MayRefuseIfGoto b (GotoMark name) cause = (goto_mark (book_state b) name ≡ Err cause) ⊎ ((cause ≡ refusal.NoMemory) × LacksRoomToGo b name)
+MayRefuseIfGoto b _ _ = Unit {0}

@@ -28,16 +28,16 @@ abbrev pub with_session : BookState → State → BookState
 with_session b s = record { session = s; marks = b.marks }
 
 -- the events of the mark of this name, or None if there is no such mark
-abbrev pub marked_events : List Mark → MarkName → Option (List Event)
-marked_events [] name = None
-marked_events (m ∷ ms) name = if mark_name_eq name m.name then Some m.events else marked_events ms name
+abbrev pub events_by_name : List Mark → MarkName → Option (List Event)
+events_by_name [] name = None
+events_by_name (m ∷ ms) name = if mark_name_eq name m.name then Some m.events else events_by_name ms name
 
--- the book after setting a mark of this name, last of all marks, with the live events. It is refused
--- with MarkTaken if a mark has this name already, and otherwise with TooManyMarks if there are
--- MOST_MARKS
+-- the book after setting a mark of this name, last of all marks, with the live events. It is
+-- refused with MarkTaken if a mark has this name already, and otherwise with TooManyMarks if there
+-- are MOST_MARKS
 abbrev pub mark : BookState → MarkName → Result BookState Refusal
 mark b name =
-    if is_some (marked_events b.marks name) then Err refusal.MarkTaken
+    if is_some (events_by_name b.marks name) then Err refusal.MarkTaken
     else if length b.marks == MOST_MARKS then Err refusal.TooManyMarks
     else Ok (record { session = b.session; marks = b.marks ++ record { name = name; events = b.session.live } ∷ [] })
 
@@ -45,7 +45,7 @@ mark b name =
 -- NoMark if there is none
 abbrev pub drop_mark : BookState → MarkName → Result BookState Refusal
 drop_mark b name =
-    if is_some (marked_events b.marks name) then Ok (record { session = b.session; marks = remove_key (λ m. mark_name_eq name m.name) b.marks })
+    if is_some (events_by_name b.marks name) then Ok (record { session = b.session; marks = remove_key (λ m. mark_name_eq name m.name) b.marks })
     else Err refusal.NoMark
 
 -- the book in which just these events are live, and none is undone
@@ -55,12 +55,12 @@ at_events b es = with_session b (record { start = b.session.start; live = es; un
 -- the book after going to the mark of this name: just its events are live; refused with NoMark if
 -- there is none
 abbrev pub goto_mark : BookState → MarkName → Result BookState Refusal
-goto_mark b name = result_map (at_events b) (ok_or (marked_events b.marks name) refusal.NoMark)
+goto_mark b name = result_map (at_events b) (ok_or (events_by_name b.marks name) refusal.NoMark)
 
 -- there is a mark of this name, and the live events don't begin with its events, so going to it
 -- makes steps
-abbrev pub MakesSteps : BookState → MarkName → Type 0
-MakesSteps b name = (es : List Event) × (marked_events b.marks name ≡ Some es) × (Begins es b.session.live → ⊥)
+abbrev pub GotoMakesSteps : BookState → MarkName → Type 0
+GotoMakesSteps b name = (es : List Event) × (events_by_name b.marks name ≡ Some es) × (Begins es b.session.live → ⊥)
 
 -- the comparison of two marks may answer this. If both exist: whether their events are causally
 -- equivalent from the start, or NoMemory if neither list begins the other. If one is missing:

@@ -19,8 +19,8 @@ pub record AreEntriesOfRun (start : World) (entries : List Entry) : Type 0 where
   pub ran : IsRunFrom start entries
 
 -- each name with the entries of its node
-abbrev pub named_lists : List Stretch → List (MarkName × Node) → List (MarkName × List Entry)
-named_lists ss names = map (λ m. (m.0, entries_at ss m.1)) names
+abbrev pub named_entries : List Stretch → List (MarkName × Node) → List (MarkName × List Entry)
+named_entries ss names = map (λ m. (m.0, entries_at ss m.1)) names
 
 -- for each name, there are at most MOST_STEPS entries, which are those of a run from the start
 abbrev pub AreRuns : World → List (MarkName × List Entry) → Type 0
@@ -42,7 +42,7 @@ pub record IsKept (ss : List Stretch) (names : List (MarkName × Node)) (here : 
 -- they had, though at other nodes (`left`). The node `here` became `there`, whose entries begin
 -- those that it had
 pub record IsPruned (from : ℕ) (old new : List Stretch) (names left : List (MarkName × Node)) (here there : Node) : Type 0 where
-  pub lists : named_lists new left ≡ named_lists old names
+  pub lists : named_entries new left ≡ named_entries old names
   pub within : All (λ m. IsWithin new m.1) left
   pub needed : AreNeededFrom from new (nodes_of left)
   pub lies : IsWithin new there

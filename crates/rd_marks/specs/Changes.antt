@@ -25,8 +25,8 @@ shifted (Up i) p = after_insertion i p
 shifted (Down i) p = after_removal i p
 
 -- if the node has entries, its stretch's number has a successor below 2^64
-abbrev pub IsLow : Node → Type 0
-IsLow p = 0 < p.number → suc p.stretch < 2 ^ 64
+abbrev pub CanShiftUp : Node → Type 0
+CanShiftUp p = 0 < p.number → suc p.stretch < 2 ^ 64
 
 -- the node, renumbered as `shift` says, is in the new stretches and has the entries that it had
 pub record Stays (old new : List Stretch) (shift : Shift) (p : Node) : Type 0 where
@@ -34,7 +34,7 @@ pub record Stays (old new : List Stretch) (shift : Shift) (p : Node) : Type 0 wh
   pub same : entries_at new (shifted shift p) ≡ entries_at old p
 
 -- every node has the entries that it had, and nodes that needed all entries still need all
-pub record KeepsItsSteps (old new : List Stretch) : Type 0 where
+pub record KeepsEntries (old new : List Stretch) : Type 0 where
   pub stays : (p : Node) → IsWithin old p → Stays old new Same p
   pub needed : (nodes : List Node) → AreNeeded old nodes → AreNeeded new nodes
 
@@ -44,7 +44,7 @@ pub record KeepsItsSteps (old new : List Stretch) : Type 0 where
 pub record IsGrown (old new : List Stretch) (at : Node) (entries : List Entry) (grown : Grown) : Type 0 where
   pub within : IsWithin new grown.node
   pub put : entries_at new grown.node ≡ entries_at old at ++ drop at.number entries
-  pub low : (p : Node) → IsWithin old p → IsLow p
+  pub low : (p : Node) → IsWithin old p → CanShiftUp p
   pub stays : (p : Node) → IsWithin old p → Stays old new grown.shift p
   pub needed : (nodes : List Node) → AreNeeded old nodes → AreNeeded new (map (shifted grown.shift) nodes ++ grown.node ∷ [])
 
@@ -54,6 +54,6 @@ pub record IsGrown (old new : List Stretch) (at : Node) (entries : List Entry) (
 -- stretch were needed, and n of its own list, all entries from it on are needed now
 pub record IsShrunk (old new : List Stretch) (i n : ℕ) (shift : Shift) : Type 0 where
   pub below : i ≤ length new
-  pub low : (p : Node) → IsWithin old p → IsLow p
+  pub low : (p : Node) → IsWithin old p → CanShiftUp p
   pub stays : (p : Node) → IsWithin old p → (p.stretch ≡ i → p.number ≤ n) → Stays old new shift p
   pub needed : (nodes : List Node) → AreNeededFrom (suc i) old nodes → n ≡ needed_at old nodes i → AreNeededFrom i new (map (shifted shift) nodes)

@@ -13,7 +13,7 @@ use Rattle.rd_marks.specs.declared.commands.Search.TheVariants as search
 use Rattle.rd_marks.specs.declared.replies.Reply.{Reply}
 use Rattle.rd_marks.specs.declared.replies.Reply.TheVariants as reply
 use Rattle.rd_marks.specs.Beginnings.{NeedsNoEntry}
-use Rattle.rd_marks.specs.BookState.{BookState, with_session, marked_events, mark, drop_mark, goto_mark, mark_at, MakesSteps, AnswersSame}
+use Rattle.rd_marks.specs.BookState.{BookState, with_session, events_by_name, mark, drop_mark, goto_mark, mark_at, GotoMakesSteps, AnswersSame}
 use Rattle.rd_cell.specs.declared.refusal.Refusal.TheVariants as refusal
 
 -- the answer to a command, and the state after it
@@ -58,16 +58,16 @@ IsEventAnswer b e answered =
 
 -- the command sets a mark and needs no memory: the mark is not refused, there is room for its name
 -- (`room` counts the names that fit), and it needs no new entry. False for all other commands
-abbrev pub NeedsNoMemory : BookState → ℕ → Command → Type 0
-NeedsNoMemory b room (command.Mark name) = IsOk (mark b name) × (0 < room) × NeedsNoEntry b.marks b.session.live
-NeedsNoMemory b room _ = ⊥
+abbrev pub SetsMarkWithoutMemory : BookState → ℕ → Command → Type 0
+SetsMarkWithoutMemory b room (command.Mark name) = IsOk (mark b name) × (0 < room) × NeedsNoEntry b.marks b.session.live
+SetsMarkWithoutMemory b room _ = ⊥
 
 -- the query may be answered so; false for a command that is no query
 abbrev pub AnswersQuery : BookState → Command → Result Reply Refusal → Type 0
 AnswersQuery b command.Marks answer = answer ≡ Ok (reply.Marks (length b.marks))
 AnswersQuery b (command.MarkAt i) answer = answer ≡ result_map (λ m. reply.Mark m.0 m.1) (mark_at b i)
 AnswersQuery b (command.Same one other) answer =
-    (said : Result Bool Refusal) × AnswersSame b.session.start (marked_events b.marks one) (marked_events b.marks other) said × (answer ≡ result_map reply.Same said)
+    (said : Result Bool Refusal) × AnswersSame b.session.start (events_by_name b.marks one) (events_by_name b.marks other) said × (answer ≡ result_map reply.Same said)
 AnswersQuery b (command.Origin k) answer = answer ≡ query_reply b reply.Origin (λ ran. origin_in ran.entries k)
 AnswersQuery b (command.Writer place) answer = answer ≡ query_reply b (reply.Found search.Writer) (λ ran. last_writer_in ran place)
 AnswersQuery b (command.Show place) answer = answer ≡ query_reply b reply.Content (λ ran. ok_or (content_at ran.world.at place) refusal.NoSuchPlace)
@@ -92,7 +92,7 @@ IsObeyed b command.Redo answered = answered ≡ move_answer b (forward b.session
 IsObeyed b (command.Forward n) answered = answered ≡ move_answer b (forward b.session n)
 IsObeyed b (command.Mark name) answered = IsAsDefined b (answer_with b (λ c. reply.Marked (length c.session.live)) (λ c. c) (mark b name)) (IsOk (mark b name)) answered
 IsObeyed b (command.DropMark name) answered = answered ≡ answer_with b (λ c. reply.Dropped) (λ c. c) (drop_mark b name)
-IsObeyed b (command.GotoMark name) answered = IsAsDefined b (answer_with b (λ c. step_counts c.session) (λ c. c) (goto_mark b name)) (MakesSteps b name) answered
+IsObeyed b (command.GotoMark name) answered = IsAsDefined b (answer_with b (λ c. step_counts c.session) (λ c. c) (goto_mark b name)) (GotoMakesSteps b name) answered
 IsObeyed b query answered = AnswersQuery b query answered.answer × (answered.state ≡ b)
 
 -- the commands, done one after another, may have these answers, one each, and leave the state

@@ -9,13 +9,13 @@ use Rattle.rd_marks.specs.Names.{mark_name_eq}
 use Rattle.rd_marks.specs.BookState.{Mark, BookState}
 
 -- there are at most MOST_STEPS events, and they run from the start without a refusal
-pub record GoThrough (start : World) (events : List Event) : Type 0 where
+pub record CanRun (start : World) (events : List Event) : Type 0 where
   pub few : length events ≤ MOST_STEPS
   pub runs : IsOk (run start events)
 
 -- the events of each mark can run from the start
-abbrev pub MarksGoThrough : World → List Mark → Type 0
-MarksGoThrough start ms = AllByRecursion (λ m. GoThrough start m.events) ms
+abbrev pub MarksCanRun : World → List Mark → Type 0
+MarksCanRun start ms = AllByRecursion (λ m. CanRun start m.events) ms
 
 -- no two marks have the same name
 abbrev pub HaveDifferentNames : List Mark → Type 0
@@ -26,4 +26,4 @@ HaveDifferentNames ms = IsDistinct mark_name_eq (map (λ m. m.name) ms)
 pub record KeepsRules (b : BookState) : Type 0 where
   pub few : length b.marks ≤ MOST_MARKS
   pub names : HaveDifferentNames b.marks
-  pub through : MarksGoThrough b.session.start b.marks
+  pub through : MarksCanRun b.session.start b.marks

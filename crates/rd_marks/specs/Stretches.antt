@@ -15,14 +15,14 @@ continued before s = take s.shared before ++ s.entries.items
 
 -- the list of the i-th of these stretches, counted from 0, where `before` is the list before the
 -- first one; empty if there is no i-th stretch
-abbrev pub list_after : List Entry → List Stretch → ℕ → List Entry
-list_after before [] i = []
-list_after before (s ∷ ss) zero = continued before s
-list_after before (s ∷ ss) (suc i) = list_after (continued before s) ss i
+abbrev pub list_from : List Entry → List Stretch → ℕ → List Entry
+list_from before [] i = []
+list_from before (s ∷ ss) zero = continued before s
+list_from before (s ∷ ss) (suc i) = list_from (continued before s) ss i
 
 -- the list of the i-th stretch, counted from 0; empty if there is none
 abbrev pub stretch_list : List Stretch → ℕ → List Entry
-stretch_list ss i = list_after [] ss i
+stretch_list ss i = list_from [] ss i
 
 -- the list of the stretch before the i-th one; empty if there is none
 abbrev pub list_before : List Stretch → ℕ → List Entry
@@ -50,8 +50,8 @@ pub record IsEnd (ss : List Stretch) (p : Node) : Type 0 where
   pub all : p.number ≡ length (stretch_list ss p.stretch)
 
 -- the last entry of the node is its stretch's own, or the node is in the first stretch
-abbrev pub IsOwn : List Stretch → Node → Type 0
-IsOwn ss p = 0 < p.stretch → shared_at ss p.stretch < p.number
+abbrev pub IsCanonical : List Stretch → Node → Type 0
+IsCanonical ss p = 0 < p.stretch → shared_at ss p.stretch < p.number
 
 -- each stretch shares no more entries than the list before it has (`within`), and has at least one
 -- of its own (`some`); no list has more than MOST_STEPS entries (`few`)
@@ -71,18 +71,18 @@ abbrev pub AreFresh : List Stretch → Type 0
 AreFresh ss = (i j : ℕ) → j < i → i < length ss → IsAlong ss i (suc (shared_at ss i)) (events (stretch_list ss j)) → ⊥
 
 -- the number of entries of a node if it is in the i-th stretch, otherwise 0
-abbrev pub entries_in_stretch : ℕ → Node → ℕ
-entries_in_stretch i p = if p.stretch == i then p.number else 0
+abbrev pub node_len_in_stretch : ℕ → Node → ℕ
+node_len_in_stretch i p = if p.stretch == i then p.number else 0
 
 -- the greatest number of entries among the nodes in the i-th stretch; 0 if none is there
-abbrev pub greatest_in : ℕ → List Node → ℕ
-greatest_in i [] = 0
-greatest_in i (p ∷ ps) = max (entries_in_stretch i p) (greatest_in i ps)
+abbrev pub greatest_len_in_stretch : ℕ → List Node → ℕ
+greatest_len_in_stretch i [] = 0
+greatest_len_in_stretch i (p ∷ ps) = max (node_len_in_stretch i p) (greatest_len_in_stretch i ps)
 
 -- the number of entries of the i-th stretch's list that are needed, because the next stretch shares
 -- them or a node has them
 abbrev pub needed_at : List Stretch → List Node → ℕ → ℕ
-needed_at ss nodes i = max (shared_at ss (suc i)) (greatest_in i nodes)
+needed_at ss nodes i = max (shared_at ss (suc i)) (greatest_len_in_stretch i nodes)
 
 -- every entry of the lists of the k-th stretch and of later ones is needed
 abbrev pub AreNeededFrom : ℕ → List Stretch → List Node → Type 0
@@ -106,5 +106,5 @@ entry_count (s ∷ ss) = length s.entries.items + entry_count ss
 pub record AreInPieces (ss : List Stretch) (p : Node) : Type 0 where
   pub at : Node
   pub same : entries_at ss at ≡ entries_at ss p
-  pub own : IsOwn ss at
+  pub own : IsCanonical ss at
   pub shares : 0 < shared_at ss at.stretch

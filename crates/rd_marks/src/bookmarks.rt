@@ -18,7 +18,7 @@ mod keeping;
 use super::names::MarkName;
 use super::stretches::{Node, Stretches};
 use indexmap::IndexMap;
-use keeping::{here_after, prune, put};
+use keeping::{add_bookmark, here_after_growth, prune};
 use rd_cell::Refusal;
 use rd_cell::limits::MOST_MARKS;
 use rd_depend::are_equivalent;
@@ -41,15 +41,15 @@ pub(crate) struct Bookmarks {
 
 impl Bookmarks {
     ghost use Rattle.rd_marks.specs.Beginnings.{CountsBeginnings, NeedsNoEntry};
-    ghost use Rattle.rd_marks.specs.Bookmarks.{lists_in, marks_of, stretches_in, here_in};
+    ghost use Rattle.rd_marks.specs.Bookmarks.{named_entries_in, marks_of, stretches_in, here_entries};
     ghost use Rattle.rd_marks.specs.Stretches.{entries_at, entry_count, IsWithin};
     ghost use Rattle.rd_marks.specs.BookmarksFields.{AreRuns};
     ghost use Rattle.rd_marks.specs.Names.{mark_name_eq};
 
     /// Returns an empty list of bookmarks. It takes no memory.
     pub(crate) fn new(alloc: Global) -> Bookmarks
-        ensures lists { lists_in result ≡ [] }
-        ensures here { here_in result ≡ [] }
+        ensures lists { named_entries_in result ≡ [] }
+        ensures here { here_entries result ≡ [] }
     {
         Bookmarks {
             names: IndexMap::new(alloc),
@@ -61,9 +61,9 @@ impl Bookmarks {
     /// Returns the number of bookmarks, at most `MOST_MARKS`. Their names are all different.
     #[tactic(auto, using(crate::proofs::Putting::names_same))]
     pub(crate) fn len(&self) -> usize
-        ensures count { result ≡ length (lists_in self.now) }
+        ensures count { result ≡ length (named_entries_in self.now) }
         ensures few { result ≤ MOST_MARKS }
-        ensures unique { IsDistinct mark_name_eq (map (λ l. l.0) (lists_in self.now)) }
+        ensures unique { IsDistinct mark_name_eq (map (λ l. l.0) (named_entries_in self.now)) }
     {
         self.names.len()
     }
@@ -71,18 +71,18 @@ impl Bookmarks {
     /// Returns the number of entries that are kept for all bookmarks together. There is one for
     /// each different list, except the empty one, that begins some bookmark's entries.
     #[tactic(auto, using(crate::proofs::Counting::counts, crate::proofs::Putting::count_fits))]
-    pub(crate) fn nodes(&self) -> usize
-        ensures counts { CountsBeginnings (marks_of (lists_in self.now)) result }
+    pub(crate) fn kept_entry_count(&self) -> usize
+        ensures counts { CountsBeginnings (marks_of (named_entries_in self.now)) result }
         ensures entries { result ≡ entry_count (stretches_in self.now) }
     {
-        self.stretches.entries()
+        self.stretches.entry_count()
     }
 
     /// Returns the node of the entries of the bookmark of this name, or `None` if no bookmark has
     /// this name.
     pub(crate) fn find(&self, name: &MarkName) -> Option<Node>
         ensures found { option_map (entries_at (stretches_in self.now)) result
-            ≡ lookup (mark_name_eq name.now) (lists_in self.now) }
+            ≡ lookup (mark_name_eq name.now) (named_entries_in self.now) }
         ensures within { IfSome result (IsWithin (stretches_in self.now)) }
     {
         match self.names.get(name) {
@@ -96,7 +96,7 @@ impl Bookmarks {
     #[tactic(auto, using(crate::proofs::MarkLemmas::at_steps))]
     pub(crate) fn at(&self, index: usize) -> Option<(MarkName, Node)>
         ensures found { option_map (λ m. (m.0, entries_at (stretches_in self.now) m.1)) result
-            ≡ slice_get (lists_in self.now) index }
+            ≡ slice_get (named_entries_in self.now) index }
         ensures within { IfSome result (λ m. IsWithin (stretches_in self.now) m.1) }
     {
         match self.names.get_index(index) {
@@ -145,35 +145,39 @@ impl Bookmarks {
         session: &Session<R>,
         name: MarkName,
     ) -> Result<(), AllocError>
-        requires new { lookup (mark_name_eq name) (lists_in self.old) ≡ None }
-        requires few { length (lists_in self.old) < MOST_MARKS }
-        requires runs { AreRuns (state session.now).start (lists_in self.old) }
-        requires stands { Begins (events (here_in self.old)) (track session.now) }
-        ensures ok { OnOk result (lists_in self.new
-            ≡ lists_in self.old ++ (name, (journal session.now).live) ∷ []) }
-        ensures runs { AreRuns (state session.now).start (lists_in self.new) }
-        ensures stands { Begins (events (here_in self.new)) (track session.now) }
+        requires new { lookup (mark_name_eq name) (named_entries_in self.old) ≡ None }
+        requires few { length (named_entries_in self.old) < MOST_MARKS }
+        requires runs { AreRuns (state session.now).start (named_entries_in self.old) }
+        requires stands { Begins (events (here_entries self.old)) (track session.now) }
+        ensures ok { OnOk result (named_entries_in self.new
+            ≡ named_entries_in self.old ++ (name, (journal session.now).live) ∷ []) }
+        ensures runs { AreRuns (state session.now).start (named_entries_in self.new) }
+        ensures stands { Begins (events (here_entries self.new)) (track session.now) }
         ensures succeeds { 0 < spare self.old.names
-            → NeedsNoEntry (marks_of (lists_in self.old)) (state session.now).live → IsOk result }
-        ensures unchanged { OnErr result (lists_in self.new ≡ lists_in self.old) }
+            → NeedsNoEntry (marks_of (named_entries_in self.old)) (state session.now).live
+            → IsOk result }
+        ensures unchanged { OnErr result (named_entries_in self.new ≡ named_entries_in self.old) }
     {
         let live = session.live();
-        let at = self.stretches.follow(self.here.cut(live.len()), &live);
+        let at = self
+            .stretches
+            .deepest_agreeing_node(self.here.truncated(live.len()), &live);
         self.names.reserve(1)?;
         let grown = self.stretches.grow(alloc, at, &live)?;
-        put(&mut self.names, name, grown);
-        self.here = here_after(self.here, live.len(), grown);
+        add_bookmark(&mut self.names, name, grown);
+        self.here = here_after_growth(self.here, live.len(), grown);
         Ok(())
     }
 
     /// Drops the bookmark of this name, if there is one, and removes the entries that no other
     /// bookmark needs. The others keep their order. Returns whether there was one. It takes no
     /// memory.
-    pub(crate) fn drop(&mut self, name: &MarkName) -> bool
-        ensures found { result ≡ is_some (lookup (mark_name_eq name.now) (lists_in self.old)) }
-        ensures lists { lists_in self.new ≡ remove_entry (mark_name_eq name.now)
-            (lists_in self.old) }
-        ensures here { Begins (here_in self.new) (here_in self.old) }
+    pub(crate) fn remove(&mut self, name: &MarkName) -> bool
+        ensures found { result
+            ≡ is_some (lookup (mark_name_eq name.now) (named_entries_in self.old)) }
+        ensures lists { named_entries_in self.new ≡ remove_entry (mark_name_eq name.now)
+            (named_entries_in self.old) }
+        ensures here { Begins (here_entries self.new) (here_entries self.old) }
         ensures room { spare self.old.names ≤ spare self.new.names }
     {
         match self.names.shift_remove(name) {
@@ -207,7 +211,7 @@ impl Bookmarks {
             (events (entries_at (stretches_in self.now) one))
             (events (entries_at (stretches_in self.now) other))) }
     {
-        let shared = self.stretches.common(one, other);
+        let shared = self.stretches.common_len(one, other);
         if shared == one.number || shared == other.number {
             return Ok(one.number == other.number);
         }
@@ -218,11 +222,11 @@ impl Bookmarks {
 
     /// Records that steps of the session's track after the first `n` may have changed, so that
     /// later searches start at the `n`-th step at the latest.
-    pub(crate) fn cut_here(&mut self, n: usize)
-        ensures lists { lists_in self.new ≡ lists_in self.old }
-        ensures begins { Begins (here_in self.new) (here_in self.old) }
-        ensures short { length (here_in self.new) ≤ n }
+    pub(crate) fn record_change_after(&mut self, n: usize)
+        ensures lists { named_entries_in self.new ≡ named_entries_in self.old }
+        ensures begins { Begins (here_entries self.new) (here_entries self.old) }
+        ensures short { length (here_entries self.new) ≤ n }
     {
-        self.here = self.here.cut(n);
+        self.here = self.here.truncated(n);
     }
 }

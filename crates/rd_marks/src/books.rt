@@ -12,13 +12,13 @@ mod moves;
 mod obeying;
 mod saving;
 
-ghost use Rattle.std.specs.Prelude.{◌≡◌, ◌<◌, ◌≤◌, ◌⊎◌, [], length, Ok, Err, OnOk, OnErr, IfErr, IsOk};
+ghost use Rattle.std.specs.Prelude.{◌≡◌, ◌<◌, ◌≤◌, ◌⊎◌, [], length, Ok, OnErr, IfErr};
 ghost use Rattle.rd_step.specs.Prelude.{result_map};
 ghost use Rattle.rd_step.specs.Run.{events};
 ghost use Rattle.rd_depend.specs.Beginnings.{Begins};
 ghost use Rattle.rd_journal.specs.Sessions.{state, track, MayRefuse};
 ghost use Rattle.rd_marks.specs.BookmarksFields.{AreRuns};
-ghost use Rattle.rd_marks.specs.Bookmarks.{lists_in, stretches_in, here_in};
+ghost use Rattle.rd_marks.specs.Bookmarks.{named_entries_in, stretches_in, here_entries};
 ghost use Rattle.rd_marks.specs.Stretches.{entry_count};
 
 use super::bookmarks::Bookmarks;
@@ -36,8 +36,8 @@ pub struct Book<const R: usize> {
     bookmarks: Bookmarks,
     /// Where the book asks for memory.
     alloc: Global,
-    ghost runs: { AreRuns (state session).start (lists_in bookmarks) },
-    ghost stands: { Begins (events (here_in bookmarks)) (track session) },
+    ghost runs: { AreRuns (state session).start (named_entries_in bookmarks) },
+    ghost stands: { Begins (events (here_entries bookmarks)) (track session) },
 }
 
 /// Written by hand rather than derived. A proof of a function in which a book goes out of scope
@@ -97,7 +97,7 @@ impl<const R: usize> Book<R> {
         ensures unchanged { OnErr result (book_state self.new ≡ book_state self.old) }
     {
         let (step, entry) = self.session.apply(event)?;
-        self.bookmarks.cut_here(step as usize - 1);
+        self.bookmarks.record_change_after(step as usize - 1);
         Ok(EventReply {
             step,
             reply: entry.reply,
@@ -119,6 +119,6 @@ impl<const R: usize> Book<R> {
         ensures counts { CountsBeginnings (book_state self.now).marks result }
         ensures entries { result ≡ entry_count (stretches_in self.now.bookmarks) }
     {
-        self.bookmarks.nodes() as u64
+        self.bookmarks.kept_entry_count() as u64
     }
 }

@@ -47,7 +47,7 @@ impl Node {
     };
 
     /// Returns the node of the first `n` entries of this one, or this one if it has at most `n`.
-    pub(crate) fn cut(self, n: usize) -> Node
+    pub(crate) fn truncated(self, n: usize) -> Node
         ensures stretch { result.stretch ≡ self.stretch }
         ensures number { result.number ≡ min n self.number }
     {
@@ -67,7 +67,7 @@ pub(crate) struct Stretches {
 }
 
 impl Stretches {
-    ghost use Rattle.rd_marks.specs.Stretches.{shared_at, entries_at, entry_count, IsWithin, IsOwn};
+    ghost use Rattle.rd_marks.specs.Stretches.{shared_at, entries_at, entry_count, IsWithin, IsCanonical};
 
     /// Returns an empty list of stretches. It takes no memory.
     pub(crate) fn new(alloc: Global) -> Stretches
@@ -87,7 +87,7 @@ impl Stretches {
 
     /// Returns the number of entries that the stretches keep, all together. It must be below 2^64.
     #[tactic(auto, using(crate::proofs::Reading::count_on))]
-    pub(crate) fn entries(&self) -> usize
+    pub(crate) fn entry_count(&self) -> usize
         requires { entry_count self.now.list.items < 2 ^ 64 }
         ensures { result ≡ entry_count self.now.list.items }
     {
@@ -101,7 +101,7 @@ impl Stretches {
     /// Returns the number of entries that the list of stretch `i` shares with the list before it.
     /// It is 0 if there is no such stretch.
     #[tactic(auto, using(crate::proofs::Reading::stretch_at, crate::proofs::StretchLists::shared_past))]
-    pub(crate) fn shared(&self, i: usize) -> usize
+    pub(crate) fn shared_count(&self, i: usize) -> usize
         ensures { result ≡ shared_at self.now.list.items i }
     {
         match self.list.get(i) {
@@ -113,15 +113,15 @@ impl Stretches {
     /// Returns the node that has the same entries and is in the stretch that keeps the last of
     /// them, or in the first stretch if it has no entries. The stretches must have the node's
     /// entries.
-    pub(crate) fn own_node(&self, of: Node) -> Node
+    pub(crate) fn canonical_node(&self, of: Node) -> Node
         requires within { IsWithin self.now.list.items of }
         ensures number { result.number ≡ of.number }
         ensures within { IsWithin self.now.list.items result }
-        ensures own { IsOwn self.now.list.items result }
+        ensures own { IsCanonical self.now.list.items result }
         ensures same { entries_at self.now.list.items result ≡ entries_at self.now.list.items of }
     {
         let mut at = of;
-        while at.stretch > 0 && at.number <= self.shared(at.stretch) {
+        while at.stretch > 0 && at.number <= self.shared_count(at.stretch) {
             at.stretch -= 1;
         }
         at
@@ -129,7 +129,7 @@ impl Stretches {
 
     /// Returns the number of entries with which both nodes begin. The stretches must have the
     /// entries of both.
-    pub(crate) fn common(&self, one: Node, other: Node) -> usize
+    pub(crate) fn common_len(&self, one: Node, other: Node) -> usize
         requires one { IsWithin self.now.list.items one }
         requires other { IsWithin self.now.list.items other }
         ensures first { result ≤ one.number }
@@ -141,15 +141,15 @@ impl Stretches {
             ≡ take n (events (entries_at self.now.list.items other)) → n ≤ result }
     {
         if one.stretch <= other.stretch {
-            self.common_up(one, other)
+            self.common_len_in_order(one, other)
         } else {
-            self.common_up(other, one)
+            self.common_len_in_order(other, one)
         }
     }
 
     /// Returns the number of entries with which both nodes begin. The node `other` must be in the
     /// same stretch as `one` or a later one.
-    fn common_up(&self, one: Node, other: Node) -> usize
+    fn common_len_in_order(&self, one: Node, other: Node) -> usize
         requires one { IsWithin self.now.list.items one }
         requires other { IsWithin self.now.list.items other }
         requires later { one.stretch ≤ other.stretch }
@@ -163,7 +163,7 @@ impl Stretches {
     {
         let mut common = one.number.min(other.number);
         for i in one.stretch..other.stretch {
-            common = common.min(self.shared(i + 1));
+            common = common.min(self.shared_count(i + 1));
         }
         common
     }

@@ -1,6 +1,6 @@
 -- Along a run, an actor that begins no other call stays in its call or becomes idle, and a cell
 -- into which nothing is put keeps its value or loses it.
-use Rattle.rd_origin.proofs.Prelude.{◌≡◌, ℕ, Bool, true, false, ◌==◌, ◌&&◌, inl, inr, sym, ◌∙◌, ap, subst, eqb-true, List, [], ◌∷◌, Option, Some, None, Ok, cond_both, and_parts, cond-true, Place, World, Stepped, step, Ran, run, Op, Event, Entry, took, events, is_call, puts_into, calls_by, Actor, after, beginning}
+use Rattle.rd_origin.proofs.Prelude.{◌≡◌, ℕ, Bool, true, false, ◌==◌, ◌&&◌, inl, inr, sym, ◌∙◌, ap, subst, eqb-true, List, [], ◌∷◌, Option, Some, None, Ok, cond_both, and_parts, cond-true, Place, World, Stepped, step, Ran, run, Op, Event, Entry, step_stages, events, is_call, puts_into, begins_call, Actor, after, beginning}
 use Rattle.rd_cell.proofs.ResultLemmas.{same_Ok}
 use Rattle.rd_origin.specs.Positions.{HasNone}
 use Rattle.rd_origin.proofs.Rows.{IsStill}
@@ -18,23 +18,23 @@ still-trans o p r h (inl same) = elim h [ inl e ↦ inl (same ∙ e) | inr e ↦
 still-trans o p r h (inr none) = inr none
 
 -- a step that begins a call leaves its actor in that call
-pub begun : (w : World) (e : Event) (s : Stepped) (n : ℕ) → step w e ≡ Ok s → calls_by n s.entry ≡ true
+pub begun : (w : World) (e : Event) (s : Stepped) (n : ℕ) → step w e ≡ Ok s → begins_call n s.entry ≡ true
     → IsIn (called s.entry.event.act) (s.world.actor n)
 begun w e s n goes h =
-    let t = took w e s goes in
-    subst (λ (x : Stepped). calls_by n x.entry ≡ true → IsIn (called x.entry.event.act) (x.world.actor n)) t.ends
+    let t = step_stages w e s goes in
+    subst (λ (x : Stepped). begins_call n x.entry ≡ true → IsIn (called x.entry.event.act) (x.world.actor n)) t.ends
     (λ k.
     let parts = and_parts (n == e.actor) (is_call e.act) k in
     subst (IsIn (called e.act)) (sym (cond-true (n == e.actor) (Some (after w.ring t.a e.act t.did.answer).0) (w.actor n) parts.0))
     (inl (after_call w.ring t.a e.act t.did.answer parts.1))) h
 
 -- a step in which the actor begins no call leaves it in its call, or idle
-call_stays : (w : World) (e : Event) (s : Stepped) (n : ℕ) (o : Option Op) → step w e ≡ Ok s → calls_by n s.entry ≡ false
+call_stays : (w : World) (e : Event) (s : Stepped) (n : ℕ) (o : Option Op) → step w e ≡ Ok s → begins_call n s.entry ≡ false
     → IsIn o (w.actor n) → IsIn o (s.world.actor n)
 call_stays w e s n o goes h was =
-    let t = took w e s goes in
+    let t = step_stages w e s goes in
     let next : Actor = (after w.ring t.a e.act t.did.answer).0 in
-    subst (λ (x : Stepped). calls_by n x.entry ≡ false → IsIn o (x.world.actor n)) t.ends
+    subst (λ (x : Stepped). begins_call n x.entry ≡ false → IsIn o (x.world.actor n)) t.ends
     (λ k.
     cond_both (n == e.actor) (Some next) (w.actor n) (IsIn o)
     (λ same.
@@ -55,8 +55,8 @@ stays_along P test stays w v (x ∷ xs) h none was =
 
 -- along a run in which an actor begins no other call, it stays in its call, or is idle
 pub call_stays_along : (n : ℕ) (o : Option Op) (w v : World) (xs : List Entry) → run w (events xs) ≡ Ok (record { world = v; entries = xs })
-    → HasNone (calls_by n) xs → IsIn o (w.actor n) → IsIn o (v.actor n)
-call_stays_along n o = stays_along (λ u. IsIn o (u.actor n)) (calls_by n) (λ w e s goes h was. call_stays w e s n o goes h was)
+    → HasNone (begins_call n) xs → IsIn o (w.actor n) → IsIn o (v.actor n)
+call_stays_along n o = stays_along (λ u. IsIn o (u.actor n)) (begins_call n) (λ w e s goes h was. call_stays w e s n o goes h was)
 
 -- along a run that puts nothing into a cell, the cell has its value, or none
 pub value_stays_along : (q : Place) (u : ℕ) (w v : World) (xs : List Entry) → run w (events xs) ≡ Ok (record { world = v; entries = xs })

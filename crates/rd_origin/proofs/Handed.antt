@@ -1,8 +1,8 @@
 -- A taken value is the argument of the call in which it was put.
-use Rattle.rd_origin.proofs.Prelude.{◌≡◌, ℕ, suc, ◌-◌, true, sym, ◌∙◌, ap, subst, append_assoc, List, ◌∷◌, ◌++◌, length, take, take_at, option_and_then, Some, Ok, arith, Place, Contents, World, Stepped, Ran, run, IsWellFormed, numbered, value_to_put, Event, Entry, events, puts_into, calls_by, argument, middle, last_position, call_of, origin_in, run_keeps, run_events, drop}
-use Rattle.rd_step.proofs.Keeps.{keeps}
+use Rattle.rd_origin.proofs.Prelude.{◌≡◌, ℕ, suc, ◌-◌, true, sym, ◌∙◌, ap, subst, append_assoc, List, ◌∷◌, ◌++◌, length, take, take_at, option_and_then, Some, Ok, arith, Place, Contents, World, Stepped, Ran, run, IsWellFormed, numbered, value_to_put, Event, Entry, events, puts_into, begins_call, argument, middle, last_position, last_call, origin_in, run_keeps_well_formed, run_events, drop}
+use Rattle.rd_step.proofs.Keeps.{step_keeps_well_formed}
 use Rattle.rd_origin.specs.Laws.{IsHandedOver}
-use Rattle.rd_origin.proofs.Split.{at_seam, apart, apart_at_last}
+use Rattle.rd_origin.proofs.Split.{at_seam, cut_at_number, apart_at_last}
 use Rattle.rd_origin.specs.Positions.{HasNone}
 use Rattle.rd_origin.proofs.Ops.{called, argued}
 use Rattle.rd_origin.proofs.Values.{held_at, HoldsOnly}
@@ -22,7 +22,7 @@ record Named (xs : List Entry) (c p k : ℕ) : Type 0 where
   pub cell : Place
   pub place : taken.place ≡ Some cell
   pub last : last_position (puts_into cell) (take (k - 1) xs) ≡ Some p
-  pub its_call : call_of xs (Some p) ≡ Some c
+  pub its_call : last_call xs (Some p) ≡ Some c
 
 named_at : (xs : List Entry) (c p k : ℕ) → origin_in xs k ≡ Ok (record { call = Some c; put = Some p; take = k }) → Named xs c p k
 named_at xs c p k h = grind arith
@@ -45,15 +45,15 @@ same_value v u at q h k = grind arith
 -- call's argument
 argument_taken : (w v : World) (before between behind later : List Entry) (call put_there taken : Entry) (cell : Place) (value : ℕ) → IsWellFormed w
     → (let xs = before ++ call ∷ (between ++ put_there ∷ (behind ++ taken ∷ later)) in run w (events xs) ≡ Ok (record { world = v; entries = xs }))
-    → calls_by put_there.event.actor call ≡ true → HasNone (calls_by put_there.event.actor) between → puts_into cell put_there ≡ true
+    → begins_call put_there.event.actor call ≡ true → HasNone (begins_call put_there.event.actor) between → puts_into cell put_there ≡ true
     → HasNone (puts_into cell) behind → taken.place ≡ Some cell → taken.reply ≡ Some (op_reply.Value value) → argument call.event.act ≡ Some value
 argument_taken w v before between behind later call put_there taken cell value formed ran calls no_call puts no_put place replies =
     let one = middle w before call (between ++ put_there ∷ (behind ++ taken ∷ later)) v ran in
     let two = middle one.after between put_there (behind ++ taken ∷ later) v one.rest in
     let three = middle two.after behind taken later v two.rest in
     let called_step : Stepped = record { world = one.after; entry = call } in
-    let formed_one = run_keeps w (events before) (record { world = one.before; entries = before }) formed one.ran in
-    let formed_two = run_keeps one.after (events between) (record { world = two.before; entries = between }) (keeps one.before call.event called_step formed_one one.goes) two.ran in
+    let formed_one = run_keeps_well_formed w (events before) (record { world = one.before; entries = before }) formed one.ran in
+    let formed_two = run_keeps_well_formed one.after (events between) (record { world = two.before; entries = between }) (step_keeps_well_formed one.before call.event called_step formed_one one.goes) two.ran in
     let in_call : IsIn (called call.event.act) (two.before.actor put_there.event.actor) =
     call_stays_along put_there.event.actor (called call.event.act) one.after two.before between two.ran no_call
     (begun one.before call.event called_step put_there.event.actor one.goes calls) in
@@ -73,11 +73,11 @@ handed_over w es ran c p k formed goes h =
     let actor : ℕ = b.element.event.actor in
     let rest : List Entry = b.behind ++ n.taken ∷ later in
     let second : xs ≡ b.before ++ b.element ∷ rest =
-    apart xs k n.taken n.there ∙ ap (λ (l : List Entry). l ++ n.taken ∷ later) b.whole ∙ append_assoc b.before (b.element ∷ b.behind) (n.taken ∷ later) in
-    let last_call : last_position (calls_by actor) b.before ≡ Some c =
-    ap (last_position (calls_by actor)) (sym (seam_before xs b.before rest b.element p second b.number))
-    ∙ ap (option_and_then (λ (x : Entry). last_position (calls_by x.event.actor) (take (p - 1) xs))) (sym (seam_number xs b.before rest b.element p second b.number)) ∙ n.its_call in
-    let d = apart_at_last (calls_by actor) b.before c last_call in
+    cut_at_number xs k n.taken n.there ∙ ap (λ (l : List Entry). l ++ n.taken ∷ later) b.whole ∙ append_assoc b.before (b.element ∷ b.behind) (n.taken ∷ later) in
+    let last_call : last_position (begins_call actor) b.before ≡ Some c =
+    ap (last_position (begins_call actor)) (sym (seam_before xs b.before rest b.element p second b.number))
+    ∙ ap (option_and_then (λ (x : Entry). last_position (begins_call x.event.actor) (take (p - 1) xs))) (sym (seam_number xs b.before rest b.element p second b.number)) ∙ n.its_call in
+    let d = apart_at_last (begins_call actor) b.before c last_call in
     let third : xs ≡ d.before ++ d.element ∷ (d.behind ++ b.element ∷ rest) =
     second ∙ ap (λ (l : List Entry). l ++ b.element ∷ rest) d.whole ∙ append_assoc d.before (d.element ∷ d.behind) (b.element ∷ rest) in
     record {

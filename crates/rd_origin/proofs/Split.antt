@@ -9,8 +9,8 @@ at_seam {X} [] ys x = refl
 at_seam {X} (y ∷ xs) ys x = at_seam xs ys x
 
 -- a list can be taken apart at every element
-pub apart : {X : Type 0} (xs : List X) (k : ℕ) (x : X) → numbered xs k ≡ Some x → xs ≡ take (k - 1) xs ++ x ∷ drop k xs
-apart {X} xs k x h = let whole = around-element xs (k - 1) x in grind (arith, whole)
+pub cut_at_number : {X : Type 0} (xs : List X) (k : ℕ) (x : X) → numbered xs k ≡ Some x → xs ≡ take (k - 1) xs ++ x ∷ drop k xs
+cut_at_number {X} xs k x h = let whole = around-element xs (k - 1) x in grind (arith, whole)
 
 -- a list taken apart at its last element that passes the test
 pub record ApartAtLast {X : Type 0} (test : X → Bool) (xs : List X) (j : ℕ) : Type 0 where

@@ -1,5 +1,5 @@
 -- After a step that puts nothing into a cell, the cell has its value or none.
-use Rattle.rd_origin.proofs.Prelude.{◌≡◌, ◌⊎◌, ℕ, Bool, false, not, ◌&&◌, Option, Result, Ok, IfOk, arith, IfOk-at_ok, Place, Access, Refusal, Contents, is_nothing, Performed, perform, OpReply, need, World, Stepped, step, no_access, Pc, E8, E12, A2, need_at, Event, took, is_first_cell, puts_into, Actor, Act, need_for_call, need_for_choice, is_at, puts_at, step_outcome}
+use Rattle.rd_origin.proofs.Prelude.{◌≡◌, ◌⊎◌, ℕ, Bool, false, not, ◌&&◌, Option, Result, Ok, IfOk, arith, IfOk-at_ok, Place, Access, Refusal, Contents, is_nothing, Performed, perform, OpReply, need, World, Stepped, step, no_access, Pc, E8, E12, A2, need_at, Event, step_stages, has_first_cell, puts_into, Actor, Act, need_for_call, need_for_choice, is_at, puts_from, step_outcome}
 use Rattle.rd_origin.proofs.Values.{HoldsOnly, LeavesOnly, AccessKeeps, kept_access}
 use Rattle.rd_actor.specs.declared.actors.Act.TheVariants as act
 
@@ -17,12 +17,12 @@ row_kind R pc a = grind arith
 abbrev pub puts_by : Pc → Place → Performed → Bool
 puts_by E8 cell did = not (is_nothing did.wrote) && is_at did.place cell
 puts_by A2 cell did = is_at did.place cell
-puts_by E12 cell did = is_first_cell did.place cell
+puts_by E12 cell did = has_first_cell did.place cell
 puts_by _ cell did = false
 
 -- a step's entry is a put exactly if its access was one
 pub same_puts : (w : World) (e : Event) (a : Actor) (did : Performed) (next : Actor × Option OpReply) (cell : Place) (pc : Pc)
-    → puts_at pc cell (step_outcome w e a did next).entry ≡ puts_by pc cell did
+    → puts_from pc cell (step_outcome w e a did next).entry ≡ puts_by pc cell did
 same_puts w e a did next cell pc = grind arith
 
 -- An access that is no put leaves the value
@@ -69,7 +69,7 @@ act_leaves v R n at q a x h = call_at_none R n at (LeavesUnless v at a.pc q) (λ
 pub value_stays : (w : World) (e : Event) (s : Stepped) (q : Place) (v : ℕ) → step w e ≡ Ok s → puts_into q s.entry ≡ false
     → HoldsOnly v w.at q → HoldsOnly v s.world.at q
 value_stays w e s q v goes other h =
-    let t = took w e s goes in
+    let t = step_stages w e s goes in
     let by_access : IfOk (perform w.ring e.actor w.at t.access) (LeavesUnless v w.at t.a.pc q) =
     IfOk-at_ok (λ (x : Access). IfOk (perform w.ring e.actor w.at x) (LeavesUnless v w.at t.a.pc q)) t.needs (act_leaves v w.ring e.actor w.at q t.a e.act h) in
     grind (arith, same_puts)

@@ -1,5 +1,5 @@
 -- A step that takes a value found it in its cell.
-use Rattle.rd_origin.proofs.Prelude.{◌≡◌, ℕ, Some, Ok, arith, Place, Contents, Performed, World, Stepped, step, Pc, need_at, after_at, Event, took, Actor}
+use Rattle.rd_origin.proofs.Prelude.{◌≡◌, ℕ, Some, Ok, arith, Place, Contents, Performed, World, Stepped, step, Pc, need_at, after_at, Event, step_stages, Actor}
 use Rattle.rd_origin.proofs.Rows.{IsTaker, row_goes}
 use Rattle.rd_origin.proofs.Values.{held_at}
 use Rattle.rd_origin.proofs.Steps.{AtNone}
@@ -21,6 +21,6 @@ taker_takes R n at a cell u pc h = grind arith
 pub taken_held : (w : World) (e : Event) (s : Stepped) (cell : Place) (u : ℕ) → step w e ≡ Ok s
     → s.entry.reply ≡ Some (op_reply.Value u) → s.entry.place ≡ Some cell → held_at w.at cell ≡ Some u
 taken_held w e s cell u goes replies place =
-    let t = took w e s goes in
+    let t = step_stages w e s goes in
     let row = (row_goes w.ring t.a.pc t.a t.did.answer).1 in
     let takes = taker_takes w.ring e.actor w.at t.a cell u t.a.pc in grind arith

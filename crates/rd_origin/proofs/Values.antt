@@ -1,5 +1,5 @@
 -- The value in a cell or slot: only a put gives it another one.
-use Rattle.rd_origin.proofs.Prelude.{◌≡◌, ◌⊎◌, ℕ, Bool, true, false, inl, inr, refl, subst, Option, Some, None, IfSome, Result, Ok, Err, IfOk, arith, SegName, Place, Content, Access, Refusal, Contents, is_of, operand, Performed, perform, Cas2, Swap, share, after_write, holding, effect_at, operate, result_map, cases_Bool, Operation, covers, Effect, effect, contents_after, is_cell_at, after_write-outside, each_left, operand-covered}
+use Rattle.rd_origin.proofs.Prelude.{◌≡◌, ◌⊎◌, ℕ, Bool, true, false, inl, inr, refl, subst, Option, Some, None, IfSome, Result, Ok, Err, IfOk, arith, SegName, Place, Content, Access, Refusal, Contents, is_of_segment, operand, Performed, perform, Cas2, Swap, share, after_write, segment_holding, performed_at, operate, result_map, cases_Bool, Operation, covers, Effect, effect, contents_after, is_cell_place, after_write-outside, holds_after_effect, operand-covered}
 use Rattle.rd_cell.specs.declared.access.Access.TheVariants.{NoPlace, At, Make}
 use Rattle.rd_cell.proofs.EffectLemmas.{not_written}
 use Rattle.rd_cell.specs.declared.places.Place.TheVariants as place
@@ -54,7 +54,7 @@ is_value_place (place.Val s i) = true
 is_value_place (place.ArrCell i) = true
 is_value_place _ = false
 
-not_cell : (r : Place) → is_value_place r ≡ true → is_cell_at r ≡ true → ⊥
+not_cell : (r : Place) → is_value_place r ≡ true → is_cell_place r ≡ true → ⊥
 not_cell r h e = grind arith
 
 -- a place's share of a content has no other value than the content
@@ -70,17 +70,17 @@ always_none : (v : ℕ) (r : Result Performed Refusal) → IfOk r (λ did. HasOn
 always_none v r = grind arith
 
 after_effect : (v : ℕ) (p : Place) (c : Content) (at : Contents) (r : Place) (f : Effect) → WritesOnly v f → HasOnly v (at r)
-    → HasOnly v (contents_after (effect_at p c f) at r)
-after_effect v p c at r f writes h = each_left (HasOnly v) (λ d. HasOnly v (Some d)) p c f at r h writes (λ d k within. share_has v p d r k)
+    → HasOnly v (contents_after (performed_at p c f) at r)
+after_effect v p c at r f writes h = holds_after_effect (HasOnly v) (λ d. HasOnly v (Some d)) p c f at r h writes (λ d k within. share_has v p d r k)
 
 kept_effect : (v : ℕ) (p : Place) (c : Content) (at : Contents) (r : Place) (x : Result Effect Refusal) → IfOk x (WritesOnly v) → HasOnly v (at r)
-    → IfOk (result_map (effect_at p c) x) (λ did. HasOnly v (contents_after did at r))
+    → IfOk (result_map (performed_at p c) x) (λ did. HasOnly v (contents_after did at r))
 kept_effect v p c at r (Err refusal) w h = tt
 kept_effect v p c at r (Ok f) w h = after_effect v p c at r f w h
 
 -- a place that an operation's place doesn't cover keeps its value
 outside_effect : (v : ℕ) (p : Place) (c : Content) (at : Contents) (r : Place) (x : Result Effect Refusal) → covers p r ≡ false → HasOnly v (at r)
-    → IfOk (result_map (effect_at p c) x) (λ did. HasOnly v (contents_after did at r))
+    → IfOk (result_map (performed_at p c) x) (λ did. HasOnly v (contents_after did at r))
 outside_effect v p c at r x e h = grind (arith, after_write-outside, not_written)
 
 kept_there : (v : ℕ) (p : Place) (op : Operation) (o : Option Content) (at : Contents) (r : Place) → operand at p ≡ o → is_value_place r ≡ true → KeepsValue op
@@ -102,8 +102,8 @@ kept_operate v p op o at (place.ArrCell i) found k h = kept_there v p op o at (p
 kept_operate v p op o at _ found k h = always_none v (operate p op o)
 
 -- what a making leaves at a cell or a slot is what the new segment has, or what was there
-pub made_leaves : (v R x : ℕ) (s : SegName) (at : Contents) (q : Place) → (is_of s q ≡ true → HoldsOnly v (holding R x) q) → HoldsOnly v at q
-    → HoldsOnly v (after_write (place.Whole s) (holding R x) at) q
+pub made_leaves : (v R x : ℕ) (s : SegName) (at : Contents) (q : Place) → (is_of_segment s q ≡ true → HoldsOnly v (segment_holding R x) q) → HoldsOnly v at q
+    → HoldsOnly v (after_write (place.Whole s) (segment_holding R x) at) q
 made_leaves v R x s at q inside h = grind arith
 
 -- the access writes no value, or only the one that it found

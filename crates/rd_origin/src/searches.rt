@@ -7,7 +7,7 @@ ghost use Rattle.rd_step.specs.declared.entries.Entry.{Entry as SomeEntry};
 ghost use Rattle.rd_step.specs.Prelude.{and_then};
 ghost use Rattle.rd_journal.specs.Sessions.{state};
 ghost use Rattle.rd_journal.specs.State.{run_of};
-ghost use Rattle.rd_origin.specs.Origins.{takes_value, put_of, call_of, origin_in, is_call, is_at, is_first_cell, puts_into, calls_by};
+ghost use Rattle.rd_origin.specs.Origins.{hands_out_value, last_put, last_call, origin_in, is_call, is_at, has_first_cell, puts_into, begins_call};
 ghost use Rattle.rd_origin.specs.Positions.{last_position};
 
 use super::origins::Origin;
@@ -34,7 +34,7 @@ pub fn origin<const R: usize>(session: &Session<R>, k: u64) -> Result<Origin, Re
         (λ ran. origin_in ran.entries k) }
 {
     let taken = session.entry(k)?;
-    if !takes_value(taken.reply) {
+    if !hands_out_value(taken.reply) {
         return Err(Refusal::NotATake);
     }
     let steps = session.live();
@@ -47,8 +47,8 @@ pub fn origin<const R: usize>(session: &Session<R>, k: u64) -> Result<Origin, Re
 }
 
 /// Whether a reply hands out a value. A step with such a reply is a take.
-fn takes_value(reply: Option<OpReply>) -> bool
-    ensures { result ≡ takes_value reply }
+fn hands_out_value(reply: Option<OpReply>) -> bool
+    ensures { result ≡ hands_out_value reply }
 {
     matches!(reply, Some(OpReply::Value(_)))
 }
@@ -56,7 +56,7 @@ fn takes_value(reply: Option<OpReply>) -> bool
 /// Returns the number of the last step before step `k` that put a value into this cell or slot;
 /// none if no step did, or if no cell is given.
 fn last_put(steps: &EntryList, k: u64, cell: Option<Place>) -> Option<u64>
-    ensures { result ≡ put_of steps.now k cell }
+    ensures { result ≡ last_put steps.now k cell }
 {
     let cell = cell?;
     last_below(steps, k, |step| puts_into(cell, step))
@@ -65,11 +65,11 @@ fn last_put(steps: &EntryList, k: u64, cell: Option<Place>) -> Option<u64>
 /// Returns the number of the last step before the step of this number that begins a call of the
 /// same actor; none if no earlier step does, or if there is no step of this number or no number.
 fn last_call(steps: &EntryList, number: Option<u64>) -> Option<u64>
-    ensures { result ≡ call_of steps.now number }
+    ensures { result ≡ last_call steps.now number }
 {
     let number = number?;
-    let step = step_of(steps, number)?;
-    last_below(steps, number, |call| calls_by(step.event.actor, call))
+    let step = step_numbered(steps, number)?;
+    last_below(steps, number, |call| begins_call(step.event.actor, call))
 }
 
 /// Returns the greatest number below `below`, counted from 1, whose step passes the test; none if
@@ -82,7 +82,7 @@ fn last_below<F: Fn(&Entry) -> bool>(steps: &EntryList, below: u64, test: F) -> 
         → result ≡ last_position passes (take (below - 1) steps.now) }
 {
     for number in (1..below).rev() {
-        let Some(step) = step_of(steps, number) else {
+        let Some(step) = step_numbered(steps, number) else {
             continue;
         };
         if test(step) {
@@ -93,7 +93,7 @@ fn last_below<F: Fn(&Entry) -> bool>(steps: &EntryList, below: u64, test: F) -> 
 }
 
 /// Returns the entry of the step of this number, counted from 1, or none if there is no such step.
-fn step_of<'a>(steps: &EntryList<'a>, number: u64) -> Option<&'a Entry>
+fn step_numbered<'a>(steps: &EntryList<'a>, number: u64) -> Option<&'a Entry>
     ensures { MatchOption result (numbered steps.now number ≡ None)
         (λ step. numbered steps.now number ≡ Some step.now) }
 {
@@ -110,7 +110,7 @@ fn puts_into(cell: Place, step: &Entry) -> bool
     match step.old_actor.pc {
         Pc::E8 => !step.wrote.is_nothing() && is_at(step.place, cell),
         Pc::A2 => is_at(step.place, cell),
-        Pc::E12 => is_first_cell(step.place, cell),
+        Pc::E12 => has_first_cell(step.place, cell),
         _ => false,
     }
 }
@@ -127,8 +127,8 @@ fn is_at(place: Option<Place>, cell: Place) -> bool
 
 /// Whether there is a place, it is the whole of a segment, and this cell is the cell 0 of that
 /// segment.
-fn is_first_cell(place: Option<Place>, cell: Place) -> bool
-    ensures { result ≡ is_first_cell place cell }
+fn has_first_cell(place: Option<Place>, cell: Place) -> bool
+    ensures { result ≡ has_first_cell place cell }
 {
     match (place, cell) {
         (Some(Place::Whole(made)), Place::Cell(name, index)) => made == name && index == 0,
@@ -137,8 +137,8 @@ fn is_first_cell(place: Option<Place>, cell: Place) -> bool
 }
 
 /// Whether this actor begins a call in the step.
-fn calls_by(actor: u8, step: &Entry) -> bool
-    ensures { result ≡ calls_by actor step.now }
+fn begins_call(actor: u8, step: &Entry) -> bool
+    ensures { result ≡ begins_call actor step.now }
 {
     actor == step.event.actor && is_call(step.event.act)
 }

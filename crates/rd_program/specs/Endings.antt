@@ -7,7 +7,7 @@ use Rattle.rd_script.specs.declared.answers.AnyRefusal.TheVariants as refused
 use Rattle.rd_script.specs.declared.faults.ScriptFault.TheVariants as script
 use Rattle.rd_script.specs.Device.{TakesBeginning}
 use Rattle.rd_script.specs.Streams.{GetsNothing, Stream}
-use Rattle.rd_script.specs.Replies.{text_of}
+use Rattle.rd_script.specs.Replies.{answer_text}
 use Rattle.rd_trace.specs.declared.faults.LoadTraceFault.{LoadTraceFault}
 use Rattle.rd_trace.specs.declared.faults.LoadTraceFault.TheVariants as load
 use Rattle.rd_trace.specs.declared.faults.WriteTraceFault.{WriteTraceFault}
@@ -47,15 +47,15 @@ refusal_of (View fault) = view_refusal fault
 
 -- the line on standard error for a refusal: the program's name, and then the refusal
 abbrev pub error_line : AnyRefusal → List ℕ
-error_line cause = codes "lcrqdb: " ++ text_of (Err cause)
+error_line cause = codes "lcrqdb: " ++ answer_text (Err cause)
 
 -- a stream took all of this text, after what it had; or, if it has failed, a beginning of the text
-abbrev pub Takes : Stream → List ℕ → Type 0
-Takes s text = MatchBool s.failed (TakesBeginning s.before s.after text) (Appends s.before s.after text)
+abbrev pub TakesUnlessFailed : Stream → List ℕ → Type 0
+TakesUnlessFailed s text = MatchBool s.failed (TakesBeginning s.before s.after text) (Appends s.before s.after text)
 
 -- how the program ends after an outcome. If all was done, the status is 0, and standard error gets
 -- nothing and has not failed. After a fault, the status is 1, and the line of the fault's refusal
 -- goes there
 abbrev pub EndsAs : Result ℕ ProgramFault → ℕ → Stream → Type 0
 EndsAs (Ok lines) status errors = (status ≡ 0) × GetsNothing false errors
-EndsAs (Err fault) status errors = (status ≡ 1) × Takes errors (error_line (refusal_of fault))
+EndsAs (Err fault) status errors = (status ≡ 1) × TakesUnlessFailed errors (error_line (refusal_of fault))

@@ -16,18 +16,18 @@ use Rattle.rd_program.specs.declared.faults.ProgramFault.TheVariants.{NoMemory, 
 
 -- the fault of a file that was not read whole: `NoMemory` if memory was refused, or `Read` if the
 -- file could not be opened or its reader failed
-abbrev pub IsUnread : ProgramFault → Type 0
-IsUnread fault = (fault ≡ NoMemory) ⊎ (fault ≡ Read)
+abbrev pub IsReadOrNoMemory : ProgramFault → Type 0
+IsReadOrNoMemory fault = (fault ≡ NoMemory) ⊎ (fault ≡ Read)
 
 -- neither device was used
-abbrev pub TouchesNothing : Devices → Type 0
-TouchesNothing d = IsUnused d.input × IsUnused d.output
+abbrev pub AreUnused : Devices → Type 0
+AreUnused d = IsUnused d.input × IsUnused d.output
 
 -- if the trace of a book in this state was asked for, it was written as `WritesTrace` says for the
 -- result; else the result is `Ok`, and the output got nothing
-abbrev pub WritesIf : Bool → BookState → Stream → Result (Unit {0}) WriteTraceFault → Type 0
-WritesIf true b output result = WritesTrace b output result
-WritesIf false b output result = (result ≡ Ok tt) × GetsNothing false output
+abbrev pub WritesTraceIfAsked : Bool → BookState → Stream → Result (Unit {0}) WriteTraceFault → Type 0
+WritesTraceIfAsked true b output result = WritesTrace b output result
+WritesTraceIfAsked false b output result = (result ≡ Ok tt) × GetsNothing false output
 
 -- a script of n lines ran to its end over a book in this state, and its report was written; then,
 -- if the trace was asked for, writing it had the result `written`
@@ -38,7 +38,7 @@ pub record RanToTrace (before : BookState) (traced : Bool) (d : Devices) (n : �
   -- what the writer had taken when the report was whole
   pub reported : Option (List ℕ)
   pub ran : RanToEnd before after kept (record d { output = record d.output { after = reported; failed = false } }) n
-  pub trace : WritesIf traced after (record d.output { before = reported }) written
+  pub trace : WritesTraceIfAsked traced after (record d.output { before = reported }) written
 
 -- what `run` and `load` did over a book in this state, by the result. Either a script of n lines
 -- ran to its end, and the trace was written whole if it was asked for; or the script's run stopped;
@@ -52,11 +52,11 @@ PlaysOver before traced d (Err _) = ⊥
 -- what `run` did over a book in this state: memory for the book was refused, and neither device was
 -- used; or a script was run over it, as `PlaysOver` says
 abbrev pub PlaysScript : BookState → Bool → Devices → Result ℕ ProgramFault → Type 0
-PlaysScript before traced d result = ((result ≡ Err NoMemory) × TouchesNothing d) ⊎ PlaysOver before traced d result
+PlaysScript before traced d result = ((result ≡ Err NoMemory) × AreUnused d) ⊎ PlaysOver before traced d result
 
 -- what `load` did with the text of a file: it was not loaded, and neither device was used; or it
 -- was loaded as a book, and a script was run over this book
 abbrev pub ResumesTrace : List ℕ → Bool → Devices → Result ℕ ProgramFault → Type 0
 ResumesTrace text traced d result =
-    ((fault : LoadTraceFault) × (result ≡ Err (Load fault)) × TouchesNothing d × LoadsTrace text (Err fault))
+    ((fault : LoadTraceFault) × (result ≡ Err (Load fault)) × AreUnused d × LoadsTrace text (Err fault))
     ⊎ ((book : AnyBook) × LoadsTrace text (Ok book) × PlaysOver (any_state book) traced d result)

@@ -3,8 +3,8 @@
 //!
 //! `play` runs a script over a fresh world, and `resume` over the book of a trace; both write the
 //! trace of the session after the report if it is asked for. `view` runs several scripts over one
-//! fresh world, each by its own viewer. From the `Result` of these, `end` makes the exit status,
-//! and writes the line of a fault to standard error.
+//! fresh world, each by its own viewer. From the `Result` of these, `show_program_fault`
+//! makes the exit status, and writes the line of a fault to standard error.
 #![tactic(auto)]
 
 mod endings;
@@ -13,8 +13,8 @@ mod program;
 mod setups;
 mod viewers;
 
-pub use endings::end;
+pub use endings::show_program_fault;
 pub use faults::ProgramFault;
-pub use program::{play, resume, whole_text};
+pub use program::{play, read_whole_text, resume};
 pub use setups::Setup;
 pub use viewers::view;

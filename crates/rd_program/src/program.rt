@@ -6,7 +6,7 @@ ghost use Rattle.std.specs.Prelude.{◌≡◌, ℕ, false, IfOk, IfErr, IfSome};
 ghost use Rattle.rd_script.specs.Streams.{devices, sink_stream};
 ghost use Rattle.rd_script.specs.Ring.{ring_length};
 ghost use Rattle.rd_script.specs.AnyBook.{any_state, fresh_state};
-ghost use Rattle.rd_program.specs.Program.{IsUnread, PlaysOver, PlaysScript, ResumesTrace, WritesIf};
+ghost use Rattle.rd_program.specs.Program.{IsReadOrNoMemory, PlaysOver, PlaysScript, ResumesTrace, WritesTraceIfAsked};
 
 use super::faults::ProgramFault;
 use super::setups::Setup;
@@ -72,7 +72,7 @@ fn write_trace_if_asked<K: Sink>(
     trace: bool,
 ) -> Result<(), WriteTraceFault>
     requires { K.has_failed writer.old ≡ false }
-    ensures { WritesIf trace (any_state book.now)
+    ensures { WritesTraceIfAsked trace (any_state book.now)
         (sink_stream K.Sink writer.old writer.new) result }
 {
     if trace {
@@ -111,10 +111,10 @@ pub fn resume<S: Source, K: Sink>(
 ///
 /// `NoMemory` if memory was refused; `Read` if the reader failed. The bytes that were read are then
 /// lost.
-pub fn whole_text<R: Read>(alloc: Global, reader: &mut R) -> Result<Vec<u8>, ProgramFault>
+pub fn read_whole_text<R: Read>(alloc: Global, reader: &mut R) -> Result<Vec<u8>, ProgramFault>
     ensures ok { IfOk result (λ text. IfSome (R.remaining reader.old)
         (λ bytes. text.items ≡ bytes)) }
-    ensures err { IfErr result IsUnread }
+    ensures err { IfErr result IsReadOrNoMemory }
 {
     let mut text = Vec::new(alloc);
     match reader.read_to_end(&mut text) {

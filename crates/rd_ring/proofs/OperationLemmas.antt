@@ -1,34 +1,34 @@
 -- An operation at any place of a segment.
-use Rattle.rd_ring.proofs.Prelude.{◌≡◌, ℕ, sym, ◌∙◌, ap, arith, ◌<◌, Option, Some, None, option_map, slice_get, slice_get_past, read_answer, part, OperatesAt}
-use Rattle.rd_ring.specs.Prelude.{Cell, SegName, Place, Wrote, Content, Operation, Answer, Done, is_of, is_of_same_segment, cell_of_halves, operand, Operates}
+use Rattle.rd_ring.proofs.Prelude.{◌≡◌, ℕ, sym, ◌∙◌, ap, arith, ◌<◌, Option, Some, None, option_map, slice_get, slice_get_past, read_answer, segment_contents, OperatesAt}
+use Rattle.rd_ring.specs.Prelude.{Cell, SegName, Place, Wrote, Content, Operation, Answer, Done, is_of_segment, is_of_same_segment, cell_of_halves, operand, Operates}
 use Rattle.rd_ring.specs.declared.segments.Segment.{Segment}
 use Rattle.rd_cell.specs.declared.places.Place.TheVariants as place
 use Rattle.rd_cell.specs.declared.places.Wrote.TheVariants as wrote
 use Rattle.rd_cell.specs.declared.contents.Content.TheVariants as content
 
 -- a read answers what it finds, is done at its place, and leaves the segment as it was
-pub reads_at : {R : ℕ} (seg : Segment R) (p : Place) (op : Operation) (c : Content) (a : Answer) (done : Done) → operand (part seg) p ≡ Some c
+pub Operates-read : {R : ℕ} (seg : Segment R) (p : Place) (op : Operation) (c : Content) (a : Answer) (done : Done) → operand (segment_contents seg) p ≡ Some c
     → read_answer op c ≡ Some a → done ≡ record { place = Some p; old = Some c; answer = a; wrote = wrote.Nothing }
-    → Operates (is_of_same_segment p) p op done (part seg) (part seg)
-reads_at seg p op c a done found answers notes = grind arith
+    → Operates (is_of_same_segment p) p op done (segment_contents seg) (segment_contents seg)
+Operates-read seg p op c a done found answers notes = grind arith
 
 -- an operation that is done at a place under every name of the segment is done at the place under
 -- the name that the place has
-pub does_at : {R : ℕ} (old new : Segment R) (place : SegName → Place) (s : SegName) (p : Place) (op op' : Operation) (c d : Content) (answer : Answer) (wrote : Wrote) (done : Done)
-    → ((q : Place) → is_of_same_segment (place s) q ≡ is_of s q) → p ≡ place s → op' ≡ op → operand (part old) p ≡ Some d → OperatesAt place op c answer wrote old new
+pub Operates-from_OperatesAt : {R : ℕ} (old new : Segment R) (place : SegName → Place) (s : SegName) (p : Place) (op op' : Operation) (c d : Content) (answer : Answer) (wrote : Wrote) (done : Done)
+    → ((q : Place) → is_of_same_segment (place s) q ≡ is_of_segment s q) → p ≡ place s → op' ≡ op → operand (segment_contents old) p ≡ Some d → OperatesAt place op c answer wrote old new
     → (d ≡ c → done ≡ record { place = Some p; old = Some c; answer = answer; wrote = wrote })
-    → Operates (is_of_same_segment p) p op' done (part old) (part new)
-does_at {R} old new place s p op op' c d answer wrote done beside at same found operates notes = grind arith
+    → Operates (is_of_same_segment p) p op' done (segment_contents old) (segment_contents new)
+Operates-from_OperatesAt {R} old new place s p op op' c d answer wrote done beside at same found operates notes = grind arith
 
 -- a number at which the segment has a cell is below R
 within_cells : {R : ℕ} (seg : Segment R) (i : ℕ) → (slice_get seg.cells i ≡ None → ⊥) → i < R
 within_cells {R} seg i there = grind (arith, slice_get_past)
 
 -- a cell that an operation finds is one of the R cells
-pub cell_is_within : {R : ℕ} (seg : Segment R) (s : SegName) (i : ℕ) (p : Place) (c : Content) → p ≡ place.Cell s i → operand (part seg) p ≡ Some c → i < R
+pub cell_is_within : {R : ℕ} (seg : Segment R) (s : SegName) (i : ℕ) (p : Place) (c : Content) → p ≡ place.Cell s i → operand (segment_contents seg) p ≡ Some c → i < R
 cell_is_within seg s i p c at found =
     within_cells seg i (λ none.
-    let read : operand (part seg) (place.Cell s i) ≡ Some c = sym (ap (operand (part seg)) at) ∙ found in
-    let e : operand (part seg) (place.Cell s i) ≡ None =
+    let read : operand (segment_contents seg) (place.Cell s i) ≡ Some c = sym (ap (operand (segment_contents seg)) at) ∙ found in
+    let e : operand (segment_contents seg) (place.Cell s i) ≡ None =
     ap (λ (o : Option Cell). cell_of_halves (option_map (λ x. content.Val x.val) o) (option_map (λ x. content.Idx x.safe x.idx) o)) none in
     cc)

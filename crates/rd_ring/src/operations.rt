@@ -8,7 +8,7 @@ use super::segments::Segment;
 use rd_cell::{Answer, Content, Done, Operation, Place, Refusal, Wrote};
 
 impl<const R: usize> Segment<R> {
-    ghost use Rattle.rd_ring.specs.Segments.{part};
+    ghost use Rattle.rd_ring.specs.Segments.{segment_contents};
 
     /// Does an operation at a place of this segment, whichever segment the place names, and returns
     /// what the entry of the step records of it. The operation must not be `AddArray`, nor a
@@ -22,8 +22,9 @@ impl<const R: usize> Segment<R> {
     pub fn operate(&mut self, place: Place, operation: Operation) -> Result<Done, Refusal>
         requires { IsTrue (suits_segments operation) }
         ensures ok { IfOk result (λ done. Operates (is_of_same_segment place) place operation done
-            (part self.old) (part self.new)) }
-        ensures err { IfErr result (λ e. operate place operation (operand (part self.old) place)
+            (segment_contents self.old) (segment_contents self.new)) }
+        ensures err { IfErr result (λ e. operate place operation (operand
+            (segment_contents self.old) place)
             ≡ Err e) }
         ensures unchanged { OnErr result (self.new ≡ self.old) }
     {
@@ -49,15 +50,15 @@ impl<const R: usize> Segment<R> {
             }
             (Place::Tail(_), Operation::CasTail { old, new }) => {
                 let won = self.cas_tail(old, new);
-                Ok(Done::swapped(place, found, won, Wrote::Place))
+                Ok(Done::of_cas(place, found, won, Wrote::Place))
             }
             (Place::Next(_), Operation::CasNext(new)) => {
                 let won = self.cas_next(new);
-                Ok(Done::swapped(place, found, won, Wrote::Place))
+                Ok(Done::of_cas(place, found, won, Wrote::Place))
             }
             (Place::Cell(_, i), Operation::Cas2 { old, new }) => {
                 let won = self.cas2_cell(i, old, new);
-                Ok(Done::swapped(place, found, won, old.wrote(new)))
+                Ok(Done::of_cas(place, found, won, old.cas2_wrote(new)))
             }
             _ => Err(Refusal::NoSuchPlace),
         }
@@ -67,10 +68,11 @@ impl<const R: usize> Segment<R> {
     /// writes there. The place must be there, the content must be of its kind, and a counter in it
     /// at most 2^62.
     pub fn restore(&mut self, place: Place, content: Content)
-        requires there { IsTrue (is_some (operand (part self.old) place)) }
+        requires there { IsTrue (is_some (operand (segment_contents self.old) place)) }
         requires kind { IsTrue (can_hold place content) }
-        ensures { Restores (is_of_same_segment place) place (Some content) (part self.old)
-            (part self.new) }
+        ensures { Restores (is_of_same_segment place) place (Some content)
+            (segment_contents self.old)
+            (segment_contents self.new) }
     {
         match (place, content) {
             (Place::Head(_), Content::Number(count)) => self.restore_head(count),

@@ -1,7 +1,7 @@
 //! The segment and its operations.
 
 ghost use Rattle.std.specs.Prelude.{◌≡◌, ℕ, ◌<◌, ◌≤◌, ◌↔◌, true, false, Some, None, Err, IsSome, IsTrue, IfOk, IfErr, OnErr, option_map, slice_get, length};
-ghost use Rattle.rd_ring.specs.Prelude.{COUNTER_END, MOST_CELLS, SegName, Content, Add, Close, CasTail, CasNext, Cas2, root, fresh_segment, holding, new_cell, operand, swap_answer, swap_wrote, wrote_cell};
+ghost use Rattle.rd_ring.specs.Prelude.{COUNTER_END, MOST_CELLS, SegName, Content, Add, Close, CasTail, CasNext, Cas2, root, fresh_segment, segment_holding, new_cell, operand, cas_answer, cas_wrote, wrote_cell};
 ghost use Rattle.rd_cell.specs.declared.operations.Answer.TheVariants as Answer;
 ghost use Rattle.rd_cell.specs.declared.places.Wrote.TheVariants as Wrote;
 
@@ -24,13 +24,13 @@ pub struct Segment<const R: usize> {
 }
 
 impl<const R: usize> Segment<R> {
-    ghost use Rattle.rd_ring.specs.Segments.{part, part_from, counters_fit, head_count, tail_count, OperatesAt, RefusesAt, RestoresAt};
+    ghost use Rattle.rd_ring.specs.Segments.{segment_contents, parts_contents, counters_fit, head_count, tail_count, OperatesAt, RefusesAt, RestoresAt};
 
     /// Returns a fresh segment: both counters are 0, it is open, no segment follows, and each cell
     /// is safe and empty, with its own number as its index.
     pub fn fresh() -> Self
         requires { R ≤ MOST_CELLS }
-        ensures { (q : Place) → part result q ≡ fresh_segment R q }
+        ensures { (q : Place) → segment_contents result q ≡ fresh_segment R q }
     {
         Segment {
             head: 0,
@@ -44,9 +44,9 @@ impl<const R: usize> Segment<R> {
     /// Whether the segment equals a fresh one: both counters are 0, it is open, no segment follows,
     /// and each cell is safe and empty, with its own number as its index.
     pub fn is_fresh(&self) -> bool
-        ensures { IsTrue result ↔ ((q : Place) → part self.now q ≡ fresh_segment R q) }
+        ensures { IsTrue result ↔ ((q : Place) → segment_contents self.now q ≡ fresh_segment R q) }
     {
-        self.has_fresh_words() && are_fresh(&self.cells)
+        self.has_fresh_words() && are_fresh_cells(&self.cells)
     }
 
     /// Whether both counters are 0, the ring is open, and no segment follows.
@@ -62,7 +62,7 @@ impl<const R: usize> Segment<R> {
     pub fn holding(value: u64) -> Self
         requires positive { 1 ≤ R }
         requires small { R ≤ MOST_CELLS }
-        ensures { (q : Place) → part result q ≡ holding R value q }
+        ensures { (q : Place) → segment_contents result q ≡ segment_holding R value q }
     {
         let mut cells = fresh_cells();
         cells[0].val = Some(value);
@@ -78,7 +78,7 @@ impl<const R: usize> Segment<R> {
     /// Returns the segment with these words, whose counters must be at most 2^62.
     pub fn from_parts(parts: SegmentParts<R>) -> Self
         requires { IsTrue (counters_fit parts) }
-        ensures { (q : Place) → part result q ≡ part_from parts.entry q }
+        ensures { (q : Place) → segment_contents result q ≡ parts_contents parts.entry q }
     {
         Segment {
             head: parts.head,
@@ -91,7 +91,7 @@ impl<const R: usize> Segment<R> {
 
     /// Returns the words of the segment; `from_parts` makes an equal segment from them.
     pub fn parts(&self) -> SegmentParts<R>
-        ensures same { (q : Place) → part_from result q ≡ part self.now q }
+        ensures same { (q : Place) → parts_contents result q ≡ segment_contents self.now q }
         ensures within { IsTrue (counters_fit result) }
     {
         SegmentParts {
@@ -107,7 +107,7 @@ impl<const R: usize> Segment<R> {
     /// cell, this is its two halves together. None if no segment of `R` cells has such a place, and
     /// for the whole of a segment.
     pub fn content(&self, place: Place) -> Option<Content>
-        ensures { result ≡ operand (part self.now) place }
+        ensures { result ≡ operand (segment_contents self.now) place }
     {
         match place {
             Place::Head(_) => Some(Content::Number(self.head)),
@@ -137,18 +137,19 @@ impl<const R: usize> Segment<R> {
 
     /// Returns the name of the segment that follows, or none.
     pub fn next(&self) -> Option<SegName>
-        ensures { (s : SegName) → part self.now (Place.Next s) ≡ Some (Content.Next result) }
+        ensures { (s : SegName) → segment_contents self.now (Place.Next s)
+            ≡ Some (Content.Next result) }
     {
         self.next
     }
 
     /// Returns the cell of this number, counted from 0, or none if the number is `R` or more.
     pub fn cell(&self, i: u8) -> Option<Cell>
-        ensures value { (s : SegName) → operand (part self.now) (Place.Cell s i)
+        ensures value { (s : SegName) → operand (segment_contents self.now) (Place.Cell s i)
             ≡ option_map Content.Cell result }
-        ensures value_half { (s : SegName) → part self.now (Place.Val s i)
+        ensures value_half { (s : SegName) → segment_contents self.now (Place.Val s i)
             ≡ option_map (λ c. Content.Val c.val) result }
-        ensures index_half { (s : SegName) → part self.now (Place.Idx s i)
+        ensures index_half { (s : SegName) → segment_contents self.now (Place.Idx s i)
             ≡ option_map (λ c. Content.Idx c.safe c.idx) result }
         ensures there { IsSome result ↔ (i < R) }
     {
@@ -209,9 +210,9 @@ impl<const R: usize> Segment<R> {
     /// and returns whether it won. If it lost, the tail stays. `new` must be at most 2^62.
     pub fn cas_tail(&mut self, old: u64, new: u64) -> bool
         requires { new ≤ COUNTER_END }
-        ensures { (c : Content) → part self.old (Place.Tail root) ≡ Some c
-            → OperatesAt Place.Tail (CasTail old new) c (swap_answer result)
-            (swap_wrote result Wrote.Place) self.old self.new }
+        ensures { (c : Content) → segment_contents self.old (Place.Tail root) ≡ Some c
+            → OperatesAt Place.Tail (CasTail old new) c (cas_answer result)
+            (cas_wrote result Wrote.Place) self.old self.new }
     {
         let won = !self.closed && self.tail == old;
         if won {
@@ -223,9 +224,9 @@ impl<const R: usize> Segment<R> {
     /// Changes the next from none to this name (compare-and-swap), and returns whether it won. If
     /// it lost, the next stays.
     pub fn cas_next(&mut self, new: SegName) -> bool
-        ensures { (c : Content) → part self.old (Place.Next root) ≡ Some c
-            → OperatesAt Place.Next (CasNext new) c (swap_answer result)
-            (swap_wrote result Wrote.Place) self.old self.new }
+        ensures { (c : Content) → segment_contents self.old (Place.Next root) ≡ Some c
+            → OperatesAt Place.Next (CasNext new) c (cas_answer result)
+            (cas_wrote result Wrote.Place) self.old self.new }
     {
         let won = self.next.is_none();
         if won {
@@ -238,9 +239,9 @@ impl<const R: usize> Segment<R> {
     /// it lost, the cell stays. The number must be below `R`.
     pub fn cas2_cell(&mut self, i: u8, old: Cell, new: Cell) -> bool
         requires { i < R }
-        ensures { (c : Content) → operand (part self.old) (Place.Cell root i) ≡ Some c
-            → OperatesAt (λ s. Place.Cell s i) (Cas2 old new) c (swap_answer result)
-            (swap_wrote result (wrote_cell old new)) self.old self.new }
+        ensures { (c : Content) → operand (segment_contents self.old) (Place.Cell root i) ≡ Some c
+            → OperatesAt (λ s. Place.Cell s i) (Cas2 old new) c (cas_answer result)
+            (cas_wrote result (wrote_cell old new)) self.old self.new }
     {
         let mut cell = self.cells[usize::from(i)];
         let won = cell.cas2(old, new);
@@ -317,7 +318,7 @@ fn fresh_cells<const R: usize>() -> [Cell; R]
 }
 
 /// Whether these are the cells of a fresh segment.
-fn are_fresh(cells: &[Cell]) -> bool
+fn are_fresh_cells(cells: &[Cell]) -> bool
     ensures { IsTrue result ↔ ((u : ℕ) → u < length cells.now
         → slice_get cells.now u ≡ Some (new_cell u None)) }
 {

@@ -39,8 +39,8 @@ kind_is_found k = grind arith
 pub one_keyword : (k m : Keyword) → keyword_text k ≡ keyword_text m → k ≡ m
 one_keyword k m e = one_of_text keyword_text keywords keyword_is_found k m e
 
-pub none_of_all : (word : List ℕ) → ((i : ℕ) → i < length keywords → word ≢ keyword_text (slice_index_or keywords i keyword.Go)) → (k : Keyword) → word ≢ keyword_text k
-none_of_all word none k = none_of_text keyword_text keywords keyword_is_found word keyword.Go none k
+pub none_of_keywords : (word : List ℕ) → ((i : ℕ) → i < length keywords → word ≢ keyword_text (slice_index_or keywords i keyword.Go)) → (k : Keyword) → word ≢ keyword_text k
+none_of_keywords word none k = none_of_text keyword_text keywords keyword_is_found word keyword.Go none k
 
 -- two kinds of places with one text are equal, and a word that is no text in the list is no kind's
 pub one_kind : (k m : PlaceKind) → kind_text k ≡ kind_text m → k ≡ m

@@ -1,5 +1,5 @@
 -- Words that spell numbers, and the parts of a segment's name.
-use Rattle.rd_script.proofs.Prelude.{None, Some, ◌≡◌, ◌≢◌, ℕ, ◌^◌, ◌<◌, ◌≤◌, ◌-◌, ◌==◌, ◌⊎◌, List, [], ◌∷◌, get_or, length, Option, IfSome, IfNone, Result, Ok, Err, ParsesUnsigned, parse_plain, numerals_by_value, tells_digits, decimal-digits_value, decimal_digit, first_decimal, parse-decimal, subst, arith, sym, ◌∙◌, ap, append_assoc, decimal, slice_split, join_with_byte, SegName, name_words, IsSegmentInRange}
+use Rattle.rd_script.proofs.Prelude.{None, Some, ◌≡◌, ◌≢◌, ℕ, ◌^◌, ◌<◌, ◌≤◌, ◌-◌, ◌==◌, ◌⊎◌, List, [], ◌∷◌, get_or, length, Option, IfSome, IfNone, Result, Ok, Err, ParsesUnsigned, parse_plain, numerals_by_value, tells_digits, decimal-digits_value, decimal_digit, first_decimal, parse-decimal, subst, arith, sym, ◌∙◌, ap, append_assoc, decimal, slice_split, join_with_byte, SegName, segment_name_words, IsSegmentInRange}
 use Rattle.std.specs.Result.{result_ok}
 use Rattle.rd_script.proofs.SplitLemmas.{parts_of_join, join_of_parts, is_free_decimal}
 
@@ -28,24 +28,24 @@ none_spelled word digits (Ok m) o same reads left = rw left tt
 none_spelled word digits (Err e) o same reads left = rw left (λ n small is. let no = parse-decimal 64 n digits (Err e) small small (same ∙ is) reads in cc)
 
 -- a segment's name is its two parts, joined by a full stop
-name_join : (s : SegName) → name_words s ≡ join_with_byte 46 (decimal s.maker ∷ decimal s.n ∷ [])
+name_join : (s : SegName) → segment_name_words s ≡ join_with_byte 46 (decimal s.maker ∷ decimal s.n ∷ [])
 name_join s = append_assoc (decimal s.maker) (46 ∷ []) (decimal s.n)
 
 -- a segment's name has two parts
-pub name_parts : (s : SegName) → IsSegmentInRange s → slice_split (λ byte. byte == 46) (name_words s) ≡ decimal s.maker ∷ decimal s.n ∷ []
+pub name_parts : (s : SegName) → IsSegmentInRange s → slice_split (λ byte. byte == 46) (segment_name_words s) ≡ decimal s.maker ∷ decimal s.n ∷ []
 name_parts s small =
     rw (name_join s) (parts_of_join 46 (decimal s.maker) (decimal s.n ∷ [])
     (is_free_decimal 46 s.maker (omega arith) (omega (arith, small.0)), (is_free_decimal 46 s.n (omega arith) (omega (arith, small.1)), tt)))
 
 -- if the parts of a word spell a segment's name, so does the word
-pub name_from_parts : (word : List ℕ) (parts : List (List ℕ)) (r : Option SegName) → parts ≡ slice_split (λ byte. byte == 46) word → IfSome r (λ s. parts ≡ decimal s.maker ∷ decimal s.n ∷ []) → IfSome r (λ s. word ≡ name_words s)
+pub name_from_parts : (word : List ℕ) (parts : List (List ℕ)) (r : Option SegName) → parts ≡ slice_split (λ byte. byte == 46) word → IfSome r (λ s. parts ≡ decimal s.maker ∷ decimal s.n ∷ []) → IfSome r (λ s. word ≡ segment_name_words s)
 name_from_parts word parts None cut is = tt
 name_from_parts word parts (Some s) cut is = join_of_parts 46 word (decimal s.maker ∷ decimal s.n ∷ []) (sym is ∙ cut) ∙ sym (name_join s)
 
 -- if the parts of a word spell no segment's name, neither does the word
-pub no_name_from_parts : (word : List ℕ) (parts : List (List ℕ)) (r : Option SegName) → parts ≡ slice_split (λ byte. byte == 46) word → IfNone r ((s : SegName) → IsSegmentInRange s → parts ≢ decimal s.maker ∷ decimal s.n ∷ []) → IfNone r ((s : SegName) → IsSegmentInRange s → word ≢ name_words s)
+pub no_name_from_parts : (word : List ℕ) (parts : List (List ℕ)) (r : Option SegName) → parts ≡ slice_split (λ byte. byte == 46) word → IfNone r ((s : SegName) → IsSegmentInRange s → parts ≢ decimal s.maker ∷ decimal s.n ∷ []) → IfNone r ((s : SegName) → IsSegmentInRange s → word ≢ segment_name_words s)
 no_name_from_parts word parts r cut is = grind (arith, name_parts)
 
 -- a word of more than four parts spells none
-pub no_name_of_many : (word : List ℕ) → 4 < length (slice_split (λ byte. byte == 46) word) → (s : SegName) → IsSegmentInRange s → word ≢ name_words s
+pub no_name_of_many : (word : List ℕ) → 4 < length (slice_split (λ byte. byte == 46) word) → (s : SegName) → IsSegmentInRange s → word ≢ segment_name_words s
 no_name_of_many word many s small e = absurd (omega (arith, many, ap length (ap (slice_split (λ byte. byte == 46)) e ∙ name_parts s small)))

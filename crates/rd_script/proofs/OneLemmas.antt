@@ -1,6 +1,6 @@
 -- Two commands with the same words are equal: after one keyword, arguments have the same shapes,
 -- and an argument is determined by its shape and its word.
-use Rattle.rd_script.proofs.Prelude.{◌≡◌, ℕ, Bool, ◌==◌, List, [], ◌∷◌, length, refl, sym, ◌∙◌, ap, arith, drop, slice_index_or, slice_split, decimal_injective, SegName, Command, yes_or_no, name_words, Argument, Byte, Long, Segment, Choice, Name, Kind, keyword_of, word_of, argument_words, arguments_of, IsSegmentInRange, IsArgumentInRange, AreArgumentsInRange, IsInRange, IsSameCommand, Place, kind_of, place_arguments}
+use Rattle.rd_script.proofs.Prelude.{◌≡◌, ℕ, Bool, ◌==◌, List, [], ◌∷◌, length, refl, sym, ◌∙◌, ap, arith, drop, slice_index_or, slice_split, decimal_injective, SegName, Command, yes_or_no, segment_name_words, Argument, Byte, Long, Segment, Choice, Name, Kind, keyword_of, word_of, argument_words, arguments_of, IsSegmentInRange, IsArgumentInRange, AreArgumentsInRange, IsInRange, IsSameCommand, Place, kind_of, place_arguments}
 use Rattle.rd_script.proofs.KeywordLemmas.{one_kind}
 use Rattle.rd_script.proofs.NumeralLemmas.{name_parts}
 
@@ -34,7 +34,7 @@ same_choice : (a b : Bool) → yes_or_no a ≡ yes_or_no b → a ≡ b
 same_choice a b e = grind arith
 
 -- two segments with one name are equal
-same_segment : (s t : SegName) → IsSegmentInRange s → IsSegmentInRange t → name_words s ≡ name_words t → s ≡ t
+same_segment : (s t : SegName) → IsSegmentInRange s → IsSegmentInRange t → segment_name_words s ≡ segment_name_words t → s ≡ t
 same_segment s t small below e =
     let parts = sym (name_parts s small) ∙ ap (slice_split (λ byte. byte == 46)) e ∙ name_parts t below in
     let maker = decimal_injective s.maker t.maker (omega (arith, small.0)) (omega (arith, below.0)) (ap (word_at 0) parts) in

@@ -44,10 +44,10 @@ not_misnamed line bad c small e =
     not_badly_named bad.0 bad.1 bad.2 c small (sym (one_keyword bad.0 (keyword_of c) (cc))) (cc)
 
 -- a line that spells a command is read as that command
-pub one_said : (line : List ℕ) (r : Result Command LineFault) → Says line r → (c : Command) → length line ≤ most_line_bytes → IsInRange c → line ≡ spelling c → IsOkAnd r (λ d. IsSameCommand c d)
-one_said line (Ok d) said c few small e =
+pub said_as_spelled : (line : List ℕ) (r : Result Command LineFault) → Says line r → (c : Command) → length line ≤ most_line_bytes → IsInRange c → line ≡ spelling c → IsOkAnd r (λ d. IsSameCommand c d)
+said_as_spelled line (Ok d) said c few small e =
     let same = sym (words_of_line line c small e) ∙ words_of_line line d said.1 said.2 in
     one_command c d small said.1 (one_keyword (keyword_of c) (keyword_of d) (cc)) (cc)
-one_said line (Err fault.BadLine) said c few small e = said.1 c small e
-one_said line (Err fault.BadName) said c few small e = not_misnamed line said.1 c small e
-one_said line (Err fault.LineTooLong) said c few small e = absurd (omega (arith, few, said))
+said_as_spelled line (Err fault.BadLine) said c few small e = said.1 c small e
+said_as_spelled line (Err fault.BadName) said c few small e = not_misnamed line said.1 c small e
+said_as_spelled line (Err fault.LineTooLong) said c few small e = absurd (omega (arith, few, said))

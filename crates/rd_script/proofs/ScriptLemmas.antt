@@ -1,5 +1,5 @@
 -- A script that runs: the bytes that were given so far, their lines and their report.
-use Rattle.rd_script.proofs.Prelude.{◌≡◌, ◌≢◌, ◌⊎◌, ℕ, suc, map, ◌+◌, ◌-◌, ◌^◌, ◌≤◌, Bool, true, false, List, [], ◌∷◌, ◌++◌, length, Option, refl, sym, ◌∙◌, ap, arith, inl, inr, append_assoc, length-append, Result, Ok, Err, flat_map-append, length-map, session_of, one_more_obeyed, Unread, map-append, book_state, Command, LineFault, ParsedLine, Says, ne_eqb, append-nil, nil_from_length, Consumes, Appends, IsAtEnd, TakesBeginning, onto_first, lines_of, ended_lines_of, IsOneLine, ReadsPart, AnswersSaid, AreObeyedLines, commands_of, line_answer, line_answers, report_of, Devices, Refusal, journal, AreObeyed, Book, Reply, BookState, LineAnswer, text_of, RanToEnd, StoppedAtRead, StoppedAtWrite, Consumes-nil, Consumes-trans, Appends-nil, Appends-trans}
+use Rattle.rd_script.proofs.Prelude.{◌≡◌, ◌≢◌, ◌⊎◌, ℕ, suc, map, ◌+◌, ◌-◌, ◌^◌, ◌≤◌, Bool, true, false, List, [], ◌∷◌, ◌++◌, length, Option, refl, sym, ◌∙◌, ap, arith, inl, inr, append_assoc, length-append, Result, Ok, Err, flat_map-append, length-map, session_of, one_more_obeyed, Unread, map-append, book_state, Command, LineFault, ParsedLine, Says, ne_eqb, append-nil, nil_from_length, Consumes, Appends, IsAtEnd, TakesBeginning, onto_first, lines_of, ended_lines_of, IsOneLine, ReadsPart, AnswersSaid, AreObeyedLines, commands_of, line_answer, line_answers, report_of, Devices, Refusal, journal, AreObeyed, Book, Reply, BookState, LineAnswer, answer_text, RanToEnd, StoppedAtRead, StoppedAtWrite, Consumes-nil, Consumes-trans, Appends-nil, Appends-trans}
 use Rattle.std.proofs.lemmas.Slice.Zip.{all_zipped_more}
 use Rattle.rd_marks.specs.Headline.{Headline}
 use Rattle.rd_marks.proofs.Headlines.{book_runs}
@@ -172,11 +172,11 @@ module _ {R : ℕ} (before : BookState) (book : Book R) (d : Devices) (n : ℕ) 
     more : AreObeyedLines before (lines_of g.given ++ line ∷ []) (g.answers ++ answer ∷ []) (book_state after) (journal (session_of after))
     more = one_more_line before (lines_of g.given) g.answers book after g.obeyed start line answer said says is
 
-    wrote_more : (out_new : Option (List ℕ)) → Appends d.output.after out_new (text_of answer) → Appends d.output.before out_new (report_of (g.answers ++ answer ∷ []))
-    wrote_more out_new wrote = rw (flat_map-append, append-nil) (Appends-trans d.output.before d.output.after out_new (report_of g.answers) (text_of answer) g.wrote wrote)
+    wrote_more : (out_new : Option (List ℕ)) → Appends d.output.after out_new (answer_text answer) → Appends d.output.before out_new (report_of (g.answers ++ answer ∷ []))
+    wrote_more out_new wrote = rw (flat_map-append, append-nil) (Appends-trans d.output.before d.output.after out_new (report_of g.answers) (answer_text answer) g.wrote wrote)
 
     -- if a line feed ended the line and its answer was written, the run goes on
-    pub goes_on : (in_new out_new : Option (List ℕ)) (in_failed' out_failed' : Bool) → IsOneLine line → Consumes d.input.after in_new (line ++ 10 ∷ []) → Appends d.output.after out_new (text_of answer)
+    pub goes_on : (in_new out_new : Option (List ℕ)) (in_failed' out_failed' : Bool) → IsOneLine line → Consumes d.input.after in_new (line ++ 10 ∷ []) → Appends d.output.after out_new (answer_text answer)
         → in_failed' ≡ false → out_failed' ≡ false → IsGoingOn before after (now_at in_new in_failed' out_new out_failed') (n + 1)
     goes_on in_new out_new in_failed' out_failed' is_one took wrote in_works out_works = record {
       in_works = in_works;
@@ -193,7 +193,7 @@ module _ {R : ℕ} (before : BookState) (book : Book R) (d : Devices) (n : ℕ) 
 
     -- if the end of the source ended the line and its answer was written, the run came to the end
     pub ran_to_last : (in_new out_new : Option (List ℕ)) (in_failed' out_failed' : Bool) → IsOneLine line → line ≢ [] → IsAtEnd in_new → Consumes d.input.after in_new (line ++ [])
-        → Appends d.output.after out_new (text_of answer) → in_failed' ≡ false → out_failed' ≡ false
+        → Appends d.output.after out_new (answer_text answer) → in_failed' ≡ false → out_failed' ≡ false
         → RanToEnd before (book_state after) (journal (session_of after)) (now_at in_new in_failed' out_new out_failed') (n + 1)
     ran_to_last in_new out_new in_failed' out_failed' is_one some ended took wrote in_works out_works = record {
       in_works = in_works;
@@ -210,7 +210,7 @@ module _ {R : ℕ} (before : BookState) (book : Book R) (d : Devices) (n : ℕ) 
     -- the sink failed at the answer to the line, so the run stopped. A line feed ended the line, or
     -- the end of the source
     pub stopped_at_write : (ending : List ℕ) (in_new out_new : Option (List ℕ)) (in_failed' out_failed' : Bool) → Consumes d.input.after in_new (line ++ ending) → lines_of (g.given ++ (line ++ ending)) ≡ lines_of g.given ++ line ∷ []
-        → (ended_lines_of (g.given ++ (line ++ ending)) ≡ lines_of (g.given ++ (line ++ ending))) ⊎ IsAtEnd in_new → TakesBeginning d.output.after out_new (text_of answer) → in_failed' ≡ false → out_failed' ≡ true
+        → (ended_lines_of (g.given ++ (line ++ ending)) ≡ lines_of (g.given ++ (line ++ ending))) ⊎ IsAtEnd in_new → TakesBeginning d.output.after out_new (answer_text answer) → in_failed' ≡ false → out_failed' ≡ true
         → StoppedAtWrite before (book_state after) (journal (session_of after)) (now_at in_new in_failed' out_new out_failed')
     stopped_at_write ending in_new out_new in_failed' out_failed' took all whole wrote in_works fails = record {
       in_works = in_works;

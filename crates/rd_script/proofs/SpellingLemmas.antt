@@ -1,6 +1,6 @@
 -- No word of a command has a space, and there are at most four. So a line that spells a command is
 -- cut into just its words.
-use Rattle.rd_script.proofs.Prelude.{◌≡◌, ℕ, ◌≤◌, ◌==◌, Bool, true, not, List, [], ◌∷◌, ◌++◌, length, codes, refl, arith, tests, and_parts, decimal, list_all, slice_split, SegName, is_mark_name, is_name_byte, Command, Keyword, name_words, Argument, keyword_text, keyword_of, word_of, argument_words, arguments_of, IsSegmentInRange, IsArgumentInRange, AreArgumentsInRange, spelling, IsInRange, is_word}
+use Rattle.rd_script.proofs.Prelude.{◌≡◌, ℕ, ◌≤◌, ◌==◌, Bool, true, not, List, [], ◌∷◌, ◌++◌, length, codes, refl, arith, tests, and_parts, decimal, list_all, slice_split, SegName, is_mark_name, is_name_byte, Command, Keyword, segment_name_words, Argument, keyword_text, keyword_of, word_of, argument_words, arguments_of, IsSegmentInRange, IsArgumentInRange, AreArgumentsInRange, spelling, IsInRange, is_word}
 use Rattle.std.specs.Char.{is_ascii_graphic}
 use Rattle.std.proofs.lemmas.List.Elements.{All-weaker}
 use Rattle.std.proofs.lemmas.List.Sums.{AllPass-from_list_all, list_all-from_AllPass}
@@ -36,7 +36,7 @@ is_word_of_name name e = grind (arith, and_parts, are_graphic)
 pub free_keyword : (k : Keyword) → is_free 32 (keyword_text k) ≡ true
 free_keyword k = grind arith
 
-free_segment : (s : SegName) → IsSegmentInRange s → is_free 32 (name_words s) ≡ true
+free_segment : (s : SegName) → IsSegmentInRange s → is_free 32 (segment_name_words s) ≡ true
 free_segment s small = is_free_both 32 (decimal s.maker ++ codes ".") (decimal s.n) (is_free_both 32 (decimal s.maker) (codes ".") (is_free_decimal 32 s.maker (omega arith) (omega (arith, small.0))) refl) (is_free_decimal 32 s.n (omega arith) (omega (arith, small.1)))
 
 free_argument : (x : Argument) → IsArgumentInRange x → is_free 32 (word_of x) ≡ true

@@ -5,7 +5,7 @@ use Rattle.rd_actor.specs.declared.actors.Op.{Op}
 use Rattle.rd_actor.specs.declared.actors.Op.TheVariants as op
 use Rattle.rd_actor.specs.Labels.{label}
 use Rattle.rd_script.specs.Texts.{spaced_number, bit_number}
-use Rattle.rd_script.specs.Contents.{name_words, value_words}
+use Rattle.rd_script.specs.Contents.{segment_name_words, value_words}
 
 -- the words of the call that an actor is in, or `none` if it is in none
 abbrev pub op_words : Option Op → List ℕ
@@ -16,23 +16,23 @@ op_words (Some (op.AEnq x)) = codes "aenq" ++ spaced_number x
 op_words (Some op.ADeq) = codes "adeq"
 
 -- `actor`, and the words of an actor's control point and its call
-abbrev pub call_words : Actor → List ℕ
-call_words a = codes "actor " ++ label a.pc ++ codes " " ++ op_words a.op
+abbrev pub point_and_call_words : Actor → List ℕ
+point_and_call_words a = codes "actor " ++ label a.pc ++ codes " " ++ op_words a.op
 
 -- the words of the segments in an actor's record: crq, new and next
 abbrev pub segment_words : Actor → List ℕ
-segment_words a = codes " crq " ++ name_words a.crq ++ codes " new " ++ name_words a.new ++ codes " next " ++ name_words a.next
+segment_words a = codes " crq " ++ segment_name_words a.crq ++ codes " new " ++ segment_name_words a.new ++ codes " next " ++ segment_name_words a.next
 
 -- the words of the counters in an actor's record, t and h, and of its closed bit
-abbrev pub position_words : Actor → List ℕ
-position_words a = codes " t" ++ spaced_number a.t ++ codes " h" ++ spaced_number a.h ++ codes " closed" ++ spaced_number (bit_number a.closed)
+abbrev pub counter_words : Actor → List ℕ
+counter_words a = codes " t" ++ spaced_number a.t ++ codes " h" ++ spaced_number a.h ++ codes " closed" ++ spaced_number (bit_number a.closed)
 
 -- the words of an actor's val, safe, idx and pass
-abbrev pub read_words : Actor → List ℕ
-read_words a =
+abbrev pub cell_read_and_pass_words : Actor → List ℕ
+cell_read_and_pass_words a =
     codes " val " ++ value_words a.val ++ codes " safe" ++ spaced_number (bit_number a.safe) ++ codes " idx" ++ spaced_number a.idx
     ++ codes " pass" ++ spaced_number a.pass
 
 -- all words of an actor
 abbrev pub actor_words : Actor → List ℕ
-actor_words a = call_words a ++ segment_words a ++ position_words a ++ read_words a
+actor_words a = point_and_call_words a ++ segment_words a ++ counter_words a ++ cell_read_and_pass_words a

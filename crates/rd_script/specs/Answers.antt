@@ -12,7 +12,7 @@ use Rattle.rd_marks.specs.Headline.{Headline}
 use Rattle.rd_script.specs.declared.answers.AnyRefusal.TheVariants.{Refused, Unread}
 use Rattle.rd_script.specs.Lines.{ParsedLine}
 use Rattle.rd_script.specs.Spelling.{Says}
-use Rattle.rd_script.specs.Replies.{LineAnswer, text_of}
+use Rattle.rd_script.specs.Replies.{LineAnswer, answer_text}
 
 -- the answer to a line that spells a command, from the book's answer to that command
 abbrev pub line_answer : Result Reply Refusal → LineAnswer
@@ -41,7 +41,7 @@ line_answers (Ok command ∷ said) [] = line_answers said []
 
 -- the report of these answers: one line for each
 abbrev pub report_of : List LineAnswer → List ℕ
-report_of answers = flat_map text_of answers
+report_of answers = flat_map answer_text answers
 
 -- the lines were done one after another, with these answers: by the headline, the book went from
 -- `before` to `after` with the commands that the lines spell, and `kept` is the journal that it

@@ -8,8 +8,8 @@ use Rattle.rd_cell.specs.declared.contents.ArrSlot.TheVariants as slot
 use Rattle.rd_cell.specs.declared.contents.Content.TheVariants as content
 
 -- the words of a segment's name: its maker, a full stop, and its number
-abbrev pub name_words : SegName → List ℕ
-name_words s = decimal s.maker ++ codes "." ++ decimal s.n
+abbrev pub segment_name_words : SegName → List ℕ
+segment_name_words s = decimal s.maker ++ codes "." ++ decimal s.n
 
 -- the words of a value, or `none` if there is none
 abbrev pub value_words : Option ℕ → List ℕ
@@ -17,7 +17,7 @@ value_words value = option_map_or decimal value (codes "none")
 
 -- the words of the next segment's name, or `none` if there is none
 abbrev pub next_words : Option SegName → List ℕ
-next_words next = option_map_or name_words next (codes "none")
+next_words next = option_map_or segment_name_words next (codes "none")
 
 -- the word for the closed bit of a tail
 abbrev pub tail_word : Bool → List ℕ
@@ -40,7 +40,7 @@ slot_words (slot.Value x) = codes "value" ++ spaced_number x
 
 -- the words of the content of a place
 abbrev pub content_words : Content → List ℕ
-content_words (content.Name s) = name_words s
+content_words (content.Name s) = segment_name_words s
 content_words (content.Number n) = decimal n
 content_words (content.Tail closed count) = tail_word closed ++ spaced_number count
 content_words (content.Next next) = next_words next

@@ -14,7 +14,7 @@ use Rattle.rd_script.specs.declared.reading.keywords.Keyword.TheVariants as keyw
 use Rattle.rd_script.specs.declared.reading.places.PlaceKind.{PlaceKind}
 use Rattle.rd_script.specs.declared.reading.places.PlaceKind.TheVariants as kind
 use Rattle.rd_script.specs.Texts.{yes_or_no}
-use Rattle.rd_script.specs.Contents.{name_words}
+use Rattle.rd_script.specs.Contents.{segment_name_words}
 use Rattle.rd_cell.specs.declared.places.Place.TheVariants as place
 
 -- the text of a keyword
@@ -87,7 +87,7 @@ pub data Argument : Type 0 where
 abbrev pub word_of : Argument → List ℕ
 word_of (Byte n) = decimal n
 word_of (Long n) = decimal n
-word_of (Segment s) = name_words s
+word_of (Segment s) = segment_name_words s
 word_of (Choice choice) = yes_or_no choice
 word_of (Name name) = name
 word_of (Kind k) = kind_text k

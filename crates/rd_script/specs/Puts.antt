@@ -1,10 +1,10 @@
 -- What it means to append words to a text of fixed capacity.
 use Rattle.std.specs.Prelude.{◌≡◌, ℕ, ◌+◌, ◌≤◌, List, ◌++◌, length}
-use Rattle.rd_script.specs.declared.writing.texts.TheConstants.{MOST_BYTES}
+use Rattle.rd_script.specs.declared.writing.texts.TheConstants.{MOST_TEXT_BYTES}
 
 -- if there was room for them, the words were appended to the text
 abbrev pub Puts : List ℕ → List ℕ → List ℕ → Type 0
-Puts old new words = length old + length words ≤ MOST_BYTES → new ≡ old ++ words
+Puts old new words = length old + length words ≤ MOST_TEXT_BYTES → new ≡ old ++ words
 
 -- if there was room for them, the words were appended to the text; they have at most this many
 -- bytes

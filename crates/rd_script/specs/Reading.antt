@@ -12,7 +12,7 @@ use Rattle.rd_script.specs.declared.faults.LineFault.TheVariants as fault
 use Rattle.rd_script.specs.declared.reading.keywords.Keyword.{Keyword}
 use Rattle.rd_script.specs.declared.reading.places.PlaceKind.{PlaceKind}
 use Rattle.rd_script.specs.Grammar.{keyword_of, arguments_of, kind_text, kind_of, place_arguments, argument_words, AreArgumentsInRange, names_after}
-use Rattle.rd_script.specs.Spelling.{IsInRange, NamesBadly, is_word}
+use Rattle.rd_script.specs.Spelling.{IsInRange, AreMisnamed, is_word}
 
 -- what a part of a line reads as: a bookmark's name; BadLine if it is no word; BadName if it is a
 -- word but no name
@@ -24,10 +24,10 @@ ReadsName word (Err fault.LineTooLong) = ⊥
 
 -- the fault of words that should be this many names: BadLine requires that they aren't this many
 -- words, and BadName that they are, but one is no name
-abbrev pub AreNoNames : ℕ → List (List ℕ) → LineFault → Type 0
-AreNoNames count words fault.BadLine = length words ≡ count → list_all is_word words ≡ true → ⊥
-AreNoNames count words fault.BadName = (length words ≡ count) × (list_all is_word words ≡ true) × (list_all is_mark_name words ≡ false)
-AreNoNames count words fault.LineTooLong = ⊥
+abbrev pub IsFaultOfNames : ℕ → List (List ℕ) → LineFault → Type 0
+IsFaultOfNames count words fault.BadLine = length words ≡ count → list_all is_word words ≡ true → ⊥
+IsFaultOfNames count words fault.BadName = (length words ≡ count) × (list_all is_word words ≡ true) × (list_all is_mark_name words ≡ false)
+IsFaultOfNames count words fault.LineTooLong = ⊥
 
 -- what the words read as: the place that they spell, or None if they spell none
 abbrev pub ReadsPlace : List (List ℕ) → Option Place → Type 0
@@ -45,8 +45,8 @@ ReadsKind kind words None = (place : Place) → AreArgumentsInRange (place_argum
 abbrev pub ReadsCommand : Keyword → List (List ℕ) → Result Command LineFault → Type 0
 ReadsCommand keyword words (Ok command) = IsInRange command × (keyword_of command ≡ keyword) × (words ≡ argument_words (arguments_of command))
 ReadsCommand keyword words (Err fault.BadLine) =
-    ((command : Command) → IsInRange command → keyword_of command ≡ keyword → words ≢ argument_words (arguments_of command)) × (NamesBadly keyword words → ⊥)
-ReadsCommand keyword words (Err fault.BadName) = NamesBadly keyword words
+    ((command : Command) → IsInRange command → keyword_of command ≡ keyword → words ≢ argument_words (arguments_of command)) × (AreMisnamed keyword words → ⊥)
+ReadsCommand keyword words (Err fault.BadName) = AreMisnamed keyword words
 ReadsCommand keyword words (Err fault.LineTooLong) = ⊥
 
 -- the words after a keyword read as a command of this keyword. None means that they spell none, if

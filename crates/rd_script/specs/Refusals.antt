@@ -71,15 +71,15 @@ abbrev pub busy_words : ℕ → ℕ → List ℕ
 busy_words next served = codes " next" ++ spaced_number next ++ codes " served" ++ spaced_number served
 
 -- the words of any refusal or fault: its number, its name and its data
-abbrev pub any_words : AnyRefusal → List ℕ
-any_words (Refused cause) = refusal_words cause
-any_words (Unread cause) = fault_name cause
-any_words (Stopped cause) = stop_name cause
-any_words (Flawed flaw) = codes "26 Flaw" ++ spaced_number (flaw_number flaw)
-any_words HistoryFull = codes "21 HistoryFull"
-any_words BadTrace = codes "27 BadTrace"
-any_words (TraceStep step cause) = trace_step_words step cause
-any_words TicketsEnded = codes "29 TicketsEnded"
-any_words (Busy next served) = codes "30 Busy" ++ busy_words next served
-any_words NotRecorded = codes "31 NotRecorded"
-any_words (TraceMark mark step cause) = trace_mark_words mark step cause
+abbrev pub any_refusal_words : AnyRefusal → List ℕ
+any_refusal_words (Refused cause) = refusal_words cause
+any_refusal_words (Unread cause) = fault_name cause
+any_refusal_words (Stopped cause) = stop_name cause
+any_refusal_words (Flawed flaw) = codes "26 Flaw" ++ spaced_number (flaw_number flaw)
+any_refusal_words HistoryFull = codes "21 HistoryFull"
+any_refusal_words BadTrace = codes "27 BadTrace"
+any_refusal_words (TraceStep step cause) = trace_step_words step cause
+any_refusal_words TicketsEnded = codes "29 TicketsEnded"
+any_refusal_words (Busy next served) = codes "30 Busy" ++ busy_words next served
+any_refusal_words NotRecorded = codes "31 NotRecorded"
+any_refusal_words (TraceMark mark step cause) = trace_mark_words mark step cause

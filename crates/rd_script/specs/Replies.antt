@@ -13,20 +13,20 @@ use Rattle.rd_script.specs.Texts.{spaced_number, yes_or_no}
 use Rattle.rd_script.specs.Contents.{content_words}
 use Rattle.rd_script.specs.Actors.{actor_words}
 use Rattle.rd_script.specs.Steps.{result_words, step_words}
-use Rattle.rd_script.specs.Refusals.{any_words}
+use Rattle.rd_script.specs.Refusals.{any_refusal_words}
 
 -- a space and the words of the result of the call that an event ended, or nothing if it ended none
 abbrev pub ended_call_words : Option OpReply → List ℕ
 ended_call_words o = option_map_or (λ r. codes " " ++ result_words r) o []
 
 -- the words of a step's number, or a hyphen if there is no such step
-abbrev pub step_number : Option ℕ → List ℕ
-step_number o = option_map_or decimal o (codes "-")
+abbrev pub step_number_words : Option ℕ → List ℕ
+step_number_words o = option_map_or decimal o (codes "-")
 
 -- the words of an origin: the numbers of the call's first step, the put and the take
 abbrev pub origin_words : Origin → List ℕ
 origin_words origin =
-    codes "origin call " ++ step_number origin.call ++ codes " put " ++ step_number origin.put ++ codes " take" ++ spaced_number origin.take
+    codes "origin call " ++ step_number_words origin.call ++ codes " put " ++ step_number_words origin.put ++ codes " take" ++ spaced_number origin.take
 
 -- this word, a space and a number, or `none` in its place if there is no number
 abbrev pub number_or_none : List ℕ → Option ℕ → List ℕ
@@ -55,8 +55,8 @@ LineAnswer = Result Reply AnyRefusal
 -- the words of an answer to a line
 abbrev pub answer_words : LineAnswer → List ℕ
 answer_words (Ok r) = reply_words r
-answer_words (Err refusal) = codes "refused " ++ any_words refusal
+answer_words (Err refusal) = codes "refused " ++ any_refusal_words refusal
 
 -- the line of an answer, with its line feed
-abbrev pub text_of : LineAnswer → List ℕ
-text_of answer = answer_words answer ++ 10 ∷ []
+abbrev pub answer_text : LineAnswer → List ℕ
+answer_text answer = answer_words answer ++ 10 ∷ []

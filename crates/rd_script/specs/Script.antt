@@ -11,12 +11,12 @@ use Rattle.rd_script.specs.Device.{TakesBeginning}
 use Rattle.rd_script.specs.Streams.{Devices}
 use Rattle.rd_script.specs.Lines.{lines_of, ended_lines_of}
 use Rattle.rd_script.specs.Answers.{AreObeyedLines, report_of}
-use Rattle.rd_script.specs.Replies.{LineAnswer, text_of}
+use Rattle.rd_script.specs.Replies.{LineAnswer, answer_text}
 
 -- the line of an answer was written, or a beginning of it if the sink failed
 abbrev pub WritesAnswer : Option (List ℕ) → Option (List ℕ) → LineAnswer → Result (Unit {0}) WriteFault → Type 0
-WritesAnswer old new answer (Ok _) = Appends old new (text_of answer)
-WritesAnswer old new answer (Err _) = TakesBeginning old new (text_of answer)
+WritesAnswer old new answer (Ok _) = Appends old new (answer_text answer)
+WritesAnswer old new answer (Err _) = TakesBeginning old new (answer_text answer)
 
 -- the run came to the end. The source gave `given`, which has n lines, and is at its end. The book
 -- did all lines, their report was written, and neither device has failed
@@ -57,7 +57,7 @@ pub record StoppedAtWrite (before after : BookState) (kept : Journal) (d : Devic
   pub obeyed : AreObeyedLines before (lines_of given) (answers ++ last ∷ []) after kept
   -- the part of the last answer's line that was written
   pub part : List ℕ
-  pub begins : IsPrefix part (text_of last)
+  pub begins : IsPrefix part (answer_text last)
   pub wrote : Appends d.output.before d.output.after (report_of answers ++ part)
 
 -- what a run of a script did, by its result: it took the book from `before` to `after`, which keeps

@@ -36,12 +36,12 @@ is_word text = not (length text == 0) && list_all is_ascii_graphic text
 
 -- there are as many words as names follow the keyword, but at least one of them is no bookmark's
 -- name
-abbrev pub NamesBadly : Keyword → List (List ℕ) → Type 0
-NamesBadly keyword words = (length words ≡ names_after keyword) × (list_all is_word words ≡ true) × (list_all is_mark_name words ≡ false)
+abbrev pub AreMisnamed : Keyword → List (List ℕ) → Type 0
+AreMisnamed keyword words = (length words ≡ names_after keyword) × (list_all is_word words ≡ true) × (list_all is_mark_name words ≡ false)
 
 -- the line follows the grammar, except that a word in the place of a bookmark's name is no name
 abbrev pub IsMisnamed : List ℕ → Type 0
-IsMisnamed line = (keyword : Keyword) × (words : List (List ℕ)) × NamesBadly keyword words × (line ≡ line_of (keyword_text keyword ∷ words))
+IsMisnamed line = (keyword : Keyword) × (words : List (List ℕ)) × AreMisnamed keyword words × (line ≡ line_of (keyword_text keyword ∷ words))
 
 -- the greatest number of bytes in a line, without its line feed
 abbrev pub most_line_bytes : ℕ

@@ -8,32 +8,32 @@ use Rattle.rd_step.specs.Prelude.{Answer, OpReply, Place, Wrote}
 use Rattle.rd_step.specs.declared.entries.Entry.{Entry}
 use Rattle.rd_script.specs.Texts.{spaced_number}
 use Rattle.rd_script.specs.Events.{event_words}
-use Rattle.rd_script.specs.Contents.{name_words, value_words, tail_word, index_words, content_words}
+use Rattle.rd_script.specs.Contents.{segment_name_words, value_words, tail_word, index_words, content_words}
 use Rattle.rd_script.specs.Spelling.{place_words}
 use Rattle.rd_cell.specs.declared.places.Wrote.TheVariants as wrote
 
 -- the words of a step's place, or a hyphen if it has none
-abbrev pub step_place : Option Place → List ℕ
-step_place o = option_map_or place_words o (codes "-")
+abbrev pub step_place_words : Option Place → List ℕ
+step_place_words o = option_map_or place_words o (codes "-")
 
 -- the word for what a step did at its place: it read, wrote, or wrote only the index half; `none`
 -- if it has no place
-abbrev pub access_word : Option Place → Wrote → List ℕ
-access_word None _ = codes "none"
-access_word (Some place) wrote.Nothing = codes "read"
-access_word (Some place) wrote.Place = codes "wrote"
-access_word (Some place) wrote.Index = codes "wrote index"
+abbrev pub access_kind_word : Option Place → Wrote → List ℕ
+access_kind_word None _ = codes "none"
+access_kind_word (Some place) wrote.Nothing = codes "read"
+access_kind_word (Some place) wrote.Place = codes "wrote"
+access_kind_word (Some place) wrote.Index = codes "wrote index"
 
 -- the words of the answer of an access, or a hyphen if that is nothing
-abbrev pub access_answer : Answer → List ℕ
-access_answer answer.Nothing = codes "-"
-access_answer (answer.Found content) = content_words content
-access_answer (answer.Value value) = value_words value
-access_answer (answer.SafeAndIndex safe idx) = index_words safe idx
-access_answer (answer.WasClosed closed) = codes "was " ++ tail_word closed
-access_answer answer.Won = codes "won"
-access_answer answer.Lost = codes "lost"
-access_answer (answer.Made s) = codes "made " ++ name_words s
+abbrev pub access_answer_words : Answer → List ℕ
+access_answer_words answer.Nothing = codes "-"
+access_answer_words (answer.Found content) = content_words content
+access_answer_words (answer.Value value) = value_words value
+access_answer_words (answer.SafeAndIndex safe idx) = index_words safe idx
+access_answer_words (answer.WasClosed closed) = codes "was " ++ tail_word closed
+access_answer_words answer.Won = codes "won"
+access_answer_words answer.Lost = codes "lost"
+access_answer_words (answer.Made s) = codes "made " ++ segment_name_words s
 
 -- the words of the result of a call
 abbrev pub result_words : OpReply → List ℕ
@@ -42,13 +42,13 @@ result_words (op_reply.Value x) = codes "value" ++ spaced_number x
 result_words op_reply.Empty = codes "empty"
 
 -- the words of the result of the call that a step ended, or a hyphen if it ended none
-abbrev pub step_reply : Option OpReply → List ℕ
-step_reply o = option_map_or result_words o (codes "-")
+abbrev pub step_result_words : Option OpReply → List ℕ
+step_result_words o = option_map_or result_words o (codes "-")
 
 -- the words of a step's place, access and answer
-abbrev pub done_words : Entry → List ℕ
-done_words e = step_place e.place ++ codes "; " ++ access_word e.place e.wrote ++ codes "; " ++ access_answer e.answer
+abbrev pub access_words : Entry → List ℕ
+access_words e = step_place_words e.place ++ codes "; " ++ access_kind_word e.place e.wrote ++ codes "; " ++ access_answer_words e.answer
 
 -- all words of the step of this number, from its entry
 abbrev pub step_words : ℕ → Entry → List ℕ
-step_words number e = codes "step" ++ spaced_number number ++ codes "; " ++ event_words e.event ++ codes "; " ++ done_words e ++ codes "; " ++ step_reply e.reply
+step_words number e = codes "step" ++ spaced_number number ++ codes "; " ++ event_words e.event ++ codes "; " ++ access_words e ++ codes "; " ++ step_result_words e.reply

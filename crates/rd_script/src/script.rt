@@ -7,14 +7,14 @@ ghost use Rattle.rd_cell.specs.declared.refusal.Refusal.{Refusal};
 ghost use Rattle.rd_journal.specs.Sessions.{journal, MayRefuse};
 ghost use Rattle.rd_marks.specs.declared.commands.Command.{Command as SomeCommand};
 ghost use Rattle.rd_marks.specs.declared.replies.Reply.{Reply};
-ghost use Rattle.rd_marks.specs.Book.{book_state, session_of, MayRefuseAsGoing};
+ghost use Rattle.rd_marks.specs.Book.{book_state, session_of, MayRefuseIfGoto};
 ghost use Rattle.rd_marks.specs.Commands.{IsEventAnswer, IsObeyed};
 ghost use Rattle.rd_script.specs.Device.{TakesBeginning};
 ghost use Rattle.rd_script.specs.Streams.{devices};
 ghost use Rattle.rd_script.specs.Lines.{Holds};
 ghost use Rattle.rd_script.specs.declared.faults.LineFault.{LineFault};
 ghost use Rattle.rd_script.specs.Spelling.{Says};
-ghost use Rattle.rd_script.specs.Replies.{LineAnswer as SomeAnswer, text_of};
+ghost use Rattle.rd_script.specs.Replies.{LineAnswer as SomeAnswer, answer_text};
 ghost use Rattle.rd_script.specs.Answers.{AnswersSaid, line_answer};
 ghost use Rattle.rd_script.specs.Script.{WritesAnswer, RunsScript};
 
@@ -23,7 +23,7 @@ use super::devices::sinks::{Sink, WriteFault, write_all};
 use super::devices::sources::Source;
 use super::faults::ScriptFault;
 use super::reading::lines::{Line, Reading, next_line};
-use super::writing::lines::{set_answer, set_event_reply, set_refused, set_reply};
+use super::writing::lines::{set_answer, set_event_reply, set_refusal, set_reply};
 use super::writing::texts::Text;
 use rd_marks::{Book, Command};
 use rd_step::Event;
@@ -96,11 +96,11 @@ fn answer_line<const R: usize>(book: &mut Book<R>, line: &Line, text: &mut Text)
     ensures answers { (bytes : List ℕ) → Holds line.now bytes
         → (said : Result SomeCommand LineFault) × (answer : SomeAnswer) × Says bytes said
         × AnswersSaid (book_state book.old) said answer (book_state book.new)
-        × (text.new.items ≡ text_of answer) }
+        × (text.new.items ≡ answer_text answer) }
     ensures start { (book_state book.new).session.start ≡ (book_state book.old).session.start }
 {
     match line.command() {
-        Err(fault) => set_refused(text, &AnyRefusal::Unread(fault)),
+        Err(fault) => set_refusal(text, &AnyRefusal::Unread(fault)),
         Ok(command) => match command.as_event() {
             Some(event) => answer_event(book, event, text),
             None => answer_command(book, command, text),
@@ -115,11 +115,11 @@ fn answer_event<const R: usize>(book: &mut Book<R>, event: Event, text: &mut Tex
         × IsEventAnswer (book_state book.old) event
         (record { answer = answer; state = book_state book.new })
         × IfErr answer (MayRefuse (session_of book.old) event)
-        × (text.new.items ≡ text_of (line_answer answer)) }
+        × (text.new.items ≡ answer_text (line_answer answer)) }
     ensures start { (book_state book.new).session.start ≡ (book_state book.old).session.start }
 {
     match book.apply(event) {
-        Err(refusal) => set_refused(text, &AnyRefusal::Refused(refusal)),
+        Err(refusal) => set_refusal(text, &AnyRefusal::Refused(refusal)),
         Ok(done) => set_event_reply(text, done),
     }
 }
@@ -130,12 +130,12 @@ fn answer_command<const R: usize>(book: &mut Book<R>, command: Command, text: &m
     ensures answers { (answer : Result Reply Refusal)
         × IsObeyed (book_state book.old) command
         (record { answer = answer; state = book_state book.new })
-        × ForErr answer (MayRefuseAsGoing book.old command)
-        × (text.new.items ≡ text_of (line_answer answer)) }
+        × ForErr answer (MayRefuseIfGoto book.old command)
+        × (text.new.items ≡ answer_text (line_answer answer)) }
     ensures start { (book_state book.new).session.start ≡ (book_state book.old).session.start }
 {
     match book.obey(command) {
-        Err(refusal) => set_refused(text, &AnyRefusal::Refused(refusal)),
+        Err(refusal) => set_refusal(text, &AnyRefusal::Refused(refusal)),
         Ok(reply) => set_reply(text, &reply),
     }
 }
@@ -149,9 +149,9 @@ fn answer_command<const R: usize>(book: &mut Book<R>, command: Command, text: &m
 pub fn write_answer<K: Sink>(writer: &mut K, answer: &LineAnswer) -> Result<(), WriteFault>
     requires { K.has_failed writer.old ≡ false }
     ensures ok { OnOk result (Appends (K.contents writer.old) (K.contents writer.new)
-        (text_of answer.now)) }
+        (answer_text answer.now)) }
     ensures err { OnErr result (TakesBeginning (K.contents writer.old) (K.contents writer.new)
-        (text_of answer.now)) }
+        (answer_text answer.now)) }
     ensures works { OnOk result (K.has_failed writer.new ≡ false) }
     ensures fails { OnErr result (K.has_failed writer.new ≡ true) }
 {

@@ -1,5 +1,5 @@
 -- The makers' lists after a change of one segment.
-use Rattle.rd_segments.proofs.Prelude.{◌≡◌, ◌≢◌, ℕ, ◌+◌, ◌-◌, ◌<◌, ◌≤◌, true, if◌then◌else◌, ◌⊎◌, refl, ◌∙◌, ap, arith, List, take, length, set, get_or, Option, Some, None, is_some, slice_get, eq-eqb, ne_eqb, Result, OnErr, OnOk, with_item, cond-true, cond-false, and_left, and_right, slice_get_past, slice_get_read, slice_get-get_or, SegName, Place, operand, slice_get-set_same, slice_get-set_other, Segment, ListOf, by_number, by_name, part_of, count, Changes, IsLengthened, spare_in, spare, and_from, slice_get_cases, slice_get_within, slice_get-push_same, slice_get-push_other, slice_get-take_same, slice_get-take_other, room_used, Err, Refusal, KeepsMakersRoom, UsesMakersRoom, ReturnsMakersRoom, AddsMakersRoom, makers_room}
+use Rattle.rd_segments.proofs.Prelude.{◌≡◌, ◌≢◌, ℕ, ◌+◌, ◌-◌, ◌<◌, ◌≤◌, true, if◌then◌else◌, ◌⊎◌, refl, ◌∙◌, ap, arith, List, take, length, set, get_or, Option, Some, None, is_some, slice_get, eq-eqb, ne_eqb, Result, OnErr, OnOk, with_item, cond-true, cond-false, and_left, and_right, slice_get_past, slice_get_read, slice_get-get_or, SegName, Place, operand, slice_get-set_same, slice_get-set_other, Segment, ListOf, by_number, by_name, some_contents, segment_count, Changes, IsLengthened, spare_in, spare, and_from, slice_get_cases, slice_get_within, slice_get-push_same, slice_get-push_other, slice_get-take_same, slice_get-take_other, room_used, Err, Refusal, KeepsMakersRoom, UsesMakersRoom, ReturnsMakersRoom, AddsMakersRoom, makers_room}
 use Rattle.std.specs.declared.alloc.AllocError.{AllocError}
 use Rattle.std.specs.Result.{is_ok}
 use Rattle.std.proofs.lemmas.List.{length-set}
@@ -52,7 +52,7 @@ pub maker_within : {R : ℕ} (makers : List (ListOf (Segment R))) (name : SegNam
 maker_within makers name there = grind (arith, is_some, slice_get_past)
 
 -- where an operation finds a content, there is a segment
-pub segment_there : {R : ℕ} (o : Option (Segment R)) (p : Place) → is_some (operand (part_of o) p) ≡ true → is_some o ≡ true
+pub segment_there : {R : ℕ} (o : Option (Segment R)) (p : Place) → is_some (operand (some_contents o) p) ≡ true → is_some o ≡ true
 segment_there o p h = grind arith
 
 -- a segment is there if its number is below the length of its maker's list
@@ -108,13 +108,13 @@ pub reserved_adds : {R : ℕ} (makers : List (ListOf (Segment R))) (maker m more
 reserved_adds makers maker m more list left r is within read ok err room = grind (arith, length-set, spare_here, slice_get-get_or, spare_replaced)
 
 -- a maker whose count is above 0 has a list
-pub count_within : {R : ℕ} (makers : List (ListOf (Segment R))) (m : ℕ) → 0 < count makers m → m < length makers
+pub count_within : {R : ℕ} (makers : List (ListOf (Segment R))) (m : ℕ) → 0 < segment_count makers m → m < length makers
 count_within makers m h = grind (arith, slice_get_past)
 
 -- removing the last element of a maker's list removes its last segment, and changes no other
 pub last_taken : {R : ℕ} (makers : List (ListOf (Segment R))) (maker m : ℕ) (list left : ListOf (Segment R)) → m ≡ maker → maker < length makers
     → list ≡ get_or makers m list → left.items ≡ take (length list.items - 1) list.items
-    → Changes (record { maker = maker; n = count makers maker - 1 }) None makers (set makers m left)
+    → Changes (record { maker = maker; n = segment_count makers maker - 1 }) None makers (set makers m left)
 last_taken {R} makers maker m list left is within read items =
     let found : slice_get makers maker ≡ Some list = slice_get_read makers (length makers) maker list refl within (read ∙ ap (λ (k : ℕ). get_or makers k list) is) in
     let changed = list_changed makers maker (length list.items - 1) list left None found in

@@ -1,5 +1,5 @@
 -- The space's map after a change of its segments, of one of the queue's ends, or of the array.
-use Rattle.rd_segments.proofs.Prelude.{◌≡◌, ℕ, true, false, Bool, if◌then◌else◌, ap, List, Some, None, Result, Ok, Err, IfOk, arith, fun_ext, SegName, Place, Content, Operation, Done, Refusal, root, name_eq, is_of, place_eq, segment_of, Contents, fresh_segment, operand, operate, everywhere, Operates, Agrees, lift_operates, lift_restore, Segment, ListOf, by_name, part_of, segments_of, IsFresh, ArrayParts, array_part, fresh_array, contents_of, fresh_space, is_array, restore, narrow, contents_by}
+use Rattle.rd_segments.proofs.Prelude.{◌≡◌, ℕ, true, false, Bool, if◌then◌else◌, ap, List, Some, None, Result, Ok, Err, IfOk, arith, fun_ext, SegName, Place, Content, Operation, Done, Refusal, root, name_eq, is_of_segment, place_eq, segment_of, Contents, fresh_segment, operand, operate, everywhere, Operates, Agrees, lift_operates, lift_restore, Segment, ListOf, by_name, some_contents, segments_of, AreFreshLists, ArrayParts, array_contents, fresh_array, contents_of, fresh_space, is_of_array, restore, narrow_effect, contents_by}
 use Rattle.rd_cell.specs.declared.places.Place.TheVariants as place
 
 -- Which places are the segments'
@@ -31,13 +31,13 @@ pub space_operates : {R : ℕ} (old new : List (ListOf (Segment R))) (qhead qtai
 space_operates old new qhead qtail array name p op own (Err e) h = tt
 space_operates old new qhead qtail array name p op own (Ok done) h =
     lift_operates of_segments p op done (segments_of old) (segments_of new) (contents_of old qhead qtail array) (contents_of new qhead qtail array)
-    (segments_agree (segments_of old) (segments_of new) qhead qtail (array_part array) p (own_of p name own))
-    (narrow of_segments (operate p op (operand (segments_of old) p)) done (segments_of old) (segments_of new) h)
+    (segments_agree (segments_of old) (segments_of new) qhead qtail (array_contents array) p (own_of p name own))
+    (narrow_effect of_segments (operate p op (operand (segments_of old) p)) done (segments_of old) (segments_of new) h)
 
 -- if the segments' places stay, so do the space's
 pub same_fields : {R : ℕ} (old new : List (ListOf (Segment R))) (qhead qtail : SegName) (array : ArrayParts) → segments_of new ≡ segments_of old
     → contents_of new qhead qtail array ≡ contents_of old qhead qtail array
-same_fields old new qhead qtail array h = ap (λ (at : Contents). contents_by at qhead qtail (array_part array)) h
+same_fields old new qhead qtail array h = ap (λ (at : Contents). contents_by at qhead qtail (array_contents array)) h
 
 -- An operation on one of the queue's ends
 
@@ -54,36 +54,36 @@ tail_others makers qhead old new array q h = grind arith
 -- An operation on the array, or a content put back there
 
 -- a change of the array agrees with the change of the space
-array_agrees : {R : ℕ} (makers : List (ListOf (Segment R))) (qhead qtail : SegName) (old new : ArrayParts) (p : Place) → is_array p ≡ true
-    → Agrees is_array p (array_part old) (array_part new) (contents_of makers qhead qtail old) (contents_of makers qhead qtail new)
+array_agrees : {R : ℕ} (makers : List (ListOf (Segment R))) (qhead qtail : SegName) (old new : ArrayParts) (p : Place) → is_of_array p ≡ true
+    → Agrees is_of_array p (array_contents old) (array_contents new) (contents_of makers qhead qtail old) (contents_of makers qhead qtail new)
 array_agrees makers qhead qtail old new p own = grind arith
 
 -- an operation done on the array is done on the space
-pub array_operates : {R : ℕ} (makers : List (ListOf (Segment R))) (qhead qtail : SegName) (old new : ArrayParts) (p : Place) (op : Operation) → is_array p ≡ true
-    → (r : Result Done Refusal) → IfOk r (λ done. Operates everywhere p op done (array_part old) (array_part new))
+pub array_operates : {R : ℕ} (makers : List (ListOf (Segment R))) (qhead qtail : SegName) (old new : ArrayParts) (p : Place) (op : Operation) → is_of_array p ≡ true
+    → (r : Result Done Refusal) → IfOk r (λ done. Operates everywhere p op done (array_contents old) (array_contents new))
     → IfOk r (λ done. Operates everywhere p op done (contents_of makers qhead qtail old) (contents_of makers qhead qtail new))
 array_operates makers qhead qtail old new p op own r h =
-    let agrees = array_agrees makers qhead qtail old new p own in grind (arith, lift_operates, narrow)
+    let agrees = array_agrees makers qhead qtail old new p own in grind (arith, lift_operates, narrow_effect)
 
 -- a content put back in the array is put back in the space
-pub array_restored : {R : ℕ} (makers : List (ListOf (Segment R))) (qhead qtail : SegName) (old new : ArrayParts) (p : Place) (c : Content) → is_array p ≡ true
-    → array_part new ≡ restore (Some p) (Some c) (array_part old)
+pub array_restored : {R : ℕ} (makers : List (ListOf (Segment R))) (qhead qtail : SegName) (old new : ArrayParts) (p : Place) (c : Content) → is_of_array p ≡ true
+    → array_contents new ≡ restore (Some p) (Some c) (array_contents old)
     → contents_of makers qhead qtail new ≡ restore (Some p) (Some c) (contents_of makers qhead qtail old)
 array_restored makers qhead qtail old new p c own same =
-    fun_ext (lift_restore is_array p (Some c) (array_part old) (array_part new) (contents_of makers qhead qtail old) (contents_of makers qhead qtail new)
+    fun_ext (lift_restore is_of_array p (Some c) (array_contents old) (array_contents new) (contents_of makers qhead qtail old) (contents_of makers qhead qtail new)
     (array_agrees makers qhead qtail old new p own) (λ q _. ap (λ (at : Contents). at q) same))
 
 -- A fresh space
 
 -- the places under a name in fresh lists are the root's, with fresh contents, or none
-fresh_parts : {R : ℕ} (makers : List (ListOf (Segment R))) (t : SegName) (q : Place) → IsFresh makers → is_of root q ≡ name_eq root t
-    → part_of (by_name makers t) q ≡ (if is_of root q then fresh_segment R q else None)
+fresh_parts : {R : ℕ} (makers : List (ListOf (Segment R))) (t : SegName) (q : Place) → AreFreshLists makers → is_of_segment root q ≡ name_eq root t
+    → some_contents (by_name makers t) q ≡ (if is_of_segment root q then fresh_segment R q else None)
 fresh_parts {R} makers t q h of = grind arith
 
 -- fresh lists and a fresh array, with the root at the queue's ends, are a fresh space
-pub space_fresh : {R : ℕ} (makers : List (ListOf (Segment R))) (array : ArrayParts) → IsFresh makers → array_part array ≡ fresh_array
+pub space_fresh : {R : ℕ} (makers : List (ListOf (Segment R))) (array : ArrayParts) → AreFreshLists makers → array_contents array ≡ fresh_array
     → contents_of makers root root array ≡ fresh_space R
 space_fresh {R} makers array h k = λ i. contents_by (fun_ext each i) root root (k i)
   where
-    each : (q : Place) → segments_of makers q ≡ (if is_of root q then fresh_segment R q else None)
+    each : (q : Place) → segments_of makers q ≡ (if is_of_segment root q then fresh_segment R q else None)
     each q = grind (arith, fresh_parts)

@@ -7,15 +7,15 @@ use Rattle.rd_cell.specs.declared.contents.ArrSlot.TheVariants as slot
 use Rattle.rd_cell.specs.declared.contents.Content.TheVariants as content
 
 -- the content of each place of an array with these two counters and these slots
-abbrev pub array_of : ℕ → ℕ → List ArrSlot → Contents
-array_of head tail cells place.ArrHead = Some (content.Number head)
-array_of head tail cells place.ArrTail = Some (content.Number tail)
-array_of head tail cells (place.ArrCell i) = option_map content.Slot (slice_get cells i)
-array_of head tail cells _ = None
+abbrev pub array_contents_with : ℕ → ℕ → List ArrSlot → Contents
+array_contents_with head tail cells place.ArrHead = Some (content.Number head)
+array_contents_with head tail cells place.ArrTail = Some (content.Number tail)
+array_contents_with head tail cells (place.ArrCell i) = option_map content.Slot (slice_get cells i)
+array_contents_with head tail cells _ = None
 
 -- the content of each place of this array
-abbrev pub array_part : ArrayParts → Contents
-array_part a = array_of a.head a.tail a.cells
+abbrev pub array_contents : ArrayParts → Contents
+array_contents a = array_contents_with a.head a.tail a.cells
 
 -- the content of each place of a fresh array: its counters are 0, and its 64 slots are empty
 abbrev pub fresh_array : Contents

@@ -2,9 +2,9 @@
 use Rattle.std.specs.Option.{option_map_or}
 use Rattle.std.specs.Prelude.{◌≡◌, ℕ, ◌<◌, ◌++◌, ◌∷◌, [], List, Vec, Option, Some, None, slice_get, if◌then◌else◌, length, option_and_then}
 use Rattle.std.specs.declared.alloc.Global.{Global}
-use Rattle.rd_ring.specs.Prelude.{MOST_SEGMENTS, SegName, Place, Content, Contents, root, name_eq, named, fresh_segment, holding}
+use Rattle.rd_ring.specs.Prelude.{MOST_SEGMENTS, SegName, Place, Content, Contents, root, name_eq, named_segment, fresh_segment, segment_holding}
 use Rattle.rd_ring.specs.declared.segments.Segment.{Segment}
-use Rattle.rd_ring.specs.Segments.{part}
+use Rattle.rd_ring.specs.Segments.{segment_contents}
 
 -- the type of one maker's list, with an element for each segment, in the order of their making
 abbrev pub ListOf : Type 0 → Type 0
@@ -19,25 +19,25 @@ abbrev pub by_name : {X : Type 0} → List (ListOf X) → SegName → Option X
 by_name makers s = by_number (slice_get makers s.maker) s.n
 
 -- the content at a place of a segment; none without a segment, or if it has no such place
-abbrev pub part_of : {R : ℕ} → Option (Segment R) → Place → Option Content
-part_of o p = option_and_then (λ s. part s p) o
+abbrev pub some_contents : {R : ℕ} → Option (Segment R) → Place → Option Content
+some_contents o p = option_and_then (λ s. segment_contents s p) o
 
 -- the contents of the places of all segments, if `segment` gives each name the contents of its
 -- segment
 abbrev pub segments_by : (SegName → Contents) → Contents
-segments_by segment p = option_and_then (λ s. segment s p) (named p)
+segments_by segment p = option_and_then (λ s. segment s p) (named_segment p)
 
 -- the contents of the places of all segments in these lists
 abbrev pub segments_of : {R : ℕ} → List (ListOf (Segment R)) → Contents
-segments_of makers = segments_by (λ n. part_of (by_name makers n))
+segments_of makers = segments_by (λ n. some_contents (by_name makers n))
 
 -- the number of segments in a list; 0 without a list
 abbrev pub count_in : {X : Type 0} → Option (ListOf X) → ℕ
 count_in o = option_map_or (λ list. length list.items) o 0
 
 -- the number of segments in this maker's list; 0 if the maker has no list
-abbrev pub count : {X : Type 0} → List (ListOf X) → ℕ → ℕ
-count makers m = count_in (slice_get makers m)
+abbrev pub segment_count : {X : Type 0} → List (ListOf X) → ℕ → ℕ
+segment_count makers m = count_in (slice_get makers m)
 
 -- the new lists have `o`, a segment or none, under this name, and under every other name what the
 -- old lists had
@@ -50,17 +50,17 @@ pub record IsLengthened {R : ℕ} (maker value : ℕ) (name : SegName) (old new 
   pub name_is : name ≡ record { maker = maker; n = length old.items }
   pub below : length old.items < MOST_SEGMENTS
   pub segment : Segment R
-  pub holds : (q : Place) → part segment q ≡ holding R value q
+  pub holds : (q : Place) → segment_contents segment q ≡ segment_holding R value q
   pub pushed : new.items ≡ old.items ++ segment ∷ []
 
 -- the lists of a fresh space: the root is the only segment, and it is fresh
-pub record IsFresh {R : ℕ} (makers : List (ListOf (Segment R))) : Type 0 where
+pub record AreFreshLists {R : ℕ} (makers : List (ListOf (Segment R))) : Type 0 where
   pub segment : Segment R
-  pub fresh_parts : (q : Place) → part segment q ≡ fresh_segment R q
+  pub fresh_parts : (q : Place) → segment_contents segment q ≡ fresh_segment R q
   pub at : (t : SegName) → by_name makers t ≡ (if name_eq root t then Some segment else None)
 
 -- the list has just one segment, and it is fresh
-pub record IsFreshAlone {R : ℕ} (list : List (Segment R)) : Type 0 where
+pub record IsOneFreshSegment {R : ℕ} (list : List (Segment R)) : Type 0 where
   pub segment : Segment R
-  pub fresh_parts : (q : Place) → part segment q ≡ fresh_segment R q
+  pub fresh_parts : (q : Place) → segment_contents segment q ≡ fresh_segment R q
   pub alone : list ≡ segment ∷ []

@@ -3,7 +3,7 @@ use Rattle.std.specs.Prelude.{ℕ, length}
 use Rattle.rd_ring.specs.Prelude.{SegName, Contents}
 use Rattle.rd_segments.specs.declared.array.ArrayParts.{ArrayParts}
 use Rattle.rd_segments.specs.declared.space.Space.{Space}
-use Rattle.rd_segments.specs.Lists.{count}
+use Rattle.rd_segments.specs.Lists.{segment_count}
 use Rattle.rd_segments.specs.Room.{MakersRoom, makers_room as room_of_lists, spare}
 use Rattle.rd_segments.specs.SpaceFields.{contents_of}
 
@@ -12,12 +12,12 @@ abbrev pub contents : {R : ℕ} → Space R → Contents
 contents s = contents_of s.makers.items s.qhead s.qtail s.array
 
 -- the number of makers that have a list
-abbrev pub lists : {R : ℕ} → Space R → ℕ
-lists s = length s.makers.items
+abbrev pub list_count : {R : ℕ} → Space R → ℕ
+list_count s = length s.makers.items
 
 -- the number of segments that a maker has made
 abbrev pub making_count : {R : ℕ} → Space R → ℕ → ℕ
-making_count s m = count s.makers.items m
+making_count s m = segment_count s.makers.items m
 
 -- the number of further segments that a maker can make without asking for memory
 abbrev pub room : {R : ℕ} → Space R → ℕ → ℕ

@@ -22,11 +22,11 @@ pub struct ArrayParts {
 }
 
 impl ArrayParts {
-    ghost use Rattle.rd_segments.specs.Array.{array_part, fresh_array};
+    ghost use Rattle.rd_segments.specs.Array.{array_contents, fresh_array};
 
     /// Returns a fresh array: both counters are 0, and every slot is empty.
     pub fn fresh() -> ArrayParts
-        ensures { array_part result ≡ fresh_array }
+        ensures { array_contents result ≡ fresh_array }
     {
         ArrayParts {
             head: 0,
@@ -37,9 +37,9 @@ impl ArrayParts {
 
     /// Whether the array equals a fresh one.
     pub(crate) fn is_fresh(&self) -> bool
-        ensures { IsTrue result ↔ (array_part self.now ≡ fresh_array) }
+        ensures { IsTrue result ↔ (array_contents self.now ≡ fresh_array) }
     {
-        self.has_fresh_counters() && are_empty(&self.cells)
+        self.has_fresh_counters() && are_empty_slots(&self.cells)
     }
 
     /// Whether both of the array's counters are 0.
@@ -51,7 +51,7 @@ impl ArrayParts {
 
     /// Returns the content at a place of the array, or none if the place is not one of the array's.
     pub(crate) fn content(&self, place: Place) -> Option<Content>
-        ensures { result ≡ array_part self.now place }
+        ensures { result ≡ array_contents self.now place }
     {
         match place {
             Place::ArrHead => Some(Content::Number(self.head)),
@@ -75,10 +75,10 @@ impl ArrayParts {
     pub(crate) fn operate(&mut self, place: Place, operation: Operation) -> Result<Done, Refusal>
         requires { IsTrue (suits_array operation) }
         ensures ok { IfOk result (λ done. Operates everywhere place operation done
-            (array_part self.old) (array_part self.new)) }
+            (array_contents self.old) (array_contents self.new)) }
         ensures err { IfErr result (λ e. operate place operation
-            (operand (array_part self.old) place) ≡ Err e) }
-        ensures unchanged { OnErr result (array_part self.new ≡ array_part self.old) }
+            (operand (array_contents self.old) place) ≡ Err e) }
+        ensures unchanged { OnErr result (array_contents self.new ≡ array_contents self.old) }
     {
         match place {
             Place::ArrHead => operate_on_counter(&mut self.head, place, operation),
@@ -96,9 +96,10 @@ impl ArrayParts {
     /// Puts an old content back at a place of the array. The place must be there, the content must
     /// be of its kind, and a counter at most 64. This undoes a fetch-and-add or a swap.
     pub(crate) fn restore(&mut self, place: Place, content: Content)
-        requires there { IsTrue (is_some (array_part self.old place)) }
+        requires there { IsTrue (is_some (array_contents self.old place)) }
         requires kind { IsTrue (can_hold place content) }
-        ensures { array_part self.new ≡ restore (Some place) (Some content) (array_part self.old) }
+        ensures { array_contents self.new
+            ≡ restore (Some place) (Some content) (array_contents self.old) }
     {
         match (place, content) {
             (Place::ArrHead, Content::Number(count)) => self.head = count,
@@ -110,14 +111,14 @@ impl ArrayParts {
 }
 
 /// Whether each of these slots is empty.
-fn are_empty(slots: &[ArrSlot]) -> bool
+fn are_empty_slots(slots: &[ArrSlot]) -> bool
     ensures { IsTrue result ↔ All (λ slot. slot ≡ ArrSlot.Empty) slots.now }
 {
-    slots.iter().all(|slot| is_empty(slot))
+    slots.iter().all(|slot| is_empty_slot(slot))
 }
 
 /// Whether a slot is empty.
-fn is_empty(slot: &ArrSlot) -> bool
+fn is_empty_slot(slot: &ArrSlot) -> bool
     ensures { IsTrue result ↔ (slot.now ≡ ArrSlot.Empty) }
 {
     *slot == ArrSlot::Empty

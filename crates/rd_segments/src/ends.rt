@@ -30,7 +30,7 @@ pub fn operate_on_name(
             if won {
                 *name = new;
             }
-            Ok(Done::swapped(place, found, won, Wrote::Place))
+            Ok(Done::of_cas(place, found, won, Wrote::Place))
         }
         _ => Err(Refusal::NoSuchPlace),
     }

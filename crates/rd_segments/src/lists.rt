@@ -1,9 +1,9 @@
 //! The makers' lists of segments, and the operations on one segment of one list.
 
 ghost use Rattle.std.specs.Prelude.{◌≡◌, ◌≢◌, ◌+◌, ◌-◌, ◌<◌, ◌≤◌, ℕ, Some, None, Err, is_some, IsTrue, IfOk, IfErr, OnOk, OnErr, MatchOption, take, true, length, is_ok, vec_len, vec_capacity, if◌then◌else◌};
-ghost use Rattle.rd_ring.specs.Prelude.{MOST_CELLS, SegName, Place, segment_of, can_hold, operand, operate, holding, everywhere, Operates, Makes, Restores, RefusesMaking};
+ghost use Rattle.rd_ring.specs.Prelude.{MOST_CELLS, SegName, Place, segment_of, can_hold, operand, operate, segment_holding, everywhere, Operates, Makes, Restores, RefusesMaking};
 ghost use Rattle.rd_cell.specs.Operations.{suits_segments};
-ghost use Rattle.rd_segments.specs.Lists.{by_name, part_of, segments_of, count, IsLengthened};
+ghost use Rattle.rd_segments.specs.Lists.{by_name, some_contents, segments_of, segment_count, IsLengthened};
 ghost use Rattle.rd_segments.specs.Room.{spare, room_used, makers_room, KeepsMakersRoom, UsesMakersRoom, ReturnsMakersRoom, AddsMakersRoom};
 
 use rd_cell::limits::MOST_SEGMENTS;
@@ -59,7 +59,8 @@ pub fn restore_in<const R: usize>(
     content: Content,
 )
     requires small { R ≤ MOST_CELLS }
-    requires there { IsTrue (is_some (operand (part_of (by_name makers.old.items name)) place)) }
+    requires there { IsTrue (is_some (operand (some_contents
+        (by_name makers.old.items name)) place)) }
     requires its { segment_of place ≡ Some name }
     requires kind { IsTrue (can_hold place content) }
     ensures done { Restores everywhere place (Some content) (segments_of makers.old.items)
@@ -85,10 +86,11 @@ pub fn make_in<const R: usize>(
     requires small { R ≤ MOST_CELLS }
     requires maker_there { maker < length makers.old.items }
     ensures name { IfOk result (λ name. name
-        ≡ record { maker = maker; n = count makers.old.items maker }) }
-    ensures ok { IfOk result (λ name. Makes name (holding R value) (segments_of makers.old.items)
+        ≡ record { maker = maker; n = segment_count makers.old.items maker }) }
+    ensures ok { IfOk result (λ name. Makes name (segment_holding R value)
+        (segments_of makers.old.items)
         (segments_of makers.new.items)) }
-    ensures err { IfErr result (λ e. RefusesMaking (count makers.old.items maker)
+    ensures err { IfErr result (λ e. RefusesMaking (segment_count makers.old.items maker)
         (spare makers.old.items maker) e) }
     ensures unchanged { OnErr result (segments_of makers.new.items ≡ segments_of makers.old.items) }
     ensures room { UsesMakersRoom result true maker (makers_room makers.old.items)
@@ -129,9 +131,9 @@ fn make_next<const R: usize>(
 /// Removes the maker's last segment, which must be there, and so gives its room back.
 pub fn unmake_in<const R: usize>(makers: &mut Vec<Vec<Segment<R>>>, maker: u8)
     requires small { R ≤ MOST_CELLS }
-    requires has_one { 0 < count makers.old.items maker }
+    requires has_one { 0 < segment_count makers.old.items maker }
     ensures gone { Restores everywhere (Place.Whole
-        (record { maker = maker; n = count makers.old.items maker - 1 })) None
+        (record { maker = maker; n = segment_count makers.old.items maker - 1 })) None
         (segments_of makers.old.items) (segments_of makers.new.items) }
     ensures room { ReturnsMakersRoom (room_used true maker) (makers_room makers.old.items)
         (makers_room makers.new.items) }

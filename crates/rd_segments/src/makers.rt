@@ -3,7 +3,7 @@
 ghost use Rattle.std.specs.Prelude.{◌≡◌, ◌≤◌, ◌↔◌, IfOk, IsTrue, [], suc, length};
 ghost use Rattle.std.specs.List.{All};
 ghost use Rattle.rd_ring.specs.Prelude.{MOST_CELLS};
-ghost use Rattle.rd_segments.specs.Lists.{IsFresh, IsFreshAlone};
+ghost use Rattle.rd_segments.specs.Lists.{AreFreshLists, IsOneFreshSegment};
 
 use rd_ring::Segment;
 use std::alloc::{AllocError, Global};
@@ -14,12 +14,12 @@ use std::alloc::{AllocError, Global};
 /// # Errors
 ///
 /// Only if memory was refused.
-pub fn first_lists<const R: usize>(
+pub fn fresh_space_lists<const R: usize>(
     alloc: Global,
     actors: u8,
 ) -> Result<Vec<Vec<Segment<R>>>, AllocError>
     requires { R ≤ MOST_CELLS }
-    ensures ok { IfOk result (λ makers. IsFresh makers.items) }
+    ensures ok { IfOk result (λ makers. AreFreshLists makers.items) }
     ensures number { IfOk result (λ makers. length makers.items ≡ suc actors) }
 {
     let mut makers = Vec::with_capacity(alloc, usize::from(actors) + 1)?;
@@ -33,20 +33,20 @@ pub fn first_lists<const R: usize>(
 }
 
 /// Whether these are the lists of a fresh space: the root is the only segment, and it is fresh.
-pub fn are_fresh<const R: usize>(makers: &[Vec<Segment<R>>]) -> bool
+pub fn are_fresh_lists<const R: usize>(makers: &[Vec<Segment<R>>]) -> bool
     requires { R ≤ MOST_CELLS }
-    ensures { IsTrue result ↔ IsFresh makers.now }
+    ensures { IsTrue result ↔ AreFreshLists makers.now }
 {
     match makers {
         [] => false,
-        [first, others @ ..] => is_fresh_alone(first) && are_empty(others),
+        [first, others @ ..] => is_one_fresh_segment(first) && are_empty_lists(others),
     }
 }
 
 /// Whether the list has just one segment, which is fresh.
-fn is_fresh_alone<const R: usize>(list: &[Segment<R>]) -> bool
+fn is_one_fresh_segment<const R: usize>(list: &[Segment<R>]) -> bool
     requires { R ≤ MOST_CELLS }
-    ensures { IsTrue result ↔ IsFreshAlone list.now }
+    ensures { IsTrue result ↔ IsOneFreshSegment list.now }
 {
     match list {
         [segment] => segment.is_fresh(),
@@ -55,19 +55,19 @@ fn is_fresh_alone<const R: usize>(list: &[Segment<R>]) -> bool
 }
 
 /// Whether none of these lists has a segment.
-fn are_empty<const R: usize>(makers: &[Vec<Segment<R>>]) -> bool
+fn are_empty_lists<const R: usize>(makers: &[Vec<Segment<R>>]) -> bool
     requires { R ≤ MOST_CELLS }
     ensures { IsTrue result ↔ All (λ list. list.items ≡ []) makers.now }
 {
     makers.iter().all(
         |list| -> bool
             ensures { IsTrue result ↔ (list.now.items ≡ []) }
-        { is_empty(list) },
+        { is_empty_list(list) },
     )
 }
 
 /// Whether a list has no segment.
-fn is_empty<const R: usize>(list: &Vec<Segment<R>>) -> bool
+fn is_empty_list<const R: usize>(list: &Vec<Segment<R>>) -> bool
     ensures { IsTrue result ↔ (list.now.items ≡ []) }
 {
     list.is_empty()

@@ -4,8 +4,8 @@ ghost use Rattle.std.specs.Prelude.{◌≡◌, ◌≤◌, IsTrue, IfOk, length};
 ghost use Rattle.std.specs.List.{list_all};
 ghost use Rattle.rd_ring.specs.Prelude.{MOST_CELLS, SegName, Place};
 ghost use Rattle.rd_ring.specs.Segments.{counters_fit};
-ghost use Rattle.rd_segments.specs.Lists.{by_name, part_of};
-ghost use Rattle.rd_segments.specs.Parts.{part_of_parts, each_segment, IsOfParts};
+ghost use Rattle.rd_segments.specs.Lists.{by_name, some_contents};
+ghost use Rattle.rd_segments.specs.Parts.{some_parts_contents, each_segment, IsOfParts};
 
 use rd_ring::{Segment, SegmentParts};
 use std::alloc::{AllocError, Global};
@@ -23,7 +23,8 @@ pub fn lists_from_parts<const R: usize>(
     requires small { R ≤ MOST_CELLS }
     requires within { IsTrue (each_segment counters_fit parts.now.items) }
     ensures ok { IfOk result (λ makers. (s : SegName) (q : Place)
-        → part_of (by_name makers.items s) q ≡ part_of_parts (by_name parts.now.items s) q) }
+        → some_contents (by_name makers.items s) q
+        ≡ some_parts_contents (by_name parts.now.items s) q) }
     ensures number { IfOk result (λ makers. length makers.items ≡ length parts.now.items) }
 {
     let mut makers = Vec::with_capacity(alloc, parts.len())?;
@@ -62,7 +63,8 @@ pub fn parts_of_lists<const R: usize>(
 ) -> Result<Vec<Vec<SegmentParts<R>>>, AllocError>
     requires { R ≤ MOST_CELLS }
     ensures ok { IfOk result (λ parts. (s : SegName) (q : Place)
-        → part_of_parts (by_name parts.items s) q ≡ part_of (by_name makers.now.items s) q) }
+        → some_parts_contents (by_name parts.items s) q
+        ≡ some_contents (by_name makers.now.items s) q) }
     ensures number { IfOk result (λ parts. length parts.items ≡ length makers.now.items) }
 {
     let mut parts = Vec::with_capacity(alloc, makers.len())?;

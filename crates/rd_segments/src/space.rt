@@ -1,19 +1,19 @@
 //! The space, and the operations on it.
 
 ghost use Rattle.std.specs.Prelude.{◌≡◌, ◌≢◌, ◌+◌, ◌-◌, ◌<◌, ◌≤◌, ◌↔◌, ℕ, suc, true, Some, None, is_some, Err, IsTrue, IfOk, IfErr, OnErr, length};
-ghost use Rattle.rd_ring.specs.Prelude.{MOST_CELLS, root, content_at, can_hold, operand, operate, restore, holding, everywhere, Operates, Makes, RefusesMaking};
+ghost use Rattle.rd_ring.specs.Prelude.{MOST_CELLS, root, content_at, can_hold, operand, operate, restore, segment_holding, everywhere, Operates, Makes, RefusesMaking};
 ghost use Rattle.rd_cell.specs.Operations.{suits};
 ghost use Rattle.rd_segments.specs.Room.{room_used, KeepsMakersRoom, UsesMakersRoom, ReturnsMakersRoom, AddsMakersRoom};
 ghost use Rattle.rd_segments.specs.SpaceFields.{fresh_space};
-ghost use Rattle.rd_segments.specs.Lists.{IsFresh};
-ghost use Rattle.rd_segments.specs.Array.{array_part, fresh_array};
+ghost use Rattle.rd_segments.specs.Lists.{AreFreshLists};
+ghost use Rattle.rd_segments.specs.Array.{array_contents, fresh_array};
 ghost use Rattle.rd_segments.specs.Parts.{each_segment, contents_of_parts};
 ghost use Rattle.rd_ring.specs.Segments.{counters_fit};
 
 use super::array::ArrayParts;
 use super::ends::operate_on_name;
 use super::lists::{find, make_in, make_room_in, operate_in, restore_in, unmake_in};
-use super::makers::{are_fresh, first_lists};
+use super::makers::{are_fresh_lists, fresh_space_lists};
 use super::parts::{lists_from_parts, parts_of_lists};
 use rd_cell::{Content, Done, Operation, Place, Refusal, SegName};
 use rd_ring::{Segment, SegmentParts};
@@ -32,7 +32,7 @@ pub struct Space<const R: usize> {
 }
 
 impl<const R: usize> Space<R> {
-    ghost use Rattle.rd_segments.specs.Space.{contents, lists, making_count, room, makers_room, head_name, tail_name, array_words};
+    ghost use Rattle.rd_segments.specs.Space.{contents, list_count, making_count, room, makers_room, head_name, tail_name, array_words};
 
     /// Returns a fresh space for this many actors: the root is there and fresh, the queue's two
     /// ends name it, and the array is fresh.
@@ -44,9 +44,9 @@ impl<const R: usize> Space<R> {
         requires positive { 1 ≤ R }
         requires small { R ≤ MOST_CELLS }
         ensures ok { IfOk result (λ space. contents space ≡ fresh_space R) }
-        ensures number { IfOk result (λ space. lists space ≡ suc actors) }
+        ensures number { IfOk result (λ space. list_count space ≡ suc actors) }
     {
-        let makers = first_lists(alloc, actors)?;
+        let makers = fresh_space_lists(alloc, actors)?;
         Ok(Space {
             makers,
             qhead: SegName::ROOT,
@@ -71,10 +71,10 @@ impl<const R: usize> Space<R> {
 
     /// Whether the array is fresh, and the root is the only segment and is fresh too.
     fn has_fresh_array_and_root(&self) -> bool
-        ensures { IsTrue result ↔ ((array_part self.now.array ≡ fresh_array)
-            × IsFresh self.now.makers.items) }
+        ensures { IsTrue result ↔ ((array_contents self.now.array ≡ fresh_array)
+            × AreFreshLists self.now.makers.items) }
     {
-        self.array.is_fresh() && are_fresh(&self.makers)
+        self.array.is_fresh() && are_fresh_lists(&self.makers)
     }
 
     /// Returns the space with these parts: element m of `segments` has maker m's segments, in the
@@ -95,7 +95,7 @@ impl<const R: usize> Space<R> {
         requires within { IsTrue (each_segment counters_fit segments.now.items) }
         ensures ok { IfOk result (λ space. contents space
             ≡ contents_of_parts segments.now.items qhead qtail array) }
-        ensures number { IfOk result (λ space. lists space ≡ length segments.now.items) }
+        ensures number { IfOk result (λ space. list_count space ≡ length segments.now.items) }
     {
         let makers = lists_from_parts(alloc, segments)?;
         Ok(Space {
@@ -113,11 +113,11 @@ impl<const R: usize> Space<R> {
     /// # Errors
     ///
     /// Only if memory was refused.
-    pub fn segments(&self, alloc: Global) -> Result<Vec<Vec<SegmentParts<R>>>, AllocError>
+    pub fn segment_parts(&self, alloc: Global) -> Result<Vec<Vec<SegmentParts<R>>>, AllocError>
         ensures ok { IfOk result (λ segments.
             contents_of_parts segments.items (head_name self.now) (tail_name self.now)
             (array_words self.now) ≡ contents self.now) }
-        ensures number { IfOk result (λ segments. length segments.items ≡ lists self.now) }
+        ensures number { IfOk result (λ segments. length segments.items ≡ list_count self.now) }
     {
         parts_of_lists(alloc, &self.makers)
     }
@@ -189,7 +189,7 @@ impl<const R: usize> Space<R> {
     {
         match place.segment() {
             Some(name) => operate_in(&mut self.makers, name, place, operation),
-            None if place.is_array() => self.array.operate(place, operation),
+            None if place.is_of_array() => self.array.operate(place, operation),
             None => match place {
                 Place::QHead => operate_on_name(&mut self.qhead, place, operation),
                 Place::QTail => operate_on_name(&mut self.qtail, place, operation),
@@ -206,10 +206,10 @@ impl<const R: usize> Space<R> {
     /// `SegmentsEnd` exactly if the maker has made 65,535; else `NoMemory` if memory was refused,
     /// which happens only if the maker has no room left. The space is then as before.
     pub fn make(&mut self, maker: u8, value: u64) -> Result<SegName, Refusal>
-        requires { maker < lists self.old }
+        requires { maker < list_count self.old }
         ensures name { IfOk result (λ name. name
             ≡ record { maker = maker; n = making_count self.old maker }) }
-        ensures ok { IfOk result (λ name. Makes name (holding R value) (contents self.old)
+        ensures ok { IfOk result (λ name. Makes name (segment_holding R value) (contents self.old)
             (contents self.new)) }
         ensures err { IfErr result (λ e. RefusesMaking (making_count self.old maker)
             (room self.old maker) e) }
@@ -247,7 +247,7 @@ impl<const R: usize> Space<R> {
             (Some(name), _, _) => restore_in(&mut self.makers, name, place, content),
             (None, Place::QHead, Content::Name(name)) => self.qhead = name,
             (None, Place::QTail, Content::Name(name)) => self.qtail = name,
-            (None, _, _) if place.is_array() => self.array.restore(place, content),
+            (None, _, _) if place.is_of_array() => self.array.restore(place, content),
             _ => unreachable!(),
         }
     }
@@ -259,7 +259,7 @@ impl<const R: usize> Space<R> {
     ///
     /// Only if memory was refused for the growth. No place changes in either case.
     pub fn make_room(&mut self, maker: u8, more: usize) -> Result<(), AllocError>
-        requires { maker < lists self.old }
+        requires { maker < list_count self.old }
         ensures unchanged { contents self.new ≡ contents self.old }
         ensures room { AddsMakersRoom result maker more (makers_room self.old)
             (makers_room self.new) }

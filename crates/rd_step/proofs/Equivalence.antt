@@ -1,10 +1,10 @@
 -- A step that depends on no earlier one may go first in its run, and equivalent lists of events
 -- reach one world.
 use Rattle.rd_step.proofs.Prelude.{◌≡◌, false, refl, sym, ◌∙◌, ap, subst, List, [], ◌∷◌, ◌++◌, Ok, arith, World, Event, Entry, same_Ok, Stepped, step, Ran, run, events, depends, IsFree, or_from, IsPermutation, IsPermutation-sym, IsPermutation-cons, IsPermutation-trans, IsPermutation-middle, IsIndependentOf, IsEquivalent, ReachesTheSame}
-use Rattle.rd_step.proofs.Steps.{took}
+use Rattle.rd_step.proofs.Steps.{step_stages}
 use Rattle.rd_step.proofs.Commute.{commutes}
-use Rattle.rd_step.proofs.Symmetry.{symmetric}
-use Rattle.rd_step.proofs.RunParts.{ran_on, run_on, run-cons, free_parts}
+use Rattle.rd_step.proofs.Symmetry.{depends_symmetric}
+use Rattle.rd_step.proofs.RunParts.{ran_on, each_run, run-cons, free_parts}
 
 -- The step of e after the run of `earlier`, and a run on from there, with e moved to the front
 
@@ -20,11 +20,11 @@ pub goes_first : (w : World) (e : Event) (earlier later : List Event) (r : Ran) 
     → GoesFirst w e s.entry (earlier ++ later) (record { world = q.world; entries = r.entries ++ q.entries })
 goes_first w e [] later r s q h k free l = grind arith
 goes_first w e (f ∷ fs) later r s q h k free l =
-    run_on w f fs (λ x. step x.world e ≡ Ok s → IsFree s.entry x.entries → GoesFirst w e s.entry (f ∷ (fs ++ later)) (record { world = q.world; entries = x.entries ++ q.entries }))
+    each_run w f fs (λ x. step x.world e ≡ Ok s → IsFree s.entry x.entries → GoesFirst w e s.entry (f ∷ (fs ++ later)) (record { world = q.world; entries = x.entries ++ q.entries }))
     (λ one rest goes goes_on steps alone.
     let parts = free_parts s.entry one.entry rest.entries alone in
     let first = goes_first one.world e fs later rest s q goes_on steps parts.1 l in
-    let independent : depends one.entry s.entry ≡ false = symmetric one.entry s.entry ∙ parts.0 in
+    let independent : depends one.entry s.entry ≡ false = depends_symmetric one.entry s.entry ∙ parts.0 in
     let sw = commutes w f e one (record { world = first.after; entry = s.entry }) goes first.goes independent in
     let all : Ran = record { world = q.world; entries = rest.entries ++ q.entries } in
     record {
@@ -40,9 +40,9 @@ goes_first w e (f ∷ fs) later r s q h k free l =
 pub run_events : (w : World) (es : List Event) (r : Ran) → run w es ≡ Ok r → events r.entries ≡ es
 run_events w [] r h = let p : record { world = w; entries = [] } ≡ r = cc in ap (λ (y : Ran). events y.entries) (sym p)
 run_events w (e ∷ es) r h =
-    run_on w e es (λ x. events x.entries ≡ e ∷ es)
+    each_run w e es (λ x. events x.entries ≡ e ∷ es)
     (λ s rest goes goes_on.
-    let first : s.entry.event ≡ e = ap (λ (x : Stepped). x.entry.event) (sym (took w e s goes).ends) in
+    let first : s.entry.event ≡ e = ap (λ (x : Stepped). x.entry.event) (sym (step_stages w e s goes).ends) in
     let others = run_events s.world es rest goes_on in λ i. first i ∷ others i)
     r h
 
@@ -63,11 +63,11 @@ pub record RanThrough (w : World) (earlier : List Event) (e : Event) (later : Li
 pub ran_through : (w : World) (earlier : List Event) (e : Event) (later : List Event) (q : Ran) → run w (earlier ++ e ∷ later) ≡ Ok q
     → RanThrough w earlier e later q
 ran_through w [] e later q h =
-    run_on w e later (RanThrough w [] e later)
+    each_run w e later (RanThrough w [] e later)
     (λ s rest goes goes_on. record { before = record { world = w; entries = [] }; runs = refl; one = s; goes = goes; rest = rest; goes_on = goes_on; joins = refl })
     q h
 ran_through w (f ∷ fs) e later q h =
-    run_on w f (fs ++ e ∷ later) (RanThrough w (f ∷ fs) e later)
+    each_run w f (fs ++ e ∷ later) (RanThrough w (f ∷ fs) e later)
     (λ s rest goes goes_on.
     let t = ran_through s.world fs e later rest goes_on in
     record {
@@ -98,7 +98,7 @@ pub record StandsIn (w : World) (e : Event) (earlier later : List Event) (q : Ra
 
 stands_through : (w : World) (e : Event) (earlier later : List Event) (q : Ran) (t : RanThrough w earlier e later q)
     → IsFree t.one.entry t.before.entries → StandsIn w e earlier later q
-stands_through w e earlier later q t free = grind (arith, took, goes_first, run_events)
+stands_through w e earlier later q t free = grind (arith, step_stages, goes_first, run_events)
 
 -- an event that is independent of those before it stands so in the run of the list
 pub stands_in : (w : World) (e : Event) (earlier later : List Event) (q : Ran) → run w (earlier ++ e ∷ later) ≡ Ok q
@@ -116,7 +116,7 @@ pub reach_the_same : (w : World) (es fs : List Event) (r q : Ran) → run w es �
     → IsEquivalent w es fs → ReachesTheSame r q
 reach_the_same w [] fs r q h k same = both_empty w r q h (ap (run w) (sym same) ∙ k)
 reach_the_same w (e ∷ es) fs r q h k same =
-    run_on w e es (λ x. ReachesTheSame x q)
+    each_run w e es (λ x. ReachesTheSame x q)
     (λ one ran goes goes_on.
     let s = stands_in w e same.earlier same.later q (ap (run w) (sym same.stands) ∙ k) same.independent in
     let its : record { world = s.first.after; entry = s.x } ≡ one = same_Ok _ _ (sym s.first.goes ∙ goes) in
@@ -137,8 +137,8 @@ reach_the_same w (e ∷ es) fs r q h k same =
     r h
 
 -- equivalent lists stay equivalent if the same event is put in front of both
-after_one : (w : World) (e : Event) (es fs : List Event) (s : Stepped) → step w e ≡ Ok s → IsEquivalent s.world es fs → IsEquivalent w (e ∷ es) (e ∷ fs)
-after_one w e es fs s h same = record {
+IsEquivalent-cons : (w : World) (e : Event) (es fs : List Event) (s : Stepped) → step w e ≡ Ok s → IsEquivalent s.world es fs → IsEquivalent w (e ∷ es) (e ∷ fs)
+IsEquivalent-cons w e es fs s h same = record {
   earlier = [];
   later = fs;
   stands = refl;
@@ -149,11 +149,11 @@ after_one w e es fs s h same = record {
 }
 
 -- a list that runs is equivalent to itself
-pub reflexive : (w : World) (es : List Event) (r : Ran) → run w es ≡ Ok r → IsEquivalent w es es
-reflexive w [] r h = refl
-reflexive w (e ∷ es) r h =
+pub equivalence_reflexive : (w : World) (es : List Event) (r : Ran) → run w es ≡ Ok r → IsEquivalent w es es
+equivalence_reflexive w [] r h = refl
+equivalence_reflexive w (e ∷ es) r h =
     let ran = ran_on w e es r h in
-    after_one w e es es ran.one ran.goes (reflexive ran.one.world es ran.rest ran.goes_on)
+    IsEquivalent-cons w e es es ran.one ran.goes (equivalence_reflexive ran.one.world es ran.rest ran.goes_on)
 
 -- swapping the first two events of a list, if they don't depend on each other, gives an equivalent
 -- list
@@ -175,7 +175,7 @@ neighbours_swapped w e f es s u r h k free l =
       };
       stepped = s;
       goes = h;
-      rest = reflexive s.world (f ∷ es) (record { world = r.world; entries = u.entry ∷ r.entries }) (run-cons s.world f es u r k l);
+      rest = equivalence_reflexive s.world (f ∷ es) (record { world = r.world; entries = u.entry ∷ r.entries }) (run-cons s.world f es u r k l);
     }
 
 -- swapping two neighbours that don't depend on each other, anywhere in a list, gives an equivalent
@@ -186,5 +186,5 @@ pub swapped_within : (w : World) (before : List Event) (e f : Event) (later : Li
 swapped_within w [] e f later b s u r g h k free l = grind (arith, neighbours_swapped)
 swapped_within w (d ∷ ds) e f later b s u r g h k free l =
     let ran = ran_on w d ds b g in
-    after_one w d (ds ++ e ∷ f ∷ later) (ds ++ f ∷ e ∷ later) ran.one ran.goes
+    IsEquivalent-cons w d (ds ++ e ∷ f ∷ later) (ds ++ f ∷ e ∷ later) ran.one ran.goes
     (swapped_within ran.one.world ds e f later ran.rest s u r ran.goes_on (ap (λ (y : Ran). step y.world e) ran.joins ∙ h) k free l)

@@ -7,7 +7,7 @@ use Rattle.rd_cell.specs.declared.operations.Answer.TheVariants as answer
 -- A record that fits, by its parts
 
 -- the names and numbers of a record that fits, each by itself
-pub record PartsFit (R : ℕ) (there : Presence) (a : Actor) : Type 0 where
+pub record NamesAndNumbersFit (R : ℕ) (there : Presence) (a : Actor) : Type 0 where
   pub crq : there a.crq ≡ true
   pub new : there a.new ≡ true
   pub next : there a.next ≡ true
@@ -16,20 +16,20 @@ pub record PartsFit (R : ℕ) (there : Presence) (a : Actor) : Type 0 where
   pub idx : nat_le a.idx (index_end R) ≡ true
 
 -- a record that fits has these parts
-pub parts_of : (R : ℕ) (there : Presence) (a : Actor) → record_fits R there a ≡ true → PartsFit R there a
-parts_of R there a fits = grind arith
+pub record_fits-names_and_numbers : (R : ℕ) (there : Presence) (a : Actor) → record_fits R there a ≡ true → NamesAndNumbersFit R there a
+record_fits-names_and_numbers R there a fits = grind arith
 
 -- the words of a record that fits fit its control point
-pub words_of : (R : ℕ) (there : Presence) (a : Actor) → record_fits R there a ≡ true → words_fit a ≡ true
-words_of R there a fits = (and_parts (names_fit there a && numbers_within (index_end R) a) (words_fit a) fits).1
+pub record_fits-words : (R : ℕ) (there : Presence) (a : Actor) → record_fits R there a ≡ true → words_fit a ≡ true
+record_fits-words R there a fits = (and_parts (names_fit there a && numbers_within (index_end R) a) (words_fit a) fits).1
 
 -- conversely, these parts and words that fit make a record that fits
-pub together : (R : ℕ) (there : Presence) (a : Actor) → PartsFit R there a → words_fit a ≡ true → record_fits R there a ≡ true
-together R there a f words = grind arith
+pub record_fits-from_both : (R : ℕ) (there : Presence) (a : Actor) → NamesAndNumbersFit R there a → words_fit a ≡ true → record_fits R there a ≡ true
+record_fits-from_both R there a f words = grind arith
 
 -- the record of an actor of a well-formed world fits
-pub fits_here : (w : World) (n : ℕ) (a : Actor) → IsWellFormed w → w.actor n ≡ Some a → record_fits w.ring (is_there w.at) a ≡ true
-fits_here w n a formed has = subst (λ (o : Option Actor). actor_fits w.ring (is_there w.at) o ≡ true) has (formed.actors n)
+pub record_fits-well_formed : (w : World) (n : ℕ) (a : Actor) → IsWellFormed w → w.actor n ≡ Some a → record_fits w.ring (is_there w.at) a ≡ true
+record_fits-well_formed w n a formed has = subst (λ (o : Option Actor). actor_fits w.ring (is_there w.at) o ≡ true) has (formed.actors n)
 
 -- What fits goes on to fit if more segments are there
 
@@ -89,11 +89,11 @@ drew_slot (At p op) answer = has_slot op answer
 drew_slot _ answer = true
 
 -- each row of an actor whose names and numbers fit has an access that fits
-need_at_fits : (R : ℕ) (there : Presence) (pc : Pc) (a : Actor) → PartsFit R there a
+need_at_fits : (R : ℕ) (there : Presence) (pc : Pc) (a : Actor) → NamesAndNumbersFit R there a
     → IfOk (need_at R pc a) (λ x. access_fits R there x ≡ true)
 need_at_fits R there pc a f = grind arith
 
 -- an actor whose record fits asks for an access that fits
 pub need_fits : (R : ℕ) (there : Presence) (a : Actor) (act : Act) → record_fits R there a ≡ true
     → IfOk (need R a act) (λ x. access_fits R there x ≡ true)
-need_fits R there a act h = grind (arith, need_at_fits, parts_of)
+need_fits R there a act h = grind (arith, need_at_fits, record_fits-names_and_numbers)

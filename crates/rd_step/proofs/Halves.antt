@@ -1,5 +1,5 @@
 -- A cell, as the name of its two halves, in a well-formed world.
-use Rattle.rd_step.proofs.Prelude.{◌≡◌, ℕ, true, false, ◌&&◌, nat_lt, Bool, ◌∙◌, ap₂, Option, Some, None, is_some, IfSome, arith, SegName, Place, Content, covers, share, operand, Contents, is_there, is_cell_at, World, Presence, belongs, content_fits, place_fits, IsWellFormed, cell_of_halves}
+use Rattle.rd_step.proofs.Prelude.{◌≡◌, ℕ, true, false, ◌&&◌, nat_lt, Bool, ◌∙◌, ap₂, Option, Some, None, is_some, IfSome, arith, SegName, Place, Content, covers, share, operand, Contents, is_there, is_cell_place, World, Presence, belongs, content_fits, place_fits, IsWellFormed, cell_of_halves}
 use Rattle.rd_cell.specs.declared.places.Place.TheVariants as place
 use Rattle.rd_cell.specs.declared.contents.Content.TheVariants as content
 
@@ -12,7 +12,7 @@ pub some_there : (o : Option Content) → is_some o ≡ true → (c : Content) �
 some_there o h = grind arith
 
 -- a well-formed world's map has no cell as a place
-pub bare_cell : (w : World) → IsWellFormed w → (q : Place) → is_cell_at q ≡ true → w.at q ≡ None
+pub bare_cell : (w : World) → IsWellFormed w → (q : Place) → is_cell_place q ≡ true → w.at q ≡ None
 bare_cell w formed (place.Cell s i) h = nothing_there (w.at (place.Cell s i)) (formed.places (place.Cell s i))
 bare_cell w formed _ h = cc
 
@@ -41,20 +41,20 @@ abbrev pub has_place : ℕ → Presence → Place → Bool
 has_place R there (place.Cell s i) = nat_lt i R && there s
 has_place R there p = belongs R there p
 
-value_there : (R : ℕ) (there : Presence) (s : SegName) (i : ℕ) (o : Option Content) → is_some o ≡ true → place_fits R there (place.Val s i) o ≡ true
+value_half_there : (R : ℕ) (there : Presence) (s : SegName) (i : ℕ) (o : Option Content) → is_some o ≡ true → place_fits R there (place.Val s i) o ≡ true
     → (val : Option ℕ) × (o ≡ Some (content.Val val))
-value_there R there s i o h k = grind arith
+value_half_there R there s i o h k = grind arith
 
-index_there : (R : ℕ) (there : Presence) (s : SegName) (i : ℕ) (o : Option Content) → is_some o ≡ true → place_fits R there (place.Idx s i) o ≡ true
+index_half_there : (R : ℕ) (there : Presence) (s : SegName) (i : ℕ) (o : Option Content) → is_some o ≡ true → place_fits R there (place.Idx s i) o ≡ true
     → (safe : Bool) × (idx : ℕ) × (o ≡ Some (content.Idx safe idx))
-index_there R there s i o h k = grind arith
+index_half_there R there s i o h k = grind arith
 
 -- a cell has an operand if both its halves are there
 pub cell_there : (R : ℕ) (there : Presence) (at : Contents) (s : SegName) (i : ℕ) → ((q : Place) → place_fits R there q (at q) ≡ true)
     → is_some (at (place.Val s i)) ≡ true → is_some (at (place.Idx s i)) ≡ true → (c : Content) × (operand at (place.Cell s i) ≡ Some c)
 cell_there R there at s i fits h k =
-    let v = value_there R there s i (at (place.Val s i)) h (fits (place.Val s i)) in
-    let x = index_there R there s i (at (place.Idx s i)) k (fits (place.Idx s i)) in
+    let v = value_half_there R there s i (at (place.Val s i)) h (fits (place.Val s i)) in
+    let x = index_half_there R there s i (at (place.Idx s i)) k (fits (place.Idx s i)) in
     (content.Cell (record { safe = x.0; idx = x.1; val = v.0 }), ap₂ cell_of_halves v.1 x.2)
 
 -- an operation at this place has an operand

@@ -1,9 +1,9 @@
 -- Progress: the access for which an actor of a well-formed world asks suits its place, and the
 -- answer leads the actor to another control point.
-use Rattle.rd_step.proofs.Prelude.{◌≡◌, ◌≢◌, ℕ, ◌≤◌, Bool, true, false, if◌then◌else◌, nat_lt, nat_le, sym, ◌∙◌, ap, subst, arith, Option, Some, is_some, is_none, ok_or, Result, Ok, Err, IfOk, holding, common_steps, cond_both, and_parts, IfOk-at_ok, MOST_SEGMENTS, Cell, SegName, Place, Wrote, ArrSlot, Content, Operation, Access, NoPlace, At, Make, Refusal, some_covers, is_nothing, written, is_there, operand, Effect, effect, Performed, operate, make, perform, swaps, adds, effect_at, result_map, after_write-outside, written-covers, ok_or_ok, Act, Actor, Pc, Q5, A2, B2, need, need_at, after_take, after_at, after, words_fit_at, World, Event, Stepped, step, Presence, content_fits, record_fits, IsWellFormed, number_made, and_then_err, IsStepRefusal, SuitsContent, MovesOn, ChangesOnly, ◌⊎◌, inl, inr, with_actor}
+use Rattle.rd_step.proofs.Prelude.{◌≡◌, ◌≢◌, ℕ, ◌≤◌, Bool, true, false, if◌then◌else◌, nat_lt, nat_le, sym, ◌∙◌, ap, subst, arith, Option, Some, is_some, is_none, ok_or, Result, Ok, Err, IfOk, segment_holding, common_steps, cond_both, and_parts, IfOk-at_ok, MOST_SEGMENTS, Cell, SegName, Place, Wrote, ArrSlot, Content, Operation, Access, NoPlace, At, Make, Refusal, some_covers, is_nothing, written, is_there, operand, Effect, effect, Performed, operate, make, perform, compares_and_swaps, adds, performed_at, result_map, after_write-outside, written-covers, ok_or_ok, Act, Actor, Pc, Q5, A2, B2, need, need_at, after_take, after_at, after, words_fit_at, World, Event, Stepped, step, Presence, content_fits, record_fits, IsWellFormed, number_made, and_then_err, IsStepRefusal, SuitsContent, MovesOn, ChangesOnly, ◌⊎◌, inl, inr, with_actor}
 use Rattle.rd_step.proofs.Halves.{has_place, has_operand}
-use Rattle.rd_step.proofs.Fits.{PartsFit, parts_of, words_of, fits_here}
-use Rattle.rd_step.proofs.Steps.{took, with_actor-same, with_actor-other}
+use Rattle.rd_step.proofs.Fits.{NamesAndNumbersFit, record_fits-names_and_numbers, record_fits-words, record_fits-well_formed}
+use Rattle.rd_step.proofs.Steps.{step_stages, with_actor-same, with_actor-other}
 use Rattle.rd_cell.specs.declared.places.Place.TheVariants as place
 use Rattle.rd_cell.specs.declared.contents.Content.TheVariants as content
 use Rattle.rd_cell.specs.declared.operations.Answer.TheVariants as answer
@@ -47,12 +47,12 @@ Leads R pc a (At p op) = OfKind p (λ c. Goes R pc a (effect op c))
 Leads R pc a (Make x) = (s : SegName) → (after_at R pc a (answer.Made s)).0.pc ≢ pc
 
 -- a choice between two control points other than z is other than z
-other : (b : Bool) (x y z : Pc) → x ≢ z → y ≢ z → (if b then x else y) ≢ z
-other b x y z h k = cond_both b x y (λ (pc : Pc). pc ≢ z) (λ e. h) (λ e. k)
+choice_avoids : (b : Bool) (x y z : Pc) → x ≢ z → y ≢ z → (if b then x else y) ≢ z
+choice_avoids b x y z h k = cond_both b x y (λ (pc : Pc). pc ≢ z) (λ e. h) (λ e. k)
 
 -- a compare-and-swap leads on, if the row does when it won and when it lost
 swaps_lead : (R : ℕ) (pc : Pc) (a : Actor) (b : Bool) (c : Content) → (after_at R pc a answer.Won).0.pc ≢ pc → (after_at R pc a answer.Lost).0.pc ≢ pc
-    → Goes R pc a (swaps b c)
+    → Goes R pc a (compares_and_swaps b c)
 swaps_lead R pc a b c won lost = grind arith
 
 -- a fetch-and-add leads on, if the row does with the old content and may be refused at the limit
@@ -71,7 +71,7 @@ swap_out_leads R a slot = grind arith
 
 -- each row leads on, if the actor's words fit it
 row_leads : (R : ℕ) (pc : Pc) (a : Actor) → words_fit_at pc a ≡ true → IfOk (need_at R pc a) (Leads R pc a)
-row_leads R pc a w = grind (arith, common_steps, swaps_lead, adds_lead, other, is_none, nat_le, nat_lt, is_some, take_leads, and_parts, swap_in_leads, swap_out_leads)
+row_leads R pc a w = grind (arith, common_steps, swaps_lead, adds_lead, choice_avoids, is_none, nat_le, nat_lt, is_some, take_leads, and_parts, swap_in_leads, swap_out_leads)
 
 -- The places of accesses are there
 
@@ -81,7 +81,7 @@ IsAtPlace R there (At p op) = has_place R there p ≡ true
 IsAtPlace R there _ = Unit {0}
 
 -- the place of each row's access is there, if the actor's names and words fit
-row_place : (R : ℕ) (there : Presence) (pc : Pc) (a : Actor) → 1 ≤ R → PartsFit R there a → words_fit_at pc a ≡ true
+row_place : (R : ℕ) (there : Presence) (pc : Pc) (a : Actor) → 1 ≤ R → NamesAndNumbersFit R there a → words_fit_at pc a ≡ true
     → IfOk (need_at R pc a) (IsAtPlace R there)
 row_place R there pc a some f w = grind arith
 
@@ -98,9 +98,9 @@ works_on : (w : World) (a : Actor) (p : Place) (op : Operation) → 1 ≤ w.ring
     → need_at w.ring a.pc a ≡ Ok (At p op) → WorksOn w a p op
 works_on w a p op some formed fits needs =
     let there = is_there w.at in
-    let words = words_of w.ring there a fits in
+    let words = record_fits-words w.ring there a fits in
     let place : IsAtPlace w.ring there (At p op) =
-    IfOk-at_ok (IsAtPlace w.ring there) needs (row_place w.ring there a.pc a some (parts_of w.ring there a fits) words) in
+    IfOk-at_ok (IsAtPlace w.ring there) needs (row_place w.ring there a.pc a some (record_fits-names_and_numbers w.ring there a fits) words) in
     let leads : Leads w.ring a.pc a (At p op) = IfOk-at_ok (Leads w.ring a.pc a) needs (row_leads w.ring a.pc a words) in
     let on = has_operand w p formed place in
     record { content = on.content; found = on.found; goes = at_kind w.ring there p (λ c. Goes w.ring a.pc a (effect op c)) leads on.content on.fits }
@@ -110,10 +110,10 @@ abbrev Ends : ℕ → Actor → Act → Result Performed Refusal → Type 0
 Ends R a act (Ok did) = (after R a act did.answer).0.pc ≢ a.pc
 Ends R a act (Err refusal) = IsStepRefusal refusal
 
-goes_ends : (R : ℕ) (a : Actor) (p : Place) (c : Content) (r : Result Effect Refusal) → Goes R a.pc a r → Ends R a act.Go (result_map (effect_at p c) r)
+goes_ends : (R : ℕ) (a : Actor) (p : Place) (c : Content) (r : Result Effect Refusal) → Goes R a.pc a r → Ends R a act.Go (result_map (performed_at p c) r)
 goes_ends R a p c r h = grind arith
 
-make_ends : (R : ℕ) (a : Actor) (s : SegName) (x : ℕ) → Leads R a.pc a (Make x) → Ends R a act.Go (make s (holding R x))
+make_ends : (R : ℕ) (a : Actor) (s : SegName) (x : ℕ) → Leads R a.pc a (Make x) → Ends R a act.Go (make s (segment_holding R x))
 make_ends R a s x h = cond_both (nat_lt s.n MOST_SEGMENTS) _ _ (λ (r : Result Performed Refusal). Ends R a act.Go r) (λ e. h s) (λ e. tt)
 
 -- every act but `Go` has no access, and moves its actor to another control point
@@ -129,7 +129,7 @@ go_ends actor w a (At p op) some formed fits needs =
     subst (λ (o : Option Content). Ends w.ring a act.Go (operate p op o)) (sym on.found) (goes_ends w.ring a p on.content (effect op on.content) on.goes)
 go_ends actor w a (Make x) some formed fits needs =
     make_ends w.ring a (record { maker = actor; n = number_made w.at actor }) x
-    (IfOk-at_ok (Leads w.ring a.pc a) needs (row_leads w.ring a.pc a (words_of w.ring (is_there w.at) a fits)))
+    (IfOk-at_ok (Leads w.ring a.pc a) needs (row_leads w.ring a.pc a (record_fits-words w.ring (is_there w.at) a fits)))
 
 -- in a well-formed world, the access for which an actor asks ends well
 access_ends : (actor : ℕ) (w : World) (a : Actor) (x : Act) (y : Access) → 1 ≤ w.ring → IsWellFormed w → record_fits w.ring (is_there w.at) a ≡ true
@@ -148,7 +148,7 @@ refused_in_cases w e cause some formed h =
     let has = ok_or_ok (w.actor e.actor) refusal.NoActor a there in
     and_then_err (need w.ring a e.act) _ cause h1 (need_refused w.ring a e.act cause) (λ x needs h2.
     and_then_err (perform w.ring e.actor w.at x) _ cause h2
-    (λ does. subst (Ends w.ring a e.act) does (access_ends e.actor w a e.act x some formed (fits_here w e.actor a formed has) needs))
+    (λ does. subst (Ends w.ring a e.act) does (access_ends e.actor w a e.act x some formed (record_fits-well_formed w e.actor a formed has) needs))
     (λ did does h3. cc)))
   where
     no_actor : (o : Option Actor) → ok_or o refusal.NoActor ≡ Err cause → IsStepRefusal cause
@@ -160,7 +160,7 @@ pub suits_content : (w : World) (n : ℕ) (a : Actor) (x : Act) (p : Place) (op 
 suits_content w n a x p op some formed has needs =
     elim (other_acts w.ring a x (At p op) needs) [
       | inl go ↦
-          let on = works_on w a p op some formed (fits_here w n a formed has) (ap (need w.ring a) (sym go) ∙ needs) in
+          let on = works_on w a p op some formed (record_fits-well_formed w n a formed has) (ap (need w.ring a) (sym go) ∙ needs) in
           record { content = on.content; found = on.found; suits = suit (effect op on.content) on.goes }
       | inr other ↦ absurd (cc (other.0))
     ]
@@ -175,9 +175,9 @@ moved_on n a next b c actors has ne old new same = grind (arith, with_actor-same
 -- a step leaves its actor at another control point
 pub moves_on : (w : World) (e : Event) (s : Stepped) → 1 ≤ w.ring → IsWellFormed w → step w e ≡ Ok s → MovesOn e w s.world
 moves_on w e s some formed h =
-    let t = took w e s h in
+    let t = step_stages w e s h in
     let ends : Ends w.ring t.a e.act (Ok t.did) =
-    subst (Ends w.ring t.a e.act) t.does (access_ends e.actor w t.a e.act t.access some formed (fits_here w e.actor t.a formed t.has) t.needs) in
+    subst (Ends w.ring t.a e.act) t.does (access_ends e.actor w t.a e.act t.access some formed (record_fits-well_formed w e.actor t.a formed t.has) t.needs) in
     subst (λ (x : Stepped). MovesOn e w x.world) t.ends
     (λ b c old new same. moved_on e.actor t.a (after w.ring t.a e.act t.did.answer).0 b c w.actor t.has ends old new same)
 
@@ -187,4 +187,4 @@ nothing_written p w q h = grind arith
 -- a step changes only places that its entry's place covers, and one actor
 pub changes_only : (w : World) (e : Event) (s : Stepped) → step w e ≡ Ok s → ChangesOnly e s.entry w s.world
 changes_only w e s h =
-    let t = took w e s h in grind (arith, after_write-outside, written-covers, nothing_written, with_actor-other)
+    let t = step_stages w e s h in grind (arith, after_write-outside, written-covers, nothing_written, with_actor-other)

@@ -1,11 +1,11 @@
 -- A step on which no later one depends may be taken out of a run, and go last.
 use Rattle.rd_step.proofs.Prelude.{◌≡◌, ℕ, true, ◌==◌, refl, sym, ◌∙◌, ap, subst, List, [], ◌∷◌, is_some, Ok, arith, or_parts, Place, is_there, interfere, World, Event, Entry, Stepped, step, unstep, CanPutBack, Ran, run, IsFree, CommutingSquare, IsWellFormed, IsRemovable, WasStepped, IsTakenOut, subst₂}
-use Rattle.rd_step.proofs.Steps.{took, with_actor-same}
+use Rattle.rd_step.proofs.Steps.{step_stages, with_actor-same}
 use Rattle.rd_step.proofs.Commute.{commutes}
-use Rattle.rd_step.proofs.Keeps.{keeps}
+use Rattle.rd_step.proofs.Keeps.{step_keeps_well_formed}
 use Rattle.rd_step.proofs.Inverse.{undoes}
-use Rattle.rd_step.proofs.RunParts.{run_on, free_parts}
-use Rattle.rd_step.proofs.PutBack.{stays_at, others_stay, entry_can}
+use Rattle.rd_step.proofs.RunParts.{each_run, free_parts}
+use Rattle.rd_step.proofs.PutBack.{stays_at, others_stay, CanPutBack-entry}
 
 -- the last step of a run may be taken out
 last_removed : (w : World) (e : Event) (s : Stepped) → IsWellFormed w → step w e ≡ Ok s
@@ -26,12 +26,12 @@ removes w e s [] r formed h k free =
     let p : record { world = s.world; entries = [] } ≡ r = cc in
     subst (λ (x : Ran). IsRemovable w e s [] x) p (last_removed w e s formed h)
 removes w e s (f ∷ fs) r formed h k free =
-    run_on s.world f fs (λ x. IsFree s.entry x.entries → IsRemovable w e s (f ∷ fs) x)
+    each_run s.world f fs (λ x. IsFree s.entry x.entries → IsRemovable w e s (f ∷ fs) x)
     (λ one rest goes goes_on alone.
     let parts = free_parts s.entry one.entry rest.entries alone in
     let sw = commutes w e f s one h goes parts.0 in
     removed_before w e f s one fs rest sw
-    (removes sw.first.world e sw.second fs rest (keeps w f sw.first formed sw.goes_first) sw.goes_second
+    (removes sw.first.world e sw.second fs rest (step_keeps_well_formed w f sw.first formed sw.goes_first) sw.goes_second
     (ap (λ (v : World). run v fs) sw.same_world ∙ goes_on) (subst (λ (x : Entry). IsFree x rest.entries) (sym sw.entry_unchanged) parts.1)))
     r k free
 
@@ -42,15 +42,15 @@ run_invariant : (P : World → Type 0) → ((v : World) (e : Event) (s : Stepped
     → P w → run w es ≡ Ok r → P r.world
 run_invariant P stays w [] r p h = let same : w ≡ r.world = cc in subst P same p
 run_invariant P stays w (e ∷ es) r p h =
-    run_on w e es (λ x. P x.world) (λ s rest goes goes_on. run_invariant P stays s.world es rest (stays w e s p goes) goes_on) r h
+    each_run w e es (λ x. P x.world) (λ s rest goes goes_on. run_invariant P stays s.world es rest (stays w e s p goes) goes_on) r h
 
 -- a run keeps the size of the rings
 pub run_ring : (w : World) (es : List Event) (r : Ran) → run w es ≡ Ok r → r.world.ring ≡ w.ring
-run_ring w es r h = run_invariant (λ v. v.ring ≡ w.ring) (λ v e s same goes. ap (λ (x : Stepped). x.world.ring) (sym (took v e s goes).ends) ∙ same) w es r refl h
+run_ring w es r h = run_invariant (λ v. v.ring ≡ w.ring) (λ v e s same goes. ap (λ (x : Stepped). x.world.ring) (sym (step_stages v e s goes).ends) ∙ same) w es r refl h
 
 -- a run keeps a world well-formed
-pub run_keeps : (w : World) (es : List Event) (r : Ran) → IsWellFormed w → run w es ≡ Ok r → IsWellFormed r.world
-run_keeps w es r formed h = run_invariant IsWellFormed keeps w es r formed h
+pub run_keeps_well_formed : (w : World) (es : List Event) (r : Ran) → IsWellFormed w → run w es ≡ Ok r → IsWellFormed r.world
+run_keeps_well_formed w es r formed h = run_invariant IsWellFormed step_keeps_well_formed w es r formed h
 
 -- a step removes no actor
 stays_actor : (w : World) (e : Event) (s : Stepped) (n : ℕ) → step w e ≡ Ok s → is_some (w.actor n) ≡ true
@@ -66,14 +66,14 @@ run_stays_actor w es r n h there = run_invariant (λ v. is_some (v.actor n) ≡ 
 run_stays_at : (w : World) (es : List Event) (r : Ran) (q : Place) → IsWellFormed w → run w es ≡ Ok r → is_some (w.at q) ≡ true
     → is_some (r.world.at q) ≡ true
 run_stays_at w es r q formed h there =
-    (run_invariant (λ v. IsWellFormed v × (is_some (v.at q) ≡ true)) (λ v e s p goes. (keeps v e s p.0 goes, stays_at v e s q p.0 goes p.1)) w es r (formed, there) h).1
+    (run_invariant (λ v. IsWellFormed v × (is_some (v.at q) ≡ true)) (λ v e s p goes. (step_keeps_well_formed v e s p.0 goes, stays_at v e s q p.0 goes p.1)) w es r (formed, there) h).1
 
 -- steps that do not depend on x add and remove no segment of x's actor
 run_others : (w : World) (es : List Event) (r : Ran) (x : Entry) (k : ℕ) → run w es ≡ Ok r → IsFree x r.entries
     → is_there r.world.at (record { maker = x.event.actor; n = k }) ≡ is_there w.at (record { maker = x.event.actor; n = k })
 run_others w [] r x k h free = grind arith
 run_others w (e ∷ es) r x k h free =
-    run_on w e es (λ y. IsFree x y.entries → is_there y.world.at (record { maker = x.event.actor; n = k }) ≡ is_there w.at (record { maker = x.event.actor; n = k }))
+    each_run w e es (λ y. IsFree x y.entries → is_there y.world.at (record { maker = x.event.actor; n = k }) ≡ is_there w.at (record { maker = x.event.actor; n = k }))
     (λ one rest goes goes_on alone.
     let parts = free_parts x one.entry rest.entries alone in
     let other = or_parts (x.event.actor == one.entry.event.actor) (interfere x.place x.wrote one.entry.place one.entry.wrote) parts.0 in
@@ -84,7 +84,7 @@ run_others w (e ∷ es) r x k h free =
 
 -- the actor of a step is there after it
 entry_actor : (w : World) (e : Event) (s : Stepped) → step w e ≡ Ok s → is_some (s.world.actor s.entry.event.actor) ≡ true
-entry_actor w e s h = grind (arith, took, is_some, with_actor-same)
+entry_actor w e s h = grind (arith, step_stages, is_some, with_actor-same)
 
 -- the requirements of `revert` hold for undoing the step of x: its actor is there, its old content
 -- may be put back, and the world after that is well-formed
@@ -97,12 +97,12 @@ pub record CanUndo (now : World) (x : Entry) : Type 0 where
 can_undo_ran : (w : World) (e : Event) (s : Stepped) (es : List Event) (r : Ran) → IsWellFormed w → step w e ≡ Ok s
     → run s.world es ≡ Ok r → IsFree s.entry r.entries → CanUndo r.world s.entry
 can_undo_ran w e s es r formed h k free =
-    let formed' = keeps w e s formed h in
+    let formed' = step_keeps_well_formed w e s formed h in
     record {
       actor_there = run_stays_actor s.world es r s.entry.event.actor k (entry_actor w e s h);
       place_there =
-          entry_can w e s r.world.ring r.world.at formed h (λ q there. run_stays_at s.world es r q formed' k there)
-          (λ n. run_others s.world es r s.entry n k free) (run_keeps s.world es r formed' k).contents;
+          CanPutBack-entry w e s r.world.ring r.world.at formed h (λ q there. run_stays_at s.world es r q formed' k there)
+          (λ n. run_others s.world es r s.entry n k free) (run_keeps_well_formed s.world es r formed' k).contents;
       formed = (removes w e s es r formed h k free).well_formed;
     }
 

@@ -14,10 +14,10 @@ pub ran_on : (w : World) (e : Event) (es : List Event) (r : Ran) → run w (e �
 ran_on w e es r h = grind arith
 
 -- P holds of a run of at least one event, if it holds of each first step with a run of the others
-pub run_on : (w : World) (e : Event) (es : List Event) (P : Ran → Type 0)
+pub each_run : (w : World) (e : Event) (es : List Event) (P : Ran → Type 0)
     → ((s : Stepped) (rest : Ran) → step w e ≡ Ok s → run s.world es ≡ Ok rest → P (record { world = rest.world; entries = s.entry ∷ rest.entries }))
     → (r : Ran) → run w (e ∷ es) ≡ Ok r → P r
-run_on w e es P each r h = let ran = ran_on w e es r h in subst P ran.joins (each ran.one ran.rest ran.goes ran.goes_on)
+each_run w e es P each r h = let ran = ran_on w e es r h in subst P ran.joins (each ran.one ran.rest ran.goes ran.goes_on)
 
 -- a step, followed by a run from the world after it, is a run
 pub run-cons : (w : World) (e : Event) (es : List Event) (s : Stepped) (r : Ran) → step w e ≡ Ok s → run s.world es ≡ Ok r

@@ -48,7 +48,7 @@ poised_formed R count some few = starts_well R poised count some few (λ n. pois
 pub fields_make : {R : ℕ} (space : Space R) (xs : List Actor) (each : ℕ → Actor) (count : ℕ) → contents space ≡ fresh_space R → length xs ≡ count
     → ((n : ℕ) → n < count → slice_get xs n ≡ Some (each (suc n)))
     → world_of_fields space xs ≡ record { ring = R; at = fresh_space R; actor = actors_by each count }
-fields_make {R} space xs each count fresh_segment len all = λ i. record { ring = R; at = fresh_segment i; actor = list_actors xs each count len all i }
+fields_make {R} space xs each count fresh len all = λ i. record { ring = R; at = fresh i; actor = list_actors xs each count len all i }
 
 -- ---- when a world is fresh: the space is, and the actors are idle
 

@@ -6,5 +6,5 @@ same_either_way : (m n : ℕ) → (m == n) ≡ (n == m)
 same_either_way m n = grind arith
 
 -- x depends on y exactly if y depends on x
-pub symmetric : (x y : Entry) → depends x y ≡ depends y x
-symmetric x y = λ i. same_either_way x.event.actor y.event.actor i || interfere-sym x.place y.place x.wrote y.wrote i
+pub depends_symmetric : (x y : Entry) → depends x y ≡ depends y x
+depends_symmetric x y = λ i. same_either_way x.event.actor y.event.actor i || interfere-sym x.place y.place x.wrote y.wrote i

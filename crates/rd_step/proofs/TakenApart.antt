@@ -1,11 +1,11 @@
 -- The parts of a world.
-use Rattle.rd_step.proofs.Prelude.{◌≡◌, ℕ, suc, ◌≤◌, ◌∙◌, sym, ap, subst, List, Vec, length, None, SegmentParts, MOST_CELLS, SegName, Actor, Space, contents, lists, ListOf, contents_of_parts, Parts, World, world_of_fields, numbered, IsWellFormed, world_of_parts, first_flaw, head_name, tail_name, array_words, Global, ArrayParts}
+use Rattle.rd_step.proofs.Prelude.{◌≡◌, ℕ, suc, ◌≤◌, ◌∙◌, sym, ap, subst, List, Vec, length, None, SegmentParts, MOST_CELLS, SegName, Actor, Space, contents, list_count, ListOf, contents_of_parts, Parts, World, world_of_fields, numbered, IsWellFormed, world_of_parts, first_flaw, head_name, tail_name, array_words, Global, ArrayParts}
 use Rattle.rd_step.proofs.Accepted.{accepted}
 
 -- these segments and actors describe the space and the actors of a world
 pub record AreTaken {R : ℕ} (segments : Vec (ListOf (SegmentParts R)) Global) (listed : Vec Actor Global) (space : Space R) (actors : List Actor) : Type 0 where
   pub same : contents_of_parts segments.items (head_name space) (tail_name space) (array_words space) ≡ contents space
-  pub number : length segments.items ≡ lists space
+  pub number : length segments.items ≡ list_count space
   pub actors_are : listed.items ≡ actors
   pub small : R ≤ MOST_CELLS
 
@@ -28,7 +28,7 @@ world_taken {R} segments listed qhead qtail array space actors h eh et ea =
 pub taken_unflawed : {R : ℕ} (segments : Vec (ListOf (SegmentParts R)) Global) (listed : Vec Actor Global) (qhead qtail : SegName) (array : ArrayParts)
     (space : Space R) (actors : List Actor) (h : AreTaken segments listed space actors)
     → qhead ≡ head_name space → qtail ≡ tail_name space → array ≡ array_words space
-    → lists space ≡ suc (length actors) → IsWellFormed (world_of_fields space actors)
+    → list_count space ≡ suc (length actors) → IsWellFormed (world_of_fields space actors)
     → first_flaw (taken segments listed qhead qtail array h.small) ≡ None
 taken_unflawed {R} segments listed qhead qtail array space actors h eh et ea number formed =
     accepted R (taken segments listed qhead qtail array h.small) (h.number ∙ number ∙ ap (λ (xs : List Actor). suc (length xs)) (sym h.actors_are))

@@ -1,9 +1,9 @@
 -- The code's world and its step, as the model's.
-use Rattle.rd_step.proofs.Prelude.{◌≡◌, ℕ, zero, suc, ◌-◌, ◌<◌, ◌≤◌, true, false, nat_lt, inl, inr, sym, ◌∙◌, ap, arith, List, length, set, slice_get, Option, Some, None, is_some, IsSome, IsTrue, is_ok, IsOk, Result, Ok, lt-ltb, le-ltb, leb-true, holding, cases_lt, cond-true, cond-false, COUNTER_END, MOST_SEGMENTS, MOST_CELLS, MOST_ACTORS, SegName, Place, Access, Make, Done, Refusal, Contents, is_there, perform, restore, everywhere, HasEffect, Space, contents, room, lists, Actor, OpReply, need, after, World, Event, with_actor, step, world_of_fields, numbered, makes, makes_segment, IsRefused, Presence, may_be_there, is_actor, IsWellFormed, IfOk-at_ok, number_made, Makes, RefusesMaking, making_count, counts, there_below, absent_from, slice_get-is_some, IsRepresentable, IsLast, made_at}
+use Rattle.rd_step.proofs.Prelude.{◌≡◌, ℕ, zero, suc, ◌-◌, ◌<◌, ◌≤◌, true, false, nat_lt, inl, inr, sym, ◌∙◌, ap, arith, List, length, set, slice_get, Option, Some, None, is_some, IsSome, IsTrue, is_ok, IsOk, Result, Ok, lt-ltb, le-ltb, leb-true, segment_holding, cases_lt, cond-true, cond-false, COUNTER_END, MOST_SEGMENTS, MOST_CELLS, MOST_ACTORS, SegName, Place, Access, Make, Done, Refusal, Contents, is_there, perform, restore, everywhere, HasEffect, Space, contents, room, list_count, Actor, OpReply, need, after, World, Event, with_actor, step, world_of_fields, numbered, is_make, makes_segment, IsRefused, Presence, may_be_there, is_actor, IsWellFormed, IfOk-at_ok, number_made, Makes, RefusesMaking, making_count, counts, there_below, absent_from, slice_get-is_some, IsRepresentable, IsLast, made_segment_at}
 use Rattle.rd_actor.proofs.Representable.{representable}
 use Rattle.rd_step.specs.declared.worlds.World.{World as CodeWorld}
 use Rattle.rd_step.proofs.Actors.{numbered-set, numbered-within}
-use Rattle.rd_step.proofs.Fits.{parts_of, words_of, access_fits, need_fits, fits_here}
+use Rattle.rd_step.proofs.Fits.{record_fits-names_and_numbers, record_fits-words, access_fits, need_fits, record_fits-well_formed}
 use Rattle.rd_cell.specs.Access.{access_suits}
 use Rattle.rd_cell.specs.declared.places.Place.TheVariants as place
 use Rattle.rd_cell.specs.declared.places.Wrote.TheVariants as wrote
@@ -17,7 +17,7 @@ made_in space m few = counts space.makers.items space.qhead space.qtail space.ar
 
 -- a segment that the space made is the effect of the model's making
 pub makes_access : {R : ℕ} (old : Space R) (new : Contents) (actor x : ℕ) (name : SegName) (done : Done) → making_count old actor ≤ MOST_SEGMENTS
-    → name ≡ record { maker = actor; n = making_count old actor } → Makes name (holding R x) (contents old) new
+    → name ≡ record { maker = actor; n = making_count old actor } → Makes name (segment_holding R x) (contents old) new
     → done ≡ record { place = Some (place.Whole name); old = None; answer = answer.Made name; wrote = wrote.Place }
     → HasEffect everywhere (perform R actor (contents old) (Make x)) done (contents old) new
 makes_access {R} old new actor x name done few is m notes = grind (arith, made_in)
@@ -58,7 +58,7 @@ pub last_taken : {R : ℕ} (old : Space R) (new : Contents) (s : SegName) → Is
 last_taken old new s h gone = grind (arith, below_count, at_count)
 
 -- the place of a step that made segment s is the whole of s
-pub made_whole : (p : Place) (s : SegName) → made_at (Some p) None ≡ Some s → p ≡ place.Whole s
+pub made_whole : (p : Place) (s : SegName) → made_segment_at (Some p) None ≡ Some s → p ≡ place.Whole s
 made_whole p s h = grind arith
 
 -- Actors
@@ -87,7 +87,7 @@ few_actors R space xs formed = grind (arith, too_many)
 -- The step
 
 -- an actor that is there has a list of segments
-pub some_maker : {R : ℕ} (space : Space R) (xs : List Actor) (n : ℕ) → lists space ≡ suc (length xs) → IsSome (numbered xs n) → n < lists space
+pub some_maker : {R : ℕ} (space : Space R) (xs : List Actor) (n : ℕ) → list_count space ≡ suc (length xs) → IsSome (numbered xs n) → n < list_count space
 some_maker space xs n lists_are h = grind (arith, numbered-within)
 
 no_such : {R : ℕ} (space : Space R) (xs : List Actor) (n : ℕ) → may_be_there (is_actor (numbered xs)) n MOST_SEGMENTS ≡ true → ⊥
@@ -110,7 +110,7 @@ need_suits : (R : ℕ) (space : Space R) (xs : List Actor) (e : Event) (a : Acto
     → numbered xs e.actor ≡ Some a → need R a e.act ≡ Ok x → access_suits x ≡ true
 need_suits R space xs e a x formed has needs =
     let there = is_there (contents space) in
-    let fits = fits_here (world_of_fields space xs) e.actor a formed has in
+    let fits = record_fits-well_formed (world_of_fields space xs) e.actor a formed has in
     access_suited R there x (IfOk-at_ok (λ (y : Access). access_fits R there y ≡ true) needs (need_fits R there a e.act fits))
 
 -- the numbers in the access for which an actor of a well-formed world asks fit the program's words:
@@ -119,9 +119,9 @@ representable_here : (R : ℕ) (space : Space R) (xs : List Actor) (e : Event) (
     → numbered xs e.actor ≡ Some a → IsRepresentable R a e.act
 representable_here R space xs e a formed small has =
     let there = is_there (contents space) in
-    let fits = fits_here (world_of_fields space xs) e.actor a formed has in
-    let h = leb-true a.h COUNTER_END (parts_of R there a fits).h in
-    representable R a e.act (omega arith) (words_of R there a fits)
+    let fits = record_fits-well_formed (world_of_fields space xs) e.actor a formed has in
+    let h = leb-true a.h COUNTER_END (record_fits-names_and_numbers R there a fits).h in
+    representable R a e.act (omega arith) (record_fits-words R there a fits)
 
 -- the model's actor asks for the access that the code's table gives
 pub needs_by : {R : ℕ} (self : CodeWorld R) (e : Event) (a : Actor) (r : Result Access Refusal) → numbered self.actors.items e.actor ≡ Some a
@@ -130,7 +130,7 @@ needs_by {R} self e a r has by = sym (by (representable_here R self.space self.a
 
 -- an actor's access meets the requirements of `perform`
 pub may_perform : {R : ℕ} (self : CodeWorld R) (e : Event) (a : Actor) (x : Access) → numbered self.actors.items e.actor ≡ Some a → need R a e.act ≡ Ok x
-    → (R ≤ MOST_CELLS) × ((e.actor < lists self.space) × ((making_count self.space e.actor ≤ MOST_SEGMENTS) × IsTrue (access_suits x)))
+    → (R ≤ MOST_CELLS) × ((e.actor < list_count self.space) × ((making_count self.space e.actor ≤ MOST_SEGMENTS) × IsTrue (access_suits x)))
 may_perform {R} self e a x has needs = (
   self.small,
   (
@@ -141,13 +141,13 @@ may_perform {R} self e a x has needs = (
 
 -- an event makes a segment exactly if its actor's access does
 pub makes_by : (w : World) (e : Event) (a : Actor) (x : Access) → w.actor e.actor ≡ Some a → need w.ring a e.act ≡ Ok x
-    → makes_segment w e ≡ makes x
+    → makes_segment w e ≡ is_make x
 makes_by w e a x has needs = grind arith
 
 -- if an actor's access is refused, so is its step, for the same cause
 pub step_refuses : (R : ℕ) (space : Space R) (xs : List Actor) (e : Event) (a : Actor) (x : Access) (refusal : Refusal)
     → numbered xs e.actor ≡ Some a → need R a e.act ≡ Ok x
-    → IsRefused (perform R e.actor (contents space) x) (makes x) (room space e.actor) refusal
+    → IsRefused (perform R e.actor (contents space) x) (is_make x) (room space e.actor) refusal
     → IsRefused (step (world_of_fields space xs) e) (makes_segment (world_of_fields space xs) e) (room space e.actor) refusal
 step_refuses R space xs e a x refusal has needs h = grind arith
 

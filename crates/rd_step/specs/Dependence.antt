@@ -69,6 +69,6 @@ AreLoneUndos (n ∷ ns) entries =
 
 -- the number that the entry at position k has after the entries of these numbers were undone one
 -- after another; none if it was undone itself
-abbrev pub number_after : List ℕ → ℕ → Option ℕ
-number_after [] k = Some k
-number_after (n ∷ ns) k = if n == k then None else number_after ns (if nat_lt n k then k - 1 else k)
+abbrev pub number_after_undos : List ℕ → ℕ → Option ℕ
+number_after_undos [] k = Some k
+number_after_undos (n ∷ ns) k = if n == k then None else number_after_undos ns (if nat_lt n k then k - 1 else k)

@@ -6,10 +6,10 @@ use Rattle.rd_cell.specs.declared.places.Place.TheVariants as place
 
 -- the segment that a step with this place and this old content made: only a making has the whole of
 -- a segment as its place, and no old content
-abbrev pub made_at : Option Place → Option Content → Option SegName
-made_at (Some (place.Whole s)) None = Some s
-made_at _ _ = None
+abbrev pub made_segment_at : Option Place → Option Content → Option SegName
+made_segment_at (Some (place.Whole s)) None = Some s
+made_segment_at _ _ = None
 
 -- the segment that an entry's step made; none if it made none
-abbrev pub made : Entry → Option SegName
-made x = made_at x.place x.old_content
+abbrev pub made_segment : Entry → Option SegName
+made_segment x = made_segment_at x.place x.old_content

@@ -5,7 +5,7 @@ use Rattle.rd_ring.specs.Prelude.{MOST_SEGMENTS, SLOTS, MOST_ACTORS}
 use Rattle.rd_ring.specs.declared.parts.SegmentParts.{SegmentParts}
 use Rattle.rd_ring.specs.Segments.{counters_fit}
 use Rattle.rd_segments.specs.declared.array.ArrayParts.{ArrayParts}
-use Rattle.rd_segments.specs.Lists.{by_name, count}
+use Rattle.rd_segments.specs.Lists.{by_name, segment_count}
 use Rattle.rd_segments.specs.Parts.{contents_of_parts, each_segment}
 use Rattle.rd_actor.specs.Words.{words_fit}
 use Rattle.rd_step.specs.World.{World}
@@ -22,24 +22,24 @@ abbrev pub world_of_parts : {R : ℕ} → Parts R → World
 world_of_parts {R} p = record { ring = R; at = contents_of_parts p.segments.items p.qhead p.qtail p.array; actor = numbered p.actors.items }
 
 -- for each name, whether the parts have a segment with it
-abbrev pub has : {R : ℕ} → Parts R → Presence
-has p s = is_some (by_name p.segments.items s)
+abbrev pub has_segment : {R : ℕ} → Parts R → Presence
+has_segment p s = is_some (by_name p.segments.items s)
 
 -- condition 1: there are 1 to 16 actors, and a list of segments for each maker from 0 to their
 -- number. Maker 0's list has one segment, the root, and each other list at most 65,535
 abbrev pub makers_fit : {R : ℕ} → Parts R → Bool
 makers_fit p =
     nat_le 1 (length p.actors.items) && nat_le (length p.actors.items) MOST_ACTORS
-    && (length p.segments.items == suc (length p.actors.items)) && (count p.segments.items 0 == 1)
+    && (length p.segments.items == suc (length p.actors.items)) && (segment_count p.segments.items 0 == 1)
     && list_all (λ list. nat_le (length list.items) MOST_SEGMENTS) p.segments.items
 
 -- condition 2: the queue's ends, and each next that is set, name a segment that is there
 abbrev pub place_names_fit : {R : ℕ} → Parts R → Bool
-place_names_fit p = has p p.qhead && has p p.qtail && each_segment (λ s. next_fits (has p) s.next) p.segments.items
+place_names_fit p = has_segment p p.qhead && has_segment p p.qtail && each_segment (λ s. next_fits (has_segment p) s.next) p.segments.items
 
 -- condition 3: each actor's words name segments that are there
 abbrev pub actor_names_fit : {R : ℕ} → Parts R → Bool
-actor_names_fit p = list_all (names_fit (has p)) p.actors.items
+actor_names_fit p = list_all (names_fit (has_segment p)) p.actors.items
 
 -- condition 5: the index of each of a segment's cells is at most `end`
 abbrev pub indexes_fit : {R : ℕ} → ℕ → SegmentParts R → Bool
@@ -76,6 +76,6 @@ flaw_number ActorWords = 8
 
 -- why no world is put together from these parts: they have this flaw and none before it, or they
 -- have no flaw and memory was refused
-abbrev pub Refuses : {R : ℕ} → Parts R → Unassembled → Type 0
-Refuses p (unassembled.Flaw flaw) = first_flaw p ≡ Some flaw
-Refuses p unassembled.NoMemory = first_flaw p ≡ None
+abbrev pub RefusesParts : {R : ℕ} → Parts R → Unassembled → Type 0
+RefusesParts p (unassembled.Flaw flaw) = first_flaw p ≡ Some flaw
+RefusesParts p unassembled.NoMemory = first_flaw p ≡ None

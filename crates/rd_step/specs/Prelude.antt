@@ -3,7 +3,7 @@
 -- names of the crates below it, and not its own.)
 pub use Rattle.rd_ring.specs.Prelude.{COUNTER_END, MOST_SEGMENTS, MOST_CELLS, SLOTS, MOST_ACTORS, MOST_STEPS}
 pub use Rattle.rd_ring.specs.Prelude.{Cell, SegName, Place, Content, ArrSlot, Operation, Answer, Access, Done, Wrote, Refusal}
-pub use Rattle.rd_ring.specs.Prelude.{root, name_eq, is_of, place_eq, covers, overlaps, some_covers, some_overlap, is_nothing, written, interfere, Contents, operand, restore, is_there, content_at, Effect, effect, Performed, perform, and_then, result_map}
+pub use Rattle.rd_ring.specs.Prelude.{root, name_eq, is_of_segment, place_eq, covers, overlaps, some_covers, some_overlap, is_nothing, written, interfere, Contents, operand, restore, is_there, content_at, Effect, effect, Performed, perform, and_then, result_map}
 pub use Rattle.rd_actor.specs.declared.actors.Actor.{Actor}
 pub use Rattle.rd_actor.specs.declared.actors.Act.{Act}
 pub use Rattle.rd_actor.specs.declared.actors.OpReply.{OpReply}

@@ -9,9 +9,9 @@ pub use Rattle.rd_segments.specs.Room.{room_used, room_returned, room_of_place, 
 use Rattle.rd_cell.specs.declared.refusal.Refusal.TheVariants as refusal
 
 -- whether the access makes a segment
-abbrev pub makes : Access → Bool
-makes (Make x) = true
-makes _ = false
+abbrev pub is_make : Access → Bool
+is_make (Make x) = true
+is_make _ = false
 
 -- the access for which the event's actor asks, or the refusal if it has none
 abbrev pub access_of : World → Event → Result Access Refusal
@@ -19,7 +19,7 @@ access_of w e = and_then (ok_or (w.actor e.actor) refusal.NoActor) (λ a. need w
 
 -- whether the event's access makes a segment; false if the event is refused its access
 abbrev pub makes_segment : World → Event → Bool
-makes_segment w e = result_unwrap_or (result_map makes (access_of w e)) false
+makes_segment w e = result_unwrap_or (result_map is_make (access_of w e)) false
 
 -- a step that the model doesn't refuse makes a segment, but its actor has no room
 abbrev pub FindsNoRoom : {X : Type 0} → Result X Refusal → Bool → ℕ → Type 0

@@ -3,7 +3,7 @@
 
 ghost use Rattle.std.specs.Prelude.{◌≡◌};
 ghost use Rattle.rd_cell.specs.Places.{written};
-ghost use Rattle.rd_step.specs.Made.{made, made_at};
+ghost use Rattle.rd_step.specs.Made.{made_segment, made_segment_at};
 
 use rd_actor::{Act, Actor, OpReply};
 use rd_cell::{Answer, Content, Place, SegName, Wrote, written};
@@ -47,17 +47,17 @@ impl Entry {
     }
 
     /// Returns the segment that the step made, or none if it made none.
-    pub fn made(&self) -> Option<SegName>
-        ensures { result ≡ made self.now }
+    pub fn made_segment(&self) -> Option<SegName>
+        ensures { result ≡ made_segment self.now }
     {
-        made_at(self.place, self.old_content)
+        made_segment_at(self.place, self.old_content)
     }
 }
 
 /// Returns the segment that a step with this place and this old content made; none if it made none.
 /// Only a making has the whole of a segment as its place, and no old content.
-pub(crate) fn made_at(place: Option<Place>, old_content: Option<Content>) -> Option<SegName>
-    ensures { result ≡ made_at place old_content }
+pub(crate) fn made_segment_at(place: Option<Place>, old_content: Option<Content>) -> Option<SegName>
+    ensures { result ≡ made_segment_at place old_content }
 {
     match (place, old_content) {
         (Some(Place::Whole(name)), None) => Some(name),

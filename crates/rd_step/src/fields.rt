@@ -5,14 +5,14 @@ ghost use Rattle.rd_ring.specs.Prelude.{MOST_CELLS, MOST_SEGMENTS, Make, perform
 ghost use Rattle.std.specs.List.{All};
 ghost use Rattle.rd_segments.specs.Room.{room_returned, UsesMakersRoom, ReturnsMakersRoom};
 ghost use Rattle.rd_actor.specs.Actors.{idle};
-ghost use Rattle.rd_segments.specs.Space.{contents, lists, making_count, room, makers_room};
+ghost use Rattle.rd_segments.specs.Space.{contents, list_count, making_count, room, makers_room};
 ghost use Rattle.rd_step.specs.Step.{revert, with_actor, CanPutBack};
 ghost use Rattle.rd_cell.specs.Access.{access_suits};
 ghost use Rattle.rd_step.specs.CodeWorldFields.{world_of_fields};
 ghost use Rattle.rd_step.specs.Lists.{numbered};
-ghost use Rattle.rd_step.specs.Room.{makes, IsRefused};
+ghost use Rattle.rd_step.specs.Room.{is_make, IsRefused};
 
-use super::entries::made_at;
+use super::entries::made_segment_at;
 use rd_actor::Actor;
 use rd_cell::{Access, Content, Done, Place, Refusal};
 use rd_segments::Space;
@@ -69,7 +69,7 @@ fn unmake_at<const R: usize>(space: &mut Space<R>, place: Place)
     ensures room { ReturnsMakersRoom (room_returned (Some place) None) (makers_room space.old)
         (makers_room space.new) }
 {
-    if let Some(name) = made_at(Some(place), None) {
+    if let Some(name) = made_segment_at(Some(place), None) {
         space.unmake(name.maker);
     }
 }
@@ -104,31 +104,35 @@ pub fn perform<const R: usize>(
     access: Access,
 ) -> Result<Done, Refusal>
     requires small { R ≤ MOST_CELLS }
-    requires maker_there { actor < lists space.old }
+    requires maker_there { actor < list_count space.old }
     requires counted { making_count space.old actor ≤ MOST_SEGMENTS }
     requires access_suits { IsTrue (access_suits access) }
     ensures ok { IfOk result (λ done. HasEffect everywhere
         (perform R actor (contents space.old) access) done (contents space.old)
         (contents space.new)) }
     ensures err { IfErr result (λ e. IsRefused (perform R actor (contents space.old) access)
-        (makes access) (room space.old actor) e) }
+        (is_make access) (room space.old actor) e) }
     ensures unchanged { OnErr result (contents space.new ≡ contents space.old) }
-    ensures room { UsesMakersRoom result (makes access) actor (makers_room space.old)
+    ensures room { UsesMakersRoom result (is_make access) actor (makers_room space.old)
         (makers_room space.new) }
 {
     match access {
         Access::NoPlace => Ok(Done::of_no_access()),
         Access::At(place, operation) => space.operate(place, operation),
-        Access::Make(value) => make(space, actor, value),
+        Access::Make(value) => make_segment(space, actor, value),
     }
 }
 
 /// Makes the actor's next segment, which holds this value, and returns what the step records of it.
 /// The actor must have a list, of at most 65,535 segments. Fails as `Space::make` does, with
 /// `SegmentsEnd` or `NoMemory`; no place changes then.
-fn make<const R: usize>(space: &mut Space<R>, actor: u8, value: u64) -> Result<Done, Refusal>
+fn make_segment<const R: usize>(
+    space: &mut Space<R>,
+    actor: u8,
+    value: u64,
+) -> Result<Done, Refusal>
     requires small { R ≤ MOST_CELLS }
-    requires maker_there { actor < lists space.old }
+    requires maker_there { actor < list_count space.old }
     requires counted { making_count space.old actor ≤ MOST_SEGMENTS }
     ensures ok { IfOk result (λ done. HasEffect everywhere
         (perform R actor (contents space.old) (Make value)) done (contents space.old)

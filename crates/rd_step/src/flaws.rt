@@ -8,7 +8,7 @@ ghost use Rattle.rd_ring.specs.Segments.{counters_fit};
 ghost use Rattle.rd_segments.specs.Parts.{each_segment};
 ghost use Rattle.rd_actor.specs.Words.{words_fit};
 ghost use Rattle.rd_step.specs.WellFormed.{names_fit, next_fits, numbers_within};
-ghost use Rattle.rd_step.specs.Parts.{has, makers_fit, place_names_fit, actor_names_fit, indexes_fit, array_fits, first_flaw};
+ghost use Rattle.rd_step.specs.Parts.{has_segment, makers_fit, place_names_fit, actor_names_fit, indexes_fit, array_fits, first_flaw};
 
 use super::parts::Parts;
 use rd_actor::Actor;
@@ -127,27 +127,27 @@ fn place_names_fit<const R: usize>(parts: &Parts<R>) -> bool
     requires { R ≤ MOST_CELLS }
     ensures { result ≡ place_names_fit parts.now }
 {
-    has(parts, parts.qhead) && has(parts, parts.qtail) && all_nexts_fit(parts)
+    has_segment(parts, parts.qhead) && has_segment(parts, parts.qtail) && all_nexts_fit(parts)
 }
 
 /// Whether each next that is set names a segment that is there.
 fn all_nexts_fit<const R: usize>(parts: &Parts<R>) -> bool
     requires { R ≤ MOST_CELLS }
     ensures { result ≡ each_segment (λ s.
-        next_fits (has parts.now) s.next) parts.now.segments.items }
+        next_fits (has_segment parts.now) s.next) parts.now.segments.items }
 {
     parts.segments.iter().all(
         |list| -> bool
             ensures { result ≡ list_all (λ s.
-                next_fits (has parts.entry.now) s.next) list.now.items }
+                next_fits (has_segment parts.entry.now) s.next) list.now.items }
         {
             list.iter().all(
                 |segment| -> bool
-                    ensures { result ≡ next_fits (has parts.entry.now) segment.now.next }
+                    ensures { result ≡ next_fits (has_segment parts.entry.now) segment.now.next }
                 {
                     match segment.next {
                         None => true,
-                        Some(name) => has(parts, name),
+                        Some(name) => has_segment(parts, name),
                     }
                 },
             )
@@ -156,8 +156,8 @@ fn all_nexts_fit<const R: usize>(parts: &Parts<R>) -> bool
 }
 
 /// Whether the parts have a segment of this name.
-fn has<const R: usize>(parts: &Parts<R>, name: SegName) -> bool
-    ensures { result ≡ has parts.now name }
+fn has_segment<const R: usize>(parts: &Parts<R>, name: SegName) -> bool
+    ensures { result ≡ has_segment parts.now name }
 {
     match parts.segments.get(usize::from(name.maker)) {
         None => false,
@@ -172,8 +172,12 @@ fn actor_names_fit<const R: usize>(parts: &Parts<R>) -> bool
 {
     parts.actors.iter().all(
         |actor| -> bool
-            ensures { result ≡ names_fit (has parts.entry.now) actor.now }
-        { has(parts, actor.crq) && has(parts, actor.new) && has(parts, actor.next) },
+            ensures { result ≡ names_fit (has_segment parts.entry.now) actor.now }
+        {
+            has_segment(parts, actor.crq)
+                && has_segment(parts, actor.new)
+                && has_segment(parts, actor.next)
+        },
     )
 }
 

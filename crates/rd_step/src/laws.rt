@@ -58,7 +58,7 @@ pub fn equivalent_schedules_reach_one_world()
 {}
 
 /// A list of events that runs is causally equivalent to itself.
-#[tactic(auto, using(crate::proofs::Equivalence::reflexive))]
+#[tactic(auto, using(crate::proofs::Equivalence::equivalence_reflexive))]
 pub fn equivalence_is_reflexive()
     ensures { (w : Model) (es : List Event) (r : Ran) → run w es ≡ Ok r → IsEquivalent w es es }
 {}
@@ -122,7 +122,7 @@ pub fn steps_change_one_place_and_one_actor()
 /// Parts have no flaw exactly if they have a list of segments for each maker from 0 to the number
 /// of actors, and their world is well-formed. So `World::assemble` finds no flaw in a well-formed
 /// world, and accepts no other.
-#[tactic(auto, using(crate::proofs::Accepted::exactly))]
+#[tactic(auto, using(crate::proofs::Accepted::no_flaw_iff_well_formed))]
 pub fn parts_have_no_flaw_exactly_where_their_world_is_well_formed()
     ensures { (R : ℕ) (p : Parts R) → (first_flaw p ≡ None)
         ↔ ((length p.segments.items ≡ suc (length p.actors.items))

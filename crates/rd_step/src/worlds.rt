@@ -3,14 +3,14 @@
 ghost use Rattle.std.specs.Prelude.{◌≡◌, ◌≢◌, ◌+◌, ◌<◌, ◌≤◌, ◌↔◌, ℕ, suc, None, Ok, Err, IsSome, IsTrue, IfOk, IfErr, OnOk, OnErr, length};
 ghost use Rattle.rd_ring.specs.Prelude.{MOST_CELLS, MOST_ACTORS, content_at};
 ghost use Rattle.rd_segments.specs.Room.{room_returned, UsesMakersRoom, ReturnsMakersRoom, AddsMakersRoom};
-ghost use Rattle.rd_segments.specs.Space.{lists};
+ghost use Rattle.rd_segments.specs.Space.{list_count};
 ghost use Rattle.rd_step.specs.Step.{step, revert, CanPutBack};
 ghost use Rattle.rd_step.specs.CodeWorldFields.{world_of_fields};
 ghost use Rattle.rd_step.specs.Starts.{fresh_world, poised_world};
 ghost use Rattle.rd_step.specs.Room.{makes_segment, IsRefused};
 ghost use Rattle.rd_step.specs.WellFormed.{IsWellFormed};
 ghost use Rattle.rd_step.specs.World.{World as Model};
-ghost use Rattle.rd_step.specs.Parts.{world_of_parts, first_flaw, Refuses};
+ghost use Rattle.rd_step.specs.Parts.{world_of_parts, first_flaw, RefusesParts};
 
 use super::entries::{Entry, Event};
 use super::fields::{actor_in, are_idle, perform, revert_fields, set_actor};
@@ -27,7 +27,7 @@ pub struct World<const R: usize> {
     actors: Vec<Actor>,
     ghost positive: { 1 ≤ R },
     ghost small: { R ≤ MOST_CELLS },
-    ghost makers: { lists space ≡ suc (length actors.items) },
+    ghost makers: { list_count space ≡ suc (length actors.items) },
     ghost well_formed: { IsWellFormed (world_of_fields space actors.items) },
 }
 
@@ -113,7 +113,7 @@ impl<const R: usize> World<R> {
         requires small { R ≤ MOST_CELLS }
         ensures ok { IfOk result (λ world. model world ≡ world_of_parts parts.entry) }
         ensures flawless { OnOk result (first_flaw parts.entry ≡ None) }
-        ensures err { IfErr result (λ e. Refuses parts.entry e) }
+        ensures err { IfErr result (λ e. RefusesParts parts.entry e) }
     {
         if let Some(flaw) = first_flaw(&parts) {
             return Err(Unassembled::Flaw(flaw));
@@ -143,7 +143,7 @@ impl<const R: usize> World<R> {
         ensures flawless { IfOk result (λ parts. first_flaw parts ≡ None) }
         ensures err { IfErr result (λ refusal. refusal ≡ Refusal.NoMemory) }
     {
-        let segments = self.space.segments(alloc)?;
+        let segments = self.space.segment_parts(alloc)?;
         let actors = Vec::from_slice(alloc, &self.actors)?;
         Ok(Parts {
             actors,

@@ -170,7 +170,7 @@ fn parts(alloc: Global, actor: Actor, puts: &[Put]) -> Result<Parts<4>, AllocErr
         put(&mut places, *place, *content);
     }
     let made = Vec::from_array(alloc, [ring()])?;
-    let mut parts = test_kit::parts(alloc, actor, places.root, made)?;
+    let mut parts = test_kit::one_actor_parts(alloc, actor, places.root, made)?;
     parts.qhead = places.qhead;
     parts.qtail = places.qtail;
     parts.array = places.array;

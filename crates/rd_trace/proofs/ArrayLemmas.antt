@@ -1,15 +1,15 @@
 -- The array as a JSON value: the slots that are read have ascending positions, and the value that
 -- is written spells the array.
-use Rattle.rd_trace.proofs.Prelude.{◌≡◌, ℕ, zero, suc, ◌+◌, ◌<◌, ◌≤◌, List, [], ◌∷◌, ◌++◌, length, set, replicate, take, get_or, Some, None, refl, sym, ap, ap₂, ◌∙◌, subst, arith, append-nil, length-take, length-set, take_more, take_all, Data, view, items_view, SLOTS, ArrSlot, ArrayParts, Gives, SpellEach, items_by, slot_of_items, slot_of, filled_slots, slot_data, IsArray, array_data, Value}
+use Rattle.rd_trace.proofs.Prelude.{◌≡◌, ℕ, zero, suc, ◌+◌, ◌<◌, ◌≤◌, List, [], ◌∷◌, ◌++◌, length, set, replicate, take, get_or, Some, None, refl, sym, ap, ap₂, ◌∙◌, subst, arith, append-nil, length-take, length-set, take_more, take_all, Data, view, items_view, SLOTS, ArrSlot, ArrayParts, Gives, SpellEach, items_by, slot_of_items, slot_of, filled_slots, slot_data, SpellsArray, array_data, Value}
 use Rattle.rd_trace.proofs.SpellLemmas.{one_given, same_each, spelled_at, spell_each-more, spell_each-none, items_written}
 use Rattle.rd_cell.specs.declared.contents.ArrSlot.TheVariants as slot
 
 -- ---- reading
 
 -- a list of another length than two spells no slot
-pub no_slot : (vs : List Value) → (length vs ≡ 2 → ⊥) → slot_of_items (items_view vs) ≡ None
-no_slot (i ∷ s ∷ []) two = absurd (two refl)
-no_slot _ two = refl
+pub spells_no_slot : (vs : List Value) → (length vs ≡ 2 → ⊥) → slot_of_items (items_view vs) ≡ None
+spells_no_slot (i ∷ s ∷ []) two = absurd (two refl)
+spells_no_slot _ two = refl
 
 abbrev pub IsFilled : ArrSlot → Type 0
 IsFilled slot.Empty = ⊥
@@ -29,14 +29,14 @@ empty_later zero (suc k) (s ∷ ss) le h = empty_later zero k ss (omega arith) h
 empty_later (suc i) zero (s ∷ ss) le h = absurd (omega arith)
 empty_later (suc i) (suc k) (s ∷ ss) le h = empty_later i k ss (omega arith) h
 
-empty_behind : (k : ℕ) (ss : List ArrSlot) (s : ArrSlot) → AreEmptyFrom k ss → AreEmptyFrom (suc k) (set ss k s)
-empty_behind k [] s h = tt
-empty_behind zero (x ∷ ss) s h = h.1
-empty_behind (suc k) (x ∷ ss) s h = empty_behind k ss s h
+empty_after_set : (k : ℕ) (ss : List ArrSlot) (s : ArrSlot) → AreEmptyFrom k ss → AreEmptyFrom (suc k) (set ss k s)
+empty_after_set k [] s h = tt
+empty_after_set zero (x ∷ ss) s h = h.1
+empty_after_set (suc k) (x ∷ ss) s h = empty_after_set k ss s h
 
-filled_none : (i : ℕ) (ss : List ArrSlot) → AreEmptyFrom zero ss → filled_slots i ss ≡ []
-filled_none i [] h = refl
-filled_none i (s ∷ ss) h = ap (λ x. filled_slots i (x ∷ ss)) h.0 ∙ filled_none (suc i) ss h.1
+filled_slots_of_empty : (i : ℕ) (ss : List ArrSlot) → AreEmptyFrom zero ss → filled_slots i ss ≡ []
+filled_slots_of_empty i [] h = refl
+filled_slots_of_empty i (s ∷ ss) h = ap (λ x. filled_slots i (x ∷ ss)) h.0 ∙ filled_slots_of_empty (suc i) ss h.1
 
 filled_first : (i : ℕ) (s : ArrSlot) (ss : List ArrSlot) → IsFilled s → filled_slots i (s ∷ ss) ≡ (i, s) ∷ filled_slots (suc i) ss
 filled_first i s ss h = grind arith
@@ -46,7 +46,7 @@ filled_set : (i k j : ℕ) (ss : List ArrSlot) (s : ArrSlot) → j ≡ i + k →
 filled_set i k j [] s at within h filled = absurd (omega arith)
 filled_set i zero j (x ∷ ss) s at within h filled =
     let here : i ≡ j = omega arith in
-    filled_first i s ss filled ∙ ap₂ (λ n ps. (n, s) ∷ ps) here (filled_none (suc i) ss h.1) ∙ sym (ap (λ ps. ps ++ (j, s) ∷ []) (filled_none i (x ∷ ss) h))
+    filled_first i s ss filled ∙ ap₂ (λ n ps. (n, s) ∷ ps) here (filled_slots_of_empty (suc i) ss h.1) ∙ sym (ap (λ ps. ps ++ (j, s) ∷ []) (filled_slots_of_empty i (x ∷ ss) h))
 filled_set i (suc k) j (x ∷ ss) s at within h filled = let later = filled_set (suc i) k j ss s (omega arith) (omega arith) h filled in grind arith
 
 -- the positions ascend, the lowest is `first` or later, and all are below an end
@@ -67,9 +67,9 @@ abbrev pub next_position : ℕ → List (ℕ × ArrSlot) → ℕ
 next_position i [] = i
 next_position i (p ∷ ps) = next_position (suc p.0) ps
 
-next_behind : (i : ℕ) (ps : List (ℕ × ArrSlot)) (p : ℕ × ArrSlot) → next_position i (ps ++ p ∷ []) ≡ suc p.0
-next_behind i [] p = refl
-next_behind i (q ∷ ps) p = next_behind (suc q.0) ps p
+next_position-append : (i : ℕ) (ps : List (ℕ × ArrSlot)) (p : ℕ × ArrSlot) → next_position i (ps ++ p ∷ []) ≡ suc p.0
+next_position-append i [] p = refl
+next_position-append i (q ∷ ps) p = next_position-append (suc q.0) ps p
 
 rises_at : (i end : ℕ) (ps : List (ℕ × ArrSlot)) (p : ℕ × ArrSlot) (more : List (ℕ × ArrSlot)) → Rises i end (ps ++ p ∷ more) → (next_position i ps ≤ p.0) × (p.0 < end)
 rises_at i end [] p more h = (h.0, h.1)
@@ -94,7 +94,7 @@ none_read vs = grind arith
 
 module _ (vs : List Value) (i : ℕ) (slots : List ArrSlot) (free : ℕ) (h : AreReadTo vs i slots free) (v : Value) (within : i < length vs) (is : v ≡ get_or vs i v) where
   pub one_more_slot : (p : ℕ × ArrSlot) (next : ℕ) → Some p ≡ slot_of (view v) → free ≤ p.0 → p.0 < SLOTS → next ≡ suc p.0 → AreReadTo vs (i + 1) (set slots p.0 p.1) next
-  one_more_slot p next read behind_all below is_next = grind (arith, set, filled_set, empty_later, slot_filled, spell_each-more, length-set, next_behind, empty_behind)
+  one_more_slot p next read behind_all below is_next = grind (arith, set, filled_set, empty_later, slot_filled, spell_each-more, length-set, next_position-append, empty_after_set)
 
   -- if all values spell slots of an array, the next value's position is not before `free`, and
   -- below `SLOTS`
@@ -107,8 +107,8 @@ module _ (vs : List Value) (i : ℕ) (slots : List ArrSlot) (free : ℕ) (h : Ar
       let there = rises_at 0 SLOTS (filled_slots 0 slots) p here.2 (subst (Rises 0 SLOTS) split (filled_rises 0 SLOTS ss (omega arith))) in
       (subst (λ n. n ≤ p.0) (sym h.next) there.0, there.1)
 
-  pub none_here : None ≡ slot_of (view v) → (ss : List ArrSlot) → SpellEach (Gives slot_of) (items_view vs) (filled_slots 0 ss) → ⊥
-  none_here read ss = spell_each-none (Gives slot_of) vs i v within is (λ p k. let no : Some p ≡ None = sym k ∙ sym read in cc) (filled_slots 0 ss)
+  pub no_slot_here : None ≡ slot_of (view v) → (ss : List ArrSlot) → SpellEach (Gives slot_of) (items_view vs) (filled_slots 0 ss) → ⊥
+  no_slot_here read ss = spell_each-none (Gives slot_of) vs i v within is (λ p k. let no : Some p ≡ None = sym k ∙ sym read in cc) (filled_slots 0 ss)
 
 pub all_read : (vs : List Value) (i : ℕ) (slots : List ArrSlot) (free : ℕ) → AreReadTo vs i slots free → length vs ≤ i → SpellEach (Gives slot_of) (items_view vs) (filled_slots 0 slots)
 all_read vs i slots free h past = subst (λ ws. SpellEach (Gives slot_of) (items_view ws) (filled_slots 0 slots)) (take_all i vs past) h.spelled
@@ -119,8 +119,8 @@ filled_behind : (i j : ℕ) (xs : List ArrSlot) (s : ArrSlot) → j ≡ i + leng
 filled_behind i j [] s at = let here : i ≡ j = omega arith in ap (λ n. filled_slots n (s ∷ [])) here
 filled_behind i j (x ∷ xs) s at = let later = filled_behind (suc i) j xs s (omega arith) in grind arith
 
-not_empty : (s : ArrSlot) → (s ≡ slot.Empty → ⊥) → IsFilled s
-not_empty s other = grind arith
+is_filled : (s : ArrSlot) → (s ≡ slot.Empty → ⊥) → IsFilled s
+is_filled s other = grind arith
 
 slots_spelled : (i : ℕ) (ss : List ArrSlot) → SpellEach (Gives slot_of) (items_by slot_data (filled_slots i ss)) (filled_slots i ss)
 slots_spelled i [] = tt
@@ -132,11 +132,11 @@ module _ (ss : List ArrSlot) (i : ℕ) (d : ArrSlot) (vs : List Value) (within :
 
   pub one_more_value : (v : Value) → (get_or ss i d ≡ slot.Empty → ⊥) → view v ≡ slot_data (i, get_or ss i d) → items_view (vs ++ v ∷ []) ≡ items_by slot_data (filled_slots 0 (take (i + 1) ss))
   one_more_value v other is =
-      rw (filled_take, filled_first i (get_or ss i d) [] (not_empty (get_or ss i d) other)) (items_written slot_data vs (filled_slots 0 (take i ss)) v (i, get_or ss i d) so_far is)
+      rw (filled_take, filled_first i (get_or ss i d) [] (is_filled (get_or ss i d) other)) (items_written slot_data vs (filled_slots 0 (take i ss)) v (i, get_or ss i d) so_far is)
 
   pub no_more_value : get_or ss i d ≡ slot.Empty → items_view vs ≡ items_by slot_data (filled_slots 0 (take (i + 1) ss))
   no_more_value empty = rw (filled_take, empty, append-nil) so_far
 
 -- the JSON value as which the array is written spells it
-pub array_spelled : (a : ArrayParts) → IsArray (array_data a) a
+pub array_spelled : (a : ArrayParts) → SpellsArray (array_data a) a
 array_spelled a = record { members = refl; cells = (items_by slot_data (filled_slots 0 a.cells), refl, slots_spelled 0 a.cells); head = refl; tail = refl }

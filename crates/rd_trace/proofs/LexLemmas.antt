@@ -12,21 +12,21 @@ ends_before [] = (refl, refl)
 ends_before (t ∷ ts) = grind arith
 
 -- a token has the same lexemes before two texts that have the same lexemes and end its word
-same_first : (t : Token) (y z : List ℕ) → IsPrintable t → (ends t ≡ true → (ends_word y ≡ true) × (ends_word z ≡ true)) → lex between y ≡ lex between z
+same_lexemes_before : (t : Token) (y z : List ℕ) → IsPrintable t → (ends t ≡ true → (ends_word y ≡ true) × (ends_word z ≡ true)) → lex between y ≡ lex between z
     → lex between (token_text t ++ y) ≡ lex between (token_text t ++ z)
 unfolding lex word
-same_first t y z h ended same = grind (arith, append_assoc, content-escape, lex-escape, lex-number, in_word-ended)
+same_lexemes_before t y z h ended same = grind (arith, append_assoc, content-escape, lex-escape, lex-number, in_word-ended)
 
 same_comma : (b : Bool) (y z : List ℕ) → lex between y ≡ lex between z → lex between (cond b (44 ∷ []) [] ++ y) ≡ lex between (cond b (44 ∷ []) [] ++ z)
 unfolding lex
 same_comma b y z same = grind arith
 
-line_after : (c : Bool) (ts : List Token) → ArePrintable ts → lex between (print_from c ts ++ 10 ∷ []) ≡ lex between (print_from c ts)
+line_feed_ignored : (c : Bool) (ts : List Token) → ArePrintable ts → lex between (print_from c ts ++ 10 ∷ []) ≡ lex between (print_from c ts)
 unfolding lex print_from ArePrintable
-line_after c [] h = refl
-line_after c (t ∷ ts) h =
-    simp append_assoc (same_comma (c && begins t) _ _ (same_first t (print_from (ends t) ts ++ 10 ∷ []) (print_from (ends t) ts) h.0 (λ e. rw e (ends_before ts)) (line_after (ends t) ts h.1)))
+line_feed_ignored c [] h = refl
+line_feed_ignored c (t ∷ ts) h =
+    simp append_assoc (same_comma (c && begins t) _ _ (same_lexemes_before t (print_from (ends t) ts ++ 10 ∷ []) (print_from (ends t) ts) h.0 (λ e. rw e (ends_before ts)) (line_feed_ignored (ends t) ts h.1)))
 
 -- printed tokens with a line feed after them are read as the same tokens
 pub tokens-line : (ts : List Token) → ArePrintable ts → tokens (print ts ++ 10 ∷ []) ≡ ts
-tokens-line ts h = ap (punctuate fresh) (line_after false ts h) ∙ tokens-print ts h
+tokens-line ts h = ap (punctuate fresh) (line_feed_ignored false ts h) ∙ tokens-print ts h

@@ -11,7 +11,7 @@ pub mod SavedLemmas
 pub mod ReplayLemmas
 pub mod LoadLemmas
 pub mod LexLemmas
-pub mod WholeLemmas
+pub mod PlainLemmas
 pub mod TextLemmas
 pub mod WriteLemmas
 pub mod OneTrace

@@ -1,13 +1,13 @@
 -- The result of loading a text.
-use Rattle.rd_trace.proofs.Prelude.{IsErrAnd, ◌≡◌, ◌≤◌, ◌<◌, ◌+◌, ℕ, List, [], ◌∷◌, length, codes, Some, none-some, Result, Ok, Err, sym, ap, ◌∙◌, subst, arith, IsDistinct, Data, World, Mark, book_state, loaded_state, first_refused_mark, Replays, MOST_MARKS, HaveDifferentNames, LoadTraceFault, BadTrace, number_at, HasActorsInRange, Trace, IsEitherVersion, HasValue, AnyBook, any_state, IsTraceText, IsTraceRing, LoadsValue, LoadsTrace, Book, NoMemory}
+use Rattle.rd_trace.proofs.Prelude.{IsErrAnd, ◌≡◌, ◌≤◌, ◌<◌, ◌+◌, ℕ, List, [], ◌∷◌, length, codes, Some, none-some, Result, Ok, Err, sym, ap, ◌∙◌, subst, arith, IsDistinct, Data, World, Mark, book_state, loaded_state, first_mark_fault, Replays, MOST_MARKS, HaveDifferentNames, LoadTraceFault, BadTrace, number_at, HasActorsInRange, Trace, IsEitherVersion, HasValue, AnyBook, any_state, IsTraceText, IsTraceRing, LoadsValue, LoadsTrace, Book, NoMemory}
 use Rattle.std.specs.Prelude.{IsOkAnd, MatchResult}
 use Rattle.rd_trace.proofs.SpellLemmas.{passed_up}
 use Rattle.serde_json.proofs.OnLiterals.{serde_json_on_literals}
 
 -- What holds of a session that a value spells
 
-pub counted : {R : ℕ} (d : Data) (t : Trace R) → IsEitherVersion d t → HasActorsInRange t.start
-counted d t h = grind arith
+pub actors_in_range : {R : ℕ} (d : Data) (t : Trace R) → IsEitherVersion d t → HasActorsInRange t.start
+actors_in_range d t h = grind arith
 
 pub names_differ : {R : ℕ} (d : Data) (t : Trace R) → IsEitherVersion d t → HaveDifferentNames t.marks
 unfolding IsDistinct
@@ -19,41 +19,41 @@ few_marks d t h = grind arith
 pub ring_of : {R : ℕ} (d : Data) (t : Trace R) → IsEitherVersion d t → number_at (codes "ring") d ≡ Some R
 ring_of d t h = grind arith
 
-pub value_eq : {R : ℕ} (text : List ℕ) (d : Data) (t : Trace R) → HasValue text d → IsTraceText text t → IsEitherVersion d t
-value_eq text d t value is = grind arith
+pub value_is_trace : {R : ℕ} (text : List ℕ) (d : Data) (t : Trace R) → HasValue text d → IsTraceText text t → IsEitherVersion d t
+value_is_trace text d t value is = grind arith
 
 -- the empty text has no value
-not_empty : (text : List ℕ) (d : Data) → HasValue text d → 0 < length text
+text_not_empty : (text : List ℕ) (d : Data) → HasValue text d → 0 < length text
 unfolding serde_json_on_literals
-not_empty [] d value = absurd (none-some d value.1)
-not_empty (x ∷ xs) d value = omega arith
+text_not_empty [] d value = absurd (none-some d value.1)
+text_not_empty (x ∷ xs) d value = omega arith
 
 module _ (text : List ℕ) (d : Data) (value : HasValue text d) (Q : ℕ) (ring : number_at (codes "ring") d ≡ Some Q) (is_ring : IsTraceRing Q) where
   -- a value that spells no session over rings of its size spells none over rings of any size
-  no_session : ((t : Trace Q) → IsEitherVersion d t → ⊥) → LoadsTrace text (Err BadTrace)
-  no_session none = λ R t is.
-      let its = value_eq text d t value is in
+  no_trace : ((t : Trace Q) → IsEitherVersion d t → ⊥) → LoadsTrace text (Err BadTrace)
+  no_trace none = λ R t is.
+      let its = value_is_trace text d t value is in
       let same : Q ≡ R = cc (ring, ring_of d t its) in
       subst (λ (n : ℕ). (u : Trace n) → IsEitherVersion d u → ⊥) same none t its
 
   is_text : (t : Trace Q) → IsEitherVersion d t → IsTraceText text t
   is_text t is = (value.0, d, value.1, (is_ring, is))
 
-  pub loads_none : (fault : LoadTraceFault) → LoadsValue {R = Q} d (Err fault) → LoadsTrace text (Err fault)
-  loads_none NoMemory h = not_empty text d value
-  loads_none BadTrace h = no_session h
-  loads_none _ h = (Q, h.0, is_text h.0 h.1, h.2)
+  pub loads_fault : (fault : LoadTraceFault) → LoadsValue {R = Q} d (Err fault) → LoadsTrace text (Err fault)
+  loads_fault NoMemory h = text_not_empty text d value
+  loads_fault BadTrace h = no_trace h
+  loads_fault _ h = (Q, h.0, is_text h.0 h.1, h.2)
 
   -- the result over rings of this size is the result of loading, with its book as an `AnyBook`
   pub loads_any : (wrap : Book Q → AnyBook) → ((book : Book Q) → any_state (wrap book) ≡ book_state book) → (r : Result (Book Q) LoadTraceFault) (s : Result AnyBook LoadTraceFault)
       → LoadsValue {R = Q} d r → MatchResult r (λ book. IsOkAnd s (λ any. any ≡ wrap book)) (λ e. s ≡ Err e) → LoadsTrace text s
   loads_any wrap same (Ok book) (Ok any) h is = (Q, h.0, is_text h.0 h.1, (h.2.0, ap any_state is ∙ same book ∙ h.2.1))
   loads_any wrap same (Ok book) (Err e) h is = absurd is
-  loads_any wrap same (Err fault) s h is = subst (λ (x : Result AnyBook LoadTraceFault). LoadsTrace text x) (sym is) (loads_none fault h)
+  loads_any wrap same (Err fault) s h is = subst (λ (x : Result AnyBook LoadTraceFault). LoadsTrace text x) (sym is) (loads_fault fault h)
 
 -- The result of loading a value
 
-marks_not_bad : (w : World) (n : ℕ) (ms : List Mark) → first_refused_mark w n ms ≡ Some BadTrace → ⊥
+marks_not_bad : (w : World) (n : ℕ) (ms : List Mark) → first_mark_fault w n ms ≡ Some BadTrace → ⊥
 marks_not_bad w n [] h = cc
 marks_not_bad w n (m ∷ ms) h = grind (arith, marks_not_bad w (n + 1) ms)
 

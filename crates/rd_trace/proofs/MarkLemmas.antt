@@ -1,8 +1,8 @@
 -- Bookmarks as JSON values.
-use Rattle.rd_trace.proofs.Prelude.{◌≡◌, items_by, ℕ, nat_eq, nat_lt, ◌+◌, ◌<◌, ◌≤◌, true, false, ◌||◌, List, [], ◌∷◌, ◌++◌, map, Bool, length, get_or, take, drop, slice_get, codes, Decides, Option, Some, None, ok_or, option_map, IfSome, Ok, inl, inr, refl, sym, ap, ap₂, ◌∙◌, subst, arith, append_assoc, AllByRecursion, list_any, list_all, IsDistinct, and_parts, or_cases, eqb-true, true≢false, false≢true, same_Some, map_push, take_all, IsDistinct-head, IsDistinct-tail, IsDistinct-push, escape, escape_byte, escape_byte_plain, Data, view, items_view, compact_text, comma_if, MarkName, Event, MOST_MARKS, is_name_byte, is_mark_name, bytes_of, mark_name_eq, HaveDifferentNames, Mark, result_map, Gives, SpellEach, event_of, event_data, IsMark, AreMarks, saved_mark, mark_data, AreAppended, IsMarkAppended, SavedMark, name_and_length, slice_get_within, Value, bytes_eq-Decides}
+use Rattle.rd_trace.proofs.Prelude.{◌≡◌, items_by, ℕ, nat_eq, nat_lt, ◌+◌, ◌<◌, ◌≤◌, true, false, ◌||◌, List, [], ◌∷◌, ◌++◌, map, Bool, length, get_or, take, drop, slice_get, codes, Decides, Option, Some, None, ok_or, option_map, IfSome, Ok, inl, inr, refl, sym, ap, ap₂, ◌∙◌, subst, arith, append_assoc, AllByRecursion, list_any, list_all, IsDistinct, and_parts, or_cases, eqb-true, true≢false, false≢true, same_Some, map_push, take_all, IsDistinct-head, IsDistinct-tail, IsDistinct-push, escape, escape_byte, escape_byte_plain, Data, view, items_view, compact_text, comma_if, MarkName, Event, MOST_MARKS, is_name_byte, is_mark_name, bytes_of, mark_name_eq, HaveDifferentNames, Mark, result_map, Gives, SpellEach, event_of, event_data, SpellsMark, SpellMarks, saved_mark, mark_data, AreAppended, IsMarkAppended, SavedMark, name_and_length, slice_get_within, Value, bytes_eq-Decides}
 use Rattle.std.specs.Cmp.{IsEquivalence}
 use Rattle.rd_trace.proofs.SpellLemmas.{split_at, take_got, spelled_at, spelled_length, spell_each-more}
-use Rattle.rd_trace.proofs.TextLemmas.{all_kept, items_text-joined, one_more_appended, two_parts}
+use Rattle.rd_trace.proofs.TextLemmas.{all_kept, items_text-joined, one_more_appended, appended_twice}
 use Rattle.rd_cell.specs.declared.refusal.Refusal.TheVariants as refusal
 
 -- ---- names
@@ -15,14 +15,14 @@ name_laws : IsEquivalence mark_name_eq
 name_laws = grind (arith, name_decides, nat_eq)
 
 -- all bookmarks that a JSON value spells have one name
-one_name : (d : Data) (m n : Mark) → IsMark d m → IsMark d n → bytes_of m.name ≡ bytes_of n.name
+one_name : (d : Data) (m n : Mark) → SpellsMark d m → SpellsMark d n → bytes_of m.name ≡ bytes_of n.name
 one_name d m n h k = same_Some _ _ (sym h.name ∙ k.name)
 
 -- ---- lists that are read
 
 -- if a bookmark's name differs from all names that these values spell, it differs from the name
 -- that a value among them spells
-apart_later : (q o : Mark) (xs ws : List Value) (v : Value) → IsMark (view v) o → (ms : List Mark) → SpellEach IsMark (items_view (xs ++ v ∷ ws)) ms
+apart_later : (q o : Mark) (xs ws : List Value) (v : Value) → SpellsMark (view v) o → (ms : List Mark) → SpellEach SpellsMark (items_view (xs ++ v ∷ ws)) ms
     → AllByRecursion (λ name. mark_name_eq q.name name ≡ false) (map (λ m. m.name) ms) → bytes_of q.name ≡ bytes_of o.name → ⊥
 apart_later q o [] ws v is (m ∷ ms) h apart same = true≢false (sym ((name_decides q.name m.name).1 (same ∙ one_name (view v) o m is h.0)) ∙ apart.0)
 apart_later q o (x ∷ xs) ws v is (m ∷ ms) h apart same = apart_later q o xs ws v is ms h.1 apart.1 same
@@ -30,8 +30,8 @@ apart_later q o _ ws v is _ h apart same = absurd h
 
 -- if a value spells a bookmark with a name that an earlier value's bookmark has, the values spell
 -- no bookmarks with different names
-taken_twice : (xs ws : List Value) (v : Value) (os : List Mark) (o : Mark) → SpellEach IsMark (items_view xs) os → IsMark (view v) o
-    → list_any (λ m. mark_name_eq o.name m.name) os ≡ true → (ms : List Mark) → SpellEach IsMark (items_view (xs ++ v ∷ ws)) ms
+taken_twice : (xs ws : List Value) (v : Value) (os : List Mark) (o : Mark) → SpellEach SpellsMark (items_view xs) os → SpellsMark (view v) o
+    → list_any (λ m. mark_name_eq o.name m.name) os ≡ true → (ms : List Mark) → SpellEach SpellsMark (items_view (xs ++ v ∷ ws)) ms
     → IsDistinct mark_name_eq (map (λ m. m.name) ms) → ⊥
 taken_twice [] ws v [] o ours is taken ms h distinct = false≢true taken
 taken_twice (x ∷ xs) ws v (p ∷ os) o ours is taken [] h distinct = h
@@ -50,7 +50,7 @@ any_of_map f test (x ∷ xs) = ap (λ b. test (f x) || b) (any_of_map f test xs)
 
 -- the first i values of a list spell these bookmarks, which have different names
 pub record AreRead (vs : List Value) (i : ℕ) (marks : List SavedMark) : Type 0 where
-  pub each : SpellEach IsMark (items_view (take i vs)) (map saved_mark marks)
+  pub each : SpellEach SpellsMark (items_view (take i vs)) (map saved_mark marks)
   pub names : HaveDifferentNames (map saved_mark marks)
 
 pub none_read : (vs : List Value) (marks : List SavedMark) → marks ≡ [] → AreRead vs 0 marks
@@ -59,42 +59,42 @@ none_read vs marks e = subst (λ (ms : List SavedMark). AreRead vs 0 ms) (sym e)
 
 module _ (vs : List Value) (i : ℕ) (v : Value) (within : i < length vs) (is : v ≡ get_or vs i v) where
   -- if the values of a list spell bookmarks, the value at a position spells one
-  pub mark_here : (ms : List Mark) → AreMarks (items_view vs) ms → (m : Mark) × IsMark (view v) m
-  mark_here ms k = let here = spelled_at IsMark vs i v within is ms k.each in (here.1, here.5)
+  pub mark_here : (ms : List Mark) → SpellMarks (items_view vs) ms → (m : Mark) × SpellsMark (view v) m
+  mark_here ms k = let here = spelled_at SpellsMark vs i v within is ms k.each in (here.1, here.5)
 
-  module _ (marks : List SavedMark) (so_far : AreRead vs i marks) (m : SavedMark) (spells : IsMark (view v) (saved_mark m)) where
+  module _ (marks : List SavedMark) (so_far : AreRead vs i marks) (m : SavedMark) (spells : SpellsMark (view v) (saved_mark m)) where
     -- if the name of the value's bookmark is taken, the list spells no bookmarks with different
     -- names
-    pub name_taken : list_any (λ o. mark_name_eq m.name o.name) marks ≡ true → (ms : List Mark) → AreMarks (items_view vs) ms → ⊥
+    pub name_taken : list_any (λ o. mark_name_eq m.name o.name) marks ≡ true → (ms : List Mark) → SpellMarks (items_view vs) ms → ⊥
     name_taken taken ms k =
         taken_twice (take i vs) (drop (i + 1) vs) v (map saved_mark marks) (saved_mark m) so_far.each spells (any_of_map saved_mark (λ o. mark_name_eq m.name o.name) marks ∙ taken) ms
-        (subst (λ (xs : List Value). SpellEach IsMark (items_view xs) ms) (split_at vs i v within is) k.each) k.names
+        (subst (λ (xs : List Value). SpellEach SpellsMark (items_view xs) ms) (split_at vs i v within is) k.each) k.names
 
     -- if the name of the value's bookmark isn't taken, one more bookmark was read
     pub one_more_mark : list_any (λ o. mark_name_eq m.name o.name) marks ≡ false → AreRead vs (i + 1) (marks ++ m ∷ [])
     one_more_mark free = grind (arith, spell_each-more, map_push, IsDistinct-push, name_laws, any_of_map)
 
 -- if all values were read, the list spells the bookmarks that were read
-pub all_read : (vs : List Value) (i : ℕ) (marks : List SavedMark) → length vs ≤ i → length vs ≤ MOST_MARKS → AreRead vs i marks → AreMarks (items_view vs) (map saved_mark marks)
+pub all_read : (vs : List Value) (i : ℕ) (marks : List SavedMark) → length vs ≤ i → length vs ≤ MOST_MARKS → AreRead vs i marks → SpellMarks (items_view vs) (map saved_mark marks)
 all_read vs i marks past few h = grind (arith, take_all, spelled_length)
 
 -- a list of more values than there may be bookmarks spells none
-pub too_many : (vs : List Value) → MOST_MARKS < length vs → (ms : List Mark) → AreMarks (items_view vs) ms → ⊥
-too_many vs many ms h = omega (arith, many, h.few, spelled_length IsMark vs ms h.each)
+pub too_many : (vs : List Value) → MOST_MARKS < length vs → (ms : List Mark) → SpellMarks (items_view vs) ms → ⊥
+too_many vs many ms h = omega (arith, many, h.few, spelled_length SpellsMark vs ms h.each)
 
 -- ---- lists that are written
 
 -- the texts of the first i bookmarks, and then the text of the next one, are the texts of i + 1
-pub next_appended : (ms : List Mark) (i : ℕ) (name : MarkName) (len : ℕ) (old mid comma new : List ℕ) → AreAppended IsMark mark_data (take i ms) old mid → comma ≡ mid ++ comma_if (nat_lt 0 i)
+pub next_appended : (ms : List Mark) (i : ℕ) (name : MarkName) (len : ℕ) (old mid comma new : List ℕ) → AreAppended SpellsMark mark_data (take i ms) old mid → comma ≡ mid ++ comma_if (nat_lt 0 i)
     → (o : Option Mark) → slice_get ms i ≡ o → result_map name_and_length (ok_or o refusal.NoMark) ≡ Ok (name, len)
-    → IfSome (option_map (λ m. m.events) o) (λ es. IsMarkAppended (record { name = name; events = es }) comma new) → AreAppended IsMark mark_data (take (i + 1) ms) old new
+    → IfSome (option_map (λ m. m.events) o) (λ es. IsMarkAppended (record { name = name; events = es }) comma new) → AreAppended SpellsMark mark_data (take (i + 1) ms) old new
 next_appended ms i name len old mid comma new so_far more None there found h = absurd (cc)
 next_appended ms i name len old mid comma new so_far more (Some m) there found h =
     let both : (m.name, length m.events) ≡ (name, len) = cc in
     let same : m.name ≡ name = ap (λ (p : MarkName × ℕ). p.0) both in
     let is : IsMarkAppended m comma new = subst (λ (n : MarkName). IsMarkAppended (record { name = n; events = m.events }) comma new) (sym same) h in
-    one_more_appended IsMark mark_data ms i m old mid new (omega (arith, slice_get_within ms i m there)) (take_got ms i m there) so_far
-    (two_parts mid comma new (comma_if (nat_lt 0 i)) (compact_text (mark_data m)) more is.text) is.kept
+    one_more_appended SpellsMark mark_data ms i m old mid new (omega (arith, slice_get_within ms i m there)) (take_got ms i m there) so_far
+    (appended_twice mid comma new (comma_if (nat_lt 0 i)) (compact_text (mark_data m)) more is.text) is.kept
 
 plain_byte : (x : ℕ) → is_name_byte x ≡ true → escape_byte x ≡ x ∷ []
 plain_byte x h = grind (arith, or_cases, eqb-true, escape_byte_plain)

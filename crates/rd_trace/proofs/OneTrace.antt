@@ -1,5 +1,5 @@
 -- A text is at most one trace.
-use Rattle.rd_trace.proofs.Prelude.{◌≡◌, ℕ, suc, ◌+◌, ◌≤◌, Bool, not, ◌&&◌, ◌==◌, nat_le, if◌then◌else◌, List, [], ◌∷◌, map, length, slice_get, codes, Option, Some, None, is_some, option_map, Vec, Global, inl, inr, refl, sym, ap, ◌∙◌, subst, arith, length-map, slice_get-map, list_all, Data, get, as_array, read, SegName, ArrSlot, Actor, SLOTS, SegmentParts, ArrayParts, World, MOST_ACTORS, Event, fresh_world, numbered, world_of_parts, first_flaw, indexes_fit, array_fits, Parts, Flaw, bytes_of, Mark, member_count, items_at, Gives, SpellEachAt, elements, event_of, IsActor, slot_of, filled_slots, IsArray, cell_of, IsSegment, IsSegmentList, IsMark, IsParts, IsStart, start_world, start_flaw, Start, Trace, IsVersion1, IsVersion2, IsEitherVersion, IsTraceText, loaded_state, seen_mark, IsSameBook, list_all-map, COUNTER_END, MOST_SEGMENTS, MOST_CELLS, counters_fit, array_part, by_number, by_name, count_in, count, segments_by, part_of_parts, contents_by, words_fit, next_fits, names_fit, numbers_within}
+use Rattle.rd_trace.proofs.Prelude.{◌≡◌, ℕ, suc, ◌+◌, ◌≤◌, Bool, not, ◌&&◌, ◌==◌, nat_le, if◌then◌else◌, List, [], ◌∷◌, map, length, slice_get, codes, Option, Some, None, is_some, option_map, Vec, Global, inl, inr, refl, sym, ap, ◌∙◌, subst, arith, length-map, slice_get-map, list_all, Data, get, as_array, read, SegName, ArrSlot, Actor, SLOTS, SegmentParts, ArrayParts, World, MOST_ACTORS, Event, fresh_world, numbered, world_of_parts, first_flaw, indexes_fit, array_fits, Parts, Flaw, bytes_of, Mark, member_count, items_at, Gives, SpellEachAt, elements, event_of, SpellsActor, slot_of, filled_slots, SpellsArray, cell_of, SpellsSegment, SpellsSegmentList, SpellsMark, SpellsParts, SpellsStart, start_world, start_flaw, Start, Trace, IsVersion1, IsVersion2, IsEitherVersion, IsTraceText, loaded_state, spelled_mark, IsSameBook, list_all-map, COUNTER_END, MOST_SEGMENTS, MOST_CELLS, counters_fit, array_contents, by_number, by_name, count_in, segment_count, segments_by, some_parts_contents, contents_by, words_fit, next_fits, names_fit, numbers_within}
 use Rattle.std.proofs.Props.{props}
 use mathlib.Core.HLevel.{is_prop→PathP}
 use Rattle.rd_step.specs.declared.flaws.Flaw.TheVariants.{Makers, PlaceNames, ActorNames, Counters, Indexes, ArrayCounters, ActorNumbers, ActorWords}
@@ -13,7 +13,7 @@ some_same o a b h k = let both : Some a ≡ Some b = sym h ∙ k in cc
 
 -- ---- actors
 
-same_actor : (d : Data) (a b : Actor) → IsActor d a → IsActor d b → a ≡ b
+same_actor : (d : Data) (a b : Actor) → SpellsActor d a → SpellsActor d b → a ≡ b
 same_actor d a b h k = grind arith
 
 -- ---- the array
@@ -27,7 +27,7 @@ same_slots i [] [] n h = refl
 same_slots i (a ∷ xs) (b ∷ ys) n h = let fewer : length xs ≡ length ys = omega arith in grind (arith, none_before, same_slots (suc i) xs ys fewer)
 same_slots i _ _ n h = absurd (omega arith)
 
-same_array : (d : Data) (a b : ArrayParts) → IsArray d a → IsArray d b → a ≡ b
+same_array : (d : Data) (a b : ArrayParts) → SpellsArray d a → SpellsArray d b → a ≡ b
 same_array d a b h k =
     let filled = same_each_at (Gives slot_of) (one_given slot_of) _ (filled_slots 0 a.cells) (filled_slots 0 b.cells) h.cells k.cells in
     let cells = same_slots 0 a.cells b.cells (a.sized ∙ sym b.sized) filled in
@@ -40,7 +40,7 @@ same_array d a b h k =
 
 -- ---- segments
 
-same_segment : (R : ℕ) (d : Data) (s r : SegmentParts R) → IsSegment d s → IsSegment d r → s ≡ r
+same_segment : (R : ℕ) (d : Data) (s r : SegmentParts R) → SpellsSegment d s → SpellsSegment d r → s ≡ r
 same_segment R d s r h k =
     let cells = same_each_at (Gives cell_of) (one_given cell_of) _ s.cells r.cells h.cells k.cells in
     λ i. record {
@@ -53,8 +53,8 @@ same_segment R d s r h k =
       sized = is_prop→PathP (λ j. length (cells j) ≡ R) (λ j. hlevel props) s.sized r.sized i;
     }
 
-same_segments : (R : ℕ) (d : Data) (v w : Vec (SegmentParts R) Global) → IsSegmentList d v → IsSegmentList d w → v.items ≡ w.items
-same_segments R d v w h k = same_each_at IsSegment (same_segment R) (as_array d) v.items w.items h k
+same_segments : (R : ℕ) (d : Data) (v w : Vec (SegmentParts R) Global) → SpellsSegmentList d v → SpellsSegmentList d w → v.items ≡ w.items
+same_segments R d v w h k = same_each_at SpellsSegment (same_segment R) (as_array d) v.items w.items h k
 
 -- ---- what is seen of the makers' lists: their elements
 
@@ -89,10 +89,10 @@ flaw_by R actors makers roots few there each qhead qtail array =
     else if not (list_all words_fit actors) then Some ActorWords
     else None
 
-same_parts : (R : ℕ) (d : Data) (p q : Parts R) → IsParts d p → IsParts d q → (first_flaw p ≡ first_flaw q) × (world_of_parts p ≡ world_of_parts q)
+same_parts : (R : ℕ) (d : Data) (p q : Parts R) → SpellsParts d p → SpellsParts d q → (first_flaw p ≡ first_flaw q) × (world_of_parts p ≡ world_of_parts q)
 same_parts R d p q h k =
-    let actors = same_each_at IsActor same_actor _ p.actors.items q.actors.items h.actors k.actors in
-    let makers = same_seen_at IsSegmentList elements (same_segments R) _ p.segments.items q.segments.items h.segments k.segments in
+    let actors = same_each_at SpellsActor same_actor _ p.actors.items q.actors.items h.actors k.actors in
+    let makers = same_seen_at SpellsSegmentList elements (same_segments R) _ p.segments.items q.segments.items h.segments k.segments in
     let names = same_name p.segments.items q.segments.items makers in
     let all = same_all p.segments.items q.segments.items makers in
     let long = same_length p.segments.items q.segments.items makers in
@@ -100,14 +100,14 @@ same_parts R d p q h k =
     let qhead = some_same _ p.qhead q.qhead h.qhead k.qhead in
     let qtail = some_same _ p.qtail q.qtail h.qtail k.qtail in
     let one = some_same (get (codes "array") d) h.array.0 k.array.0 h.array.1 k.array.1 in
-    let slots = same_array k.array.0 p.array q.array (subst (λ x. IsArray x p.array) one h.array.2) k.array.2 in (
+    let slots = same_array k.array.0 p.array q.array (subst (λ x. SpellsArray x p.array) one h.array.2) k.array.2 in (
       (λ i.
           flaw_by R (actors i) (long i) (roots i) (all (λ l. nat_le (length l) MOST_SEGMENTS) i) (λ s. is_some (names s i))
           (λ test. all (list_all test) i) (qhead i) (qtail i) (slots i)),
-      (λ i. record { ring = R; at = contents_by (segments_by (λ n. part_of_parts (names n i))) (qhead i) (qtail i) (array_part (slots i)); actor = numbered (actors i) }),
+      (λ i. record { ring = R; at = contents_by (segments_by (λ n. some_parts_contents (names n i))) (qhead i) (qtail i) (array_contents (slots i)); actor = numbered (actors i) }),
     )
 
-one_start : (R : ℕ) (d : Data) (s r : Start R) → IsStart d s → IsStart d r → (start_flaw s ≡ start_flaw r) × (start_world s ≡ start_world r)
+one_start : (R : ℕ) (d : Data) (s r : Start R) → SpellsStart d s → SpellsStart d r → (start_flaw s ≡ start_flaw r) × (start_world s ≡ start_world r)
 one_start R d (start.Fresh n) (start.Fresh m) h k = (refl, ap (fresh_world R) (some_same _ n m h.fresh.number k.fresh.number))
 one_start R d (start.Parts p) (start.Parts q) h k = same_parts R d p q h k
 one_start R d _ _ h k = absurd (omega (arith, some_same (member_count d) _ _ h.members k.members))
@@ -117,7 +117,7 @@ one_start R d _ _ h k = absurd (omega (arith, some_same (member_count d) _ _ h.m
 same_events : (key : List ℕ) (d : Data) (es fs : List Event) → SpellEachAt (Gives event_of) key d es → SpellEachAt (Gives event_of) key d fs → es ≡ fs
 same_events key d es fs h k = same_each_at (Gives event_of) (one_given event_of) (items_at key d) es fs h k
 
-same_mark : (d : Data) (m n : Mark) → IsMark d m → IsMark d n → seen_mark m ≡ seen_mark n
+same_mark : (d : Data) (m n : Mark) → SpellsMark d m → SpellsMark d n → spelled_mark m ≡ spelled_mark n
 same_mark d m n h k = λ i. (some_same _ (bytes_of m.name) (bytes_of n.name) h.name k.name i, same_events (codes "events") d m.events n.events h.events k.events i)
 
 -- ---- traces
@@ -131,30 +131,30 @@ pub record Seen : Type 0 where
   pub undone : List Event
 
 abbrev pub seen : {R : ℕ} → Trace R → Seen
-seen t = record { flaw = start_flaw t.start; world = start_world t.start; marks = map seen_mark t.marks; live = t.live; undone = t.undone }
+seen t = record { flaw = start_flaw t.start; world = start_world t.start; marks = map spelled_mark t.marks; live = t.live; undone = t.undone }
 
 module _ (R : ℕ) (d : Data) (t u : Trace R) where
-  same_first : IsVersion1 d t → IsVersion1 d u → seen t ≡ seen u
-  same_first h k =
-      let count = some_same _ h.actors.0 k.actors.0 h.actors.1.number k.actors.1.number in
-      let begun = h.actors.2 ∙ ap start.Fresh count ∙ sym k.actors.2 in
+  same_version1 : IsVersion1 d t → IsVersion1 d u → seen t ≡ seen u
+  same_version1 h k =
+      let segment_count = some_same _ h.actors.0 k.actors.0 h.actors.1.number k.actors.1.number in
+      let begun = h.actors.2 ∙ ap start.Fresh segment_count ∙ sym k.actors.2 in
       let live = same_events (codes "events") d t.live u.live h.live k.live in
       λ i. seen {R = R} (record { start = begun i; marks = (h.marks ∙ sym k.marks) i; live = live i; undone = (h.undone ∙ sym k.undone) i })
 
-  same_second : IsVersion2 d t → IsVersion2 d u → seen t ≡ seen u
-  same_second h k =
+  same_version2 : IsVersion2 d t → IsVersion2 d u → seen t ≡ seen u
+  same_version2 h k =
       let at = some_same (get (codes "start") d) h.start.0 k.start.0 h.start.1 k.start.1 in
-      let start = one_start R k.start.0 t.start u.start (subst (λ x. IsStart x t.start) at h.start.2) k.start.2 in
-      let marks = same_seen_at IsMark seen_mark same_mark (items_at (codes "marks") d) t.marks u.marks (h.marks.0, h.marks.1, h.marks.2.each) (k.marks.0, k.marks.1, k.marks.2.each) in
+      let start = one_start R k.start.0 t.start u.start (subst (λ x. SpellsStart x t.start) at h.start.2) k.start.2 in
+      let marks = same_seen_at SpellsMark spelled_mark same_mark (items_at (codes "marks") d) t.marks u.marks (h.marks.0, h.marks.1, h.marks.2.each) (k.marks.0, k.marks.1, k.marks.2.each) in
       let live = same_events (codes "events") d t.live u.live h.live k.live in
       let undone = same_events (codes "undone") d t.undone u.undone h.undone k.undone in
       λ i. record { flaw = start.0 i; world = start.1 i; marks = marks i; live = live i; undone = undone i }
 
   same_either : IsEitherVersion d t → IsEitherVersion d u → seen t ≡ seen u
-  same_either (inl h) (inl k) = same_first h k
+  same_either (inl h) (inl k) = same_version1 h k
   same_either (inl h) (inr k) = absurd (omega (arith, some_same _ 4 6 h.members k.members))
   same_either (inr h) (inl k) = absurd (omega (arith, some_same _ 6 4 h.members k.members))
-  same_either (inr h) (inr k) = same_second h k
+  same_either (inr h) (inr k) = same_version2 h k
 
 -- any two traces that a text is have rings of one size, and are seen as the same
 pub same_trace : (text : List ℕ) (R Q : ℕ) (t : Trace R) (u : Trace Q) → IsTraceText text t → IsTraceText text u → (R ≡ Q) × (seen t ≡ seen u)

@@ -3,10 +3,10 @@
 pub use Rattle.rd_cell.proofs.Prelude.{AllByRecursion, BTreeMap, Bool, Decides, Err, Global, IfNone, IfOk, IfOk-weaker, IfSome, IsDistinct-head, IsDistinct-push, IsDistinct-tail, IsErrAnd, IsOk, IsUtf8, List, None, Ok, OnOk, Option, Result, Some, String, Vec, [], add-one, and_parts, ap, append-nil, append_assoc, ap₂, arith, both_ways, bytes_eq-Decides, codes, common_steps, cond, cond-false, decimal, drop, drop-append_seam, drop_more, eqb-true, false, false≢true, get_or, get_or-map, get_or_default, get_or_from_slice_get, if◌then◌else◌, inl, inr, is_ok, is_some, le-ltb, length, length-append, length-drop, length-map, length-set, length-take, length-take-le, list_all, list_all-map, list_any, lt-ltb, map, map-append, map-id, map_more, map_push, max, nat_eq, nat_le, nat_lt, ne_eqb, none-some, not, ok_or, option_and_then, option_map, option_or, or_cases, refl, replicate, result_err, rules, same_Some, set, slice_get, slice_get-get_or, slice_get-map, slice_get_within, string_bytes, subst, subst₂, suc, sym, take, take-append-drop, take-append_seam, take-suc-set, take_all, take_more, take_rest, true, true≢false, vec_capacity, vec_len, zero, ℕ, ◌&&◌, ◌++◌, ◌+◌, ◌-◌, ◌<◌, ◌==◌, ◌^◌, ◌||◌, ◌∙◌, ◌∷◌, ◌≡◌, ◌≢◌, ◌≤◌, ◌⊎◌}
 unfoldable pub use Rattle.rd_cell.proofs.Prelude.{IsDistinct}
 pub use Rattle.rd_ring.proofs.Prelude.{ArrSlot, COUNTER_END, Cell, MOST_ACTORS, MOST_CELLS, MOST_SEGMENTS, SLOTS, SegName, counters_fit}
-pub use Rattle.rd_segments.proofs.Prelude.{array_part, by_name, by_number, contents_by, count, count_in, part_of_parts, segments_by}
+pub use Rattle.rd_segments.proofs.Prelude.{array_contents, by_name, by_number, contents_by, segment_count, count_in, some_parts_contents, segments_by}
 pub use Rattle.rd_step.proofs.Prelude.{Act, Actor, ArrayParts, MOST_STEPS, Pc, Ran, Refusal, SegmentParts, Stepped, World, array_fits, events, first_flaw, fresh_world, indexes_fit, model, names_fit, next_fits, numbered, numbers_within, result_map, run, run_entries, step, words_fit, world_of_parts}
 pub use Rattle.rd_journal.proofs.Prelude.{IsRun, Journal, State, apply, back, journal, state, state_of, step_after, with_event}
-pub use Rattle.rd_marks.proofs.Prelude.{Answered, AnswersMarkEvents, BookState, GoThrough, IsEventAnswer, HaveDifferentNames, KeepsRules, MOST_MARKS, Mark, MarksGoThrough, answer_with, at_events, book_state, bytes_of, is_mark_name, is_name_byte, mark, mark_at, mark_events, mark_name_eq, marked_events, opened_ring, session_of, with_session}
+pub use Rattle.rd_marks.proofs.Prelude.{Answered, AnswersMarkEvents, BookState, CanRun, IsEventAnswer, HaveDifferentNames, KeepsRules, MOST_MARKS, Mark, MarksCanRun, answer_with, at_events, book_state, bytes_of, is_mark_name, is_name_byte, mark, mark_at, mark_events, mark_name_eq, events_by_name, opened_ring, session_of, with_session}
 pub use Rattle.rd_script.proofs.Prelude.{Book, Reply}
 pub use Rattle.rd_script.specs.AnyBook.{IsBookIn, any_state}
 pub use Rattle.rd_script.specs.declared.any_book.AnyBook.{AnyBook}
@@ -29,17 +29,17 @@ pub use Rattle.serde_json.specs.Read.{max_depth, of_json, read}
 pub use Rattle.serde_json.specs.View.{items_view, members_view, view}
 pub use Rattle.serde_json.specs.Written.{IsInOrder, comma_if, compact_text, has_float, items_have_float, items_outline, items_text, members_outline, members_text, outline}
 pub use Rattle.serde_json.specs.declared.value.Value.{Value}
-pub use Rattle.rd_trace.specs.Actors.{IsActor, actor_data, op_of_items, value_data, value_of}
-pub use Rattle.rd_trace.specs.Arrays.{IsArray, array_data, filled_slots, slot_data, slot_of, slot_of_items}
-pub use Rattle.rd_trace.specs.Bookmarks.{AreMarks, IsMark, mark_data, mark_object, saved_mark, saved_marks}
-pub use Rattle.rd_trace.specs.Events.{act_data, event_data, event_of, event_of_items, long_data, short_data}
-pub use Rattle.rd_trace.specs.Loading.{IsSameAnswer, LoadsAgain, LoadsTrace, Replays, first_refused_mark, trace_fault}
-pub use Rattle.rd_trace.specs.Names.{name_data, name_of, name_of_items, next_data, next_of}
+pub use Rattle.rd_trace.specs.Actors.{SpellsActor, actor_data, op_of_items, val_data, val_of}
+pub use Rattle.rd_trace.specs.Arrays.{SpellsArray, array_data, filled_slots, slot_data, slot_of, slot_of_items}
+pub use Rattle.rd_trace.specs.Bookmarks.{SpellMarks, SpellsMark, mark_data, mark_object, saved_mark, saved_marks}
+pub use Rattle.rd_trace.specs.Events.{event_array, event_data, event_of, event_of_items, event_triple, event_pair}
+pub use Rattle.rd_trace.specs.Loading.{IsSameAnswer, LoadsAgain, LoadsTrace, Replays, first_mark_fault, trace_fault}
+pub use Rattle.rd_trace.specs.Names.{segment_name_data, segment_name_of, segment_name_of_items, next_data, next_of}
 pub use Rattle.rd_trace.specs.Numbers.{byte_number, items_at, member_count, number_at}
-pub use Rattle.rd_trace.specs.Saved.{HasValue, IsEitherVersion, IsSameBook, IsTraceText, IsVersion1, IsVersion2, Trace, book_data, book_object, loaded_state, saved_trace, seen_mark}
-pub use Rattle.rd_trace.specs.Segments.{IsSegment, IsSegmentList, cell_data, cell_of, cell_of_items, segment_list_data, segment_data}
+pub use Rattle.rd_trace.specs.Saved.{HasValue, IsEitherVersion, IsSameBook, IsTraceText, IsVersion1, IsVersion2, Trace, book_data, book_object, loaded_state, saved_trace, spelled_mark}
+pub use Rattle.rd_trace.specs.Segments.{SpellsSegment, SpellsSegmentList, cell_data, cell_of, cell_of_items, segment_list_data, segment_data}
 pub use Rattle.rd_trace.specs.Spelled.{AreSpelled, Gives, Reads, SpellEach, SpellEachAt, SpellEachOf, elements, items_by, itself}
-pub use Rattle.rd_trace.specs.Starts.{HasActorsInRange, IsFreshStart, IsParts, IsStart, IsStartData, IsStartValue, SpellsWorld, fresh_data, parts_data, start_flaw, start_world}
+pub use Rattle.rd_trace.specs.Starts.{HasActorsInRange, SpellsFreshStart, SpellsParts, SpellsStart, IsStartWrittenAs, IsStartValue, SpellsWorld, fresh_data, parts_data, start_flaw, start_world}
 pub use Rattle.rd_trace.specs.Steps.{GoesTo, LoadsValue, MakesWorld, RefusesOne, SetsMarks}
 pub use Rattle.rd_trace.specs.Texts.{AreAppended, IsMarkAppended, IsReadBack, IsSpelledBack, IsStartAppended, joined_text}
 pub use Rattle.rd_trace.specs.Traces.{IsTraceRing, first_refused, session_at}

@@ -1,5 +1,5 @@
 -- Replaying events: which ones happen, and which one is refused.
-use Rattle.rd_trace.proofs.Prelude.{common_steps, AllByRecursion, cond-false, IsDistinct-head, IsDistinct-tail, take-append_seam, drop-append_seam, append-nil, length-map, map-append, map_push, take_all, take-append-drop, length-take-le, World, Refusal, Stepped, Ran, run, MOST_STEPS, result_map, Event, State, step_after, with_event, apply, back, MarkName, MOST_MARKS, bytes_of, mark_name_eq, Mark, BookState, marked_events, mark, GoThrough, MarksGoThrough, HaveDifferentNames, SavedMark, LoadTraceFault, Flawed, TraceMark, TraceStep, saved_mark, start_world, start_flaw, Trace, loaded_state, session_at, first_refused, first_refused_mark, trace_fault, Replays, RefusesOne, GoesTo, MakesWorld, SetsMarks, le-ltb, ◌≡◌, ◌⊎◌, inl, inr, ℕ, suc, ◌+◌, ◌-◌, ◌<◌, ◌≤◌, if◌then◌else◌, Bool, false, List, [], ◌∷◌, ◌++◌, length, take, drop, get_or, map, Some, None, is_some, Option, option_map, Result, Ok, Err, IsOk, refl, sym, ap, ap₂, ◌∙◌, subst, arith, append_assoc, length-append, ne_eqb, option_or, result_err, at_events, with_marks, with_session, NoMemory, Reply, IsEventAnswer}
+use Rattle.rd_trace.proofs.Prelude.{common_steps, AllByRecursion, cond-false, IsDistinct-head, IsDistinct-tail, take-append_seam, drop-append_seam, append-nil, length-map, map-append, map_push, take_all, take-append-drop, length-take-le, World, Refusal, Stepped, Ran, run, MOST_STEPS, result_map, Event, State, step_after, with_event, apply, back, MarkName, MOST_MARKS, bytes_of, mark_name_eq, Mark, BookState, events_by_name, mark, CanRun, MarksCanRun, HaveDifferentNames, SavedMark, LoadTraceFault, Flawed, TraceMark, TraceStep, saved_mark, start_world, start_flaw, Trace, loaded_state, session_at, first_refused, first_mark_fault, trace_fault, Replays, RefusesOne, GoesTo, MakesWorld, SetsMarks, le-ltb, ◌≡◌, ◌⊎◌, inl, inr, ℕ, suc, ◌+◌, ◌-◌, ◌<◌, ◌≤◌, if◌then◌else◌, Bool, false, List, [], ◌∷◌, ◌++◌, length, take, drop, get_or, map, Some, None, is_some, Option, option_map, Result, Ok, Err, IsOk, refl, sym, ap, ap₂, ◌∙◌, subst, arith, append_assoc, length-append, ne_eqb, option_or, result_err, at_events, with_marks, with_session, NoMemory, Reply, IsEventAnswer}
 use Rattle.std.proofs.lemmas.Cmp.{nat_list_eq_equiv}
 use Rattle.rd_step.proofs.Equivalence.{ran_through}
 use Rattle.rd_marks.proofs.MarkLemmas.{mark_goes}
@@ -31,19 +31,19 @@ module _ (w : World) where
   happens_in b e es (Err cause) is ok = absurd cc
 
   -- if events can run, none of them is refused
-  pub none_refused : (b es : List Event) → GoThrough w (b ++ es) → first_refused w b es ≡ None
+  pub none_refused : (b es : List Event) → CanRun w (b ++ es) → first_refused w b es ≡ None
   none_refused b [] h = refl
   none_refused b (e ∷ es) h =
       let room = ne_eqb (length b) MOST_STEPS (omega (arith, h.few, length-append b (e ∷ es))) in
       let here = not_refused (session_at w b) e _ _ room (happens_in b e es (run w (b ++ e ∷ es)) refl h.runs) in
-      let rest = none_refused (b ++ e ∷ []) es (subst (GoThrough w) (sym (append_assoc b (e ∷ []) es)) h) in
+      let rest = none_refused (b ++ e ∷ []) es (subst (CanRun w) (sym (append_assoc b (e ∷ []) es)) h) in
       ap₂ (then_refused b) here rest
 
-  marks-append : (n : ℕ) (xs ys : List Mark) → first_refused_mark w n (xs ++ ys) ≡ option_or (first_refused_mark w n xs) (first_refused_mark w (n + length xs) ys)
-  marks-append n [] ys = let at : n ≡ n + 0 = omega arith in ap (λ (k : ℕ). first_refused_mark w k ys) at
+  marks-append : (n : ℕ) (xs ys : List Mark) → first_mark_fault w n (xs ++ ys) ≡ option_or (first_mark_fault w n xs) (first_mark_fault w (n + length xs) ys)
+  marks-append n [] ys = let at : n ≡ n + 0 = omega arith in ap (λ (k : ℕ). first_mark_fault w k ys) at
   marks-append n (x ∷ xs) ys = let at : n + 1 + length xs ≡ n + suc (length xs) = omega arith in grind (arith, option_or_assoc, marks-append (n + 1) xs ys)
 
-  pub no_mark_refused : (n : ℕ) (ms : List Mark) → MarksGoThrough w ms → first_refused_mark w n ms ≡ None
+  pub no_mark_refused : (n : ℕ) (ms : List Mark) → MarksCanRun w ms → first_mark_fault w n ms ≡ None
   no_mark_refused n [] h = refl
   no_mark_refused n (m ∷ ms) h = rw (none_refused [] m.events h.0, no_mark_refused (n + 1) ms h.1)
 
@@ -53,11 +53,11 @@ module _ (w : World) where
 applied : (s after : State) (e : Event) (full : Bool) (o : Result Stepped Refusal) → (if full then Err refusal.TooLong else result_map (λ stepped. with_event s e) o) ≡ Ok after → after ≡ with_event s e
 applied s after e full o h = grind arith
 
-pub none_stepped : (b : BookState) → GoThrough b.session.start b.session.live → b.session.undone ≡ [] → GoesTo b (b.session.live ++ []) b (Ok tt)
+pub none_stepped : (b : BookState) → CanRun b.session.start b.session.live → b.session.undone ≡ [] → GoesTo b (b.session.live ++ []) b (Ok tt)
 none_stepped b through none =
     let all = sym (append-nil b.session.live) in (
       (λ i. record { session = record { start = b.session.start; live = all i; undone = none i }; marks = b.marks }),
-      none_refused b.session.start [] _ (subst (λ (es : List Event). GoThrough b.session.start es) all through),
+      none_refused b.session.start [] _ (subst (λ (es : List Event). CanRun b.session.start es) all through),
     )
 
 -- the first i events happened after the live ones, and this is the next event
@@ -156,7 +156,7 @@ mark_fault mark fault = fault
 pub record HasSet (old now : BookState) (done : List Mark) : Type 0 where
   pub marks : now.marks ≡ done
   pub start : now.session.start ≡ old.session.start
-  pub none : first_refused_mark old.session.start 0 done ≡ None
+  pub none : first_mark_fault old.session.start 0 done ≡ None
 
 mark_set : (after x : BookState) (taken full : Bool) → (if taken then Err refusal.MarkTaken else if full then Err refusal.TooManyMarks else Ok x) ≡ Ok after → after ≡ x
 mark_set after x taken full h = grind arith
@@ -167,7 +167,7 @@ differs x [] m later h = h.0
 differs x (y ∷ before) m later h = differs x before m later h.1
 
 -- if the names of bookmarks differ, no bookmark before one of them has its name
-none_taken : (before : List Mark) (m : Mark) (later : List Mark) → HaveDifferentNames (before ++ m ∷ later) → marked_events before m.name ≡ None
+none_taken : (before : List Mark) (m : Mark) (later : List Mark) → HaveDifferentNames (before ++ m ∷ later) → events_by_name before m.name ≡ None
 none_taken [] m later h = refl
 none_taken (x ∷ before) m later h =
     let names : List MarkName = map (λ (y : Mark). y.name) (before ++ m ∷ later) in
@@ -179,8 +179,8 @@ module _ (old now : BookState) (ms : List SavedMark) (i : ℕ) (m : SavedMark) (
   -- the first refused event of the bookmarks so far, this one and later ones: this one's first if
   -- it has one, else the first of the later ones
   from_mark : (later : List Mark) (o : Option (ℕ × Refusal)) → first_refused old.session.start [] m.events.items ≡ o
-      → first_refused_mark old.session.start 0 (map saved_mark (take i ms) ++ saved_mark m ∷ later)
-      ≡ option_or (option_map (λ (r : ℕ × Refusal). TraceMark (i + 1) r.0 r.1) o) (first_refused_mark old.session.start (i + 1) later)
+      → first_mark_fault old.session.start 0 (map saved_mark (take i ms) ++ saved_mark m ∷ later)
+      ≡ option_or (option_map (λ (r : ℕ × Refusal). TraceMark (i + 1) r.0 r.1) o) (first_mark_fault old.session.start (i + 1) later)
   from_mark later o said =
       let w = old.session.start in
       let done = map saved_mark (take i ms) in
@@ -208,8 +208,8 @@ module _ (old now : BookState) (ms : List SavedMark) (i : ℕ) (m : SavedMark) (
       → (cause ≡ refusal.NoMemory → ⊥) → (mark mid m.name ≡ Err cause) ⊎ ((cause ≡ refusal.NoMemory) × IsOk (mark mid m.name)) → ⊥
   can_mark mid cause goes names few other (inl h) =
       let set : mid.marks ≡ map saved_mark (take i ms) = ap (λ (b : BookState). b.marks) goes.0 ∙ so_far.marks in
-      let free : is_some (marked_events mid.marks m.name) ≡ false =
-      ap (λ (done : List Mark). is_some (marked_events done m.name)) set
+      let free : is_some (events_by_name mid.marks m.name) ≡ false =
+      ap (λ (done : List Mark). is_some (events_by_name done m.name)) set
       ∙ ap is_some (none_taken (map saved_mark (take i ms)) (saved_mark m) (map saved_mark (drop (i + 1) ms)) (subst (λ (xs : List Mark). HaveDifferentNames xs) placed names)) in
       let few_so_far : length mid.marks ≡ i = omega (arith, ap length set, length-map (take i ms) saved_mark, length-take-le i ms (omega arith)) in
       let made = mark_goes mid m.name free (omega arith) in
@@ -222,7 +222,7 @@ module _ (old now : BookState) (ms : List SavedMark) (i : ℕ) (m : SavedMark) (
   mark_refused new its (inl memory) = inl (ap (mark_fault (i + 1)) memory)
   mark_refused new its (inr h) =
       inr
-      (ap (first_refused_mark old.session.start 0) placed
+      (ap (first_mark_fault old.session.start 0) placed
       ∙ from_mark (map saved_mark (drop (i + 1) ms)) (Some (h.0, h.1)) (subst (λ (w : World). first_refused w [] m.events.items ≡ Some (h.0, h.1)) so_far.start h.2)
       ∙ ap Some (sym (ap (mark_fault (i + 1)) h.3)))
 
@@ -238,12 +238,12 @@ no_world t IsBook fault h = grind arith
 module _ {R : ℕ} (t : Trace R) (flawless : start_flaw t.start ≡ None) where
   -- the fault of a trace whose start has no flaw: the first refused event of its bookmarks, else of
   -- its live and undone events
-  fault_of : (o : Option LoadTraceFault) (p : Option (ℕ × Refusal)) → first_refused_mark (start_world t.start) 0 t.marks ≡ o → first_refused (start_world t.start) [] (t.live ++ t.undone) ≡ p
+  fault_of : (o : Option LoadTraceFault) (p : Option (ℕ × Refusal)) → first_mark_fault (start_world t.start) 0 t.marks ≡ o → first_refused (start_world t.start) [] (t.live ++ t.undone) ≡ p
       → trace_fault t ≡ option_or o (option_map (λ (r : ℕ × Refusal). TraceStep r.0 r.1) p)
   fault_of o p marks steps = λ i. option_or (option_map Flawed (flawless i)) (option_or (marks i) (option_map (λ (r : ℕ × Refusal). TraceStep r.0 r.1) (steps i)))
 
   -- a trace whose start has no flaw and whose events can run has no fault
-  pub no_fault : MarksGoThrough (start_world t.start) t.marks → GoThrough (start_world t.start) (t.live ++ t.undone) → trace_fault t ≡ None
+  pub no_fault : MarksCanRun (start_world t.start) t.marks → CanRun (start_world t.start) (t.live ++ t.undone) → trace_fault t ≡ None
   no_fault marks through = fault_of None None (no_mark_refused (start_world t.start) 0 t.marks marks) (none_refused (start_world t.start) [] (t.live ++ t.undone) through)
 
   module _ (old : BookState) (start : old.session.start ≡ start_world t.start) where

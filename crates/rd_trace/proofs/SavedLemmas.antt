@@ -1,5 +1,5 @@
 -- Whole sessions as JSON values.
-use Rattle.rd_trace.proofs.Prelude.{◌≡◌, refl, inl, inr, Err, NoMemory, BadTrace, same_Some, ℕ, ◌+◌, ◌<◌, ◌≤◌, List, [], ◌∷◌, ◌++◌, length, take, get_or, Some, None, Result, Ok, IsOk, sym, ap, ◌∙◌, arith, length-append, length-map, map-append, take_more, get_or-map, Data, Refusal, MOST_STEPS, Ran, run_entries, Entry, state_of, BookState, GoThrough, Reads, Gives, SpellEach, items_by, event_of, event_data, SpellsWorld, AreMarks, mark_data, member_count, Trace, IsVersion1, IsVersion2, IsEitherVersion, loaded_state, saved_trace, book_data, LoadTraceFault, start_flaw, Journal, IsRun, events}
+use Rattle.rd_trace.proofs.Prelude.{◌≡◌, refl, inl, inr, Err, NoMemory, BadTrace, same_Some, ℕ, ◌+◌, ◌<◌, ◌≤◌, List, [], ◌∷◌, ◌++◌, length, take, get_or, Some, None, Result, Ok, IsOk, sym, ap, ◌∙◌, arith, length-append, length-map, map-append, take_more, get_or-map, Data, Refusal, MOST_STEPS, Ran, run_entries, Entry, state_of, BookState, CanRun, Reads, Gives, SpellEach, items_by, event_of, event_data, SpellsWorld, SpellMarks, mark_data, member_count, Trace, IsVersion1, IsVersion2, IsEitherVersion, loaded_state, saved_trace, book_data, LoadTraceFault, start_flaw, Journal, IsRun, events}
 use mathlib.Core.Logic.{⊎_elim}
 use Rattle.rd_journal.proofs.Walks.{whole_run}
 use Rattle.rd_trace.specs.declared.saved.SavedSession.{SavedSession}
@@ -7,32 +7,32 @@ use Rattle.rd_trace.specs.declared.saved.SavedSession.{SavedSession}
 -- ---- what is read
 
 -- the result of reading an object of four members as version 1 is its result for both versions
-pub first_read : {R : ℕ} (d : Data) → member_count d ≡ Some 4 → (r : Result (SavedSession R) LoadTraceFault) → Reads saved_trace (IsVersion1 d) r → Reads saved_trace (IsEitherVersion d) r
-first_read d four (Ok s) h = inl h
-first_read d four (Err NoMemory) h = tt
-first_read d four (Err BadTrace) h = λ t. ⊎_elim (h t) (λ (k : IsVersion2 d t). omega (arith, same_Some 6 4 (sym k.members ∙ four)))
-first_read d four (Err _) h = absurd h
+pub version1_read : {R : ℕ} (d : Data) → member_count d ≡ Some 4 → (r : Result (SavedSession R) LoadTraceFault) → Reads saved_trace (IsVersion1 d) r → Reads saved_trace (IsEitherVersion d) r
+version1_read d four (Ok s) h = inl h
+version1_read d four (Err NoMemory) h = tt
+version1_read d four (Err BadTrace) h = λ t. ⊎_elim (h t) (λ (k : IsVersion2 d t). omega (arith, same_Some 6 4 (sym k.members ∙ four)))
+version1_read d four (Err _) h = absurd h
 
-pub second_read : {R : ℕ} (d : Data) → member_count d ≡ Some 6 → (r : Result (SavedSession R) LoadTraceFault) → Reads saved_trace (IsVersion2 d) r → Reads saved_trace (IsEitherVersion d) r
-second_read d six (Ok s) h = inr h
-second_read d six (Err NoMemory) h = tt
-second_read d six (Err BadTrace) h = λ t. ⊎_elim (λ (k : IsVersion1 d t). omega (arith, same_Some 4 6 (sym k.members ∙ six))) (h t)
-second_read d six (Err _) h = absurd h
+pub version2_read : {R : ℕ} (d : Data) → member_count d ≡ Some 6 → (r : Result (SavedSession R) LoadTraceFault) → Reads saved_trace (IsVersion2 d) r → Reads saved_trace (IsEitherVersion d) r
+version2_read d six (Ok s) h = inr h
+version2_read d six (Err NoMemory) h = tt
+version2_read d six (Err BadTrace) h = λ t. ⊎_elim (λ (k : IsVersion1 d t). omega (arith, same_Some 4 6 (sym k.members ∙ six))) (h t)
+version2_read d six (Err _) h = absurd h
 
 -- ---- what is written
 
 -- events whose run has entries can run
-went : (o : Result Ran Refusal) (xs : List Entry) → run_entries o ≡ Ok xs → IsOk o
-went o xs h = grind arith
+can_run : (o : Result Ran Refusal) (xs : List Entry) → run_entries o ≡ Ok xs → IsOk o
+can_run o xs h = grind arith
 
 -- the live events of a journal, and then its undone ones, can run from its start
 pub goes_through : (j : Journal) → IsRun j → length j.live + length j.undone ≤ MOST_STEPS
-    → GoThrough (state_of j).start ((state_of j).live ++ (state_of j).undone)
-goes_through j runs few = record { few = simp (length-append, length-map) few; runs = went _ _ (simp map-append at (whole_run j runs)) }
+    → CanRun (state_of j).start ((state_of j).live ++ (state_of j).undone)
+goes_through j runs few = record { few = simp (length-append, length-map) few; runs = can_run _ _ (simp map-append at (whole_run j runs)) }
 
 -- the JSON value as which a book is written spells it, if the values of its members spell them
 pub book_spelled : (b : BookState) (start : Data) → SpellsWorld b.session.start start → SpellEach (Gives event_of) (items_by event_data b.session.live) b.session.live
-    → SpellEach (Gives event_of) (items_by event_data b.session.undone) b.session.undone → AreMarks (items_by mark_data b.marks) b.marks
+    → SpellEach (Gives event_of) (items_by event_data b.session.undone) b.session.undone → SpellMarks (items_by mark_data b.marks) b.marks
     → (t : Trace b.session.start.ring) × IsVersion2 (book_data start b) t × (start_flaw t.start ≡ None) × (loaded_state t ≡ b)
 book_spelled b start h live undone marks = (
   record { start = h.0; marks = b.marks; live = b.session.live; undone = b.session.undone },
@@ -42,7 +42,7 @@ book_spelled b start h live undone marks = (
 )
 
 -- the first k + 1 live events are the first k and the event of the next entry
-pub live_next : (xs : List Entry) (k : ℕ) (x : Entry) → k < length xs → x ≡ get_or xs k x → take (k + 1) (events xs) ≡ take k (events xs) ++ x.event ∷ []
-live_next xs k x within is =
+pub live_events_take_more : (xs : List Entry) (k : ℕ) (x : Entry) → k < length xs → x ≡ get_or xs k x → take (k + 1) (events xs) ≡ take k (events xs) ++ x.event ∷ []
+live_events_take_more xs k x within is =
     take_more (events xs) k x.event (omega (arith, within, length-map xs (λ (y : Entry). y.event)))
     ∙ ap (λ e. take k (events xs) ++ e ∷ []) (get_or-map (λ (y : Entry). y.event) xs k x x.event within ∙ ap (λ (y : Entry). y.event) (sym is))

@@ -1,6 +1,6 @@
 -- The texts of lists, of events, of bookmarks and of a book, put together from parts; and that the
 -- text of a value is read as that value.
-use Rattle.rd_trace.proofs.Prelude.{◌≡◌, codes, decimal, escape_byte, ℕ, ◌+◌, ◌^◌, ◌<◌, ◌≤◌, nat_lt, Bool, true, false, ◌||◌, List, [], ◌∷◌, ◌++◌, length, take, Some, option_map, option_and_then, refl, sym, ap, ◌∙◌, subst, arith, append_assoc, append-nil, lt-ltb, if◌then◌else◌, is_ok, Result, OnOk, length-take-le, Option, Token, tokens, Data, array, unsigned, Items, no_items, item, depth, of_json, read, max_depth, outline, compact_text, items_text, comma_if, has_float, IsInOrder, SpellEach, items_by, Act, Event, short_data, long_data, act_data, event_data, book_object, joined_text, IsReadBack, IsSpelledBack, AreAppended}
+use Rattle.rd_trace.proofs.Prelude.{◌≡◌, codes, decimal, escape_byte, ℕ, ◌+◌, ◌^◌, ◌<◌, ◌≤◌, nat_lt, Bool, true, false, ◌||◌, List, [], ◌∷◌, ◌++◌, length, take, Some, option_map, option_and_then, refl, sym, ap, ◌∙◌, subst, arith, append_assoc, append-nil, lt-ltb, if◌then◌else◌, is_ok, Result, OnOk, length-take-le, Option, Token, tokens, Data, array, unsigned, Items, no_items, item, depth, of_json, read, max_depth, outline, compact_text, items_text, comma_if, has_float, IsInOrder, SpellEach, items_by, Act, Event, event_pair, event_triple, event_array, event_data, book_object, joined_text, IsReadBack, IsSpelledBack, AreAppended}
 use Rattle.std.specs.Fmt.{digits}
 use Rattle.json.specs.Json as json
 use Rattle.json.specs.Tree as tree
@@ -57,14 +57,14 @@ module _ {X : Type 0} (Spells : Data → X → Type 0) where
 pub number_back : (n : ℕ) → n < 2 ^ 64 → IsReadBack (number (unsigned n))
 number_back n fits = record { numbers = IsNumber-decimal n fits; back = ap (option_map number) (number_of-decimal n fits) }
 
-pub short_back : (word : List ℕ) (actor : ℕ) → actor < 2 ^ 64 → IsReadBack (short_data word actor)
-short_back word actor fits = record { numbers = (tt, (IsNumber-decimal actor fits, tt)); back = rw (number_of-decimal actor fits) refl }
+pub event_pair_back : (word : List ℕ) (actor : ℕ) → actor < 2 ^ 64 → IsReadBack (event_pair word actor)
+event_pair_back word actor fits = record { numbers = (tt, (IsNumber-decimal actor fits, tt)); back = rw (number_of-decimal actor fits) refl }
 
-pub long_back : (word : List ℕ) (actor : ℕ) (d : Data) → actor < 2 ^ 64 → IsReadBack d → IsReadBack (long_data word actor d)
-long_back word actor d fits h = record { numbers = (tt, (IsNumber-decimal actor fits, (h.numbers, tt))); back = rw (number_of-decimal actor fits, h.back) refl }
+pub event_triple_back : (word : List ℕ) (actor : ℕ) (d : Data) → actor < 2 ^ 64 → IsReadBack d → IsReadBack (event_triple word actor d)
+event_triple_back word actor d fits h = record { numbers = (tt, (IsNumber-decimal actor fits, (h.numbers, tt))); back = rw (number_of-decimal actor fits, h.back) refl }
 
-pub act_back : (e : Event) (act : Act) → e.act ≡ act → IsReadBack (act_data e.actor act) → IsReadBack (event_data e)
-act_back e act is = subst (λ a. IsReadBack (act_data e.actor a)) (sym is)
+pub event_array_back : (e : Event) (act : Act) → e.act ≡ act → IsReadBack (event_array e.actor act) → IsReadBack (event_data e)
+event_array_back e act is = subst (λ a. IsReadBack (event_array e.actor a)) (sym is)
 
 -- ---- books
 
@@ -85,13 +85,13 @@ pub last_appended : {T E : Type 0} (r : Result T E) (old new part : List ℕ) (P
 last_appended r old new part P is k = grind arith
 
 -- two parts that are appended one after the other are appended together
-pub two_parts : (a b c p q : List ℕ) → b ≡ a ++ p → c ≡ b ++ q → c ≡ a ++ (p ++ q)
-two_parts a b c p q first second = second ∙ ap (λ s. s ++ q) first ∙ append_assoc a p q
+pub appended_twice : (a b c p q : List ℕ) → b ≡ a ++ p → c ≡ b ++ q → c ≡ a ++ (p ++ q)
+appended_twice a b c p q first second = second ∙ ap (λ s. s ++ q) first ∙ append_assoc a p q
 
 -- two parts, the second appended by a call that may fail: if it succeeds, both are appended
 -- together
 pub both_appended : {T E : Type 0} (r : Result T E) (a b c p q : List ℕ) → b ≡ a ++ p → OnOk r (c ≡ b ++ q) → OnOk r (c ≡ a ++ (p ++ q))
-both_appended r a b c p q first second = grind (arith, two_parts)
+both_appended r a b c p q first second = grind (arith, appended_twice)
 
 pub book_back : (events marks undone : Items) (cells : ℕ) (start : Data) → cells < 2 ^ 64 → IsReadBack (array events) → IsReadBack (array marks) → IsReadBack start → IsReadBack (array undone)
     → IsReadBack (book_object events marks cells start undone)
@@ -112,8 +112,8 @@ module _ (d : Data) (shallow : tree.depth (outline d) ≤ max_depth) where
   tree_of text same = ap (json.value max_depth) (same ∙ sym (append-nil _)) ∙ value-json_tokens (outline d) max_depth [] shallow
 
   -- the text of a value and a line feed are read as the value
-  pub read_line : IsReadBack d → read (compact_text d ++ 10 ∷ []) ≡ Some d
-  read_line h =
+  pub read_with_line_feed : IsReadBack d → read (compact_text d ++ 10 ∷ []) ≡ Some d
+  read_with_line_feed h =
       let same = ap (λ s. tokens (s ++ 10 ∷ [])) (sym (print-outline d)) ∙ tokens-line (tree.json_tokens (outline d)) (ArePrintable-json_tokens (outline d) h.numbers) in
       ap parsed (tree_of (compact_text d ++ 10 ∷ []) same) ∙ h.back
 

@@ -34,7 +34,7 @@ filled_slots i (slot.Value x ∷ slots) = (i, slot.Value x) ∷ filled_slots (su
 
 -- a JSON value spells the array: it is an object of three members, which are the two counters and
 -- the slots that aren't empty, by ascending positions
-pub record IsArray (d : Data) (a : ArrayParts) : Type 0 where
+pub record SpellsArray (d : Data) (a : ArrayParts) : Type 0 where
   pub members : member_count d ≡ Some 3
   pub cells : SpellEachAt (Gives slot_of) (codes "cells") d (filled_slots 0 a.cells)
   pub head : number_at (codes "head") d ≡ Some a.head

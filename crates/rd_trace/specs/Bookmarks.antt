@@ -13,15 +13,15 @@ use Rattle.rd_trace.specs.declared.bookmarks.SavedMark.{SavedMark}
 
 -- a JSON value spells a bookmark: it is an object of two members, its name and the list of its
 -- events
-pub record IsMark (d : Data) (m : Mark) : Type 0 where
+pub record SpellsMark (d : Data) (m : Mark) : Type 0 where
   pub members : member_count d ≡ Some 2
   pub name : text_at (codes "name") d ≡ Some (bytes_of m.name)
   pub events : SpellEachAt (Gives event_of) (codes "events") d m.events
 
 -- the JSON values spell these bookmarks, one each; the bookmarks have different names, and there
 -- are no more than a book may have
-pub record AreMarks (ds : Items) (ms : List Mark) : Type 0 where
-  pub each : SpellEach IsMark ds ms
+pub record SpellMarks (ds : Items) (ms : List Mark) : Type 0 where
+  pub each : SpellEach SpellsMark ds ms
   pub names : HaveDifferentNames ms
   pub few : length ms ≤ MOST_MARKS
 

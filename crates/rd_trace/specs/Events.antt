@@ -18,22 +18,22 @@ act_of_word word =
 
 -- the act of a word that takes a number to enqueue or a choice, with this JSON value; none for any
 -- other word, or if the value is of another kind
-abbrev pub act_with : List ℕ → Data → Option Act
-act_with word d =
+abbrev pub act_with_value : List ℕ → Data → Option Act
+act_with_value word d =
     if bytes_eq word (codes "enq") then option_map act.Enq (whole_number d)
     else if bytes_eq word (codes "aenq") then option_map act.AEnq (whole_number d)
     else if bytes_eq word (codes "starve") then option_map act.Starve (as_bool d)
     else None
 
 -- the event of this act and this actor; none if one of them is missing
-abbrev pub event_by : Option Act → Option ℕ → Option Event
-event_by asked actor = option_and_then (λ known. option_map (λ n. record { actor = n; act = known }) actor) asked
+abbrev pub event_of_act_and_actor : Option Act → Option ℕ → Option Event
+event_of_act_and_actor asked actor = option_and_then (λ known. option_map (λ n. record { actor = n; act = known }) actor) asked
 
 -- the event that the items of a list spell: its word and its actor, and the number or the choice if
 -- its word takes one; none if they spell none
 abbrev pub event_of_items : Items → Option Event
-event_of_items (item word (item actor no_items)) = event_by (option_and_then act_of_word (as_str word)) (byte_number actor)
-event_of_items (item word (item actor (item d no_items))) = event_by (option_and_then (λ w. act_with w d) (as_str word)) (byte_number actor)
+event_of_items (item word (item actor no_items)) = event_of_act_and_actor (option_and_then act_of_word (as_str word)) (byte_number actor)
+event_of_items (item word (item actor (item d no_items))) = event_of_act_and_actor (option_and_then (λ w. act_with_value w d) (as_str word)) (byte_number actor)
 event_of_items _ = None
 
 -- the event that a JSON value spells; none if it spells none
@@ -41,23 +41,23 @@ abbrev pub event_of : Data → Option Event
 event_of d = option_and_then event_of_items (as_array d)
 
 -- the JSON value of an event whose word takes no value: a list of the word and the actor
-abbrev pub short_data : List ℕ → ℕ → Data
-short_data word actor = array (item (string word) (item (number (unsigned actor)) no_items))
+abbrev pub event_pair : List ℕ → ℕ → Data
+event_pair word actor = array (item (string word) (item (number (unsigned actor)) no_items))
 
 -- the JSON value of an event whose word takes a number or a choice: a list of the word, the actor
 -- and that number or choice
-abbrev pub long_data : List ℕ → ℕ → Data → Data
-long_data word actor d = array (item (string word) (item (number (unsigned actor)) (item d no_items)))
+abbrev pub event_triple : List ℕ → ℕ → Data → Data
+event_triple word actor d = array (item (string word) (item (number (unsigned actor)) (item d no_items)))
 
 -- the JSON value of an event, from its actor and its act
-abbrev pub act_data : ℕ → Act → Data
-act_data actor (act.Enq x) = long_data (codes "enq") actor (number (unsigned x))
-act_data actor act.Deq = short_data (codes "deq") actor
-act_data actor (act.AEnq x) = long_data (codes "aenq") actor (number (unsigned x))
-act_data actor act.ADeq = short_data (codes "adeq") actor
-act_data actor act.Go = short_data (codes "go") actor
-act_data actor (act.Starve choice) = long_data (codes "starve") actor (boolean choice)
+abbrev pub event_array : ℕ → Act → Data
+event_array actor (act.Enq x) = event_triple (codes "enq") actor (number (unsigned x))
+event_array actor act.Deq = event_pair (codes "deq") actor
+event_array actor (act.AEnq x) = event_triple (codes "aenq") actor (number (unsigned x))
+event_array actor act.ADeq = event_pair (codes "adeq") actor
+event_array actor act.Go = event_pair (codes "go") actor
+event_array actor (act.Starve choice) = event_triple (codes "starve") actor (boolean choice)
 
 -- the JSON value as which an event is written
 abbrev pub event_data : Event → Data
-event_data e = act_data e.actor e.act
+event_data e = event_array e.actor e.act

@@ -13,10 +13,10 @@ use Rattle.rd_trace.specs.Traces.{first_refused}
 
 -- the fault of loading for the first of these bookmarks with a refused event, at the first such
 -- event; none if no event is refused. The bookmarks are numbered from n + 1
-abbrev pub first_refused_mark : World → ℕ → List Mark → Option LoadTraceFault
-first_refused_mark start n [] = None
-first_refused_mark start n (m ∷ ms) =
-    option_or (option_map (λ refused. TraceMark (n + 1) refused.0 refused.1) (first_refused start [] m.events)) (first_refused_mark start (n + 1) ms)
+abbrev pub first_mark_fault : World → ℕ → List Mark → Option LoadTraceFault
+first_mark_fault start n [] = None
+first_mark_fault start n (m ∷ ms) =
+    option_or (option_map (λ refused. TraceMark (n + 1) refused.0 refused.1) (first_refused start [] m.events)) (first_mark_fault start (n + 1) ms)
 
 -- the fault of a trace that has no book, else none. In this order: the first flaw of its start; the
 -- first refused event of the first bookmark that has one; the first refused event of its live
@@ -24,7 +24,7 @@ first_refused_mark start n (m ∷ ms) =
 abbrev pub trace_fault : {R : ℕ} → Trace R → Option LoadTraceFault
 trace_fault t =
     option_or (option_map Flawed (start_flaw t.start))
-    (option_or (first_refused_mark (start_world t.start) 0 t.marks)
+    (option_or (first_mark_fault (start_world t.start) 0 t.marks)
     (option_map (λ refused. TraceStep refused.0 refused.1) (first_refused (start_world t.start) [] (t.live ++ t.undone))))
 
 -- the result of replaying a trace: its book, if it has no fault; its fault; or `NoMemory`, only if

@@ -11,8 +11,8 @@ use Rattle.rd_marks.specs.BookState.{Mark, BookState}
 use Rattle.rd_trace.specs.Numbers.{member_count, number_at, items_at}
 use Rattle.rd_trace.specs.Spelled.{Gives, SpellEachAt, items_by}
 use Rattle.rd_trace.specs.Events.{event_of, event_data}
-use Rattle.rd_trace.specs.Starts.{IsStart, IsActorCount, IsStartData, start_world}
-use Rattle.rd_trace.specs.Bookmarks.{AreMarks, mark_data, saved_mark}
+use Rattle.rd_trace.specs.Starts.{SpellsStart, HasActorCount, IsStartWrittenAs, start_world}
+use Rattle.rd_trace.specs.Bookmarks.{SpellMarks, mark_data, saved_mark}
 use Rattle.rd_trace.specs.Traces.{IsTraceRing}
 use Rattle.rd_trace.specs.declared.starts.Start.{Start}
 use Rattle.rd_trace.specs.declared.starts.Start.TheVariants as start
@@ -39,14 +39,14 @@ loaded_state t = record {
 
 -- a bookmark as a trace spells it: the bytes of its name, and its events. Names with the same bytes
 -- are equal, though their unused room may differ, which no call shows
-abbrev pub seen_mark : Mark → List ℕ × List Event
-seen_mark m = (bytes_of m.name, m.events)
+abbrev pub spelled_mark : Mark → List ℕ × List Event
+spelled_mark m = (bytes_of m.name, m.events)
 
 -- two books are the same: they have the same session, and bookmarks with equal names and the same
 -- events in the same order
 pub record IsSameBook (a b : BookState) : Type 0 where
   pub session : a.session ≡ b.session
-  pub marks : map seen_mark a.marks ≡ map seen_mark b.marks
+  pub marks : map spelled_mark a.marks ≡ map spelled_mark b.marks
 
 -- a JSON value is a trace of version 1: an object of four members, which are the version, the size
 -- of the rings, the number of actors of the fresh start, and the live events. The trace has no
@@ -55,7 +55,7 @@ pub record IsVersion1 {R : ℕ} (d : Data) (t : Trace R) : Type 0 where
   pub members : member_count d ≡ Some 4
   pub version : number_at (codes "version") d ≡ Some 1
   pub ring : number_at (codes "ring") d ≡ Some R
-  pub actors : (count : ℕ) × IsActorCount (codes "actors") d count × (t.start ≡ start.Fresh count)
+  pub actors : (count : ℕ) × HasActorCount (codes "actors") d count × (t.start ≡ start.Fresh count)
   pub live : SpellEachAt (Gives event_of) (codes "events") d t.live
   pub marks : t.marks ≡ []
   pub undone : t.undone ≡ []
@@ -66,8 +66,8 @@ pub record IsVersion2 {R : ℕ} (d : Data) (t : Trace R) : Type 0 where
   pub members : member_count d ≡ Some 6
   pub version : number_at (codes "version") d ≡ Some 2
   pub ring : number_at (codes "ring") d ≡ Some R
-  pub start : (e : Data) × (get (codes "start") d ≡ Some e) × IsStart e t.start
-  pub marks : (ds : Items) × (items_at (codes "marks") d ≡ Some ds) × AreMarks ds t.marks
+  pub start : (e : Data) × (get (codes "start") d ≡ Some e) × SpellsStart e t.start
+  pub marks : (ds : Items) × (items_at (codes "marks") d ≡ Some ds) × SpellMarks ds t.marks
   pub live : SpellEachAt (Gives event_of) (codes "events") d t.live
   pub undone : SpellEachAt (Gives event_of) (codes "undone") d t.undone
 
@@ -105,4 +105,4 @@ book_data begun b = book_object (items_by event_data b.session.live) (items_by m
 -- a text is one as which a book may be written: JSON without spaces, its keys in alphabetical
 -- order, and a line feed
 abbrev pub IsWrittenAs : BookState → List ℕ → Type 0
-IsWrittenAs b text = (begun : Data) × IsStartData b.session.start begun × (text ≡ compact_text (book_data begun b) ++ 10 ∷ [])
+IsWrittenAs b text = (begun : Data) × IsStartWrittenAs b.session.start begun × (text ≡ compact_text (book_data begun b) ++ 10 ∷ [])

@@ -13,7 +13,7 @@ use Rattle.rd_trace.specs.declared.faults.LoadTraceFault.TheVariants.{NoMemory, 
 use Rattle.rd_trace.specs.declared.starts.Start.{Start}
 use Rattle.rd_trace.specs.Starts.{start_world, start_flaw}
 use Rattle.rd_trace.specs.Saved.{Trace, IsEitherVersion, loaded_state}
-use Rattle.rd_trace.specs.Loading.{first_refused_mark, Replays}
+use Rattle.rd_trace.specs.Loading.{first_mark_fault, Replays}
 use Rattle.rd_trace.specs.Traces.{first_refused}
 
 -- the result of making the world of a start: its world, if the start has no flaw; the first flaw;
@@ -49,5 +49,5 @@ LoadsValue {R} d result = (t : Trace R) × IsEitherVersion d t × Replays (λ (b
 -- is refused; or `NoMemory`, or the fault of the first bookmark with a refused event
 abbrev pub SetsMarks : BookState → List Mark → BookState → Result (Unit {0}) LoadTraceFault → Type 0
 SetsMarks old marks new (Ok _) =
-    (new.marks ≡ marks) × (new.session.start ≡ old.session.start) × (first_refused_mark old.session.start 0 marks ≡ None)
-SetsMarks old marks new (Err fault) = (fault ≡ NoMemory) ⊎ (first_refused_mark old.session.start 0 marks ≡ Some fault)
+    (new.marks ≡ marks) × (new.session.start ≡ old.session.start) × (first_mark_fault old.session.start 0 marks ≡ None)
+SetsMarks old marks new (Err fault) = (fault ≡ NoMemory) ⊎ (first_mark_fault old.session.start 0 marks ≡ Some fault)

@@ -9,7 +9,7 @@ use Rattle.rd_step.specs.Prelude.{World}
 use Rattle.rd_marks.specs.BookState.{Mark}
 use Rattle.rd_trace.specs.Spelled.{SpellEach, items_by}
 use Rattle.rd_trace.specs.Starts.{IsStartValue}
-use Rattle.rd_trace.specs.Bookmarks.{IsMark, mark_data}
+use Rattle.rd_trace.specs.Bookmarks.{SpellsMark, mark_data}
 
 -- the texts of JSON values with commas between them, and with one before the first value if it
 -- comes later in its list
@@ -37,7 +37,7 @@ pub record AreAppended {X : Type 0} (Spells : Data → X → Type 0) (datum : X 
 -- back
 pub record IsMarkAppended (m : Mark) (old new : List ℕ) : Type 0 where
   pub text : new ≡ old ++ compact_text (mark_data m)
-  pub kept : IsSpelledBack IsMark (mark_data m) m
+  pub kept : IsSpelledBack SpellsMark (mark_data m) m
 
 -- the text of a JSON value was appended to a text; the start in this world may be written as this
 -- value, and the value is read back

@@ -7,10 +7,10 @@ ghost use Rattle.rd_actor.specs.declared.actors.Actor.{Actor};
 ghost use Rattle.rd_actor.specs.declared.actors.Pc.{Pc};
 ghost use Rattle.rd_actor.specs.Labels.{label};
 ghost use Rattle.rd_trace.specs.Numbers.{byte_number};
-ghost use Rattle.rd_trace.specs.Actors.{op_of, op_data, value_of, IsActor, actor_data};
+ghost use Rattle.rd_trace.specs.Actors.{op_of, op_data, val_of, SpellsActor, actor_data};
 
 use super::members::{member_count, number_at};
-use super::names::{name_in, name_value};
+use super::names::{segment_name_in, segment_name_json};
 use super::spelled::{Plain, Written};
 use rd_actor::{Actor, Op, Pc};
 use serde_json::{Map, Value, json, put};
@@ -44,7 +44,7 @@ const T: &str = "t";
 const VAL: &str = "val";
 
 impl Plain for Actor {
-    ghost spells = { IsActor };
+    ghost spells = { SpellsActor };
 
     /// Returns the actor that a JSON value spells; none if it spells none.
     fn in_value(value: &Value) -> Option<Actor> {
@@ -56,13 +56,13 @@ impl Plain for Actor {
             pass: u8::try_from(number_at(value, PASS)?).ok()?,
             closed: value.get(CLOSED)?.as_bool()?,
             safe: value.get(SAFE)?.as_bool()?,
-            crq: name_in(value.get(CRQ)?)?,
-            new: name_in(value.get(NEW)?)?,
-            next: name_in(value.get(NEXT)?)?,
+            crq: segment_name_in(value.get(CRQ)?)?,
+            new: segment_name_in(value.get(NEW)?)?,
+            next: segment_name_in(value.get(NEXT)?)?,
             op: op_in(value.get(OP)?)?,
             t: number_at(value, T)?,
             h: number_at(value, H)?,
-            val: value_in(value.get(VAL)?)?,
+            val: val_in(value.get(VAL)?)?,
             idx: number_at(value, IDX)?,
         })
     }
@@ -73,26 +73,41 @@ impl Written for Actor {
 
     /// Returns the JSON value of the actor. Fails only if memory is refused.
     fn to_value(&self, alloc: Global) -> Result<Value, AllocError> {
-        actor_value(alloc, self)
+        actor_json(alloc, self)
     }
 }
 
 /// Returns the JSON value of an actor. Fails only if memory is refused.
-fn actor_value(alloc: Global, actor: &Actor) -> Result<Value, AllocError>
+fn actor_json(alloc: Global, actor: &Actor) -> Result<Value, AllocError>
     ensures value { IfOk result (λ value. view value ≡ actor_data actor.now) }
-    ensures spelled { OnOk result (IsActor (actor_data actor.now) actor.now) }
+    ensures spelled { OnOk result (SpellsActor (actor_data actor.now) actor.now) }
 {
     // Each member has its own step here, which the proof can name; it cannot name those of `json!`.
     let mut members = Map::new(alloc);
     put(&mut members, alloc, CLOSED, Value::from(actor.closed))?;
-    put(&mut members, alloc, CRQ, name_value(alloc, actor.crq)?)?;
+    put(
+        &mut members,
+        alloc,
+        CRQ,
+        segment_name_json(alloc, actor.crq)?,
+    )?;
     put(&mut members, alloc, H, Value::from(actor.h))?;
     put(&mut members, alloc, IDX, Value::from(actor.idx))?;
-    put(&mut members, alloc, NEW, name_value(alloc, actor.new)?)?;
-    put(&mut members, alloc, NEXT, name_value(alloc, actor.next)?)?;
-    put(&mut members, alloc, OP, op_value(alloc, actor.op)?)?;
-    put(&mut members, alloc, PASS, pass_value(actor.pass))?;
-    put(&mut members, alloc, PC, pc_value(alloc, actor.pc)?)?;
+    put(
+        &mut members,
+        alloc,
+        NEW,
+        segment_name_json(alloc, actor.new)?,
+    )?;
+    put(
+        &mut members,
+        alloc,
+        NEXT,
+        segment_name_json(alloc, actor.next)?,
+    )?;
+    put(&mut members, alloc, OP, op_json(alloc, actor.op)?)?;
+    put(&mut members, alloc, PASS, pass_json(actor.pass))?;
+    put(&mut members, alloc, PC, pc_json(alloc, actor.pc)?)?;
     put(&mut members, alloc, SAFE, Value::from(actor.safe))?;
     put(&mut members, alloc, T, Value::from(actor.t))?;
     put(&mut members, alloc, VAL, Value::from(actor.val))?;
@@ -100,7 +115,7 @@ fn actor_value(alloc: Global, actor: &Actor) -> Result<Value, AllocError>
 }
 
 /// Returns the JSON value of an actor's pass.
-fn pass_value(pass: u8) -> Value
+fn pass_json(pass: u8) -> Value
     ensures value { view result ≡ number (unsigned pass) }
     ensures spelled { byte_number (number (unsigned pass)) ≡ Some pass }
 {
@@ -109,8 +124,8 @@ fn pass_value(pass: u8) -> Value
 
 /// Returns what a JSON value spells as the value of a cell or an actor: no value for `null`, the
 /// number for a whole number; none for anything else.
-pub fn value_in(value: &Value) -> Option<Option<u64>>
-    ensures { result ≡ value_of (view value.now) }
+pub fn val_in(value: &Value) -> Option<Option<u64>>
+    ensures { result ≡ val_of (view value.now) }
 {
     if value.is_null() {
         return Some(None);
@@ -120,7 +135,7 @@ pub fn value_in(value: &Value) -> Option<Option<u64>>
 
 /// Returns the call that a JSON value spells, or no call for `null`; none if the JSON value spells
 /// neither.
-#[tactic(auto, using(crate::proofs::ActorLemmas::no_op))]
+#[tactic(auto, using(crate::proofs::ActorLemmas::spells_no_op))]
 fn op_in(value: &Value) -> Option<Option<Op>>
     ensures { result ≡ op_of (view value.now) }
 {
@@ -144,7 +159,7 @@ fn op_in(value: &Value) -> Option<Option<Op>>
 }
 
 /// Returns a call as a JSON array, or `null` for no call. Fails only if memory is refused.
-fn op_value(alloc: Global, op: Option<Op>) -> Result<Value, AllocError>
+fn op_json(alloc: Global, op: Option<Op>) -> Result<Value, AllocError>
     ensures { IfOk result (λ value. view value ≡ op_data op) }
 {
     match op {
@@ -157,7 +172,7 @@ fn op_value(alloc: Global, op: Option<Op>) -> Result<Value, AllocError>
 }
 
 /// Returns the JSON value of a control point: its label. Fails only if memory is refused.
-fn pc_value(alloc: Global, pc: Pc) -> Result<Value, AllocError>
+fn pc_json(alloc: Global, pc: Pc) -> Result<Value, AllocError>
     ensures { IfOk result (λ value. view value ≡ string (label pc)) }
 {
     Value::try_from_str(alloc, pc.label())

@@ -7,7 +7,7 @@ ghost use Rattle.rd_step.specs.Prelude.{SLOTS};
 ghost use Rattle.rd_cell.specs.declared.contents.ArrSlot.{ArrSlot};
 ghost use Rattle.rd_segments.specs.declared.array.ArrayParts.{ArrayParts};
 ghost use Rattle.rd_trace.specs.Spelled.{Gives, SpellEach, items_by};
-ghost use Rattle.rd_trace.specs.Arrays.{slot_of, content_data, slot_data, filled_slots, IsArray, array_data};
+ghost use Rattle.rd_trace.specs.Arrays.{slot_of, content_data, slot_data, filled_slots, SpellsArray, array_data};
 
 use super::members::{items_at, member_count, number_at};
 use rd_cell::ArrSlot;
@@ -27,8 +27,8 @@ const TAIL: &str = "tail";
 
 /// Returns the array that a JSON value spells; none if it spells none.
 pub fn array_parts_in(value: &Value) -> Option<ArrayParts>
-    ensures some { IfSome result (IsArray (view value.now)) }
-    ensures none { IfNone result ((parts : ArrayParts) → IsArray (view value.now) parts → ⊥) }
+    ensures some { IfSome result (SpellsArray (view value.now)) }
+    ensures none { IfNone result ((parts : ArrayParts) → SpellsArray (view value.now) parts → ⊥) }
 {
     if member_count(value)? != MEMBERS {
         return None;
@@ -41,10 +41,10 @@ pub fn array_parts_in(value: &Value) -> Option<ArrayParts>
 }
 
 /// Returns the JSON value of the array. Fails only if memory is refused.
-pub fn array_parts_value(alloc: Global, array: &ArrayParts) -> Result<Value, AllocError>
+pub fn array_parts_json(alloc: Global, array: &ArrayParts) -> Result<Value, AllocError>
     ensures { IfOk result (λ value. view value ≡ array_data array.now) }
 {
-    let cells = slots_value(alloc, &array.cells)?;
+    let cells = slots_json(alloc, &array.cells)?;
     json!(in alloc; {CELLS: cells, HEAD: array.head, TAIL: array.tail})
 }
 
@@ -72,7 +72,7 @@ fn slots_in(list: &Vec<Value>) -> Option<[ArrSlot; SLOTS]>
 
 /// Returns the JSON values of the slots that aren't empty, each with its position, in order. Fails
 /// only if memory is refused.
-fn slots_value(alloc: Global, slots: &[ArrSlot]) -> Result<Vec<Value>, AllocError>
+fn slots_json(alloc: Global, slots: &[ArrSlot]) -> Result<Vec<Value>, AllocError>
     ensures { IfOk result (λ values. items_view values.items
         ≡ items_by slot_data (filled_slots 0 slots.now)) }
 {
@@ -80,23 +80,23 @@ fn slots_value(alloc: Global, slots: &[ArrSlot]) -> Result<Vec<Value>, AllocErro
     for position in 0..slots.len() {
         match slots[position] {
             ArrSlot::Empty => {}
-            slot => values.push(slot_value(alloc, position, slot)?)?,
+            slot => values.push(slot_json(alloc, position, slot)?)?,
         }
     }
     Ok(values)
 }
 
 /// Returns the JSON array of a slot's position and content. Fails only if memory is refused.
-fn slot_value(alloc: Global, position: usize, slot: ArrSlot) -> Result<Value, AllocError>
+fn slot_json(alloc: Global, position: usize, slot: ArrSlot) -> Result<Value, AllocError>
     ensures { IfOk result (λ value. view value ≡ slot_data (position, slot)) }
 {
-    let content = content_value(alloc, slot)?;
+    let content = content_json(alloc, slot)?;
     json!(in alloc; [position as u64, content])
 }
 
 /// Returns the JSON value of a slot's content: `"top"`, a number, or `null` for an empty slot,
 /// which is never written. Fails only if memory is refused.
-fn content_value(alloc: Global, slot: ArrSlot) -> Result<Value, AllocError>
+fn content_json(alloc: Global, slot: ArrSlot) -> Result<Value, AllocError>
     ensures { IfOk result (λ value. view value ≡ content_data slot) }
 {
     match slot {
@@ -111,7 +111,7 @@ const TOP: &str = "top";
 
 /// Returns the position and the content of the slot that a JSON value spells, where `Top` is
 /// spelled `"top"` and a value as its number; none if it spells none.
-#[tactic(auto, using(crate::proofs::ArrayLemmas::no_slot))]
+#[tactic(auto, using(crate::proofs::ArrayLemmas::spells_no_slot))]
 fn slot_in(value: &Value) -> Option<(usize, ArrSlot)>
     ensures { result ≡ slot_of (view value.now) }
 {

@@ -9,7 +9,7 @@ ghost use Rattle.rd_marks.specs.Names.{mark_name_eq};
 ghost use Rattle.rd_marks.specs.Rules.{KeepsRules};
 ghost use Rattle.rd_marks.specs.declared.names.MarkName.{MarkName};
 ghost use Rattle.rd_trace.specs.Spelled.{Reads};
-ghost use Rattle.rd_trace.specs.Bookmarks.{AreMarks, IsMark, saved_mark, saved_marks, mark_data};
+ghost use Rattle.rd_trace.specs.Bookmarks.{SpellMarks, SpellsMark, saved_mark, saved_marks, mark_data};
 ghost use Rattle.rd_trace.specs.Texts.{AreAppended, IsMarkAppended};
 
 use super::events::put_events;
@@ -46,7 +46,7 @@ pub struct SavedMark {
 /// `BadTrace` if a value spells no bookmark, if two bookmarks have one name, or if there are more
 /// than 64; `NoMemory` if memory was refused.
 pub fn marks_in(alloc: Global, list: &Vec<Value>) -> Result<Vec<SavedMark>, LoadTraceFault>
-    ensures { Reads saved_marks (AreMarks (items_view list.now.items)) result }
+    ensures { Reads saved_marks (SpellMarks (items_view list.now.items)) result }
 {
     let count = list.len();
     if count > MOST_MARKS {
@@ -73,7 +73,7 @@ fn is_taken(marks: &[SavedMark], name: MarkName) -> bool
 /// Returns the bookmark that a JSON value spells. Fails with `BadTrace` if it spells none, and with
 /// `NoMemory` if memory is refused.
 fn mark_in(alloc: Global, value: &Value) -> Result<SavedMark, LoadTraceFault>
-    ensures { Reads saved_mark (IsMark (view value.now)) result }
+    ensures { Reads saved_mark (SpellsMark (view value.now)) result }
 {
     if member_count(value) != Some(MEMBERS) {
         return Err(LoadTraceFault::BadTrace);
@@ -97,7 +97,7 @@ pub fn put_marks<const R: usize>(
     text: &mut String,
     book: &Book<R>,
 ) -> Result<(), AllocError>
-    ensures marks { OnOk result (AreAppended IsMark mark_data (book_state book.now).marks
+    ensures marks { OnOk result (AreAppended SpellsMark mark_data (book_state book.now).marks
         (string_bytes text.old) (string_bytes text.new)) }
     ensures rules { KeepsRules (book_state book.now) }
 {

@@ -21,7 +21,7 @@ impl Plain for Event {
     ghost spells = { Gives event_of };
 
     /// Returns the event that a JSON value spells; none if it spells none.
-    #[tactic(auto, using(crate::proofs::EventLemmas::other_length))]
+    #[tactic(auto, using(crate::proofs::EventLemmas::spells_no_event))]
     fn in_value(value: &Value) -> Option<Event> {
         let items = value.as_array()?;
         let (act, actor) = match items.as_slice() {
@@ -80,32 +80,42 @@ fn put_event(text: &mut String, event: Event) -> Result<(), AllocError>
     ensures back { IsReadBack (event_data event) }
 {
     match event.act {
-        Act::Enq(x) => put_long(text, "[\"enq\",", event.actor, x),
-        Act::Deq => put_around(text, "[\"deq\",", event.actor, "]"),
-        Act::AEnq(x) => put_long(text, "[\"aenq\",", event.actor, x),
-        Act::ADeq => put_around(text, "[\"adeq\",", event.actor, "]"),
-        Act::Go => put_around(text, "[\"go\",", event.actor, "]"),
-        Act::Starve(choice) => put_around(text, "[\"starve\",", event.actor, choice_end(choice)),
+        Act::Enq(x) => put_number_event(text, "[\"enq\",", event.actor, x),
+        Act::Deq => put_actor_between(text, "[\"deq\",", event.actor, "]"),
+        Act::AEnq(x) => put_number_event(text, "[\"aenq\",", event.actor, x),
+        Act::ADeq => put_actor_between(text, "[\"adeq\",", event.actor, "]"),
+        Act::Go => put_actor_between(text, "[\"go\",", event.actor, "]"),
+        Act::Starve(choice) => put_actor_between(
+            text,
+            "[\"starve\",",
+            event.actor,
+            closing_with_choice(choice),
+        ),
     }
 }
 
 /// Appends the text of an event that has a number: `opening`, which is the bracket, the word and a
 /// comma; the actor, a comma, the number, and the closing bracket. Fails only if memory is refused;
 /// the text may then end with a beginning of this.
-fn put_long(text: &mut String, opening: &str, actor: u8, x: u64) -> Result<(), AllocError>
+fn put_number_event(text: &mut String, opening: &str, actor: u8, x: u64) -> Result<(), AllocError>
     ensures ok { OnOk result (string_bytes text.new
         ≡ string_bytes text.old ++ (opening.now
         ++ (decimal actor ++ (44 ∷ (decimal x ++ 93 ∷ []))))) }
     ensures back { IsReadBack (number (unsigned x)) }
 {
-    put_around(text, opening, actor, ",")?;
+    put_actor_between(text, opening, actor, ",")?;
     put_number(text, x)?;
     text.push_str("]")
 }
 
 /// Appends `opening`, the actor's number and `closing`. Fails only if memory is refused; the text
 /// may then end with a beginning of this.
-fn put_around(text: &mut String, opening: &str, actor: u8, closing: &str) -> Result<(), AllocError>
+fn put_actor_between(
+    text: &mut String,
+    opening: &str,
+    actor: u8,
+    closing: &str,
+) -> Result<(), AllocError>
     ensures { OnOk result (string_bytes text.new
         ≡ string_bytes text.old ++ (opening.now ++ (decimal actor ++ closing.now))) }
 {
@@ -116,7 +126,7 @@ fn put_around(text: &mut String, opening: &str, actor: u8, closing: &str) -> Res
 
 /// Returns what follows the actor in the text of a `starve` event: a comma, the choice as `true` or
 /// `false`, and the closing bracket.
-fn choice_end(choice: bool) -> &'static str
+fn closing_with_choice(choice: bool) -> &'static str
     ensures { result.now ≡ 44 ∷ (token_text (boolean choice) ++ 93 ∷ []) }
 {
     if choice { ",true]" } else { ",false]" }

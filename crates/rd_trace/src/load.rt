@@ -72,6 +72,6 @@ fn book_of<const R: usize>(alloc: Global, value: Value) -> Result<Book<R>, LoadT
     set_marks(&mut book, &session.marks)?;
     go_to(&mut book, &session.events)?;
     step_all(&mut book, &session.undone)?;
-    book.go_back(session.undone.len() as u64);
+    book.undo_last(session.undone.len() as u64);
     Ok(book)
 }

@@ -3,16 +3,16 @@
 
 ghost use Rattle.std.specs.Prelude.{◌≡◌, Some, IfOk};
 ghost use Rattle.serde_json.specs.View.{view};
-ghost use Rattle.rd_trace.specs.Names.{name_of, next_of, name_data, next_data};
+ghost use Rattle.rd_trace.specs.Names.{segment_name_of, next_of, segment_name_data, next_data};
 
 use rd_cell::SegName;
 use serde_json::{Value, json};
 use std::alloc::{AllocError, Global};
 
 /// Returns the name of a segment that a JSON value spells; none if it spells none.
-#[tactic(auto, using(crate::proofs::NumberLemmas::no_name))]
-pub fn name_in(value: &Value) -> Option<SegName>
-    ensures { result ≡ name_of (view value.now) }
+#[tactic(auto, using(crate::proofs::NumberLemmas::spells_no_name))]
+pub fn segment_name_in(value: &Value) -> Option<SegName>
+    ensures { result ≡ segment_name_of (view value.now) }
 {
     let items = value.as_array()?;
     match items.as_slice() {
@@ -25,21 +25,21 @@ pub fn name_in(value: &Value) -> Option<SegName>
 }
 
 /// Returns the JSON value of a segment's name. Fails only if memory is refused.
-pub fn name_value(alloc: Global, name: SegName) -> Result<Value, AllocError>
-    ensures value { IfOk result (λ value. view value ≡ name_data name) }
-    ensures spelled { name_of (name_data name) ≡ Some name }
+pub fn segment_name_json(alloc: Global, name: SegName) -> Result<Value, AllocError>
+    ensures value { IfOk result (λ value. view value ≡ segment_name_data name) }
+    ensures spelled { segment_name_of (segment_name_data name) ≡ Some name }
 {
     json!(in alloc; [name.maker, name.n])
 }
 
 /// Returns the JSON value of the next segment's name, or `null` for no next segment. Fails only if
 /// memory is refused.
-pub fn next_value(alloc: Global, next: Option<SegName>) -> Result<Value, AllocError>
+pub fn next_json(alloc: Global, next: Option<SegName>) -> Result<Value, AllocError>
     ensures value { IfOk result (λ value. view value ≡ next_data next) }
     ensures spelled { next_of (next_data next) ≡ Some next }
 {
     match next {
         None => Ok(Value::Null),
-        Some(name) => name_value(alloc, name),
+        Some(name) => segment_name_json(alloc, name),
     }
 }

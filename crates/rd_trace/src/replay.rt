@@ -6,7 +6,7 @@ ghost use Rattle.rd_step.specs.Prelude.{MOST_CELLS};
 ghost use Rattle.rd_marks.specs.Book.{book_state};
 ghost use Rattle.rd_marks.specs.NameBytes.{MOST_MARKS};
 ghost use Rattle.rd_trace.specs.Starts.{HasActorsInRange};
-ghost use Rattle.rd_marks.specs.Rules.{GoThrough, HaveDifferentNames};
+ghost use Rattle.rd_marks.specs.Rules.{CanRun, HaveDifferentNames};
 ghost use Rattle.rd_trace.specs.Bookmarks.{saved_mark};
 ghost use Rattle.rd_trace.specs.Steps.{MakesWorld, GoesTo, SetsMarks};
 
@@ -87,7 +87,7 @@ pub fn go_to<const R: usize>(book: &mut Book<R>, events: &[Event]) -> Result<(),
 /// `TraceStep` at the first one that is refused, which is numbered after the live events, and with
 /// `NoMemory` if memory is refused.
 pub fn step_all<const R: usize>(book: &mut Book<R>, events: &[Event]) -> Result<(), LoadTraceFault>
-    requires through { GoThrough (book_state book.old).session.start
+    requires through { CanRun (book_state book.old).session.start
         (book_state book.old).session.live }
     requires none { (book_state book.old).session.undone ≡ [] }
     ensures goes { GoesTo (book_state book.old) ((book_state book.old).session.live ++ events.now)

@@ -6,7 +6,7 @@ ghost use Rattle.serde_json.specs.View.{view};
 ghost use Rattle.rd_step.specs.Prelude.{MOST_CELLS};
 ghost use Rattle.rd_journal.specs.Sessions.{state};
 ghost use Rattle.rd_marks.specs.Book.{book_state};
-ghost use Rattle.rd_marks.specs.Rules.{GoThrough};
+ghost use Rattle.rd_marks.specs.Rules.{CanRun};
 ghost use Rattle.rd_trace.specs.Numbers.{member_count, number_at};
 ghost use Rattle.rd_trace.specs.Starts.{IsStartValue};
 ghost use Rattle.rd_trace.specs.Spelled.{Reads, Gives};
@@ -20,7 +20,7 @@ use super::events::put_next_event;
 use super::faults::LoadTraceFault;
 use super::members::{items_at, member_count, number_at};
 use super::spelled::list_in;
-use super::starts::{Start, actors_at, start_in, start_value};
+use super::starts::{Start, actor_count_at, start_in, start_json};
 use super::texts::put_number;
 use rd_journal::Session;
 use rd_marks::Book;
@@ -32,10 +32,10 @@ use std::alloc::{AllocError, Global};
 const VERSION_1_MEMBERS: usize = 4;
 
 /// The number of members of a trace of version 2.
-const MEMBERS: usize = 6;
+const VERSION_2_MEMBERS: usize = 6;
 
 /// The version that is written.
-const WRITTEN: u64 = 2;
+const WRITTEN_VERSION: u64 = 2;
 
 const ACTORS: &str = "actors";
 
@@ -68,7 +68,7 @@ pub struct SavedSession<const R: usize> {
 /// # Errors
 ///
 /// `BadTrace` if it spells none; `NoMemory` if memory was refused.
-#[tactic(auto, using(crate::proofs::SavedLemmas::first_read, crate::proofs::SavedLemmas::second_read))]
+#[tactic(auto, using(crate::proofs::SavedLemmas::version1_read, crate::proofs::SavedLemmas::version2_read))]
 pub fn session_in<const R: usize>(
     alloc: Global,
     value: &Value,
@@ -79,7 +79,7 @@ pub fn session_in<const R: usize>(
 {
     match (number_at(value, VERSION), member_count(value)) {
         (Some(1), Some(VERSION_1_MEMBERS)) => version_1_session_in(alloc, value),
-        (Some(WRITTEN), Some(MEMBERS)) => version_2_session_in(alloc, value),
+        (Some(WRITTEN_VERSION), Some(VERSION_2_MEMBERS)) => version_2_session_in(alloc, value),
         _ => Err(LoadTraceFault::BadTrace),
     }
 }
@@ -97,7 +97,7 @@ fn version_1_session_in<const R: usize>(
     requires ring { number_at (codes "ring") (view value.now) ≡ Some R }
     ensures { Reads saved_trace (IsVersion1 (view value.now)) result }
 {
-    let Some(actors) = actors_at(value, ACTORS) else {
+    let Some(actors) = actor_count_at(value, ACTORS) else {
         return Err(LoadTraceFault::BadTrace);
     };
     Ok(SavedSession {
@@ -136,7 +136,7 @@ fn version_2_session_in<const R: usize>(
 
 /// Returns the text of a book's session and bookmarks as a trace of version 2, with a line feed
 /// after it. Fails only if memory is refused.
-pub fn text_of<const R: usize>(alloc: Global, book: &Book<R>) -> Result<String, AllocError>
+pub fn trace_text<const R: usize>(alloc: Global, book: &Book<R>) -> Result<String, AllocError>
     ensures { IfOk result (λ text. IsUtf8 (string_bytes text)
         → IsTextOf (book_state book.now) (string_bytes text)) }
 {
@@ -144,7 +144,7 @@ pub fn text_of<const R: usize>(alloc: Global, book: &Book<R>) -> Result<String, 
     events_go_through(session);
     let mut text = String::new(alloc);
     text.push_str("{\"events\":[")?;
-    put_live(&mut text, session)?;
+    put_live_events(&mut text, session)?;
     text.push_str("],\"marks\":[")?;
     put_marks(alloc, &mut text, book)?;
     text.push_str("],\"ring\":")?;
@@ -152,7 +152,7 @@ pub fn text_of<const R: usize>(alloc: Global, book: &Book<R>) -> Result<String, 
     text.push_str(",\"start\":")?;
     put_start(alloc, &mut text, session)?;
     text.push_str(",\"undone\":[")?;
-    put_undone(&mut text, session)?;
+    put_undone_events(&mut text, session)?;
     text.push_str("],\"version\":2}\n")?;
     Ok(text)
 }
@@ -160,20 +160,23 @@ pub fn text_of<const R: usize>(alloc: Global, book: &Book<R>) -> Result<String, 
 /// Does nothing. Its contract is a law, which follows from the contract of the session's world: the
 /// live events of a session, and then its undone ones, can run from its start.
 fn events_go_through<const R: usize>(session: &Session<R>)
-    ensures { GoThrough (state session.now).start
+    ensures { CanRun (state session.now).start
         ((state session.now).live ++ (state session.now).undone) }
 {
     let _world = session.world();
 }
 
 /// Returns the JSON value of the start of a session. Fails only if memory is refused.
-fn start_of<const R: usize>(alloc: Global, session: &Session<R>) -> Result<Value, AllocError>
+fn session_start_json<const R: usize>(
+    alloc: Global,
+    session: &Session<R>,
+) -> Result<Value, AllocError>
     ensures { IfOk result (λ value. IsStartValue (state session.now).start (view value)) }
 {
     let Ok(world) = session.start_world(alloc) else {
         return Err(AllocError);
     };
-    start_value(alloc, &world)
+    start_json(alloc, &world)
 }
 
 /// Appends the text of the start of a session. Fails only if memory is refused; the text is then
@@ -186,14 +189,17 @@ fn put_start<const R: usize>(
     ensures { OnOk result (IsStartAppended (state session.now).start (string_bytes text.old)
         (string_bytes text.new)) }
 {
-    let start = start_of(alloc, session)?;
+    let start = session_start_json(alloc, session)?;
     let written = start.to_string(alloc)?;
     text.push_str(written.as_str())
 }
 
 /// Appends the texts of the live events of a session, in order, with commas between them. Fails
 /// only if memory is refused; the text may then end with some of them.
-fn put_live<const R: usize>(text: &mut String, session: &Session<R>) -> Result<(), AllocError>
+fn put_live_events<const R: usize>(
+    text: &mut String,
+    session: &Session<R>,
+) -> Result<(), AllocError>
     ensures { OnOk result (AreAppended (Gives event_of) event_data (state session.now).live
         (string_bytes text.old) (string_bytes text.new)) }
 {
@@ -207,7 +213,10 @@ fn put_live<const R: usize>(text: &mut String, session: &Session<R>) -> Result<(
 /// Appends the texts of the undone events of a session, with commas between them, beginning with
 /// the event that was undone last. Fails only if memory is refused; the text may then end with some
 /// of them.
-fn put_undone<const R: usize>(text: &mut String, session: &Session<R>) -> Result<(), AllocError>
+fn put_undone_events<const R: usize>(
+    text: &mut String,
+    session: &Session<R>,
+) -> Result<(), AllocError>
     ensures { OnOk result (AreAppended (Gives event_of) event_data (state session.now).undone
         (string_bytes text.old) (string_bytes text.new)) }
 {

@@ -7,13 +7,13 @@ ghost use Rattle.rd_step.specs.Prelude.{MOST_CELLS};
 ghost use Rattle.rd_cell.specs.declared.cells.Cell.{Cell};
 ghost use Rattle.rd_ring.specs.declared.parts.SegmentParts.{SegmentParts};
 ghost use Rattle.rd_trace.specs.Spelled.{Gives, SpellEach};
-ghost use Rattle.rd_trace.specs.Segments.{cell_of, cell_data, IsSegment, IsSegmentList, segment_data, segment_list_data};
+ghost use Rattle.rd_trace.specs.Segments.{cell_of, cell_data, SpellsSegment, SpellsSegmentList, segment_data, segment_list_data};
 
-use super::actors::value_in;
+use super::actors::val_in;
 use super::faults::LoadTraceFault;
 use super::members::{items_at, member_count, number_at};
-use super::names::{name_in, next_value};
-use super::spelled::{Plain, Spelled, Written, list_in, list_value};
+use super::names::{next_json, segment_name_in};
+use super::spelled::{Plain, Spelled, Written, list_in, list_json};
 use rd_cell::Cell;
 use rd_step::SegmentParts;
 use serde_json::{Value, json};
@@ -33,7 +33,7 @@ const NEXT: &str = "next";
 const TAIL: &str = "tail";
 
 impl<const R: usize> Spelled for Vec<SegmentParts<R>> {
-    ghost spells = { IsSegmentList };
+    ghost spells = { SpellsSegmentList };
 
     ghost fits = { R ≤ MOST_CELLS };
 
@@ -49,12 +49,12 @@ impl<const R: usize> Written for Vec<SegmentParts<R>> {
 
     /// Returns the JSON value of the list of segments. Fails only if memory is refused.
     fn to_value(&self, alloc: Global) -> Result<Value, AllocError> {
-        Ok(Value::Array(list_value(alloc, self)?))
+        Ok(Value::Array(list_json(alloc, self)?))
     }
 }
 
 impl<const R: usize> Plain for SegmentParts<R> {
-    ghost spells = { IsSegment };
+    ghost spells = { SpellsSegment };
 
     ghost fits = { R ≤ MOST_CELLS };
 
@@ -69,7 +69,7 @@ impl<const R: usize> Plain for SegmentParts<R> {
             closed: value.get(CLOSED)?.as_bool()?,
             next: match value.get(NEXT)? {
                 Value::Null => None,
-                name => Some(name_in(name)?),
+                name => Some(segment_name_in(name)?),
             },
             cells: cells_in(items_at(value, CELLS)?)?,
         })
@@ -82,8 +82,8 @@ impl<const R: usize> Written for SegmentParts<R> {
     /// Returns the JSON value of the segment. Fails only if memory is refused.
     #[tactic(auto, using(crate::proofs::SegmentLemmas::segment_spelled))]
     fn to_value(&self, alloc: Global) -> Result<Value, AllocError> {
-        let cells = list_value(alloc, &self.cells[..])?;
-        let next = next_value(alloc, self.next)?;
+        let cells = list_json(alloc, &self.cells[..])?;
+        let next = next_json(alloc, self.next)?;
         json!(in alloc; {
             CELLS: cells,
             CLOSED: self.closed,
@@ -98,14 +98,14 @@ impl Plain for Cell {
     ghost spells = { Gives cell_of };
 
     /// Returns the cell that a JSON value spells; none if it spells none.
-    #[tactic(auto, using(crate::proofs::SegmentLemmas::no_cell))]
+    #[tactic(auto, using(crate::proofs::SegmentLemmas::spells_no_cell))]
     fn in_value(value: &Value) -> Option<Cell> {
         let items = value.as_array()?;
         match items.as_slice() {
             [safe, idx, val] => Some(Cell {
                 safe: safe.as_bool()?,
                 idx: idx.as_u64()?,
-                val: value_in(val)?,
+                val: val_in(val)?,
             }),
             _ => None,
         }

@@ -91,7 +91,7 @@ pub fn list_in<T: Spelled>(
 
 /// Returns the JSON values as which these things are written, in order. Fails only if memory is
 /// refused.
-pub fn list_value<T: Written>(alloc: Global, things: &[T]) -> Result<Vec<Value>, AllocError>
+pub fn list_json<T: Written>(alloc: Global, things: &[T]) -> Result<Vec<Value>, AllocError>
     ensures { IfOk result (λ values. AreSpelled T.spells T.datum values.items things.now) }
 {
     let mut values = Vec::with_capacity(alloc, things.len())?;

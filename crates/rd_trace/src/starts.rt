@@ -6,13 +6,13 @@ ghost use Rattle.serde_json.specs.View.{view, items_view};
 ghost use Rattle.rd_step.specs.Prelude.{MOST_CELLS, model};
 ghost use Rattle.rd_trace.specs.Numbers.{member_count};
 ghost use Rattle.rd_trace.specs.Spelled.{Reads, itself};
-ghost use Rattle.rd_trace.specs.Starts.{IsActorCount, IsParts, IsStart, IsStartValue, fresh_data, parts_object, parts_data};
+ghost use Rattle.rd_trace.specs.Starts.{HasActorCount, SpellsParts, SpellsStart, IsStartValue, fresh_data, parts_object, parts_data};
 
-use super::arrays::{array_parts_in, array_parts_value};
+use super::arrays::{array_parts_in, array_parts_json};
 use super::faults::LoadTraceFault;
 use super::members::{items_at, member_count, number_at};
-use super::names::{name_in, name_value};
-use super::spelled::{list_in, list_value};
+use super::names::{segment_name_in, segment_name_json};
+use super::spelled::{list_in, list_json};
 use rd_cell::limits::MOST_ACTORS;
 use rd_step::{Parts, World};
 use serde_json::{Value, json};
@@ -22,7 +22,7 @@ use std::alloc::{AllocError, Global};
 const FRESH_MEMBERS: usize = 1;
 
 /// The number of members of the JSON object of a world's parts.
-const MEMBERS: usize = 5;
+const PARTS_MEMBERS: usize = 5;
 
 const ACTORS: &str = "actors";
 
@@ -52,23 +52,23 @@ pub enum Start<const R: usize> {
 /// `BadTrace` if it spells none; `NoMemory` if memory was refused.
 pub fn start_in<const R: usize>(alloc: Global, value: &Value) -> Result<Start<R>, LoadTraceFault>
     requires { R ≤ MOST_CELLS }
-    ensures { Reads itself (IsStart (view value.now)) result }
+    ensures { Reads itself (SpellsStart (view value.now)) result }
 {
     match member_count(value) {
-        Some(FRESH_MEMBERS) => match actors_at(value, FRESH) {
+        Some(FRESH_MEMBERS) => match actor_count_at(value, FRESH) {
             None => Err(LoadTraceFault::BadTrace),
             Some(actors) => Ok(Start::Fresh(actors)),
         },
-        Some(MEMBERS) => Ok(Start::Parts(parts_in(alloc, value)?)),
+        Some(PARTS_MEMBERS) => Ok(Start::Parts(parts_in(alloc, value)?)),
         _ => Err(LoadTraceFault::BadTrace),
     }
 }
 
 /// Returns the number of actors at a key of an object; none if it has no whole number from 1 to 16
 /// there.
-pub fn actors_at(value: &Value, key: &str) -> Option<u8>
-    ensures some { IfSome result (IsActorCount key.now (view value.now)) }
-    ensures none { IfNone result ((count : ℕ) → IsActorCount key.now (view value.now) count → ⊥) }
+pub fn actor_count_at(value: &Value, key: &str) -> Option<u8>
+    ensures some { IfSome result (HasActorCount key.now (view value.now)) }
+    ensures none { IfNone result ((count : ℕ) → HasActorCount key.now (view value.now) count → ⊥) }
 {
     let actors = number_at(value, key)?;
     if actors < 1 || actors > MOST_ACTORS as u64 {
@@ -82,12 +82,12 @@ pub fn actors_at(value: &Value, key: &str) -> Option<u8>
 fn parts_in<const R: usize>(alloc: Global, value: &Value) -> Result<Parts<R>, LoadTraceFault>
     requires small { R ≤ MOST_CELLS }
     requires members { member_count (view value.now) ≡ Some 5 }
-    ensures { Reads itself (IsParts (view value.now)) result }
+    ensures { Reads itself (SpellsParts (view value.now)) result }
 {
-    let Some(qhead) = value.get(QHEAD).and_then(name_in) else {
+    let Some(qhead) = value.get(QHEAD).and_then(segment_name_in) else {
         return Err(LoadTraceFault::BadTrace);
     };
-    let Some(qtail) = value.get(QTAIL).and_then(name_in) else {
+    let Some(qtail) = value.get(QTAIL).and_then(segment_name_in) else {
         return Err(LoadTraceFault::BadTrace);
     };
     let Some(array) = value.get(ARRAY).and_then(array_parts_in) else {
@@ -104,36 +104,36 @@ fn parts_in<const R: usize>(alloc: Global, value: &Value) -> Result<Parts<R>, Lo
 
 /// Returns the JSON value of a session's start in this world: an object with the number of actors
 /// if the world is fresh, else the object of its parts. Fails only if memory is refused.
-pub fn start_value<const R: usize>(alloc: Global, world: &World<R>) -> Result<Value, AllocError>
+pub fn start_json<const R: usize>(alloc: Global, world: &World<R>) -> Result<Value, AllocError>
     ensures { IfOk result (λ value. IsStartValue (model world.now) (view value)) }
 {
     if world.is_fresh() {
-        return fresh_value(alloc, u64::from(world.actors()));
+        return fresh_json(alloc, u64::from(world.actors()));
     }
     let Ok(parts) = world.parts(alloc) else {
         return Err(AllocError);
     };
-    parts_value(alloc, &parts)
+    parts_json(alloc, &parts)
 }
 
 /// Returns the JSON value of the fresh start with this many actors. Fails only if memory is
 /// refused.
-fn fresh_value(alloc: Global, actors: u64) -> Result<Value, AllocError>
+fn fresh_json(alloc: Global, actors: u64) -> Result<Value, AllocError>
     ensures { IfOk result (λ value. view value ≡ fresh_data actors) }
 {
     json!(in alloc; {FRESH: actors})
 }
 
 /// Returns the JSON value of a world's parts. Fails only if memory is refused.
-fn parts_value<const R: usize>(alloc: Global, parts: &Parts<R>) -> Result<Value, AllocError>
+fn parts_json<const R: usize>(alloc: Global, parts: &Parts<R>) -> Result<Value, AllocError>
     ensures value { IfOk result (λ value. view value ≡ parts_data parts.now) }
-    ensures spelled { OnOk result (IsParts (parts_data parts.now) parts.now) }
+    ensures spelled { OnOk result (SpellsParts (parts_data parts.now) parts.now) }
 {
-    let actors = list_value(alloc, &parts.actors)?;
-    let slots = array_parts_value(alloc, &parts.array)?;
-    let qhead = name_value(alloc, parts.qhead)?;
-    let qtail = name_value(alloc, parts.qtail)?;
-    let segments = list_value(alloc, &parts.segments)?;
+    let actors = list_json(alloc, &parts.actors)?;
+    let slots = array_parts_json(alloc, &parts.array)?;
+    let qhead = segment_name_json(alloc, parts.qhead)?;
+    let qtail = segment_name_json(alloc, parts.qtail)?;
+    let segments = list_json(alloc, &parts.segments)?;
     parts_object(alloc, actors, slots, qhead, qtail, segments)
 }
 

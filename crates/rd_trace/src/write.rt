@@ -7,7 +7,7 @@ ghost use Rattle.rd_script.specs.Streams.{sink_stream};
 ghost use Rattle.rd_trace.specs.Writing.{WritesTrace};
 
 use super::faults::WriteTraceFault;
-use super::saved::text_of;
+use super::saved::trace_text;
 use rd_marks::Book;
 use rd_script::{AnyBook, Sink, write_all};
 use std::alloc::Global;
@@ -31,7 +31,7 @@ pub fn write_trace<K: Sink, const R: usize>(
     ensures writes { WritesTrace (book_state book.now)
         (sink_stream K.Sink writer.old writer.new) result }
 {
-    let Ok(text) = text_of(alloc, book) else {
+    let Ok(text) = trace_text(alloc, book) else {
         return Err(WriteTraceFault::NoMemory);
     };
     match write_all(writer, text.as_str().as_bytes()) {

@@ -1,15 +1,15 @@
 -- What passes know after a chain of calls, and how the history that leaves the desk agrees with it.
-use Rattle.rd_view.proofs.Prelude.{◌≡◌, ◌∙◌, ◌^◌, ℕ, suc, List, [], ◌∷◌, ◌++◌, Ok, Err, IfErr, Option, Some, None, Vec, map, length, refl, ap, subst, append_assoc, AllByRecursion, AllZip, Answer, AreAnswered, Book, BookState, BookWithHistory, Call, Command, Continues, Desk, Ghosts, Global, History, IsChain, IsNewViewer, IsNotBusy, IsDone, SeesAfter, IsViewerOf, KnowsAfterAsk, KnowsWords, ParsedLine, Pass, StaysEnded, TicketsEnded, AskedAll, append-nil, calls_of, commands_of, entries, map-append, put_by, next_seen, number, numbers, opened_state, own_answered, own_refused, own_same, seen}
+use Rattle.rd_view.proofs.Prelude.{◌≡◌, ◌∙◌, ◌^◌, ℕ, suc, List, [], ◌∷◌, ◌++◌, Ok, Err, IfErr, Option, Some, None, Vec, map, length, refl, ap, subst, append_assoc, AllByRecursion, AllZip, Answer, AreAnswered, Book, BookState, BookWithHistory, Call, Command, Continues, Desk, Ghosts, Global, History, IsChain, IsNewViewer, IsRefusalOfAsk, IsDone, SeesAfter, IsViewerOf, KnowsAfterAsk, KnowsWords, ParsedLine, Pass, TicketsStayEnded, TicketsEnded, AskedAll, append-nil, recorded_calls, commands_of, entries, map-append, put_by, next_seen, number, numbers_from, opened_state, own_answered, own_refused, own_same, seen}
 
 module _ (opened : BookState) where
   -- after a chain of calls, the viewer's own calls have grown by those that were recorded
-  chain_grew : (viewer : ℕ) (commands : List Command) (answers : List Answer) (old new : List (ℕ × Call)) → IsChain (SeesAfter opened viewer) old commands answers new
-      → map (λ e. e.1) (put_by viewer 1 new) ≡ map (λ e. e.1) (put_by viewer 1 old) ++ calls_of commands answers
-  chain_grew viewer [] [] old new is = rw (is, append-nil) refl
-  chain_grew viewer (c ∷ commands) (Ok answer ∷ answers) old new is =
-      rw (chain_grew viewer commands answers is.0 new is.2, own_answered opened viewer old is.0 c answer is.1, map-append, append_assoc) refl
-  chain_grew viewer (c ∷ commands) (Err refusal ∷ answers) old new is = rw (chain_grew viewer commands answers is.0 new is.2, own_refused opened viewer old is.0 c refusal is.1) refl
-  chain_grew viewer _ _ old new is = absurd is
+  chain_adds_calls : (viewer : ℕ) (commands : List Command) (answers : List Answer) (old new : List (ℕ × Call)) → IsChain (SeesAfter opened viewer) old commands answers new
+      → map (λ e. e.1) (put_by viewer 1 new) ≡ map (λ e. e.1) (put_by viewer 1 old) ++ recorded_calls commands answers
+  chain_adds_calls viewer [] [] old new is = rw (is, append-nil) refl
+  chain_adds_calls viewer (c ∷ commands) (Ok answer ∷ answers) old new is =
+      rw (chain_adds_calls viewer commands answers is.0 new is.2, own_answered opened viewer old is.0 c answer is.1, map-append, append_assoc) refl
+  chain_adds_calls viewer (c ∷ commands) (Err refusal ∷ answers) old new is = rw (chain_adds_calls viewer commands answers is.0 new is.2, own_refused opened viewer old is.0 c refusal is.1) refl
+  chain_adds_calls viewer _ _ old new is = absurd is
 
 module _ (R : ℕ) (K : Ghosts (BookWithHistory R) Call (Book R)) (desk : Desk R) where
   abbrev ViewPass : Type 0
@@ -27,16 +27,16 @@ module _ (R : ℕ) (K : Ghosts (BookWithHistory R) Call (Book R)) (desk : Desk R
 
   -- after a chain of calls the pass has its number, and the histories that it has seen are a chain;
   -- no answer is `Busy`, and after `TicketsEnded` there is no other answer
-  of_chain : (viewer : ℕ) (commands : List Command) (answers : List Answer) (p q : ViewPass) → number p ≡ viewer → IsChain told p commands answers q
-      → (number q ≡ viewer) × IsChain (SeesAfter (opened_state desk) viewer) (seen p) commands answers (seen q) × AllByRecursion (λ answer. IfErr answer IsNotBusy) answers × StaysEnded answers
-  of_chain viewer [] [] p q is chain = (ap number chain ∙ is, ap seen chain, tt, tt)
-  of_chain viewer (c ∷ commands) (answer ∷ answers) p q is chain = let now = chain.1 in let more = of_chain viewer commands answers chain.0 q (now.outcome.same_number ∙ is) chain.2 in (
+  knows_after_chain : (viewer : ℕ) (commands : List Command) (answers : List Answer) (p q : ViewPass) → number p ≡ viewer → IsChain told p commands answers q
+      → (number q ≡ viewer) × IsChain (SeesAfter (opened_state desk) viewer) (seen p) commands answers (seen q) × AllByRecursion (λ answer. IfErr answer IsRefusalOfAsk) answers × TicketsStayEnded answers
+  knows_after_chain viewer [] [] p q is chain = (ap number chain ∙ is, ap seen chain, tt, tt)
+  knows_after_chain viewer (c ∷ commands) (answer ∷ answers) p q is chain = let now = chain.1 in let more = knows_after_chain viewer commands answers chain.0 q (now.outcome.same_number ∙ is) chain.2 in (
     more.0,
     (seen chain.0, subst (λ n. SeesAfter (opened_state desk) n (seen p) c answer (seen chain.0)) is now.outcome.has_seen, more.1),
     (now.waits, more.2),
     ((λ ended. all_ended commands answers chain.0 q (subst (KnowsWords chain.0) ended now.outcome.words) chain.2), more.3),
   )
-  of_chain viewer _ _ p q is chain = absurd chain
+  knows_after_chain viewer _ _ p q is chain = absurd chain
 
   -- what a viewer gives back: its pass, and its answers if its thread was started
   abbrev Done : Type 0
@@ -53,30 +53,30 @@ module _ (R : ℕ) (K : Ghosts (BookWithHistory R) Call (Book R)) (desk : Desk R
   own_passes _ _ pairs = absurd pairs
 
   -- the passes of new viewers are passes of this desk
-  pub new_may_ask : (work : List (ViewPass × Vec Command Global)) → AllByRecursion (IsNewViewer desk) (map (λ viewer. viewer.0) work) → AllByRecursion (λ viewer. IsViewerOf desk viewer.0) work
-  new_may_ask [] new = tt
-  new_may_ask (viewer ∷ work) new = ((new.0.is_pass, new.0.is_out), new_may_ask work new.1)
+  pub new_are_viewers : (work : List (ViewPass × Vec Command Global)) → AllByRecursion (IsNewViewer desk) (map (λ viewer. viewer.0) work) → AllByRecursion (λ viewer. IsViewerOf desk viewer.0) work
+  new_are_viewers [] new = tt
+  new_are_viewers (viewer ∷ work) new = ((new.0.is_pass, new.0.is_out), new_are_viewers work new.1)
 
   -- a new viewer whose pass went through a chain of calls was answered as `AskedAll` says
   was_answered : (history : History) (n : ℕ) (first last : ViewPass) (commands : List Command) (answers : List Answer)
       → IsNewViewer desk first → number first ≡ n → IsChain told first commands answers last → Continues (number last) (seen last) (entries history)
       → AskedAll (opened_state desk) (entries history) n commands answers
   was_answered history n first last commands answers new is chain on =
-      let all = of_chain n commands answers first last is chain in
+      let all = knows_after_chain n commands answers first last is chain in
       let histories = rw new.has_seen at all.1 in
       let continues = rw all.0 at on in
       record {
         seen = seen last;
         chain = histories;
         continues = continues;
-        calls = ap (map (λ e. e.1)) (own_same n (seen last) (entries history) continues) ∙ chain_grew (opened_state desk) n commands answers [] (seen last) histories;
+        calls = ap (map (λ e. e.1)) (own_same n (seen last) (entries history) continues) ∙ chain_adds_calls (opened_state desk) n commands answers [] (seen last) histories;
         waits = all.2;
         ended = all.3;
       }
 
   -- all viewers from this number on were answered as `AreAnswered` says
   pub all_answered : (history : History) (n : ℕ) (work : List (ViewPass × Vec Command Global)) (dones : List Done) (said : List (Vec ParsedLine Global))
-      → AllZip Gives work dones → AllByRecursion (IsNewViewer desk) (map (λ viewer. viewer.0) work) → map number (map (λ viewer. viewer.0) work) ≡ numbers n (length said)
+      → AllZip Gives work dones → AllByRecursion (IsNewViewer desk) (map (λ viewer. viewer.0) work) → map number (map (λ viewer. viewer.0) work) ≡ numbers_from n (length said)
       → map (λ viewer. viewer.1.items) work ≡ map (λ lines. commands_of lines.items) said → AllByRecursion (λ pass. Continues (number pass) (seen pass) (entries history)) (map (λ done. done.0) dones)
       → AreAnswered (opened_state desk) (entries history) n said (map (λ done. done.1) dones)
   all_answered history n [] [] [] pairs new is read knows = tt

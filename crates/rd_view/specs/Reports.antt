@@ -9,27 +9,27 @@ use Rattle.rd_script.specs.declared.writing.headings.Heading.TheVariants.{Viewer
 use Rattle.rd_script.specs.Answers.{line_answers, report_of}
 use Rattle.rd_script.specs.Headings.{heading_text}
 use Rattle.rd_script.specs.Lines.{ParsedLine}
-use Rattle.rd_script.specs.Replies.{LineAnswer, text_of}
+use Rattle.rd_script.specs.Replies.{LineAnswer, answer_text}
 use Rattle.rd_cell.specs.declared.refusal.Refusal.TheVariants as refusal
 
 -- the answer to a line, from the desk's answer to the line's command
-abbrev pub desk_answer : Answer → LineAnswer
-desk_answer (Ok (Ok reply)) = Ok reply
-desk_answer (Ok (Err refusal)) = Err (Refused refusal)
-desk_answer (Err desk.HistoryFull) = Err HistoryFull
-desk_answer (Err desk.NotRecorded) = Err NotRecorded
-desk_answer (Err desk.TicketsEnded) = Err TicketsEnded
-desk_answer (Err (desk.Busy words)) = Err (Busy words.next words.served)
+abbrev pub desk_line_answer : Answer → LineAnswer
+desk_line_answer (Ok (Ok reply)) = Ok reply
+desk_line_answer (Ok (Err refusal)) = Err (Refused refusal)
+desk_line_answer (Err desk.HistoryFull) = Err HistoryFull
+desk_line_answer (Err desk.NotRecorded) = Err NotRecorded
+desk_line_answer (Err desk.TicketsEnded) = Err TicketsEnded
+desk_line_answer (Err (desk.Busy words)) = Err (Busy words.next words.served)
 
 -- the text for one viewer: its heading, and the answers to its lines; or, if its thread was not
 -- started, one line which says that memory was refused
 abbrev pub viewer_text : ℕ → List ParsedLine → Option (Vec Answer Global) → List ℕ
-viewer_text number said (Some answers) = heading_text (Viewer number) ++ report_of (line_answers said (map desk_answer answers.items))
-viewer_text number said None = heading_text (Viewer number) ++ text_of (Err (Refused refusal.NoMemory))
+viewer_text number said (Some answers) = heading_text (Viewer number) ++ report_of (line_answers said (map desk_line_answer answers.items))
+viewer_text number said None = heading_text (Viewer number) ++ answer_text (Err (Refused refusal.NoMemory))
 
 -- the text for the viewers from this number on, up to the end of the shorter list, and after them
 -- the number of recorded calls
-abbrev pub view_text : ℕ → List (Vec ParsedLine Global) → List (Option (Vec Answer Global)) → ℕ → List ℕ
-view_text number (said ∷ others) (answered ∷ more) calls = viewer_text number said.items answered ++ view_text (number + 1) others more calls
-view_text number [] answered calls = heading_text (History calls)
-view_text number (said ∷ others) [] calls = heading_text (History calls)
+abbrev pub viewers_text : ℕ → List (Vec ParsedLine Global) → List (Option (Vec Answer Global)) → ℕ → List ℕ
+viewers_text number (said ∷ others) (answered ∷ more) calls = viewer_text number said.items answered ++ viewers_text (number + 1) others more calls
+viewers_text number [] answered calls = heading_text (History calls)
+viewers_text number (said ∷ others) [] calls = heading_text (History calls)

@@ -10,7 +10,7 @@ use Rattle.rd_desk.specs.declared.gates.DeskRefusal.TheVariants.{TicketsEnded}
 use Rattle.rd_desk.specs.declared.histories.Call.{Call}
 use Rattle.rd_desk.specs.declared.histories.History.{History}
 use Rattle.rd_desk.specs.Histories.{Answer, entries, IsLegal}
-use Rattle.rd_desk.specs.Asking.{SeesAfter, IsNotBusy}
+use Rattle.rd_desk.specs.Asking.{SeesAfter, IsRefusalOfAsk}
 use Rattle.rd_desk.specs.Viewers.{IsChain}
 use Rattle.std.specs.List.{AllByRecursion, AllZip}
 use Rattle.rd_script.specs.Device.{TakesBeginning}
@@ -20,31 +20,31 @@ use Rattle.rd_script.specs.Spelling.{Says}
 use Rattle.rd_script.specs.Streams.{GetsNothing, Stream}
 use Rattle.rd_view.specs.declared.faults.ViewFault.{ViewFault}
 use Rattle.rd_view.specs.declared.faults.ViewFault.TheVariants as view
-use Rattle.rd_view.specs.Reports.{view_text}
+use Rattle.rd_view.specs.Reports.{viewers_text}
 
 -- for each script, these are the commands and the faults of its lines, in order
-abbrev pub AreRead : List (Vec ℕ Global) → List (Vec ParsedLine Global) → Type 0
-AreRead scripts said = AllZip (λ script lines. AllZip Says (lines_of script.items) lines.items) scripts said
+abbrev pub AreParsed : List (Vec ℕ Global) → List (Vec ParsedLine Global) → Type 0
+AreParsed scripts said = AllZip (λ script lines. AllZip Says (lines_of script.items) lines.items) scripts said
 
 -- the calls that a history records for these commands and answers: those that the desk did not
 -- refuse
-abbrev pub calls_of : List Command → List Answer → List Call
-calls_of (command ∷ commands) (Ok answer ∷ answers) = record { command = command; answer = answer } ∷ calls_of commands answers
-calls_of (command ∷ commands) (Err refusal ∷ answers) = calls_of commands answers
-calls_of [] answers = []
-calls_of (command ∷ commands) [] = []
+abbrev pub recorded_calls : List Command → List Answer → List Call
+recorded_calls (command ∷ commands) (Ok answer ∷ answers) = record { command = command; answer = answer } ∷ recorded_calls commands answers
+recorded_calls (command ∷ commands) (Err refusal ∷ answers) = recorded_calls commands answers
+recorded_calls [] answers = []
+recorded_calls (command ∷ commands) [] = []
 
 -- the fault of a view of which nothing was written: `NoMemory`, or `Busy` with the two words of the
 -- lock, which show that a drawn ticket was not finished
-abbrev pub IsUnviewed : ViewFault → Type 0
-IsUnviewed view.NoMemory = Unit {0}
-IsUnviewed view.Write = ⊥
-IsUnviewed (view.Busy words) = words.served < words.next
+abbrev pub IsBusyOrNoMemory : ViewFault → Type 0
+IsBusyOrNoMemory view.NoMemory = Unit {0}
+IsBusyOrNoMemory view.Write = ⊥
+IsBusyOrNoMemory (view.Busy words) = words.served < words.next
 
 -- after an answer `TicketsEnded`, every later answer is `TicketsEnded` too
-abbrev pub StaysEnded : List Answer → Type 0
-StaysEnded [] = Unit {0}
-StaysEnded (answer ∷ answers) = (answer ≡ Err TicketsEnded → AllByRecursion (λ later. later ≡ Err TicketsEnded) answers) × StaysEnded answers
+abbrev pub TicketsStayEnded : List Answer → Type 0
+TicketsStayEnded [] = Unit {0}
+TicketsStayEnded (answer ∷ answers) = (answer ≡ Err TicketsEnded → AllByRecursion (λ later. later ≡ Err TicketsEnded) answers) × TicketsStayEnded answers
 
 module _ (opened : BookState) (history : List (ℕ × Call)) where
   -- the viewer of this number asked these commands, one after another, and got these answers. In
@@ -55,9 +55,9 @@ module _ (opened : BookState) (history : List (ℕ × Call)) where
     pub seen : List (ℕ × Call)
     pub chain : IsChain (SeesAfter opened viewer) [] commands answers seen
     pub continues : Continues viewer seen history
-    pub calls : map (λ e. e.1) (put_by viewer 1 history) ≡ calls_of commands answers
-    pub waits : AllByRecursion (λ answer. IfErr answer IsNotBusy) answers
-    pub ended : StaysEnded answers
+    pub calls : map (λ e. e.1) (put_by viewer 1 history) ≡ recorded_calls commands answers
+    pub waits : AllByRecursion (λ answer. IfErr answer IsRefusalOfAsk) answers
+    pub ended : TicketsStayEnded answers
 
   -- the viewer of this number got these answers to its commands, or its thread was not started, and
   -- it has no call in the history
@@ -83,20 +83,20 @@ module _ (opened : BookState) where
 
   -- a view of these scripts with this history: what their lines spell, and the answers to the
   -- viewers, which agree with the history
-  pub record Views (scripts : List (Vec ℕ Global)) (history : List (ℕ × Call)) : Type 0 where
+  pub record ViewOf (scripts : List (Vec ℕ Global)) (history : List (ℕ × Call)) : Type 0 where
     pub said : List (Vec ParsedLine Global)
     pub answered : List (Option (Vec Answer Global))
-    pub are_read : AreRead scripts said
+    pub are_parsed : AreParsed scripts said
     pub is_viewed : IsViewed said answered history
 
   -- the text of a view: each viewer's heading and answers, and the number of calls in its history
-  abbrev pub viewed_text : {scripts : List (Vec ℕ Global)} {history : List (ℕ × Call)} → Views scripts history → List ℕ
-  viewed_text {history = history} views = view_text 1 views.said views.answered (length history)
+  abbrev pub view_text : {scripts : List (Vec ℕ Global)} {history : List (ℕ × Call)} → ViewOf scripts history → List ℕ
+  view_text {history = history} views = viewers_text 1 views.said views.answered (length history)
 
   -- what became of a view of these scripts, by its result: its text was written whole; or the
   -- writer failed, and took a beginning of it; or nothing was written
   abbrev pub ViewsScripts : List (Vec ℕ Global) → Stream → Result History ViewFault → Type 0
-  ViewsScripts scripts s (Ok history) = (views : Views scripts (entries history)) × Appends s.before s.after (viewed_text views) × (s.failed ≡ false)
+  ViewsScripts scripts s (Ok history) = (views : ViewOf scripts (entries history)) × Appends s.before s.after (view_text views) × (s.failed ≡ false)
   ViewsScripts scripts s (Err view.Write) =
-      (history : List (ℕ × Call)) × (views : Views scripts history) × TakesBeginning s.before s.after (viewed_text views) × (s.failed ≡ true)
-  ViewsScripts scripts s (Err fault) = IsUnviewed fault × GetsNothing false s
+      (history : List (ℕ × Call)) × (views : ViewOf scripts history) × TakesBeginning s.before s.after (view_text views) × (s.failed ≡ true)
+  ViewsScripts scripts s (Err fault) = IsBusyOrNoMemory fault × GetsNothing false s

@@ -6,8 +6,8 @@
 
 ghost use Rattle.std.specs.Prelude.{◌≡◌, ◌++◌, length, map, IfOk, OnOk};
 ghost use Rattle.rd_script.specs.Answers.{line_answers, report_of};
-ghost use Rattle.rd_script.specs.Replies.{text_of};
-ghost use Rattle.rd_view.specs.Reports.{desk_answer, viewer_text, view_text};
+ghost use Rattle.rd_script.specs.Replies.{answer_text};
+ghost use Rattle.rd_view.specs.Reports.{desk_line_answer, viewer_text, viewers_text};
 
 use rd_cell::Refusal;
 use rd_desk::{Answer, DeskRefusal};
@@ -26,7 +26,7 @@ pub fn text_of_view(
     calls: u64,
 ) -> Result<Vec<u8>, AllocError>
     requires { length said.now ≡ length answered.now }
-    ensures { IfOk result (λ text. text.items ≡ view_text 1 said.now answered.now calls) }
+    ensures { IfOk result (λ text. text.items ≡ viewers_text 1 said.now answered.now calls) }
 {
     let mut text = Vec::new(alloc);
     let mut line = Text::new();
@@ -75,7 +75,7 @@ fn put_report(
     answers: &[Answer],
 ) -> Result<(), AllocError>
     ensures { OnOk result (text.new.items ≡ text.old.items
-        ++ report_of (line_answers said.now (map desk_answer answers.now))) }
+        ++ report_of (line_answers said.now (map desk_line_answer answers.now))) }
 {
     let mut rest = answers;
     for command in said {
@@ -86,7 +86,7 @@ fn put_report(
                     continue;
                 };
                 rest = others;
-                desk_answer(answer)
+                desk_line_answer(answer)
             }
         };
         put_answer(text, line, &answer)?;
@@ -97,15 +97,15 @@ fn put_report(
 /// Makes the line of one answer in the buffer `line`, and appends it to the text. Fails only if
 /// memory is refused.
 fn put_answer(text: &mut Vec<u8>, line: &mut Text, answer: &LineAnswer) -> Result<(), AllocError>
-    ensures { OnOk result (text.new.items ≡ text.old.items ++ text_of answer.now) }
+    ensures { OnOk result (text.new.items ≡ text.old.items ++ answer_text answer.now) }
 {
     set_answer(line, answer);
     text.extend_from_slice(line.as_slice())
 }
 
 /// Returns the answer to a line that spells a command, from the desk's answer to that command.
-fn desk_answer(answer: &Answer) -> LineAnswer
-    ensures { result ≡ desk_answer answer.now }
+fn desk_line_answer(answer: &Answer) -> LineAnswer
+    ensures { result ≡ desk_line_answer answer.now }
 {
     match *answer {
         Ok(Ok(reply)) => Ok(reply),

@@ -10,7 +10,7 @@ ghost use Rattle.rd_desk.specs.declared.desks.TheConstants.{MOST_VIEWERS};
 ghost use Rattle.rd_desk.specs.Histories.{entries};
 ghost use Rattle.rd_script.specs.Answers.{commands_of};
 ghost use Rattle.rd_script.specs.Streams.{sink_stream};
-ghost use Rattle.rd_view.specs.Viewing.{AreRead, IsUnviewed, IsViewed, ViewsScripts};
+ghost use Rattle.rd_view.specs.Viewing.{AreParsed, IsBusyOrNoMemory, IsViewed, ViewsScripts};
 
 use super::faults::ViewFault;
 use super::reports::text_of_view;
@@ -57,7 +57,7 @@ pub fn view_scripts<R: Threads + Wait + Sync, K: Sink, const N: usize>(
 /// Returns for each script what its lines spell, commands and faults, in order. Fails only if
 /// memory is refused.
 fn parse_scripts(alloc: Global, scripts: &[Vec<u8>]) -> Result<Vec<Vec<ParsedLine>>, AllocError>
-    ensures { IfOk result (λ said. AreRead scripts.now said.items) }
+    ensures { IfOk result (λ said. AreParsed scripts.now said.items) }
 {
     let mut said = Vec::new(alloc);
     for script in scripts {
@@ -83,7 +83,7 @@ fn run_over_desk<R: Threads + Wait + Sync, const N: usize>(
     requires few { length said.now ≤ MOST_VIEWERS }
     ensures ok { IfOk result (λ done. IsViewed (book_state book.entry) said.now done.0.items
         (entries done.1)) }
-    ensures err { IfErr result IsUnviewed }
+    ensures err { IfErr result IsBusyOrNoMemory }
 {
     let Ok((desk, passes)) = Desk::open(alloc, book, said.len() as u64) else {
         return Err(ViewFault::NoMemory);

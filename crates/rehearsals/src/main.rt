@@ -6,7 +6,7 @@
 //! output was checked by hand, and the gate compares it with the stored `stdout`.
 #![tactic(auto)]
 
-use rd_command_line::perform;
+use rd_command_line::run_command_line;
 use rd_script::{FORMS, ReadSource, WriteSink};
 use std::alloc::Global;
 use std::fs::Files;
@@ -264,7 +264,7 @@ fn rehearse<R: Files + Threads + Wait + Print + Sync>(
         taken: &mut output,
         room,
     };
-    let status = perform(
+    let status = run_command_line(
         rt,
         alloc,
         Ok(words),

@@ -39,16 +39,16 @@ pub struct Limit {
 
 /// A writer that appends to a vector, up to a limit.
 #[derive(Drop)]
-pub struct PageWriter<'a> {
+pub struct LimitedWriter<'a> {
     taken: &'a mut Vec<u8>,
     /// What it takes from now on.
     limit: Limit,
 }
 
-impl<'a> PageWriter<'a> {
+impl<'a> LimitedWriter<'a> {
     /// Returns a writer that takes all that it is given, unless memory is refused.
-    pub fn that_works(taken: &'a mut Vec<u8>) -> PageWriter<'a> {
-        PageWriter {
+    pub fn without_limit(taken: &'a mut Vec<u8>) -> LimitedWriter<'a> {
+        LimitedWriter {
             taken,
             limit: Limit {
                 calls: usize::MAX,
@@ -59,12 +59,12 @@ impl<'a> PageWriter<'a> {
     }
 
     /// Returns a writer that takes as much as the limit says, unless memory is refused.
-    pub fn that_ends(taken: &'a mut Vec<u8>, limit: Limit) -> PageWriter<'a> {
-        PageWriter { taken, limit }
+    pub fn with_limit(taken: &'a mut Vec<u8>, limit: Limit) -> LimitedWriter<'a> {
+        LimitedWriter { taken, limit }
     }
 }
 
-impl<'a> Write for PageWriter<'a> {
+impl<'a> Write for LimitedWriter<'a> {
     fn write(&mut self, buf: &[u8]) -> io::Result<usize> {
         if self.limit.calls == 0 {
             return match self.limit.end {
@@ -85,7 +85,7 @@ impl<'a> Write for PageWriter<'a> {
 
 /// A reader of bytes, which gives them in small portions and then fails.
 #[derive(Drop)]
-pub struct StripReader<'a> {
+pub struct LimitedReader<'a> {
     rest: &'a [u8],
     /// How many calls give bytes or the end; those after them fail.
     good_calls: usize,
@@ -93,11 +93,11 @@ pub struct StripReader<'a> {
     most: usize,
 }
 
-impl<'a> StripReader<'a> {
+impl<'a> LimitedReader<'a> {
     /// Returns a reader of these bytes. For `good_calls` calls it gives at most `most` bytes a
     /// call, or the end; then it fails.
-    pub fn of(rest: &'a [u8], good_calls: usize, most: usize) -> StripReader<'a> {
-        StripReader {
+    pub fn new(rest: &'a [u8], good_calls: usize, most: usize) -> LimitedReader<'a> {
+        LimitedReader {
             rest,
             good_calls,
             most,
@@ -105,7 +105,7 @@ impl<'a> StripReader<'a> {
     }
 }
 
-impl<'a> Read for StripReader<'a> {
+impl<'a> Read for LimitedReader<'a> {
     fn read(&mut self, buf: &mut [u8]) -> io::Result<usize> {
         if self.good_calls == 0 {
             return Err(io::Error::from(io::ErrorKind::BrokenPipe));

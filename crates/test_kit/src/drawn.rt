@@ -7,7 +7,7 @@ use rd_step::{Event, World};
 
 /// Returns the pseudo-random number that follows this one in a fixed sequence. Its high bits are
 /// more random than its low bits.
-pub fn next(number: u64) -> u64 {
+pub fn next_random(number: u64) -> u64 {
     number
         .wrapping_mul(6_364_136_223_846_793_005)
         .wrapping_add(1_442_695_040_888_963_407)

@@ -12,8 +12,8 @@ mod scripts;
 mod worlds;
 
 pub use commands::{ASKED, KINDS, NEARLY};
-pub use devices::{BrokenWriter, End, Limit, PageWriter, StripReader};
-pub use drawn::{drawn_event, next};
-pub use schedules::{event_in, events_in};
-pub use scripts::{bytes_of, long_script};
-pub use worlds::{go, parts, record};
+pub use devices::{BrokenWriter, End, Limit, LimitedReader, LimitedWriter};
+pub use drawn::{drawn_event, next_random};
+pub use schedules::{event_and_times, events_in};
+pub use scripts::{long_script, scripts_as_bytes};
+pub use worlds::{access_entry, go, one_actor_parts};

@@ -9,7 +9,7 @@ use std::test::Fail;
 
 /// Returns the event that a line spells, and how often it is to happen: once if the line is spelled
 /// as in a script, and six times for `go 1 6`. Returns none if the line spells no event.
-pub fn event_in(line: &str) -> Option<(Event, u64)> {
+pub fn event_and_times(line: &str) -> Option<(Event, u64)> {
     let mut words = line.split_whitespace();
     let keyword = words.next()?;
     let actor = words.next()?.parse::<u8>().ok()?;
@@ -39,7 +39,7 @@ pub fn events_in(alloc: Global, schedule: &str) -> Result<Vec<Event>, Fail> {
         return Ok(events);
     }
     for line in schedule.split(", ") {
-        let (event, times) = event_in(line).ok_or("no event")?;
+        let (event, times) = event_and_times(line).ok_or("no event")?;
         for _ in 0..times {
             events.push(event)?;
         }

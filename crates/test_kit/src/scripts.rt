@@ -2,7 +2,7 @@
 
 ghost use Rattle.std.specs.Prelude.{◌≤◌};
 
-use super::drawn::next;
+use super::drawn::next_random;
 use std::alloc::{AllocError, Global};
 use std::test::Fail;
 
@@ -41,7 +41,7 @@ pub fn long_script(alloc: Global, kinds: &[&str], choices: u64, actors: u64) -> 
     let mut script = String::new(alloc);
     let mut number = actors;
     for _ in 0..LINES {
-        number = next(number);
+        number = next_random(number);
         let chosen = (number >> 58) * choices / 64;
         let kind = match kinds.get(chosen as usize) {
             Some(kind) => *kind,
@@ -53,7 +53,7 @@ pub fn long_script(alloc: Global, kinds: &[&str], choices: u64, actors: u64) -> 
 }
 
 /// Returns the bytes of each script, in order. Fails only if memory is refused.
-pub fn bytes_of(alloc: Global, scripts: &[&str]) -> Result<Vec<Vec<u8>>, AllocError> {
+pub fn scripts_as_bytes(alloc: Global, scripts: &[&str]) -> Result<Vec<Vec<u8>>, AllocError> {
     let mut bytes = Vec::new(alloc);
     for script in scripts {
         bytes.push(Vec::from_slice(alloc, script.as_bytes())?)?;

@@ -20,7 +20,7 @@ pub fn go(actor: u8) -> Event
 
 /// Returns an entry of an access by this actor at this place, which wrote this much of it.
 /// Dependence looks at no other field; they have an idle actor, no answer and no content.
-pub fn record((actor, place, wrote): (u8, Option<Place>, Wrote)) -> Entry {
+pub fn access_entry((actor, place, wrote): (u8, Option<Place>, Wrote)) -> Entry {
     Entry {
         event: go(actor),
         place,
@@ -35,7 +35,7 @@ pub fn record((actor, place, wrote): (u8, Option<Place>, Wrote)) -> Entry {
 /// Returns the parts of a world of one actor, with this root and the segments that the actor made.
 /// The queue's ends are at the root, and the array is fresh. A ring must have at most 64 cells.
 /// Fails only if memory is refused.
-pub fn parts<const R: usize>(
+pub fn one_actor_parts<const R: usize>(
     alloc: Global,
     actor: Actor,
     root: SegmentParts<R>,

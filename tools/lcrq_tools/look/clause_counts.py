@@ -23,10 +23,10 @@ WIDTH = 100  # columns: a clause with a longer line is wide
 # The functions of the crates' definitions that give what a value of the code stands for, or a part or a
 # size of that; and the kit's `view`. A file may import one under another name, which counts too.
 VIEWS = (
-    "actor_capacity", "ahead_entries", "any_state", "array_part", "book_state", "capacity", "contents",
-    "entries_capacity", "here_in", "index", "journal", "kept_entries", "list_capacity", "lists", "lists_in",
-    "live_entries", "making_count", "model", "name_room", "part", "pending_bytes", "position_count",
-    "probe_count", "room", "session_of", "spare", "state", "track", "view",
+    "ahead_entries", "any_state", "array_contents", "book_state", "capacity", "contents",
+    "entries_capacity", "here_entries", "index", "journal", "kept_entries", "list_count", "named_entries_in",
+    "live_entries", "making_count", "model", "name_room", "pending_bytes", "position_count",
+    "probe_count", "room", "segment_contents", "session_of", "spare", "state", "track", "view",
 )
 
 

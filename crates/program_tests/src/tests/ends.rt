@@ -2,7 +2,7 @@
 
 use rd_cell::Refusal;
 use rd_desk::Busy;
-use rd_program::{ProgramFault, end};
+use rd_program::{ProgramFault, show_program_fault};
 use rd_script::{ScriptFault, WriteSink};
 use rd_step::Flaw;
 use rd_trace::{LoadTraceFault, WriteTraceFault};
@@ -15,7 +15,7 @@ use test_kit::BrokenWriter;
 fn faults_are(rt: &impl Abort, alloc: Global, rows: &[(ProgramFault, &str)]) {
     for (fault, line) in rows {
         let mut errors = Vec::new(alloc);
-        let status = end(&Err(*fault), &mut WriteSink::new(&mut errors));
+        let status = show_program_fault(&Err(*fault), &mut WriteSink::new(&mut errors));
         assert_eq!(rt; status, ExitCode::FAILURE, "line {line}");
         assert_eq!(rt; errors.as_slice(), line.as_bytes());
     }
@@ -91,7 +91,7 @@ fn each_fault_has_status_1_and_its_line(rt: HostRuntime) {
 #[test]
 fn a_run_that_came_to_its_end_has_status_0_and_no_line(rt: HostRuntime) {
     let mut errors = Vec::new(rt.alloc());
-    let status = end(&Ok(7), &mut WriteSink::new(&mut errors));
+    let status = show_program_fault(&Ok(7), &mut WriteSink::new(&mut errors));
     assert_eq!(rt; status, ExitCode::SUCCESS);
     assert!(rt; errors.is_empty());
 }
@@ -99,6 +99,6 @@ fn a_run_that_came_to_its_end_has_status_0_and_no_line(rt: HostRuntime) {
 #[test]
 fn a_stream_that_fails_leaves_the_status(rt: HostRuntime) {
     let fault = ProgramFault::Script(ScriptFault::Write);
-    let status = end(&Err(fault), &mut WriteSink::new(BrokenWriter));
+    let status = show_program_fault(&Err(fault), &mut WriteSink::new(BrokenWriter));
     assert_eq!(rt; status, ExitCode::FAILURE);
 }

@@ -2,7 +2,7 @@
 //! session too where it is asked for; or with the fault that it comes to.
 
 use rd_cell::Refusal;
-use rd_program::{ProgramFault, resume, whole_text};
+use rd_program::{ProgramFault, read_whole_text, resume};
 use rd_script::{ReadSource, WriteSink};
 use rd_step::Flaw;
 use rd_trace::{LoadTraceFault, WriteTraceFault};
@@ -10,7 +10,7 @@ use std::alloc::Global;
 use std::io;
 use std::process::Abort;
 use std::test::Fail;
-use test_kit::{End, Limit, PageWriter};
+use test_kit::{End, Limit, LimitedWriter};
 
 /// The trace of an enqueue's first two steps.
 const BEGUN: &str =
@@ -115,7 +115,7 @@ fn a_writer_that_fails_in_the_trace_of_a_loaded_session_has_its_report(rt: HostR
             rt.alloc(),
             row.trace.as_bytes(),
             &mut ReadSource::new(row.script.as_bytes()),
-            &mut WriteSink::new(PageWriter::that_ends(&mut written, limit)),
+            &mut WriteSink::new(LimitedWriter::with_limit(&mut written, limit)),
             true,
         );
         assert!(rt; matches!(lines, Err(ProgramFault::Trace(WriteTraceFault::Write))));
@@ -185,10 +185,10 @@ impl io::Read for BrokenReader {
 
 #[test]
 fn a_file_is_read_whole_or_not_at_all(rt: HostRuntime) -> Result<(), Fail> {
-    let text = whole_text(rt.alloc(), &mut BEGUN.as_bytes())?;
+    let text = read_whole_text(rt.alloc(), &mut BEGUN.as_bytes())?;
     assert_eq!(rt; text.as_slice(), BEGUN.as_bytes());
     for kind in [io::ErrorKind::Other, io::ErrorKind::IsADirectory] {
-        let unread = whole_text(rt.alloc(), &mut BrokenReader { kind });
+        let unread = read_whole_text(rt.alloc(), &mut BrokenReader { kind });
         assert!(rt; matches!(unread, Err(ProgramFault::Read)), "{kind:?}");
     }
     Ok(())
@@ -197,7 +197,7 @@ fn a_file_is_read_whole_or_not_at_all(rt: HostRuntime) -> Result<(), Fail> {
 #[test]
 fn a_file_that_finds_no_memory_is_no_failed_read(rt: HostRuntime) {
     let kind = io::ErrorKind::OutOfMemory;
-    let unread = whole_text(rt.alloc(), &mut BrokenReader { kind });
+    let unread = read_whole_text(rt.alloc(), &mut BrokenReader { kind });
     assert!(rt; matches!(unread, Err(ProgramFault::NoMemory)));
 }
 

@@ -1,6 +1,6 @@
 //! How the program ends where its words give no options.
 
-use rd_command_line::{OptionsFault, not_utf8_fault, perform};
+use rd_command_line::{OptionsFault, not_utf8_fault, run_command_line};
 use rd_script::{ReadSource, WriteSink};
 use std::alloc::Global;
 use std::fs::Files;
@@ -33,7 +33,7 @@ fn left_after<R: Files + Threads + Wait + Sync>(
     };
     let mut output = Vec::new(alloc);
     let mut errors = Vec::new(alloc);
-    let status = perform(
+    let status = run_command_line(
         rt,
         alloc,
         words,
@@ -132,7 +132,7 @@ fn a_view_of_missing_files_leaves_the_output(rt: HostRuntime) -> Result<(), Fail
 fn a_stream_that_fails_leaves_the_status(rt: HostRuntime) -> Result<(), Fail> {
     for (words, status) in [(["lcrqdb", "--help"], 0), (["lcrqdb", "walk"], 2)] {
         let words = Vec::from_slice(rt.alloc(), &words)?;
-        let left = perform(
+        let left = run_command_line(
             &rt,
             rt.alloc(),
             Ok(words),

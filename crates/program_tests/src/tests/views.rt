@@ -8,7 +8,7 @@ use std::process::Abort;
 use std::sync::Wait;
 use std::test::Fail;
 use std::thread::Threads;
-use test_kit::{BrokenWriter, bytes_of};
+use test_kit::{BrokenWriter, scripts_as_bytes};
 
 /// Scripts and the text of their view, which is the same in whatever order the viewers' calls come.
 #[derive(Drop)]
@@ -27,7 +27,7 @@ fn view_is<R: Threads + Wait + Abort + Sync>(
     shown: &View,
 ) -> Result<(), Fail> {
     let actors = shown.actors;
-    let scripts = bytes_of(alloc, shown.scripts)?;
+    let scripts = scripts_as_bytes(alloc, shown.scripts)?;
     assert!(rt; 1 <= actors && actors <= 16);
     assert!(rt; 1 <= scripts.len() && scripts.len() <= 64);
     let mut written = Vec::new(alloc);
@@ -101,7 +101,7 @@ fn faulty_lines_stand_between_the_commands_and_are_not_calls(rt: HostRuntime) ->
 
 #[test]
 fn there_may_be_64_viewers(rt: HostRuntime) -> Result<(), Fail> {
-    let scripts = bytes_of(rt.alloc(), &["len"; 64])?;
+    let scripts = scripts_as_bytes(rt.alloc(), &["len"; 64])?;
     assert!(rt; scripts.len() == 64);
     let mut written = Vec::new(rt.alloc());
     let sink = &mut WriteSink::new(&mut written);
@@ -122,7 +122,7 @@ fn there_may_be_64_viewers(rt: HostRuntime) -> Result<(), Fail> {
 
 #[test]
 fn a_view_that_cannot_be_written_is_a_failed_write(rt: HostRuntime) -> Result<(), Fail> {
-    let scripts = bytes_of(rt.alloc(), &["len"])?;
+    let scripts = scripts_as_bytes(rt.alloc(), &["len"])?;
     assert!(rt; scripts.len() == 1);
     let sink = &mut WriteSink::new(BrokenWriter);
     let setup = Setup {

@@ -3,20 +3,20 @@
 ghost use Rattle.std.specs.Prelude.{◌≡◌, ◌+◌, ◌<◌, ◌≤◌, ◌++◌, ◌∷◌, [], length, take, drop, true, List, Some, IsOk, IfOk, OnOk, OnErr};
 ghost use Rattle.rd_step.specs.declared.entries.Entry.{Entry as SomeEntry};
 ghost use Rattle.rd_step.specs.Lists.{numbered, without};
-ghost use Rattle.rd_depend.specs.Index.{Touch, IsIndexOf, IsIndex, IsHeld, EndsWith, HasRoomFor, GivesRoom, UsesRoom, KeepsRoom, LosesNoRoom, position_count, touches, spare, capacity};
-ghost use Rattle.rd_depend.specs.Changes.{Adds, Keeps, homes_of, IsReadyFor};
+ghost use Rattle.rd_depend.specs.Index.{ListKey, IsIndexOf, IsIndex, IsHeld, EndsWith, HasRoomFor, GivesRoom, UsesRoom, HasSameRoom, KeepsRoom, position_count, touches, spare, capacity};
+ghost use Rattle.rd_depend.specs.Changes.{Adds, KeepsPositions, entry_keys, IsReadyFor};
 ghost use Rattle.rd_depend.specs.Moved.{moved_to};
 
 use super::DependIndex;
 use super::keys::{Key, is_value_written, is_written, place_key, segment_key, value_key};
-use super::lists::{grow, move_all, put_in, remove_above_in_all, reserve_in, take_last_in};
+use super::lists::{grow_to, move_in_all, put_in, remove_above_in_all, remove_last_in, reserve_in};
 use rd_cell::limits::MOST_STEPS;
 use rd_step::Entry;
 use std::alloc::AllocError;
 
 /// A key under which an entry is kept, if there is one.
 #[derive(Clone, Copy)]
-struct Home {
+struct EntryKey {
     /// The key, or none if the entry has no such key.
     key: Option<Key>,
     /// Whether the entry is kept there also among those that wrote.
@@ -25,13 +25,13 @@ struct Home {
 
 /// The keys under which an entry is kept.
 #[derive(Clone, Copy)]
-struct Homes {
+struct EntryKeys {
     /// The key of its place; for a cell, of the index half.
-    place: Home,
+    place: EntryKey,
     /// The key of the value half, if its place is a cell.
-    value: Home,
+    value: EntryKey,
     /// The key of its segment, if its place is of a segment or the whole of one.
-    segment: Home,
+    segment: EntryKey,
 }
 
 /// The indices of an entry's keys in the table, each none where there is no key.
@@ -60,9 +60,9 @@ impl DependIndex {
         ensures succeeds { (rest : List SomeEntry) → HasRoomFor self.old (entry.now ∷ rest)
             → IsOk result }
         ensures room { OnOk result (UsesRoom self.old self.new (entry.now ∷ [])) }
-        ensures room_stays { OnErr result (LosesNoRoom self.old self.new) }
+        ensures room_stays { OnErr result (KeepsRoom self.old self.new) }
     {
-        let homes = homes_of(entry);
+        let homes = entry_keys(entry);
         let slots = self.reserve(entry, &homes)?;
         self.put(entry, &homes, slots);
         Ok(())
@@ -84,9 +84,9 @@ impl DependIndex {
             → IsIndexOf self.new es) }
         ensures succeeds { HasRoomFor self.old entries.now → IsOk result }
         ensures room { OnOk result (UsesRoom self.old self.new entries.now) }
-        ensures room_stays { OnErr result (LosesNoRoom self.old self.new) }
+        ensures room_stays { OnErr result (KeepsRoom self.old self.new) }
     {
-        let pushed = self.push_some(entries);
+        let pushed = self.push_until_refused(entries);
         if pushed < entries.len() {
             self.pop_all(&entries[..pushed]);
             return Err(AllocError);
@@ -108,7 +108,7 @@ impl DependIndex {
         ensures same { (es : List SomeEntry) → IsIndexOf self.old es → IsIndexOf self.new es }
         ensures room { OnOk result (HasRoomFor self.new entries.now) }
         ensures succeeds { HasRoomFor self.old entries.now → IsOk result }
-        ensures room_stays { LosesNoRoom self.old self.new }
+        ensures room_stays { KeepsRoom self.old self.new }
     {
         self.push_all(entries)?;
         self.pop_all(entries);
@@ -124,12 +124,12 @@ impl DependIndex {
         ensures room { GivesRoom self.old self.new (entry.now ∷ []) }
     {
         self.len -= 1;
-        take_last_in(&mut self.by_actor, usize::from(entry.event.actor));
-        let homes = homes_of(entry);
-        self.by_key.take_last(homes.place.key, homes.place.wrote);
-        self.by_key.take_last(homes.value.key, homes.value.wrote);
+        remove_last_in(&mut self.by_actor, usize::from(entry.event.actor));
+        let homes = entry_keys(entry);
+        self.by_key.remove_last(homes.place.key, homes.place.wrote);
+        self.by_key.remove_last(homes.value.key, homes.value.wrote);
         self.by_key
-            .take_last(homes.segment.key, homes.segment.wrote);
+            .remove_last(homes.segment.key, homes.segment.wrote);
     }
 
     /// Removes position `k`, whose entry must be this one; each later position becomes one less.
@@ -155,12 +155,12 @@ impl DependIndex {
         requires within { n ≤ position_count self.old }
         ensures moved { (es : List SomeEntry) → IsIndexOf self.old es
             → IsIndexOf self.new (moved_to es k n) }
-        ensures room { KeepsRoom self.old self.new }
-        ensures capacity { (t : Touch) → capacity self.new t ≡ capacity self.old t }
+        ensures room { HasSameRoom self.old self.new }
+        ensures capacity { (t : ListKey) → capacity self.new t ≡ capacity self.old t }
     {
         let k = k as u32;
         let n = n as u32;
-        move_all(&mut self.by_actor, k, n);
+        move_in_all(&mut self.by_actor, k, n);
         self.by_key.move_to(k, n);
     }
 
@@ -183,15 +183,15 @@ impl DependIndex {
     /// indices of its keys, which are added if they are missing. `homes` must be those of the
     /// entry. Fails only if memory is refused, which is asked for only if room is missing; no
     /// position has changed then, and no room is lost.
-    fn reserve(&mut self, entry: &Entry, homes: &Homes) -> Result<Slots, AllocError>
-        requires { homes.now ≡ homes_of entry.now }
-        ensures same { Keeps self.old self.new }
+    fn reserve(&mut self, entry: &Entry, homes: &EntryKeys) -> Result<Slots, AllocError>
+        requires { homes.now ≡ entry_keys entry.now }
+        ensures same { KeepsPositions self.old self.new }
         ensures ready { IfOk result (IsReadyFor self.new entry.now homes.now) }
-        ensures succeeds { ((t : Touch) → touches t entry.now ≡ true → 0 < spare self.old t)
+        ensures succeeds { ((t : ListKey) → touches t entry.now ≡ true → 0 < spare self.old t)
             → IsOk result }
     {
         let actor = usize::from(entry.event.actor);
-        grow(&mut self.by_actor, self.alloc, actor + 1)?;
+        grow_to(&mut self.by_actor, self.alloc, actor + 1)?;
         reserve_in(&mut self.by_actor, actor)?;
         let place = self
             .by_key
@@ -211,9 +211,9 @@ impl DependIndex {
 
     /// Puts the entry at the next position, for which there must be room. There must be fewer than
     /// `MOST_STEPS` positions, and `homes` and `slots` must be those of the entry.
-    fn put(&mut self, entry: &Entry, homes: &Homes, slots: Slots)
+    fn put(&mut self, entry: &Entry, homes: &EntryKeys, slots: Slots)
         requires few { position_count self.old < MOST_STEPS }
-        requires homes { homes.now ≡ homes_of entry.now }
+        requires homes { homes.now ≡ entry_keys entry.now }
         requires ready { IsReadyFor self.old entry.now homes.now slots }
         ensures { Adds entry.now self.old self.new }
     {
@@ -229,7 +229,7 @@ impl DependIndex {
 
     /// Pushes these entries in their order until one is refused memory, and returns the number that
     /// were pushed. The preconditions are those of `push_all`.
-    fn push_some(&mut self, entries: &[Entry]) -> usize
+    fn push_until_refused(&mut self, entries: &[Entry]) -> usize
         requires index { IsIndex self.old }
         requires few { position_count self.old + length entries.now ≤ MOST_STEPS }
         ensures within { result ≤ length entries.now }
@@ -263,20 +263,20 @@ impl DependIndex {
 
 /// Returns the keys under which an entry is kept, each with whether it is kept there among those
 /// that wrote.
-fn homes_of(entry: &Entry) -> Homes
-    ensures { result ≡ homes_of entry.now }
+fn entry_keys(entry: &Entry) -> EntryKeys
+    ensures { result ≡ entry_keys entry.now }
 {
     let wrote = is_written(entry.wrote);
-    Homes {
-        place: Home {
+    EntryKeys {
+        place: EntryKey {
             key: place_key(entry.place),
             wrote,
         },
-        value: Home {
+        value: EntryKey {
             key: value_key(entry.place),
             wrote: is_value_written(entry.wrote),
         },
-        segment: Home {
+        segment: EntryKey {
             key: segment_key(entry.place),
             wrote,
         },

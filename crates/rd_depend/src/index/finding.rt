@@ -37,14 +37,17 @@ impl DependIndex {
         let by_actor = self.first_by(k, entry.event.actor, probes);
         match entry.place {
             None => by_actor,
-            Some(place) => earlier(by_actor, self.first_at(k, place, entry.wrote, probes)),
+            Some(place) => earlier(
+                by_actor,
+                self.first_interfering(k, place, entry.wrote, probes),
+            ),
         }
     }
 
     /// Whether the entry depends on one of the entries after the first `n`, which must be at most
     /// the number of positions. It looks first at the positions of the entry's actor, since these
     /// decide in most cases, and takes no memory.
-    pub fn depends_after(&self, n: u64, entry: &Entry) -> bool
+    pub fn depends_on_any_after(&self, n: u64, entry: &Entry) -> bool
         requires { n ≤ position_count self.now }
         ensures { (es : List SomeEntry) → IsIndexOf self.now es
             → result ≡ depends_on_any (drop n es) entry.now }
@@ -62,7 +65,13 @@ impl DependIndex {
     /// Returns the first position above `k` of a step that interferes with an access to this place
     /// that wrote this part of it; `None` if there is no such step. It makes at most 57 probes,
     /// before which fewer than 2^33 must be counted.
-    fn first_at(&self, k: u32, place: Place, wrote: Wrote, probes: &mut Probes) -> Option<u64>
+    fn first_interfering(
+        &self,
+        k: u32,
+        place: Place,
+        wrote: Wrote,
+        probes: &mut Probes,
+    ) -> Option<u64>
         requires { probe_count probes.old < 2 ^ 33 }
         ensures answer { (es : List SomeEntry) → IsIndexOf self.now es
             → result ≡ find (nat_lt k)
@@ -73,7 +82,7 @@ impl DependIndex {
         let among = Among::writes_if(wrote.is_nothing());
         let of_value = Among::writes_if(!is_value_written(wrote));
         let by_value = self.first_under(k, value_key(Some(place)), of_value, probes);
-        let own = self.first_under(k, Some(Key::of_place(place)), among, probes);
+        let own = self.first_under(k, Some(Key::for_search(place)), among, probes);
         let whole = self.first_under(k, Key::of_whole(place), among, probes);
         earlier(by_value, earlier(own, whole))
     }

@@ -7,7 +7,7 @@ ghost use Rattle.std.specs.Prelude.{◌≡◌, ◌+◌, ◌*◌, ◌<◌, not, S
 ghost use Rattle.std.specs.Hash as fed;
 ghost use Rattle.std.specs.Cmp.{partial_equiv_from_equiv};
 ghost use Rattle.rd_cell.specs.Places.{is_nothing};
-ghost use Rattle.rd_depend.specs.Keys.{key_eq, key_number, own_key, place_number, packed, key_of_segment, place_key, value_key, segment_key, whole_key, is_value_written};
+ghost use Rattle.rd_depend.specs.Keys.{key_eq, key_number, search_key, place_number, packed, key_of_segment, place_key, value_key, segment_key, whole_key, is_value_written};
 ghost use Rattle.rd_depend.specs.KeyLaws.{key_equiv, key_number-same};
 
 use rd_cell::{Place, SegName, Wrote};
@@ -44,8 +44,8 @@ impl Key {
     /// Returns the key under which a search finds the steps at what a place names, except at the
     /// value half of a cell. The whole of a segment has the segment's key, a cell the key of its
     /// index half, and any other place its own.
-    pub(crate) fn of_place(place: Place) -> Key
-        ensures { result ≡ own_key place }
+    pub(crate) fn for_search(place: Place) -> Key
+        ensures { result ≡ search_key place }
     {
         match place {
             Place::Whole(name) => Key::In(name),
@@ -67,7 +67,7 @@ impl Key {
 
     /// Returns the number as which the key is hashed. Different keys have different numbers.
     #[inline(always)]
-    pub(crate) fn number(&self) -> u64
+    pub(crate) fn hash_number(&self) -> u64
         ensures { result ≡ key_number self.now }
     {
         match *self {
@@ -146,10 +146,10 @@ fn place_number(place: Place) -> u64
 /// Packs a kind of key, an index and a segment's name into one number below 2^56, each into bits of
 /// its own. So different arguments give different numbers. A kind without an index or a segment
 /// passes 0 or the root.
-fn packed(part: u8, name: SegName, index: u8) -> u64
-    ensures { result ≡ packed part name index }
+fn packed(kind: u8, name: SegName, index: u8) -> u64
+    ensures { result ≡ packed kind name index }
 {
-    let within = u64::from(part) * 256 + u64::from(index);
+    let within = u64::from(kind) * 256 + u64::from(index);
     (within * 256 + u64::from(name.maker)) * 4_294_967_296 + u64::from(name.n)
 }
 
@@ -180,6 +180,6 @@ impl Hash for Key {
 
     /// Hashes the key as one number. So a look-up costs one call of the hasher.
     fn hash<H: Hasher>(&self, state: &mut H) {
-        state.write_u64(self.number());
+        state.write_u64(self.hash_number());
     }
 }

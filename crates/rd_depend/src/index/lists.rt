@@ -2,8 +2,8 @@
 
 ghost use Rattle.std.specs.Prelude.{◌≡◌, ◌+◌, ◌-◌, ◌==◌, ◌&&◌, true, ◌<◌, ◌≤◌, ◌++◌, ◌∷◌, [], ℕ, IsOk, OnOk, length, map, nat_lt, take, vec_capacity, cond, if◌then◌else◌};
 ghost use Rattle.std.specs.List.{before_first, position_or_len};
-ghost use Rattle.rd_depend.specs.Lists.{IsAscending, IsMoved, turned};
-ghost use Rattle.rd_depend.specs.Tables.{list_at, capacity_at, spare_at, spare_of};
+ghost use Rattle.rd_depend.specs.Lists.{IsAscending, IsMoved, lowered_and_rotated};
+ghost use Rattle.rd_depend.specs.Tables.{list_at, capacity_at, spare_at, vec_spare};
 
 use std::alloc::{AllocError, Global};
 
@@ -16,7 +16,7 @@ const POSITIONS: usize = 8;
 ///
 /// `AllocError` if memory is refused. No list that was there has changed then, but some empty lists
 /// may have been added.
-pub(crate) fn grow(
+pub(crate) fn grow_to(
     lists: &mut Vec<Vec<u32>>,
     alloc: Global,
     number: usize,
@@ -73,9 +73,9 @@ pub(crate) fn reserve_if(
 /// Makes room for one more position in a list, unless it has room. Fails only if memory is refused.
 fn reserve(list: &mut Vec<u32>) -> Result<(), AllocError>
     ensures items { list.new.items ≡ list.old.items }
-    ensures room { spare_of list.old ≤ spare_of list.new }
-    ensures ok { OnOk result (0 < spare_of list.new) }
-    ensures succeeds { 0 < spare_of list.old → IsOk result }
+    ensures room { vec_spare list.old ≤ vec_spare list.new }
+    ensures ok { OnOk result (0 < vec_spare list.new) }
+    ensures succeeds { 0 < vec_spare list.old → IsOk result }
 {
     if list.len() < list.capacity() {
         return Ok(());
@@ -88,7 +88,7 @@ fn reserve(list: &mut Vec<u32>) -> Result<(), AllocError>
 #[inline(never)]
 fn reserve_several(list: &mut Vec<u32>) -> Result<(), AllocError>
     ensures items { list.new.items ≡ list.old.items }
-    ensures ok { OnOk result (0 < spare_of list.new) }
+    ensures ok { OnOk result (0 < vec_spare list.new) }
 {
     list.reserve(POSITIONS)
 }
@@ -123,7 +123,7 @@ pub(crate) fn put_if(lists: &mut Vec<Vec<u32>>, wanted: bool, index: usize, posi
 }
 
 /// Removes the last position from the list of this number, which must not be empty.
-pub(crate) fn take_last_in(lists: &mut Vec<Vec<u32>>, index: usize)
+pub(crate) fn remove_last_in(lists: &mut Vec<Vec<u32>>, index: usize)
     requires { 1 ≤ length (list_at lists.old.items index) }
     ensures lists { (i : ℕ) → list_at lists.new.items i
         ≡ (if i == index then take (length (list_at lists.old.items i) - 1)
@@ -137,7 +137,7 @@ pub(crate) fn take_last_in(lists: &mut Vec<Vec<u32>>, index: usize)
 
 /// Removes the last position from the list of this number, if `wanted`. The list must then not be
 /// empty.
-pub(crate) fn take_last_if(lists: &mut Vec<Vec<u32>>, wanted: bool, index: usize)
+pub(crate) fn remove_last_if(lists: &mut Vec<Vec<u32>>, wanted: bool, index: usize)
     requires { wanted ≡ true → 1 ≤ length (list_at lists.old.items index) }
     ensures lists { (i : ℕ) → list_at lists.new.items i
         ≡ (if wanted && (i == index)
@@ -148,14 +148,14 @@ pub(crate) fn take_last_if(lists: &mut Vec<Vec<u32>>, wanted: bool, index: usize
     ensures number { length lists.new.items ≡ length lists.old.items }
 {
     if wanted {
-        take_last_in(lists, index);
+        remove_last_in(lists, index);
     }
 }
 
 /// Moves position `k` to `n` in each list: `k` becomes `n`, if it is there, and the positions above
 /// `k` up to `n` become one less. `k` must be at least 1 and at most `n`. Each list has to ascend;
 /// nothing is said of what becomes of one that doesn't.
-pub(crate) fn move_all(lists: &mut Vec<Vec<u32>>, k: u32, n: u32)
+pub(crate) fn move_in_all(lists: &mut Vec<Vec<u32>>, k: u32, n: u32)
     requires some { 1 ≤ k }
     requires order { k ≤ n }
     ensures lists { (i : ℕ) → IsAscending (list_at lists.old.items i)
@@ -181,13 +181,13 @@ fn move_among(positions: &mut [u32], k: u32, n: u32)
         return;
     }
     let end = start + count_up_to(&positions[start..], n);
-    turn(&mut positions[start..end], k, n);
+    lower_and_rotate(&mut positions[start..end], k, n);
 }
 
 /// Subtracts 1 from each position that is above 0. But if the first one is `k`, that one moves to
 /// the end and becomes `n`.
-fn turn(positions: &mut [u32], k: u32, n: u32)
-    ensures { positions.new ≡ turned k n positions.old }
+fn lower_and_rotate(positions: &mut [u32], k: u32, n: u32)
+    ensures { positions.new ≡ lowered_and_rotated k n positions.old }
 {
     let held = !positions.is_empty() && positions[0] == k;
     lower(positions);

@@ -9,8 +9,8 @@ ghost use Rattle.std.specs.Prelude.{◌≡◌, ◌<◌, length};
 
 use super::keys::Key;
 use super::lists::{
-    move_all, put_if, put_in, remove_above_in_all, reserve_if, reserve_in, take_last_if,
-    take_last_in,
+    move_in_all, put_if, put_in, remove_above_in_all, remove_last_if, remove_last_in, reserve_if,
+    reserve_in,
 };
 use indexmap::IndexSet;
 use std::alloc::{AllocError, Global};
@@ -61,7 +61,7 @@ pub(crate) struct Table {
 impl Table {
     ghost use Rattle.std.specs.Prelude.{◌≤◌, Option, Some, Bool, true, IsOk, IfOk, IfSome, false, []};
     ghost use Rattle.rd_depend.specs.Keys.{slot_in};
-    ghost use Rattle.rd_depend.specs.Tables.{is_writes, kept_in, spare_in, is_kept_in, IsReady, IsReadyIfSome, KeepsLists, Puts, HasLast, TakesLast, Moves, Cuts};
+    ghost use Rattle.rd_depend.specs.Tables.{is_writes, kept_in, spare_in, is_kept_in, IsReady, IsReadyIfSome, KeepsLists, Puts, HasLast, RemovesLast, Moves, Cuts};
     ghost use Rattle.rd_depend.specs.declared.index.keys.Key.{Key as Kept};
 
     /// Returns a table without keys. It takes no memory.
@@ -77,12 +77,12 @@ impl Table {
     }
 
     /// Returns the index of the key; `None` if it isn't in the table.
-    pub(crate) fn slot(&self, key: Key) -> Option<usize>
+    pub(crate) fn key_index(&self, key: Key) -> Option<usize>
         ensures slot { result ≡ slot_in self.now.keys.keys key }
         ensures within { IfSome result (λ i. i < length self.now.keys.keys) }
     {
         let hinted = self.hints[hint_of(key)];
-        if self.is_at(hinted, key) {
+        if self.has_key_at(hinted, key) {
             return Some(hinted);
         }
         self.keys.get_index_of(&key)
@@ -90,7 +90,7 @@ impl Table {
 
     /// Whether this key is at this index; false for an index that no key has.
     #[inline(always)]
-    fn is_at(&self, slot: usize, key: Key) -> bool
+    fn has_key_at(&self, slot: usize, key: Key) -> bool
         ensures { result ≡ true → slot_in self.now.keys.keys key ≡ Some slot }
     {
         let keys = self.keys.as_slice();
@@ -105,7 +105,7 @@ impl Table {
     pub(crate) fn kept_under(&self, key: Key, among: Among) -> &[u32]
         ensures { result.now ≡ kept_in self.now (is_writes among) key }
     {
-        let Some(slot) = self.slot(key) else {
+        let Some(slot) = self.key_index(key) else {
             return &[];
         };
         match among {
@@ -152,7 +152,7 @@ impl Table {
         ensures succeeds { ((w : Bool) → is_kept_in w wrote ≡ true → 0 < spare_in self.old w key)
             → IsOk result }
     {
-        let slot = self.slot_or_new(alloc, key)?;
+        let slot = self.find_or_add(alloc, key)?;
         reserve_in(&mut self.all, slot)?;
         reserve_if(&mut self.writes, wrote, slot)?;
         Ok(slot)
@@ -161,7 +161,7 @@ impl Table {
     /// Returns the index of the key, which is added with empty lists if it isn't in the table. The
     /// key's hint has this index then. Fails only if memory is refused.
     #[inline(always)]
-    fn slot_or_new(&mut self, alloc: Global, key: Key) -> Result<usize, AllocError>
+    fn find_or_add(&mut self, alloc: Global, key: Key) -> Result<usize, AllocError>
         ensures same { KeepsLists self.old self.new }
         ensures slot { IfOk result (λ i. slot_in self.new.keys.keys key ≡ Some i) }
         ensures within { IfOk result (λ i. i < length self.new.keys.keys) }
@@ -169,10 +169,10 @@ impl Table {
     {
         let hint = hint_of(key);
         let hinted = self.hints[hint];
-        if self.is_at(hinted, key) {
+        if self.has_key_at(hinted, key) {
             return Ok(hinted);
         }
-        let slot = self.found_or_new(alloc, key)?;
+        let slot = self.search_or_add(alloc, key)?;
         self.hints[hint] = slot;
         Ok(slot)
     }
@@ -180,13 +180,13 @@ impl Table {
     /// Returns the index of the key, which is added with empty lists if it isn't in the table. No
     /// hint is changed. Fails only if memory is refused.
     #[inline(never)]
-    fn found_or_new(&mut self, alloc: Global, key: Key) -> Result<usize, AllocError>
+    fn search_or_add(&mut self, alloc: Global, key: Key) -> Result<usize, AllocError>
         ensures same { KeepsLists self.old self.new }
         ensures slot { IfOk result (λ i. slot_in self.new.keys.keys key ≡ Some i) }
         ensures within { IfOk result (λ i. i < length self.new.keys.keys) }
         ensures succeeds { 0 < spare_in self.old false key → IsOk result }
     {
-        if let Some(slot) = self.slot(key) {
+        if let Some(slot) = self.key_index(key) {
             return Ok(slot);
         }
         self.all.reserve(1)?;
@@ -223,24 +223,24 @@ impl Table {
 
     /// Removes the last position from the key's list, and from its list of writes if the step
     /// wrote. These lists must not be empty. Without a key it does nothing.
-    pub(crate) fn take_last(&mut self, key: Option<Key>, wrote: bool)
+    pub(crate) fn remove_last(&mut self, key: Option<Key>, wrote: bool)
         requires { HasLast self.old key wrote }
-        ensures { TakesLast key wrote self.old self.new }
+        ensures { RemovesLast key wrote self.old self.new }
     {
         if let Some(key) = key {
-            self.take_last_under(key, wrote);
+            self.remove_last_under(key, wrote);
         }
     }
 
     /// Removes the last position from the key's list, and from its list of writes if the step
     /// wrote. These lists must not be empty.
-    fn take_last_under(&mut self, key: Key, wrote: bool)
+    fn remove_last_under(&mut self, key: Key, wrote: bool)
         requires { HasLast self.old (Some key) wrote }
-        ensures { TakesLast (Some key) wrote self.old self.new }
+        ensures { RemovesLast (Some key) wrote self.old self.new }
     {
-        if let Some(slot) = self.slot(key) {
-            take_last_in(&mut self.all, slot);
-            take_last_if(&mut self.writes, wrote, slot);
+        if let Some(slot) = self.key_index(key) {
+            remove_last_in(&mut self.all, slot);
+            remove_last_if(&mut self.writes, wrote, slot);
         }
     }
 
@@ -252,8 +252,8 @@ impl Table {
         requires order { k ≤ n }
         ensures { Moves k n self.old self.new }
     {
-        move_all(&mut self.all, k, n);
-        move_all(&mut self.writes, k, n);
+        move_in_all(&mut self.all, k, n);
+        move_in_all(&mut self.writes, k, n);
     }
 
     /// Removes the positions above `n` from each list. Each list has to ascend; nothing is said of
@@ -271,6 +271,6 @@ impl Table {
 fn hint_of(key: Key) -> usize
     ensures { result < HINTS }
 {
-    let spread = key.number().wrapping_mul(0x9e37_79b9_7f4a_7c15);
+    let spread = key.hash_number().wrapping_mul(0x9e37_79b9_7f4a_7c15);
     (spread >> 55) as usize % HINTS
 }

@@ -31,16 +31,16 @@ impl DependIndex {
         ensures counts { probe_count probes.old < probe_count probes.new }
     {
         let n = n as u32;
-        let by_value = self.last_under(n, value_key(Some(place)), probes);
-        let own = self.last_under(n, Some(Key::of_place(place)), probes);
-        let whole = self.last_under(n, Key::of_whole(place), probes);
+        let by_value = self.last_write_under(n, value_key(Some(place)), probes);
+        let own = self.last_write_under(n, Some(Key::for_search(place)), probes);
+        let whole = self.last_write_under(n, Key::of_whole(place), probes);
         later(by_value, later(own, whole))
     }
 
     /// Returns the last position up to `n` of a step that is kept under the key and wrote there;
     /// `None` if there is no key or no such step. It makes at most 19 probes, and none without a
     /// key. Fewer than 2^34 must be counted before.
-    fn last_under(&self, n: u32, key: Option<Key>, probes: &mut Probes) -> Option<u64>
+    fn last_write_under(&self, n: u32, key: Option<Key>, probes: &mut Probes) -> Option<u64>
         requires { probe_count probes.old < 2 ^ 34 }
         ensures answer { (es : List SomeEntry) → IsIndexOf self.now es
             → result ≡ last_position (λ y. is_under_some key (touched_or_written true y))

@@ -14,7 +14,7 @@ use rd_step::Entry;
 use std::alloc::Global;
 use std::process::Abort;
 use std::test::Fail;
-use test_kit::{next, record};
+use test_kit::{access_entry, next_random};
 
 /// An index beside the entries that it is of.
 #[derive(Drop)]
@@ -108,7 +108,7 @@ impl Both {
         let len = self.entries.len();
         if n <= len && len <= MOST_STEPS && n as u64 <= self.index.len() {
             for entry in entries {
-                let found = self.index.depends_after(n as u64, entry);
+                let found = self.index.depends_on_any_after(n as u64, entry);
                 let wanted = depends_on_any(&self.entries[n..], entry);
                 assert!(rt; found == wanted, "after {n}");
             }
@@ -278,7 +278,7 @@ impl Draws {
 
     /// The next number.
     pub(super) fn next(&mut self) -> u64 {
-        self.state = next(self.state);
+        self.state = next_random(self.state);
         self.state
     }
 
@@ -317,7 +317,7 @@ fn change(both: &mut Both, draws: &mut Draws, actors: u8) -> Result<(), Fail> {
             let n = draws.below(64) as usize;
             both.move_to(k.min(len), n.min(len));
         }
-        _ => both.push(record(draws.access(actors)))?,
+        _ => both.push(access_entry(draws.access(actors)))?,
     }
     Ok(())
 }
@@ -341,7 +341,7 @@ const AT: &[usize] = &[0, 1, 255, 256, 32_767, 65_533, 65_534];
 #[test]
 fn as_many_entries_as_there_may_be_are_found_by_few_probes(rt: HostRuntime) -> Result<(), Fail> {
     let mut both = Both::new(rt.alloc());
-    let entry = record((1, Some(Place::Tail(MADE)), Wrote::Place));
+    let entry = access_entry((1, Some(Place::Tail(MADE)), Wrote::Place));
     for _ in 0..MOST_STEPS {
         both.push(entry)?;
     }
@@ -378,7 +378,7 @@ const WHOLE: &[Access] = &[
 fn the_whole_of_a_segment_is_found_between_its_cells(rt: HostRuntime) -> Result<(), Fail> {
     let mut both = Both::new(rt.alloc());
     for access in WHOLE {
-        both.push(record(*access))?;
+        both.push(access_entry(*access))?;
         both.compare_all(&rt);
     }
     for _ in 0..WHOLE.len() {

@@ -10,7 +10,7 @@ ghost use Rattle.rd_step.specs.Prelude.{closure_of, without_closure, MOST_STEPS}
 ghost use Rattle.rd_depend.specs.Index.{IsIndexOf, HasRoomFor};
 ghost use Rattle.rd_journal.specs.Numbers.{at_numbers, IsOrder};
 
-use crate::indexing::put_back;
+use crate::indexing::push_with_room;
 use rd_depend::DependIndex;
 use rd_step::Entry;
 
@@ -65,13 +65,13 @@ pub(crate) fn gather(
     let mut front = k - 1;
     let first = order[front];
     let step = entry_in(slots, first);
-    put_back(index, step);
+    push_with_room(index, step);
     gathered.push_reserved(first);
     for next in k..live {
         let number = order[next];
         let entry = entry_in(slots, number);
-        if index.depends_after(k as u64 - 1, entry) {
-            put_back(index, entry);
+        if index.depends_on_any_after(k as u64 - 1, entry) {
+            push_with_room(index, entry);
             gathered.push_reserved(number);
         } else {
             order[front] = number;

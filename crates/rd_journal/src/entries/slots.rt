@@ -8,26 +8,27 @@ ghost use Rattle.rd_journal.specs.Numbers.{at_numbers, IsOrder};
 use rd_step::Entry;
 use std::alloc::AllocError;
 
-/// Puts an entry at index `place` of the order: into the slot whose number is there, or at the end
-/// of the order into a new slot. The index must be below `MOST_STEPS`, at most the order's length,
-/// and below the capacity of both lists.
-pub(crate) fn put_at(slots: &mut Vec<Entry>, order: &mut Vec<u32>, place: usize, entry: &Entry)
+/// Puts an entry at index `position` of the order: into the slot whose number is there, or at the
+/// end of the order into a new slot. The index must be below `MOST_STEPS`, at most the order's
+/// length, and below the capacity of both lists.
+pub(crate) fn put_at(slots: &mut Vec<Entry>, order: &mut Vec<u32>, position: usize, entry: &Entry)
     requires ordered { IsOrder (length slots.old.items) order.old.items }
-    requires within { place ≤ length order.old.items }
-    requires few { place < MOST_STEPS }
-    requires slot { place < vec_capacity slots.old }
-    requires number { place < vec_capacity order.old }
+    requires within { position ≤ length order.old.items }
+    requires few { position < MOST_STEPS }
+    requires slot { position < vec_capacity slots.old }
+    requires number { position < vec_capacity order.old }
     ensures ordered { IsOrder (length slots.new.items) order.new.items }
     ensures put { at_numbers slots.new.items order.new.items
-        ≡ take place (at_numbers slots.old.items order.old.items)
-        ++ entry.now ∷ drop (place + 1) (at_numbers slots.old.items order.old.items) }
-    ensures within { place < length order.new.items }
-    ensures longer { (n : ℕ) → place < n → length order.old.items ≤ n → length order.new.items ≤ n }
+        ≡ take position (at_numbers slots.old.items order.old.items)
+        ++ entry.now ∷ drop (position + 1) (at_numbers slots.old.items order.old.items) }
+    ensures within { position < length order.new.items }
+    ensures longer { (n : ℕ) → position < n → length order.old.items ≤ n
+        → length order.new.items ≤ n }
     ensures slots { vec_capacity slots.new ≡ vec_capacity slots.old }
     ensures numbers { vec_capacity order.new ≡ vec_capacity order.old }
 {
-    if place < order.len() {
-        slots[order[place] as usize] = *entry;
+    if position < order.len() {
+        slots[order[position] as usize] = *entry;
     } else {
         order.push_reserved(slots.len() as u32);
         slots.push_reserved(*entry);
@@ -53,7 +54,7 @@ pub(crate) fn make_room_in<T>(items: &mut Vec<T>, needed: usize) -> Result<(), A
 /// Moves the `k`-th of the first `live` numbers, counted from 1, behind the others of these, which
 /// keep their order. `k` must be at least 1 and at most `live`, and there must be at least `live`
 /// numbers.
-pub(crate) fn move_after(order: &mut Vec<u32>, k: usize, live: usize)
+pub(crate) fn move_to(order: &mut Vec<u32>, k: usize, live: usize)
     requires some { 1 ≤ k }
     requires position { k ≤ live }
     requires within { live ≤ length order.old.items }

@@ -9,33 +9,33 @@ use super::Session;
 use super::stepping::{step_all_again, undo_after};
 
 impl<const R: usize> Session<R> {
-    ghost use Rattle.rd_journal.specs.Sessions.{journal, state, GoesAlong};
+    ghost use Rattle.rd_journal.specs.Sessions.{journal, state, GoesAlongTrack};
 
     /// Undoes the last `n` live steps, the last one first, each by the old record and the old
     /// content in its entry. At least `n` steps must be live.
-    pub(super) fn undo_many(&mut self, n: u64)
+    pub(super) fn undo_last(&mut self, n: u64)
         requires enough { n ≤ length (journal self.old).live }
         ensures entries { IsMovedBack n (journal self.old) (journal self.new) }
         ensures state { back (state self.old) n ≡ Ok (state self.new) }
-        ensures along { GoesAlong self.old self.new }
+        ensures along { GoesAlongTrack self.old self.new }
     {
         let left = self.entries.live_len() - n as usize;
         undo_after(&mut self.world, &self.entries.live(), left);
-        self.entries.step_back(n as usize);
+        self.entries.move_border_back(n as usize);
         self.undone += n as usize;
     }
 
     /// Makes the `n` steps again that were undone last, one after another. At least `n` steps must
     /// be undone. Their entries are those of a run from the present world, so no step is refused,
     /// and each leaves the entry that it has.
-    pub(super) fn redo_many(&mut self, n: u64)
+    pub(super) fn redo_front(&mut self, n: u64)
         requires enough { n ≤ length (journal self.old).undone }
         ensures entries { IsMovedForward n (journal self.old) (journal self.new) }
         ensures state { forward (state self.old) n ≡ Ok (state self.new) }
-        ensures along { GoesAlong self.old self.new }
+        ensures along { GoesAlongTrack self.old self.new }
     {
-        step_all_again(&mut self.world, &self.entries.ahead(n as usize));
-        self.entries.step_forward(n as usize);
+        step_all_again(&mut self.world, &self.entries.first_ahead(n as usize));
+        self.entries.move_border_forward(n as usize);
         self.undone -= n as usize;
     }
 
@@ -46,9 +46,9 @@ impl<const R: usize> Session<R> {
         ensures entries { IsSwitched (length (journal self.old).live)
             (take n (ahead_entries self.old.entries)) (journal self.old) (journal self.new) }
         ensures start { (journal self.new).start ≡ (journal self.old).start }
-        ensures along { GoesAlong self.old self.new }
+        ensures along { GoesAlongTrack self.old self.new }
     {
         self.undone = n;
-        self.redo_many(n as u64);
+        self.redo_front(n as u64);
     }
 }

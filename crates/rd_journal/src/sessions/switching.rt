@@ -61,7 +61,7 @@ impl<const R: usize> Session<R> {
     /// # Errors
     ///
     /// `NoMemory` if the index is refused memory. The steps and the world are then as before.
-    pub(super) fn exchange(&mut self, n: usize, given: &[Entry]) -> Result<(), Refusal>
+    pub(super) fn replace_steps_after(&mut self, n: usize, given: &[Entry]) -> Result<(), Refusal>
         requires within { n ≤ length (journal self.old).live }
         requires few { n + length given.now ≤ MOST_STEPS }
         requires run { IsRunFrom (journal self.old).start
@@ -81,7 +81,7 @@ impl<const R: usize> Session<R> {
     {
         replace_in_index(&mut self.index, &self.entries, n, given)?;
         undo_after(&mut self.world, &self.entries.live(), n);
-        self.entries.exchange(n, given);
+        self.entries.replace_after(n, given);
         step_all_again(&mut self.world, &self.entries.live().after(n));
         self.undone = 0;
         Ok(())
@@ -108,7 +108,7 @@ fn make_room_for_makings<const R: usize>(
     ensures unchanged { model world.new ≡ model world.old }
     ensures room { (m : ℕ) → world_room world.old m ≤ world_room world.new m }
 {
-    let counts = makings_missing(dropped, makings_of(given));
+    let counts = making_counts_beyond(dropped, making_counts(given));
     for number in 0..world.actors() {
         let actor = number + 1;
         world.make_room(actor, counts[usize::from(actor)])?;
@@ -117,12 +117,12 @@ fn make_room_for_makings<const R: usize>(
 }
 
 /// Returns, for each actor's number, the number of makings by that actor among these entries.
-fn makings_of(entries: &[Entry]) -> [usize; ACTOR_NUMBERS]
+fn making_counts(entries: &[Entry]) -> [usize; ACTOR_NUMBERS]
     ensures { (m : ℕ) → m < ACTOR_NUMBERS → get_or result m 0 ≡ room_returned_by entries.now m }
 {
     let mut counts = [0; ACTOR_NUMBERS];
     for entry in entries {
-        if let Some(segment) = entry.made() {
+        if let Some(segment) = entry.made_segment() {
             counts[usize::from(segment.maker)] += 1;
         }
     }
@@ -131,13 +131,16 @@ fn makings_of(entries: &[Entry]) -> [usize; ACTOR_NUMBERS]
 
 /// Returns, for each actor's number, the given number of makings less the number that the actor has
 /// among the dropped entries; 0 if that is more than the given one.
-fn makings_missing(dropped: &EntryList, given: [usize; ACTOR_NUMBERS]) -> [usize; ACTOR_NUMBERS]
+fn making_counts_beyond(
+    dropped: &EntryList,
+    given: [usize; ACTOR_NUMBERS],
+) -> [usize; ACTOR_NUMBERS]
     ensures { (m : ℕ) → m < ACTOR_NUMBERS
         → get_or result m 0 ≡ get_or given m 0 - room_returned_by dropped.now m }
 {
     let mut counts = given;
     for position in 0..dropped.len() {
-        if let Some(segment) = dropped.at(position).made() {
+        if let Some(segment) = dropped.at(position).made_segment() {
             let maker = usize::from(segment.maker);
             counts[maker] = counts[maker].saturating_sub(1);
         }

@@ -24,7 +24,7 @@ impl<const R: usize> Session<R> {
     {
         unstep(&mut self.world, self.entries.live_at(k as usize - 1));
         self.index.move_to(k, self.entries.live_len() as u64);
-        self.entries.undo_alone(k as usize);
+        self.entries.make_next_ahead(k as usize);
         self.undone += 1;
     }
 
@@ -62,6 +62,6 @@ impl<const R: usize> Session<R> {
         let count = self.entries.gather_closure(k as usize, &mut self.index);
         self.index.truncate(before as u64);
         fill_index(&mut self.index, &self.entries);
-        self.undo_many(count as u64);
+        self.undo_last(count as u64);
     }
 }

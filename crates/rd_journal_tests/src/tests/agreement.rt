@@ -10,7 +10,7 @@ use rd_journal::Session;
 use rd_step::Entry;
 use std::alloc::Global;
 use std::test::Fail;
-use test_kit::next;
+use test_kit::next_random;
 
 /// What undoing this step alone is to answer, by the plain scan over the entries of the live steps.
 fn scanned(entries: &[Entry], k: u64) -> Result<(), Refusal> {
@@ -37,7 +37,7 @@ fn agrees_all_along(alloc: Global, seed: u64) -> Result<bool, Refusal> {
     let mut session = mixed_run(alloc, STEPS, seed)?;
     let mut number = seed;
     for turn in 0..STEPS {
-        number = next(number);
+        number = next_random(number);
         if turn % 16 == 15 {
             step_all_again(alloc, &mut session)?;
         }

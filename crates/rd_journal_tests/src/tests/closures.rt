@@ -12,7 +12,7 @@ use rd_journal::Session;
 use rd_step::{Entry, Event, World};
 use std::alloc::{AllocError, Global};
 use std::test::Fail;
-use test_kit::next;
+use test_kit::next_random;
 
 /// How many calls a run has.
 const CALLS: u64 = 200;
@@ -39,7 +39,7 @@ fn closure(alloc: Global, entries: &[Entry], k: u64) -> Result<Vec<bool>, AllocE
 }
 
 /// Whether the entry is there and of this event.
-fn is_of(entry: Option<&Entry>, event: Event) -> bool {
+fn is_of_segment(entry: Option<&Entry>, event: Event) -> bool {
     match entry {
         None => false,
         Some(entry) => entry.event == event,
@@ -59,7 +59,7 @@ fn is_parted<const R: usize>(session: &Session<R>, entries: &[Entry], marks: &[b
             if session.undone_event(gone) != Some(event) {
                 return false;
             }
-        } else if is_of(live.get(stay), event) {
+        } else if is_of_segment(live.get(stay), event) {
             stay = stay.wrapping_add(1);
         } else {
             return false;
@@ -96,7 +96,7 @@ fn agrees_all_along<const R: usize>(alloc: Global, actors: u8, seed: u64) -> Res
     let mut session = Session::open(alloc, World::<R>::fresh(alloc, actors)?);
     let mut number = seed;
     for turn in 0..CALLS {
-        number = next(number);
+        number = next_random(number);
         let is_refused = call(&mut session, actors, number) == Err(Refusal::NoMemory);
         if is_refused || (turn % 16 == 15 && !agrees(alloc, &mut session, number)?) {
             return Ok(false);

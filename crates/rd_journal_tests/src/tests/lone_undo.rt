@@ -9,7 +9,7 @@ use rd_step::{Event, World};
 use std::alloc::Global;
 use std::process::Abort;
 use std::test::Fail;
-use test_kit::{drawn_event, event_in, next};
+use test_kit::{drawn_event, event_and_times, next_random};
 
 /// The first segment of the queue.
 const ROOT: SegName = SegName::ROOT;
@@ -17,7 +17,7 @@ const ROOT: SegName = SegName::ROOT;
 /// Does what a line says: an event, as often as it says, or a move through the run; none if it says
 /// nothing.
 fn done<const R: usize>(session: &mut Session<R>, line: &str) -> Option<Result<(), Refusal>> {
-    if let Some((event, times)) = event_in(line) {
+    if let Some((event, times)) = event_and_times(line) {
         return Some(apply(session, event, times));
     }
     let mut words = line.split_whitespace();
@@ -279,7 +279,7 @@ pub(super) fn mixed_run(alloc: Global, steps: u64, seed: u64) -> Result<Session<
     let mut session = Session::open(alloc, World::<2>::fresh(alloc, 4)?);
     let mut number = seed;
     for _ in 0..steps {
-        number = next(number);
+        number = next_random(number);
         let event = drawn_event(session.world(), 4, number);
         session.apply(event)?;
     }
@@ -419,7 +419,7 @@ fn take_apart(
 ) -> Result<u64, Refusal> {
     let mut number = spread;
     for _ in 0..2 * STEPS {
-        number = next(number);
+        number = next_random(number);
         let len = session.len();
         let span = len.min(spread);
         if 0 < span {

@@ -8,7 +8,7 @@ use rd_journal::Session;
 use rd_step::World;
 use std::alloc::Global;
 use std::test::Fail;
-use test_kit::{drawn_event, next};
+use test_kit::{drawn_event, next_random};
 
 /// How many calls a run has.
 const CALLS: u64 = 300;
@@ -54,7 +54,7 @@ fn is_refused_memory<const R: usize>(alloc: Global, actors: u8) -> Result<bool, 
     let mut number = actors as u64;
     let mut is_refused = false;
     for _ in 0..CALLS {
-        number = next(number);
+        number = next_random(number);
         if call(&mut session, actors, number) == Err(Refusal::NoMemory) {
             is_refused = true;
         }

@@ -54,10 +54,10 @@ fn a_session_goes_over_to_its_own_entries_and_to_none(rt: HostRuntime) -> Result
 fn a_session_goes_along_its_steps_with_none_undone(rt: HostRuntime) -> Result<(), Fail> {
     let mut session = mixed_run(rt.alloc(), STEPS, 4)?;
     let live = session.len();
-    session.go_along(0);
+    session.go_along_track(0);
     assert!(rt; is_at(&session, 0, 0));
     assert_eq!(rt; session.redo(), Err(Refusal::NothingToRedo));
-    session.go_along(live);
+    session.go_along_track(live);
     assert!(rt; is_at(&session, live, 0));
     assert!(rt; is_stepped_afresh(rt.alloc(), &session)?);
     Ok(())

@@ -1,7 +1,7 @@
 //! The calls that the tests make, each with what it must answer.
 ghost use Rattle.std.specs.Prelude.{◌≡◌, ℕ, ◌-◌, ◌<◌, map};
 ghost use Rattle.std.specs.List.{AllByRecursion};
-ghost use Rattle.rd_lock.specs.Lists.{numbers};
+ghost use Rattle.rd_lock.specs.Lists.{numbers_from};
 ghost use Rattle.rd_lock.specs.Locks.{number, IsHolding, IsOut, IsPassOf};
 ghost use Rattle.rd_lock.specs.Opening.{IsNewPass};
 
@@ -20,10 +20,10 @@ pub(super) fn last_pass(
     count: u64,
 ) -> Pass<Numbers>
     requires each { AllByRecursion (IsNewPass lock.now first) passes.old.items }
-    requires numbers { map number passes.old.items ≡ numbers 1 count }
+    requires numbers { map number passes.old.items ≡ numbers_from 1 count }
     ensures own { IsPassOf lock.now result × IsOut result × (number result ≡ count) }
     ensures each { AllByRecursion (IsNewPass lock.now first) passes.new.items }
-    ensures numbers { map number passes.new.items ≡ numbers 1 (count - 1) }
+    ensures numbers { map number passes.new.items ≡ numbers_from 1 (count - 1) }
 {
     let _ = lock;
     let _ = first;

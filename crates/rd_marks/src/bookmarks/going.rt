@@ -14,7 +14,7 @@ use rd_journal::Session;
 use std::alloc::Global;
 
 impl Bookmarks {
-    ghost use Rattle.rd_marks.specs.Bookmarks.{lists_in, stretches_in, here_in};
+    ghost use Rattle.rd_marks.specs.Bookmarks.{named_entries_in, stretches_in, here_entries};
 
     /// Makes the steps of a node of these bookmarks the live ones, and leaves no undone step. The
     /// node's entries must be those of a run from the session's start, and the events of `here`
@@ -37,26 +37,26 @@ impl Bookmarks {
         requires within { IsWithin (stretches_in self.old) node }
         requires run { AreEntriesOfRun (state session.old).start
             (entries_at (stretches_in self.old) node) }
-        requires stands { Begins (events (here_in self.old)) (track session.old) }
+        requires stands { Begins (events (here_entries self.old)) (track session.old) }
         ensures ok { OnOk result (state session.new
             ≡ record {
               start = (state session.old).start;
               live = events (entries_at (stretches_in self.old) node);
               undone = [];
             }) }
-        ensures lists { lists_in self.new ≡ lists_in self.old }
-        ensures stands { Begins (events (here_in self.new)) (track session.new) }
+        ensures lists { named_entries_in self.new ≡ named_entries_in self.old }
+        ensures stands { Begins (events (here_entries self.new)) (track session.new) }
         ensures err { IfErr result (λ refusal. (refusal ≡ Refusal.NoMemory)
             × (LacksRoomFor session.old (events (entries_at (stretches_in self.old) node))
             ⊎ AreInPieces (stretches_in self.old) node)) }
         ensures succeeds { Begins (events (entries_at (stretches_in self.old) node))
             (state session.old).live → IsOk result }
         ensures along { Begins (events (entries_at (stretches_in self.old) node))
-            (events (here_in self.old)) → IsOk result }
+            (events (here_entries self.old)) → IsOk result }
         ensures unchanged { OnErr result (journal session.new ≡ journal session.old) }
     {
-        if self.stretches.common(self.here, node) == node.number {
-            session.go_along(node.number as u64);
+        if self.stretches.common_len(self.here, node) == node.number {
+            session.go_along_track(node.number as u64);
             return Ok(());
         }
         switch_to(&self.stretches, alloc, session, self.here, node)?;
@@ -103,8 +103,8 @@ fn switch_to<const R: usize>(
     ensures track { OnErr result (track session.new ≡ track session.old) }
 {
     let live = session.live();
-    let beginning = stretches.follow(here.cut(live.len()), &live);
-    let common = stretches.common(beginning, node);
+    let beginning = stretches.deepest_agreeing_node(here.truncated(live.len()), &live);
+    let common = stretches.common_len(beginning, node);
     match stretches.entries_after(alloc, node, common) {
         Err(_) => Err(Refusal::NoMemory),
         Ok(entries) => session.switch(common as u64, &entries),

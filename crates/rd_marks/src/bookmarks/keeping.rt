@@ -5,10 +5,10 @@ ghost use Rattle.std.specs.Prelude.{◌≡◌, ◌<◌, ◌≤◌, ◌++◌, [],
 ghost use Rattle.std.specs.List.{All};
 ghost use Rattle.std.specs.Map.{lookup};
 ghost use Rattle.indexmap.specs.IndexMap.{spare};
-ghost use Rattle.rd_marks.specs.Changes.{shifted, IsLow};
+ghost use Rattle.rd_marks.specs.Changes.{shifted, CanShiftUp};
 ghost use Rattle.rd_marks.specs.BookmarksFields.{nodes_of, IsPruned};
 ghost use Rattle.rd_marks.specs.Names.{mark_name_eq};
-ghost use Rattle.rd_marks.specs.Stretches.{greatest_in, entries_in_stretch, IsWithin, AreNeededFrom};
+ghost use Rattle.rd_marks.specs.Stretches.{greatest_len_in_stretch, node_len_in_stretch, IsWithin, AreNeededFrom};
 
 use super::super::names::MarkName;
 use super::super::stretches::{Grown, Node, Shift, Stretches};
@@ -16,14 +16,14 @@ use indexmap::IndexMap;
 
 /// Adds a bookmark of this name, which none may have, at the end of the list, in room that was made
 /// before. The nodes of the others are renumbered as the stretches were.
-pub(super) fn put(names: &mut IndexMap<MarkName, Node>, name: MarkName, grown: Grown)
+pub(super) fn add_bookmark(names: &mut IndexMap<MarkName, Node>, name: MarkName, grown: Grown)
     requires new { lookup (mark_name_eq name) names.old.entries ≡ None }
     requires room { 0 < spare names.old }
-    requires low { All (λ m. IsLow m.1) names.old.entries }
+    requires low { All (λ m. CanShiftUp m.1) names.old.entries }
     ensures { names.new.entries ≡ map (λ m. (m.0, shifted grown.shift m.1)) names.old.entries
         ++ (name, grown.node) ∷ [] }
 {
-    move_all(names, grown.shift);
+    shift_nodes(names, grown.shift);
     match names.insert(name, grown.node) {
         Err(_) => unreachable!(),
         Ok(_) => {}
@@ -32,8 +32,8 @@ pub(super) fn put(names: &mut IndexMap<MarkName, Node>, name: MarkName, grown: G
 
 /// Returns where `here` is after the first `len` live entries were added: at the node of these, or,
 /// if `here` has more entries, at its old node, renumbered as the stretches were.
-pub(super) fn here_after(here: Node, len: usize, grown: Grown) -> Node
-    requires { IsLow here }
+pub(super) fn here_after_growth(here: Node, len: usize, grown: Grown) -> Node
+    requires { CanShiftUp here }
     ensures near { here.number ≤ len → result ≡ grown.node }
     ensures far { len < here.number → result ≡ shifted grown.shift here }
 {
@@ -79,48 +79,54 @@ fn trim(stretches: &mut Stretches, names: &mut IndexMap<MarkName, Node>, here: &
     ensures below { i ≤ length stretches.new.list.items }
     ensures room { spare names.new ≡ spare names.old }
 {
-    let needed = stretches.shared(i + 1).max(greatest_in(names, i));
+    let needed = stretches
+        .shared_count(i + 1)
+        .max(greatest_len_in_stretch(names, i));
     let shift = stretches.shrink(i, needed);
-    move_all(names, shift);
-    *here = shift.shifted(kept_of(*here, i, needed));
+    shift_nodes(names, shift);
+    *here = shift.shifted(truncated_if_in_stretch(*here, i, needed));
 }
 
 /// Returns a node cut to its first `n` entries if it is in stretch `i`, otherwise the node as it
 /// is.
-fn kept_of(node: Node, i: usize, n: usize) -> Node
+fn truncated_if_in_stretch(node: Node, i: usize, n: usize) -> Node
     ensures stretch { result.stretch ≡ node.stretch }
     ensures number { result.number ≤ node.number }
     ensures left { result.stretch ≡ i → result.number ≤ n }
 {
-    if node.stretch == i { node.cut(n) } else { node }
+    if node.stretch == i {
+        node.truncated(n)
+    } else {
+        node
+    }
 }
 
 /// Returns the greatest number of entries of a bookmark's node in stretch `i`, or 0 if no
 /// bookmark's node is in it.
-fn greatest_in(names: &IndexMap<MarkName, Node>, i: usize) -> usize
-    ensures { result ≡ greatest_in i (nodes_of names.now.entries) }
+fn greatest_len_in_stretch(names: &IndexMap<MarkName, Node>, i: usize) -> usize
+    ensures { result ≡ greatest_len_in_stretch i (nodes_of names.now.entries) }
 {
     let mut greatest: usize = 0;
     for index in 0..names.len() {
         let Some((_, node)) = names.get_index(index) else {
             unreachable!();
         };
-        greatest = greatest.max(entries_in_stretch(i, *node));
+        greatest = greatest.max(node_len_in_stretch(i, *node));
     }
     greatest
 }
 
 /// Returns the number of entries of a node if it is in stretch `i`, otherwise 0.
-fn entries_in_stretch(i: usize, node: Node) -> usize
-    ensures { result ≡ entries_in_stretch i node }
+fn node_len_in_stretch(i: usize, node: Node) -> usize
+    ensures { result ≡ node_len_in_stretch i node }
 {
     if node.stretch == i { node.number } else { 0 }
 }
 
 /// Replaces the node of each bookmark by the one that has its entries after the stretches were
 /// renumbered. A node with entries must have a stretch number below 2^64 - 1.
-fn move_all(names: &mut IndexMap<MarkName, Node>, shift: Shift)
-    requires { All (λ m. IsLow m.1) names.old.entries }
+fn shift_nodes(names: &mut IndexMap<MarkName, Node>, shift: Shift)
+    requires { All (λ m. CanShiftUp m.1) names.old.entries }
     ensures room { spare names.new ≡ spare names.old }
     ensures entries { names.new.entries ≡ map (λ m. (m.0, shifted shift m.1)) names.old.entries }
 {

@@ -11,9 +11,9 @@ use rd_cell::limits::MOST_MARKS;
 
 impl<const R: usize> Book<R> {
     ghost use Rattle.rd_marks.specs.Beginnings.{NeedsNoEntry};
-    ghost use Rattle.rd_marks.specs.Book.{book_state, name_room, MayRefuseAsGoing};
-    ghost use Rattle.rd_marks.specs.BookState.{marked_events, mark, drop_mark, goto_mark, mark_at, MakesSteps, AnswersSame};
-    ghost use Rattle.rd_marks.specs.Commands.{IsObeyed, NeedsNoMemory};
+    ghost use Rattle.rd_marks.specs.Book.{book_state, name_room, MayRefuseIfGoto};
+    ghost use Rattle.rd_marks.specs.BookState.{events_by_name, mark, drop_mark, goto_mark, mark_at, GotoMakesSteps, AnswersSame};
+    ghost use Rattle.rd_marks.specs.Commands.{IsObeyed, SetsMarkWithoutMemory};
     ghost use Rattle.rd_marks.specs.declared.commands.Command.TheVariants as command;
 
     /// Sets a bookmark of this name at the live steps, as the last one in the list of bookmarks.
@@ -57,7 +57,7 @@ impl<const R: usize> Book<R> {
         ensures room { name_room self.old ≤ name_room self.new }
         ensures unchanged { OnErr result (book_state self.new ≡ book_state self.old) }
     {
-        if self.bookmarks.drop(&name) {
+        if self.bookmarks.remove(&name) {
             Ok(())
         } else {
             Err(Refusal::NoMark)
@@ -77,8 +77,8 @@ impl<const R: usize> Book<R> {
     pub fn goto_mark(&mut self, name: MarkName) -> Result<(), Refusal>
         ensures ok { OnOk result (goto_mark (book_state self.old) name ≡ Ok (book_state self.new)) }
         ensures err { IfErr result (λ refusal. (goto_mark (book_state self.old) name ≡ Err refusal)
-            ⊎ ((refusal ≡ Refusal.NoMemory) × MakesSteps (book_state self.old) name)) }
-        ensures memory { IfErr result (MayRefuseAsGoing self.old (command.GotoMark name)) }
+            ⊎ ((refusal ≡ Refusal.NoMemory) × GotoMakesSteps (book_state self.old) name)) }
+        ensures memory { IfErr result (MayRefuseIfGoto self.old (command.GotoMark name)) }
         ensures unchanged { OnErr result (book_state self.new ≡ book_state self.old) }
     {
         let Some(node) = self.bookmarks.find(&name) else {
@@ -97,8 +97,8 @@ impl<const R: usize> Book<R> {
     #[tactic(auto, using(crate::proofs::MarkLemmas::goto_steps))]
     pub fn same(&self, one: MarkName, other: MarkName) -> Result<bool, Refusal>
         ensures { AnswersSame (book_state self.now).session.start
-            (marked_events (book_state self.now).marks one)
-            (marked_events (book_state self.now).marks other) result }
+            (events_by_name (book_state self.now).marks one)
+            (events_by_name (book_state self.now).marks other) result }
     {
         let Some(one) = self.bookmarks.find(&one) else {
             return Err(Refusal::NoMark);
@@ -135,7 +135,7 @@ impl<const R: usize> Book<R> {
     pub(super) fn answer_mark(&mut self, name: MarkName) -> Result<Reply, Refusal>
         ensures answer { IsObeyed (book_state self.old) (command.Mark name)
             (record { answer = result; state = book_state self.new }) }
-        ensures succeeds { NeedsNoMemory (book_state self.old) (name_room self.old)
+        ensures succeeds { SetsMarkWithoutMemory (book_state self.old) (name_room self.old)
             (command.Mark name) → IsOk result }
     {
         self.mark(name)?;
@@ -158,7 +158,7 @@ impl<const R: usize> Book<R> {
     pub(super) fn answer_goto_mark(&mut self, name: MarkName) -> Result<Reply, Refusal>
         ensures answer { IsObeyed (book_state self.old) (command.GotoMark name)
             (record { answer = result; state = book_state self.new }) }
-        ensures memory { IfErr result (MayRefuseAsGoing self.old (command.GotoMark name)) }
+        ensures memory { IfErr result (MayRefuseIfGoto self.old (command.GotoMark name)) }
     {
         self.goto_mark(name)?;
         Ok(self.step_counts())

@@ -24,7 +24,8 @@ impl<const R: usize> Book<R> {
             (record { answer = result; state = book_state self.new }) }
     {
         self.session.undo_at(k)?;
-        self.bookmarks.cut_here(k.saturating_sub(1) as usize);
+        self.bookmarks
+            .record_change_after(k.saturating_sub(1) as usize);
         Ok(self.step_counts())
     }
 
@@ -40,7 +41,8 @@ impl<const R: usize> Book<R> {
             (record { answer = result; state = book_state self.new }) }
     {
         self.session.roll(k)?;
-        self.bookmarks.cut_here(k.saturating_sub(1) as usize);
+        self.bookmarks
+            .record_change_after(k.saturating_sub(1) as usize);
         Ok(self.step_counts())
     }
 
@@ -56,7 +58,7 @@ impl<const R: usize> Book<R> {
             (record { answer = result; state = book_state self.new }) }
     {
         let done = self.session.back(n);
-        self.counts_after(done)
+        self.answer_to_move(done)
     }
 
     /// Makes the first `n` undone steps again. Returns how many steps are live and how many are
@@ -70,7 +72,7 @@ impl<const R: usize> Book<R> {
             (record { answer = result; state = book_state self.new }) }
     {
         let done = self.session.forward(n);
-        self.counts_after(done)
+        self.answer_to_move(done)
     }
 
     /// Returns the reply `At`, with the numbers of live and undone steps now.
@@ -85,7 +87,7 @@ impl<const R: usize> Book<R> {
 
     /// Returns the answer to a move that was tried: the numbers of live and undone steps now, or
     /// the move's refusal.
-    fn counts_after(&self, done: Result<(), Refusal>) -> Result<Reply, Refusal>
+    fn answer_to_move(&self, done: Result<(), Refusal>) -> Result<Reply, Refusal>
         ensures ok { OnOk done (result ≡ Ok (step_counts (book_state self.now).session)) }
         ensures err { IfErr done (λ refusal. result ≡ Err refusal) }
     {

@@ -16,8 +16,8 @@ use rd_step::Event;
 use std::alloc::Global;
 
 impl<const R: usize> Book<R> {
-    ghost use Rattle.rd_marks.specs.Book.{book_state, session_of, name_room, MayRefuseAsGoing};
-    ghost use Rattle.rd_marks.specs.Commands.{IsObeyed, IsEventAnswer, NeedsNoMemory};
+    ghost use Rattle.rd_marks.specs.Book.{book_state, session_of, name_room, MayRefuseIfGoto};
+    ghost use Rattle.rd_marks.specs.Commands.{IsObeyed, IsEventAnswer, SetsMarkWithoutMemory};
     ghost use Rattle.rd_marks.specs.Headline.{Headline};
     ghost use Rattle.rd_marks.specs.Events.{as_event};
 
@@ -33,11 +33,11 @@ impl<const R: usize> Book<R> {
     pub fn obey(&mut self, command: Command) -> Result<Reply, Refusal>
         ensures answer { IsObeyed (book_state self.old) command
             (record { answer = result; state = book_state self.new }) }
-        ensures succeeds { NeedsNoMemory (book_state self.old) (name_room self.old) command
+        ensures succeeds { SetsMarkWithoutMemory (book_state self.old) (name_room self.old) command
             → IsOk result }
         ensures memory { IfErr result (λ refusal. (event : Happening)
             → as_event command ≡ Some event → MayRefuse (session_of self.old) event refusal) }
-        ensures room { ForErr result (MayRefuseAsGoing self.old command) }
+        ensures room { ForErr result (MayRefuseIfGoto self.old command) }
         ensures start { (book_state self.new).session.start ≡ (book_state self.old).session.start }
         ensures unchanged { OnErr result (book_state self.new ≡ book_state self.old) }
     {

@@ -54,7 +54,7 @@ impl<const R: usize> Book<R> {
     pub fn to_start(&mut self)
         ensures { book_state self.new ≡ to_start (book_state self.old) }
     {
-        self.session.go_along(0);
+        self.session.go_along_track(0);
     }
 
     /// Goes back to the first `n` live steps, and leaves no undone step, so the others can't be
@@ -64,12 +64,12 @@ impl<const R: usize> Book<R> {
         ensures { book_state self.new ≡ at_events (book_state self.old)
             (take n (book_state self.old).session.live) }
     {
-        self.session.go_along(n);
+        self.session.go_along_track(n);
     }
 
     /// Undoes the last `n` live steps, which can then be redone before those undone earlier. At
     /// least `n` steps must be live. The bookmarks stay. It takes no memory.
-    pub fn go_back(&mut self, n: u64)
+    pub fn undo_last(&mut self, n: u64)
         requires within { n ≤ length (book_state self.old).session.live }
         ensures session { back (book_state self.old).session n ≡ Ok (book_state self.new).session }
         ensures marks { (book_state self.new).marks ≡ (book_state self.old).marks }

@@ -1,7 +1,7 @@
 //! Adding entries to the stretches, and removing entries that no node needs.
 
 ghost use Rattle.std.specs.Prelude.{◌≡◌, ◌↔◌, ◌<◌, ◌≤◌, ◌+◌, ◌++◌, suc, take, length, vec_capacity, IsTrue, OnOk, OnErr, IfOk, IsOk};
-ghost use Rattle.rd_marks.specs.Changes.{after_insertion, after_removal, IsLow};
+ghost use Rattle.rd_marks.specs.Changes.{after_insertion, after_removal, CanShiftUp};
 ghost use Rattle.rd_step.specs.Prelude.{MOST_STEPS};
 ghost use Rattle.rd_step.specs.Run.{events};
 
@@ -23,13 +23,13 @@ pub(crate) enum Shift {
 }
 
 impl Shift {
-    ghost use Rattle.rd_marks.specs.Changes.{shifted, IsLow};
+    ghost use Rattle.rd_marks.specs.Changes.{shifted, CanShiftUp};
 
     /// Returns the node that has the same entries after the stretches were renumbered. A node with
     /// entries must have a stretch number below 2^64 - 1. If a stretch was removed, the node must
     /// have none of this stretch's own entries.
     pub(crate) fn shifted(self, node: Node) -> Node
-        requires { IsLow node }
+        requires { CanShiftUp node }
         ensures { result ≡ shifted self node }
     {
         match self {
@@ -43,7 +43,7 @@ impl Shift {
 /// Returns the node that has the same entries after a stretch was inserted with number `i`. A node
 /// without entries stays as it is, and one with entries must have a stretch number below 2^64 - 1.
 fn after_insertion(i: usize, node: Node) -> Node
-    requires { IsLow node }
+    requires { CanShiftUp node }
     ensures { result ≡ after_insertion i node }
 {
     if node.number == 0 || node.stretch < i {
@@ -80,7 +80,7 @@ pub(crate) struct Grown {
 
 impl Stretches {
     ghost use Rattle.rd_marks.specs.Stretches.{list_before, shared_at, entries_at, IsWithin, IsEnd, IsAlong, IsDeepest};
-    ghost use Rattle.rd_marks.specs.Changes.{IsGrown, IsShrunk, KeepsItsSteps};
+    ghost use Rattle.rd_marks.specs.Changes.{IsGrown, IsShrunk, KeepsEntries};
 
     /// Inserts the live entries that come after those of node `at`: at the end of its stretch if
     /// `at` has all entries of the stretch's list, otherwise in a new stretch. The events of `at`
@@ -104,7 +104,7 @@ impl Stretches {
         requires deepest { IsDeepest self.old.list.items at.number (events live.now) }
         ensures ok { IfOk result
             (λ grown. IsGrown self.old.list.items self.new.list.items at live.now grown) }
-        ensures err { OnErr result (KeepsItsSteps self.old.list.items self.new.list.items) }
+        ensures err { OnErr result (KeepsEntries self.old.list.items self.new.list.items) }
         ensures succeeds { at.number ≡ length live.now → IsOk result }
     {
         if at.number == live.len() {
@@ -147,7 +147,7 @@ impl Stretches {
         requires deepest { IsDeepest self.old.list.items at.number (events live.now) }
         ensures ok { IfOk result
             (λ grown. IsGrown self.old.list.items self.new.list.items at live.now grown) }
-        ensures err { OnErr result (KeepsItsSteps self.old.list.items self.new.list.items) }
+        ensures err { OnErr result (KeepsEntries self.old.list.items self.new.list.items) }
     {
         let rest = live.after(at.number);
         append(&mut self.list[at.stretch].entries, &rest)?;
@@ -175,9 +175,9 @@ impl Stretches {
         requires deepest { IsDeepest self.old.list.items at.number (events live.now) }
         ensures ok { IfOk result
             (λ grown. IsGrown self.old.list.items self.new.list.items at live.now grown) }
-        ensures err { OnErr result (KeepsItsSteps self.old.list.items self.new.list.items) }
+        ensures err { OnErr result (KeepsEntries self.old.list.items self.new.list.items) }
     {
-        let i = self.insertion_number(at);
+        let i = self.insertion_index(at);
         self.list.reserve(1)?;
         let mut entries = Vec::new(alloc);
         append(&mut entries, &live.after(at.number))?;
@@ -200,7 +200,7 @@ impl Stretches {
     /// Returns the number with which a stretch that shares the entries of node `at` can be
     /// inserted. It is the number of the first later stretch that shares at most as many entries as
     /// `at` has. If there is none, it is the count of all stretches.
-    fn insertion_number(&self, at: Node) -> usize
+    fn insertion_index(&self, at: Node) -> usize
         requires { IsWithin self.now.list.items at }
         ensures there { result ≤ length self.now.list.items }
         ensures first { 0 < length self.now.list.items → 0 < result }
@@ -210,7 +210,7 @@ impl Stretches {
             ≡ entries_at self.now.list.items at }
     {
         for i in at.stretch..self.list.len() {
-            if self.shared(i) <= at.number && i > at.stretch {
+            if self.shared_count(i) <= at.number && i > at.stretch {
                 return i;
             }
         }
@@ -220,18 +220,18 @@ impl Stretches {
     /// Removes the entries after the first `n` from the list of stretch `i`, and gives their room
     /// back. There must be a stretch `i`, and the next one must share none of them. The whole
     /// stretch goes if none of its own entries is left. Returns how the stretches were renumbered.
-    #[tactic(auto, using(crate::proofs::Reading::stretch_at, crate::proofs::StretchUses::left))]
+    #[tactic(auto, using(crate::proofs::Reading::stretch_at, crate::proofs::StretchUses::cut_shrinks))]
     pub(crate) fn shrink(&mut self, i: usize, n: usize) -> Shift
         requires there { i < length self.old.list.items }
         requires next { shared_at self.old.list.items (suc i) ≤ n }
         ensures { IsShrunk self.old.list.items self.new.list.items i n result }
     {
-        let shared = self.shared(i);
+        let shared = self.shared_count(i);
         if n <= shared {
             let _gone = self.list.remove(i);
             return Shift::Down(i);
         }
-        cut(&mut self.list[i].entries, n - shared);
+        truncate_and_shrink(&mut self.list[i].entries, n - shared);
         Shift::Same
     }
 }
@@ -257,7 +257,7 @@ fn append(entries: &mut Vec<Entry>, more: &EntryList) -> Result<(), AllocError>
 
 /// Keeps the first `n` entries, and gives back the room of the others. If there are at most `n`,
 /// nothing changes.
-fn cut(entries: &mut Vec<Entry>, n: usize)
+fn truncate_and_shrink(entries: &mut Vec<Entry>, n: usize)
     ensures { entries.new.items ≡ take n entries.old.items }
 {
     if n < entries.len() {

@@ -12,21 +12,21 @@ impl Stretches {
 
     /// Returns the node with the most entries among those whose events begin the live ones. The
     /// search starts at `from`, which must be such a node.
-    pub(crate) fn follow(&self, from: Node, live: &EntryList) -> Node
+    pub(crate) fn deepest_agreeing_node(&self, from: Node, live: &EntryList) -> Node
         requires within { IsWithin self.now.list.items from }
         requires along { IsAlong self.now.list.items from.stretch from.number (events live.now) }
         ensures within { IsWithin self.now.list.items result }
         ensures along { IsAlong self.now.list.items result.stretch result.number (events live.now) }
         ensures deepest { IsDeepest self.now.list.items result.number (events live.now) }
     {
-        let mut at = self.own_node(from);
+        let mut at = self.canonical_node(from);
         for i in at.stretch..self.list.len() {
-            let shared = self.shared(i);
+            let shared = self.shared_count(i);
             if i > at.stretch && shared < at.number {
                 return at;
             }
             if shared <= at.number {
-                at = farther(at, i, self.along(i, at.number, live));
+                at = deeper_node(at, i, self.agreement_len(i, at.number, live));
             }
         }
         at
@@ -36,7 +36,7 @@ impl Stretches {
     /// such a stretch. Its list must begin with the first `n` live steps, and its entries after
     /// these must be the stretch's own.
     #[tactic(auto, using(crate::proofs::Reading::along_steps))]
-    fn along(&self, i: usize, n: usize, live: &EntryList) -> usize
+    fn agreement_len(&self, i: usize, n: usize, live: &EntryList) -> usize
         requires there { i < length self.now.list.items }
         requires own { shared_at self.now.list.items i ≤ n }
         requires along { IsAlong self.now.list.items i n (events live.now) }
@@ -46,7 +46,7 @@ impl Stretches {
     {
         let stretch = &self.list[i];
         n + common_beginning_len(
-            &own_after(&stretch.entries, n - stretch.shared),
+            &without_first(&stretch.entries, n - stretch.shared),
             &live.after(n),
         )
     }
@@ -54,7 +54,7 @@ impl Stretches {
 
 /// Returns the node of the first `number` entries of stretch `i`, or `at` if that has as many. It
 /// must not have more.
-fn farther(at: Node, i: usize, number: usize) -> Node
+fn deeper_node(at: Node, i: usize, number: usize) -> Node
     requires { at.number ≤ number }
     ensures more { at.number < number → result ≡ record { stretch = i; number = number } }
     ensures others { number ≡ at.number → result ≡ at }
@@ -67,7 +67,7 @@ fn farther(at: Node, i: usize, number: usize) -> Node
 }
 
 /// Returns the entries after the first `n`. There must be at least `n`.
-fn own_after(entries: &[Entry], n: usize) -> &[Entry]
+fn without_first(entries: &[Entry], n: usize) -> &[Entry]
     requires { n ≤ length entries.now }
     ensures { result.now ≡ drop n entries.now }
 {

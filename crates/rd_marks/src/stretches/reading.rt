@@ -11,7 +11,7 @@ use std::alloc::{AllocError, Global};
 use std::borrow::CowSlice;
 
 impl Stretches {
-    ghost use Rattle.rd_marks.specs.Stretches.{entries_at, shared_at, IsWithin, IsOwn, AreInPieces};
+    ghost use Rattle.rd_marks.specs.Stretches.{entries_at, shared_at, IsWithin, IsCanonical, AreInPieces};
 
     /// Returns the event of this number, counted from 1, among the entries of a node. `None` if the
     /// node has no such entry. The stretches must have the node's entries.
@@ -22,15 +22,18 @@ impl Stretches {
         if n == 0 || n > of.number as u64 {
             return None;
         }
-        Some(self.last(self.own_node(of.cut(n as usize))).event)
+        Some(
+            self.last_entry(self.canonical_node(of.truncated(n as usize)))
+                .event,
+        )
     }
 
     /// Returns the last entry of a node. There must be one, which the node's stretch keeps itself.
     /// The stretches must have the node's entries.
     #[tactic(auto, using(crate::proofs::Reading::last_steps))]
-    fn last(&self, of: Node) -> &Entry
+    fn last_entry(&self, of: Node) -> &Entry
         requires within { IsWithin self.now.list.items of }
-        requires own { IsOwn self.now.list.items of }
+        requires own { IsCanonical self.now.list.items of }
         requires some { 0 < of.number }
         ensures { slice_get (entries_at self.now.list.items of) (of.number - 1) ≡ Some result.now }
     {
@@ -59,7 +62,7 @@ impl Stretches {
         ensures err { OnErr result (AreInPieces self.now.list.items of) }
         ensures succeeds { of.number ≡ n → IsOk result }
     {
-        let own = self.own_node(of);
+        let own = self.canonical_node(of);
         if let Some(entries) = self.slice_after(own, n) {
             return Ok(CowSlice::Borrowed(entries));
         }
@@ -70,10 +73,10 @@ impl Stretches {
     /// one of them or there is no such stretch. The stretches must have the node's entries, which
     /// must be at least `n`. The node's stretch must keep the last of them itself, unless it is the
     /// first stretch.
-    #[tactic(auto, using(crate::proofs::Reading::stretch_at, crate::proofs::Reading::lent, crate::proofs::StretchLists::total, crate::proofs::Starting::stretch_within))]
+    #[tactic(auto, using(crate::proofs::Reading::stretch_at, crate::proofs::Reading::own_entries_after, crate::proofs::StretchLists::total, crate::proofs::Starting::stretch_within))]
     fn slice_after(&self, of: Node, n: usize) -> Option<&[Entry]>
         requires present { IsWithin self.now.list.items of }
-        requires own { IsOwn self.now.list.items of }
+        requires own { IsCanonical self.now.list.items of }
         requires within { n ≤ of.number }
         ensures lent { IfSome result (λ entries. entries.now
             ≡ drop n (entries_at self.now.list.items of)) }
@@ -110,8 +113,8 @@ impl Stretches {
         let mut entries = Vec::with_capacity(alloc, of.number - n)?;
         let mut at = of;
         while at.number > n {
-            at = self.own_node(at);
-            entries.push_reserved(*self.last(at));
+            at = self.canonical_node(at);
+            entries.push_reserved(*self.last_entry(at));
             at.number -= 1;
         }
         entries.reverse();

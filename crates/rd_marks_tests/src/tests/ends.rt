@@ -72,7 +72,7 @@ fn parts(alloc: Global, end: End) -> Result<Parts<1>, AllocError> {
     }
     let mut root = RING;
     root.tail = end.tail;
-    let mut parts = test_kit::parts(alloc, Actor::calling(end.pc, end.op), root, made)?;
+    let mut parts = test_kit::one_actor_parts(alloc, Actor::calling(end.pc, end.op), root, made)?;
     parts.array.tail = end.array_tail;
     Ok(parts)
 }

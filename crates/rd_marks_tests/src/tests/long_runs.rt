@@ -10,7 +10,7 @@ use rd_marks::{Book, Command, MarkName, Reply};
 use rd_step::World;
 use std::alloc::Global;
 use std::test::Fail;
-use test_kit::{drawn_event, next};
+use test_kit::{drawn_event, next_random};
 
 /// How many commands a run has.
 const COMMANDS: u64 = 300;
@@ -75,7 +75,7 @@ fn is_refused_memory<const R: usize>(alloc: Global, actors: u8) -> Result<bool, 
     let mut number = actors as u64;
     let mut is_refused = false;
     for _ in 0..COMMANDS {
-        number = next(number);
+        number = next_random(number);
         if lacks_memory(&mut book, actors, number)? {
             is_refused = true;
         }

@@ -213,7 +213,7 @@ fn at_the_start_the_bookmarks_stay(rt: HostRuntime) -> Result<(), Fail> {
 fn going_back_leaves_the_bookmarks(rt: HostRuntime) -> Result<(), Fail> {
     let mut book = marked_book(rt.alloc())?;
     let len = book.session().len();
-    book.go_back(len);
+    book.undo_last(len);
     compare(&rt, &book, EVENTS);
     assert_eq!(rt; book.session().len(), 0);
     Ok(())

@@ -1,5 +1,5 @@
-//! Runs of both queues, with the origins of what they take and the last writers of places: data, and
-//! the small helper that plays them.
+//! Runs of both queues, with the origins of what they take and the last writers of places: data,
+//! and the small helper that plays them.
 
 ghost use Rattle.std.specs.Prelude.{◌≤◌};
 
@@ -11,7 +11,7 @@ use rd_step::{Event, Parts, SegmentParts, World};
 use std::alloc::{AllocError, Global};
 use std::process::Abort;
 use std::test::Fail;
-use test_kit::parts;
+use test_kit::one_actor_parts;
 
 /// One line of a run.
 #[derive(Clone, Copy)]
@@ -288,7 +288,7 @@ fn holding_7(alloc: Global) -> Result<Parts<4>, AllocError> {
             cell(3, None),
         ],
     };
-    parts(alloc, Actor::idle(), root, Vec::new(alloc))
+    one_actor_parts(alloc, Actor::idle(), root, Vec::new(alloc))
 }
 
 /// A safe cell of this index and value.

@@ -7,7 +7,7 @@ use rd_origin::last_writer;
 use rd_step::World;
 use std::process::Abort;
 use std::test::Fail;
-use test_kit::{drawn_event, next};
+use test_kit::{drawn_event, next_random};
 
 const ROOT: SegName = SegName::ROOT;
 
@@ -92,11 +92,11 @@ fn the_last_writer_is_what_a_scan_finds(rt: HostRuntime) -> Result<(), Fail> {
     let mut session = Session::open(rt.alloc(), World::<2>::fresh(rt.alloc(), 4)?);
     let mut number = 7;
     for _ in 0..60 {
-        number = next(number);
+        number = next_random(number);
         step(&mut session, number)?;
     }
     for _ in 0..400 {
-        number = next(number);
+        number = next_random(number);
         let _may_be_refused = change(&mut session, number);
         compare(&rt, &session);
     }

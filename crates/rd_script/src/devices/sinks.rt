@@ -21,7 +21,7 @@ pub trait Sink {
 
     /// Takes the first bytes of a slice, which must not be empty, and returns how many: at least
     /// one. Fails if it can take none, and must not be called again after that.
-    fn take(&mut self, given: &[u8]) -> Result<usize, WriteFault>
+    fn take_some(&mut self, given: &[u8]) -> Result<usize, WriteFault>
         requires working { has_failed self.old ≡ false }
         requires some { 0 < length given.now }
         ensures count { IfOk result (λ n. (0 < n) × (n ≤ length given.now)) }
@@ -44,7 +44,7 @@ pub fn write_all<K: Sink>(writer: &mut K, text: &[u8]) -> Result<(), WriteFault>
 {
     let mut done = 0;
     while done < text.len() {
-        done += writer.take(&text[done..])?;
+        done += writer.take_some(&text[done..])?;
     }
     Ok(())
 }
@@ -78,7 +78,7 @@ impl<W: Write> Sink for WriteSink<W> {
 
     /// Writes the first bytes of a slice to the writer, and returns how many. Fails if the writer
     /// fails or takes none.
-    fn take(&mut self, given: &[u8]) -> Result<usize, WriteFault> {
+    fn take_some(&mut self, given: &[u8]) -> Result<usize, WriteFault> {
         let taken = write_some(&mut self.inner, given);
         self.failed = taken.is_err();
         match taken {

@@ -22,7 +22,7 @@ pub trait Source {
 
     /// Gives the next byte, or none at the end. Fails if the source fails, and must not be called
     /// again after that.
-    fn byte(&mut self) -> Result<Option<u8>, ReadFault>
+    fn next_byte(&mut self) -> Result<Option<u8>, ReadFault>
         requires { has_failed self.old ≡ false }
         ensures gives { IfOk result (GivesByte (bytes self.old) (bytes self.new)) }
         ensures keeps { OnErr result (Keeps (bytes self.old) (bytes self.new)) }
@@ -62,7 +62,7 @@ impl<R: Read> Source for ReadSource<R> {
 
     /// Gives the reader's next byte, or none at its end. Reads from the reader only if no byte is
     /// left of the portion. Fails if the reader fails.
-    fn byte(&mut self) -> Result<Option<u8>, ReadFault> {
+    fn next_byte(&mut self) -> Result<Option<u8>, ReadFault> {
         if self.portion.is_empty() {
             let filled = self.portion.fill(&mut self.inner);
             self.failed = filled.is_err();

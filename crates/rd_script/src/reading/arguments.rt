@@ -8,15 +8,15 @@ ghost use Rattle.rd_marks.specs.NameBytes.{is_mark_name};
 ghost use Rattle.rd_marks.specs.Names.{bytes_of};
 ghost use Rattle.rd_script.specs.Texts.{yes_or_no};
 ghost use Rattle.rd_script.specs.Spelling.{is_word};
-ghost use Rattle.rd_script.specs.Reading.{AreNoNames, ReadsName};
+ghost use Rattle.rd_script.specs.Reading.{IsFaultOfNames, ReadsName};
 
-use super::numbers::{byte_in, number_in};
+use super::numbers::{u8_in, u64_in};
 use crate::faults::LineFault;
 use rd_marks::MarkName;
 
 /// Returns the number from 0 to 255 that the only word spells. `None` if there isn't exactly one
 /// word, or if it spells no such number.
-pub fn byte_alone(words: &[&[u8]]) -> Option<u8>
+pub fn only_u8(words: &[&[u8]]) -> Option<u8>
     ensures some { IfSome result (λ n. map (λ word. word.now) words.now ≡ decimal n ∷ []) }
     ensures none { IfNone result ((n : ℕ) → n < 256
         → map (λ word. word.now) words.now ≢ decimal n ∷ []) }
@@ -24,12 +24,12 @@ pub fn byte_alone(words: &[&[u8]]) -> Option<u8>
     let [number] = words else {
         return None;
     };
-    byte_in(number)
+    u8_in(number)
 }
 
 /// Returns the number from 0 to 2^64 - 1 that the only word spells. `None` if there isn't exactly
 /// one word, or if it spells no such number.
-pub fn number_alone(words: &[&[u8]]) -> Option<u64>
+pub fn only_u64(words: &[&[u8]]) -> Option<u64>
     ensures some { IfSome result (λ n. map (λ word. word.now) words.now ≡ decimal n ∷ []) }
     ensures none { IfNone result ((n : ℕ) → n < 2 ^ 64
         → map (λ word. word.now) words.now ≢ decimal n ∷ []) }
@@ -37,7 +37,7 @@ pub fn number_alone(words: &[&[u8]]) -> Option<u64>
     let [number] = words else {
         return None;
     };
-    number_in(number)
+    u64_in(number)
 }
 
 /// Returns the actor, from 0 to 255, and the value that two words spell. `None` if there aren't
@@ -51,7 +51,7 @@ pub fn actor_and_value(words: &[&[u8]]) -> Option<(u8, u64)>
     let [actor, value] = words else {
         return None;
     };
-    Some((byte_in(actor)?, number_in(value)?))
+    Some((u8_in(actor)?, u64_in(value)?))
 }
 
 /// Returns the actor, from 0 to 255, and the choice (`yes` or `no`) that two words spell. `None` if
@@ -65,7 +65,7 @@ pub fn actor_and_choice(words: &[&[u8]]) -> Option<(u8, bool)>
     let [actor, choice] = words else {
         return None;
     };
-    Some((byte_in(actor)?, choice_in(choice)?))
+    Some((u8_in(actor)?, choice_in(choice)?))
 }
 
 /// Returns the choice that a word spells, or `None` if it is neither `yes` nor `no`.
@@ -88,10 +88,10 @@ fn choice_in(word: &[u8]) -> Option<bool>
 ///
 /// In this order: `BadLine` if there isn't exactly one word, of bytes from 33 to 126; `BadName` if
 /// it is no bookmark's name.
-pub fn name_alone(words: &[&[u8]]) -> Result<MarkName, LineFault>
+pub fn only_name(words: &[&[u8]]) -> Result<MarkName, LineFault>
     ensures ok { IfOk result (λ name. (is_mark_name (bytes_of name) ≡ true)
         × (map (λ word. word.now) words.now ≡ bytes_of name ∷ [])) }
-    ensures err { IfErr result (AreNoNames 1 (map (λ word. word.now) words.now)) }
+    ensures err { IfErr result (IsFaultOfNames 1 (map (λ word. word.now) words.now)) }
 {
     let [name] = words else {
         return Err(LineFault::BadLine);
@@ -109,7 +109,7 @@ pub fn two_names(words: &[&[u8]]) -> Result<(MarkName, MarkName), LineFault>
     ensures ok { IfOk result (λ r. ((is_mark_name (bytes_of r.0) ≡ true)
         × (is_mark_name (bytes_of r.1) ≡ true))
         × (map (λ word. word.now) words.now ≡ bytes_of r.0 ∷ bytes_of r.1 ∷ [])) }
-    ensures err { IfErr result (AreNoNames 2 (map (λ word. word.now) words.now)) }
+    ensures err { IfErr result (IsFaultOfNames 2 (map (λ word. word.now) words.now)) }
 {
     let [one, other] = words else {
         return Err(LineFault::BadLine);

@@ -7,7 +7,7 @@ ghost use Rattle.rd_script.specs.Grammar.{keyword_text, keyword_of_search};
 ghost use Rattle.rd_script.specs.Reading.{ReadsCommand, ReadsNameless};
 
 use super::arguments::{
-    actor_and_choice, actor_and_value, byte_alone, name_alone, number_alone, two_names,
+    actor_and_choice, actor_and_value, only_name, only_u8, only_u64, two_names,
 };
 use super::places::place_in;
 use crate::faults::LineFault;
@@ -160,13 +160,13 @@ impl Keyword {
 /// Returns the command that a keyword and the words after it spell. Fails with `BadLine` or
 /// `BadName`, as `command_in` does.
 #[tactic(auto, using(crate::proofs::NameReadLemmas::none_named))]
-pub fn read_command(keyword: Keyword, words: &[&[u8]]) -> Result<Command, LineFault>
+pub fn command_with_keyword(keyword: Keyword, words: &[&[u8]]) -> Result<Command, LineFault>
     ensures { ReadsCommand keyword (map (λ word. word.now) words.now) result }
 {
     match keyword {
-        Keyword::Mark => Ok(Command::Mark(name_alone(words)?)),
-        Keyword::Drop => Ok(Command::DropMark(name_alone(words)?)),
-        Keyword::Goto => Ok(Command::GotoMark(name_alone(words)?)),
+        Keyword::Mark => Ok(Command::Mark(only_name(words)?)),
+        Keyword::Drop => Ok(Command::DropMark(only_name(words)?)),
+        Keyword::Goto => Ok(Command::GotoMark(only_name(words)?)),
         Keyword::Same => {
             let (one, other) = two_names(words)?;
             Ok(Command::Same(one, other))
@@ -181,34 +181,34 @@ fn command_without_name(keyword: Keyword, words: &[&[u8]]) -> Option<Command>
     ensures { ReadsNameless keyword (map (λ word. word.now) words.now) result }
 {
     Some(match keyword {
-        Keyword::Go => Command::Go(byte_alone(words)?),
+        Keyword::Go => Command::Go(only_u8(words)?),
         Keyword::Enq => {
             let (actor, value) = actor_and_value(words)?;
             Command::Enq(actor, value)
         }
-        Keyword::Deq => Command::Deq(byte_alone(words)?),
+        Keyword::Deq => Command::Deq(only_u8(words)?),
         Keyword::ArrayEnq => {
             let (actor, value) = actor_and_value(words)?;
             Command::ArrayEnq(actor, value)
         }
-        Keyword::ArrayDeq => Command::ArrayDeq(byte_alone(words)?),
+        Keyword::ArrayDeq => Command::ArrayDeq(only_u8(words)?),
         Keyword::Starve => {
             let (actor, choice) = actor_and_choice(words)?;
             Command::Starve(actor, choice)
         }
         Keyword::Undo if words.is_empty() => Command::Undo,
-        Keyword::Undo => Command::UndoAt(number_alone(words)?),
-        Keyword::Roll => Command::Roll(number_alone(words)?),
-        Keyword::Back => Command::Back(number_alone(words)?),
+        Keyword::Undo => Command::UndoAt(only_u64(words)?),
+        Keyword::Roll => Command::Roll(only_u64(words)?),
+        Keyword::Back => Command::Back(only_u64(words)?),
         Keyword::Redo => without_arguments(words, Command::Redo)?,
-        Keyword::Forward => Command::Forward(number_alone(words)?),
+        Keyword::Forward => Command::Forward(only_u64(words)?),
         Keyword::Marks => without_arguments(words, Command::Marks)?,
-        Keyword::MarkAt => Command::MarkAt(number_alone(words)?),
-        Keyword::Origin => Command::Origin(number_alone(words)?),
+        Keyword::MarkAt => Command::MarkAt(only_u64(words)?),
+        Keyword::Origin => Command::Origin(only_u64(words)?),
         Keyword::Writer => Command::Writer(place_in(words)?),
         Keyword::Show => Command::Show(place_in(words)?),
-        Keyword::Actor => Command::Actor(byte_alone(words)?),
-        Keyword::Step => Command::Step(number_alone(words)?),
+        Keyword::Actor => Command::Actor(only_u8(words)?),
+        Keyword::Step => Command::Step(only_u64(words)?),
         Keyword::Len => without_arguments(words, Command::Len)?,
         Keyword::Mark | Keyword::Drop | Keyword::Goto | Keyword::Same => return None,
     })

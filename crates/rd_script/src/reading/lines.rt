@@ -47,7 +47,7 @@ pub fn next_line<S: Source>(reader: &mut S, line: &mut Line) -> Result<Reading, 
 {
     line.clear();
     for length in 0..u64::MAX {
-        match reader.byte()? {
+        match reader.next_byte()? {
             None if length == 0 => return Ok(Reading::End),
             None => return Ok(Reading::Last),
             Some(b'\n') => return Ok(Reading::Ended),

@@ -8,14 +8,14 @@
 ghost use Rattle.std.specs.Prelude.{◌≡◌, ◌≢◌, ◌⊎◌, ℕ, ◌^◌, ◌<◌, [], ◌∷◌, true, false, get_or, length, map, IfSome, IfNone};
 ghost use Rattle.std.specs.Fmt.{decimal};
 ghost use Rattle.rd_step.specs.Prelude.{SegName as Segment};
-ghost use Rattle.rd_script.specs.Contents.{name_words};
+ghost use Rattle.rd_script.specs.Contents.{segment_name_words};
 ghost use Rattle.rd_script.specs.Grammar.{IsSegmentInRange};
 
 use super::words::parts_of;
 use rd_cell::SegName;
 
 /// Returns the number from 0 to 2^64 - 1 that a word spells, or `None` if it spells none.
-pub fn number_in(word: &[u8]) -> Option<u64>
+pub fn u64_in(word: &[u8]) -> Option<u64>
     ensures spelled { IfSome result (λ n. word.now ≡ decimal n) }
     ensures unspelled { IfNone result ((n : ℕ) → n < 2 ^ 64 → word.now ≢ decimal n) }
 {
@@ -58,11 +58,11 @@ fn has_plus_or_leading_zero(word: &[u8]) -> bool
 
 /// Returns the number from 0 to 255 that a word spells, or `None` if it spells none.
 #[tactic(auto, using(std::proofs::lemmas::Fmt::decimal_injective))]
-pub fn byte_in(word: &[u8]) -> Option<u8>
+pub fn u8_in(word: &[u8]) -> Option<u8>
     ensures spelled { IfSome result (λ n. word.now ≡ decimal n) }
     ensures unspelled { IfNone result ((n : ℕ) → n < 256 → word.now ≢ decimal n) }
 {
-    let number = number_in(word)?;
+    let number = u64_in(word)?;
     if number < 256 {
         Some(number as u8)
     } else {
@@ -74,17 +74,17 @@ pub fn byte_in(word: &[u8]) -> Option<u8>
 /// the word spells none.
 #[tactic(auto, using(crate::proofs::NumeralLemmas::name_from_parts, crate::proofs::NumeralLemmas::no_name_from_parts, crate::proofs::NumeralLemmas::no_name_of_many))]
 pub fn segment_name_in(word: &[u8]) -> Option<SegName>
-    ensures spelled { IfSome result (λ s. word.now ≡ name_words s) }
+    ensures spelled { IfSome result (λ s. word.now ≡ segment_name_words s) }
     ensures unspelled { IfNone result ((s : Segment) → IsSegmentInRange s
-        → word.now ≢ name_words s) }
+        → word.now ≢ segment_name_words s) }
 {
     let parts = parts_of(word, b'.')?;
-    segment_of(parts.as_slice())
+    segment_name_from(parts.as_slice())
 }
 
 /// Returns the segment's name whose maker and number two parts spell. `None` if there aren't
 /// exactly two parts, or if they spell no such numbers.
-fn segment_of(parts: &[&[u8]]) -> Option<SegName>
+fn segment_name_from(parts: &[&[u8]]) -> Option<SegName>
     ensures spelled { IfSome result (λ s. map (λ part. part.now) parts.now
         ≡ decimal s.maker ∷ decimal s.n ∷ []) }
     ensures unspelled { IfNone result ((s : Segment) → IsSegmentInRange s
@@ -94,7 +94,7 @@ fn segment_of(parts: &[&[u8]]) -> Option<SegName>
         return None;
     };
     Some(SegName {
-        maker: byte_in(maker)?,
+        maker: u8_in(maker)?,
         n: u32_in(n)?,
     })
 }
@@ -105,7 +105,7 @@ fn u32_in(word: &[u8]) -> Option<u32>
     ensures spelled { IfSome result (λ n. word.now ≡ decimal n) }
     ensures unspelled { IfNone result ((n : ℕ) → n < 2 ^ 32 → word.now ≢ decimal n) }
 {
-    let number = number_in(word)?;
+    let number = u64_in(word)?;
     if number < 1 << 32 {
         Some(number as u32)
     } else {

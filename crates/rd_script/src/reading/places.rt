@@ -6,7 +6,7 @@ ghost use Rattle.rd_script.specs.declared.reading.places.PlaceKind.{PlaceKind as
 ghost use Rattle.rd_script.specs.Grammar.{kind_text};
 ghost use Rattle.rd_script.specs.Reading.{ReadsPlace, ReadsKind};
 
-use super::numbers::{byte_in, segment_name_in};
+use super::numbers::{segment_name_in, u8_in};
 use rd_cell::Place;
 
 /// The kind of a place, which is its first word.
@@ -103,15 +103,15 @@ impl PlaceKind {
             (PlaceKind::Next, [segment]) => Place::Next(segment_name_in(segment)?),
             (PlaceKind::Whole, [segment]) => Place::Whole(segment_name_in(segment)?),
             (PlaceKind::Cell, [segment, index]) => {
-                Place::Cell(segment_name_in(segment)?, byte_in(index)?)
+                Place::Cell(segment_name_in(segment)?, u8_in(index)?)
             }
             (PlaceKind::Value, [segment, index]) => {
-                Place::Val(segment_name_in(segment)?, byte_in(index)?)
+                Place::Val(segment_name_in(segment)?, u8_in(index)?)
             }
             (PlaceKind::Index, [segment, index]) => {
-                Place::Idx(segment_name_in(segment)?, byte_in(index)?)
+                Place::Idx(segment_name_in(segment)?, u8_in(index)?)
             }
-            (PlaceKind::ArrCell, [index]) => Place::ArrCell(byte_in(index)?),
+            (PlaceKind::ArrCell, [index]) => Place::ArrCell(u8_in(index)?),
             _ => return None,
         })
     }

@@ -13,17 +13,17 @@ use arrayvec::ArrayVec;
 pub const MOST_PARTS: usize = 4;
 
 /// Up to four parts of a text.
-pub type Parts<'a> = ArrayVec<&'a [u8], MOST_PARTS>;
+pub type TextParts<'a> = ArrayVec<&'a [u8], MOST_PARTS>;
 
 /// Returns the parts of a text between the bytes that separate them, or `None` if there are more
 /// than four.
-pub fn parts_of(text: &[u8], separator: u8) -> Option<Parts<'_>>
+pub fn parts_of(text: &[u8], separator: u8) -> Option<TextParts<'_>>
     ensures some { IfSome result (λ parts. map (λ part. part.now) parts.items
         ≡ slice_split (λ byte. byte == separator) text.now) }
     ensures none { IfNone result (MOST_PARTS
         < length (slice_split (λ byte. byte == separator) text.now)) }
 {
-    let mut parts = Parts::new();
+    let mut parts = TextParts::new();
     for part in text.split(|byte| *byte == separator) {
         if parts.try_push(part).is_err() {
             return None;

@@ -1,9 +1,9 @@
 //! The words of an actor in a reply.
 
 ghost use Rattle.rd_script.specs.Puts.{PutsUpTo};
-ghost use Rattle.rd_script.specs.Actors.{op_words, call_words, segment_words, position_words, read_words, actor_words};
+ghost use Rattle.rd_script.specs.Actors.{op_words, point_and_call_words, segment_words, counter_words, cell_read_and_pass_words, actor_words};
 
-use super::contents::{put_name, put_value};
+use super::contents::{put_segment_name, put_value};
 use super::numbers::{bit_number, put_words_and_number};
 use super::texts::{Text, put};
 use rd_actor::{Actor, Op};
@@ -12,15 +12,15 @@ use rd_actor::{Actor, Op};
 pub fn put_actor(text: &mut Text, actor: &Actor)
     ensures { PutsUpTo 355 text.old.items text.new.items (actor_words actor.now) }
 {
-    put_call(text, actor);
+    put_point_and_call(text, actor);
     put_segments(text, actor);
-    put_positions(text, actor);
-    put_read(text, actor);
+    put_counters(text, actor);
+    put_cell_read_and_pass(text, actor);
 }
 
 /// Appends to the text the word `actor`, the actor's control point, and its call.
-fn put_call(text: &mut Text, actor: &Actor)
-    ensures { PutsUpTo 40 text.old.items text.new.items (call_words actor.now) }
+fn put_point_and_call(text: &mut Text, actor: &Actor)
+    ensures { PutsUpTo 40 text.old.items text.new.items (point_and_call_words actor.now) }
 {
     put(text, b"actor ");
     put(text, actor.pc.label().as_bytes());
@@ -33,16 +33,16 @@ fn put_segments(text: &mut Text, actor: &Actor)
     ensures { PutsUpTo 139 text.old.items text.new.items (segment_words actor.now) }
 {
     put(text, b" crq ");
-    put_name(text, actor.crq);
+    put_segment_name(text, actor.crq);
     put(text, b" new ");
-    put_name(text, actor.new);
+    put_segment_name(text, actor.new);
     put(text, b" next ");
-    put_name(text, actor.next);
+    put_segment_name(text, actor.next);
 }
 
 /// Appends to the text the counters in an actor's words, t and h, and its closed bit.
-fn put_positions(text: &mut Text, actor: &Actor)
-    ensures { PutsUpTo 74 text.old.items text.new.items (position_words actor.now) }
+fn put_counters(text: &mut Text, actor: &Actor)
+    ensures { PutsUpTo 74 text.old.items text.new.items (counter_words actor.now) }
 {
     put_words_and_number(text, b" t", actor.t);
     put_words_and_number(text, b" h", actor.h);
@@ -50,8 +50,8 @@ fn put_positions(text: &mut Text, actor: &Actor)
 }
 
 /// Appends to the text an actor's words val, safe, idx and pass.
-fn put_read(text: &mut Text, actor: &Actor)
-    ensures { PutsUpTo 102 text.old.items text.new.items (read_words actor.now) }
+fn put_cell_read_and_pass(text: &mut Text, actor: &Actor)
+    ensures { PutsUpTo 102 text.old.items text.new.items (cell_read_and_pass_words actor.now) }
 {
     put(text, b" val ");
     put_value(text, actor.val);

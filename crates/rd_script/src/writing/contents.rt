@@ -2,9 +2,9 @@
 
 ghost use Rattle.std.specs.Prelude.{◌≡◌, ◌≤◌, length};
 ghost use Rattle.rd_script.specs.Puts.{PutsUpTo};
-ghost use Rattle.rd_script.specs.Contents.{name_words, value_words, next_words, tail_word, cell_words, index_words, slot_words, content_words};
+ghost use Rattle.rd_script.specs.Contents.{segment_name_words, value_words, next_words, tail_word, cell_words, index_words, slot_words, content_words};
 
-use super::numbers::{bit_number, put_number, put_spaced, put_words_and_number};
+use super::numbers::{bit_number, put_number, put_spaced_number, put_words_and_number};
 use super::texts::{Text, put};
 use rd_cell::{ArrSlot, Cell, Content, SegName};
 
@@ -13,7 +13,7 @@ pub fn put_content(text: &mut Text, content: Content)
     ensures { PutsUpTo 62 text.old.items text.new.items (content_words content) }
 {
     match content {
-        Content::Name(name) => put_name(text, name),
+        Content::Name(name) => put_segment_name(text, name),
         Content::Number(number) => put_number(text, number),
         Content::Tail { closed, count } => put_words_and_number(text, tail_word(closed), count),
         Content::Next(next) => put_next(text, next),
@@ -26,8 +26,8 @@ pub fn put_content(text: &mut Text, content: Content)
 }
 
 /// Appends to the text a segment's name.
-pub fn put_name(text: &mut Text, name: SegName)
-    ensures { PutsUpTo 41 text.old.items text.new.items (name_words name) }
+pub fn put_segment_name(text: &mut Text, name: SegName)
+    ensures { PutsUpTo 41 text.old.items text.new.items (segment_name_words name) }
 {
     put_number(text, u64::from(name.maker));
     put(text, b".");
@@ -58,7 +58,7 @@ fn put_next(text: &mut Text, next: Option<SegName>)
 {
     match next {
         None => put(text, b"none"),
-        Some(name) => put_name(text, name),
+        Some(name) => put_segment_name(text, name),
     }
 }
 
@@ -67,7 +67,7 @@ fn put_cell(text: &mut Text, cell: Cell)
     ensures { PutsUpTo 62 text.old.items text.new.items (cell_words cell) }
 {
     put_number(text, bit_number(cell.safe));
-    put_spaced(text, cell.idx);
+    put_spaced_number(text, cell.idx);
     put(text, b" ");
     put_value(text, cell.val);
 }
@@ -77,7 +77,7 @@ pub fn put_index(text: &mut Text, safe: bool, idx: u64)
     ensures { PutsUpTo 41 text.old.items text.new.items (index_words safe idx) }
 {
     put_number(text, bit_number(safe));
-    put_spaced(text, idx);
+    put_spaced_number(text, idx);
 }
 
 /// Appends to the text the content of a slot of the array: `empty`, `top`, or its value.

@@ -3,7 +3,7 @@
 ghost use Rattle.rd_script.specs.Puts.{PutsUpTo};
 ghost use Rattle.rd_script.specs.Events.{event_words};
 
-use super::numbers::{put_spaced, put_words_and_number, yes_or_no};
+use super::numbers::{put_spaced_number, put_words_and_number, yes_or_no};
 use super::texts::{Text, put};
 use rd_actor::Act;
 use rd_step::Event;
@@ -16,12 +16,12 @@ pub fn put_event(text: &mut Text, event: Event)
     match event.act {
         Act::Enq(value) => {
             put_words_and_number(text, b"enq", actor);
-            put_spaced(text, value);
+            put_spaced_number(text, value);
         }
         Act::Deq => put_words_and_number(text, b"deq", actor),
         Act::AEnq(value) => {
             put_words_and_number(text, b"aenq", actor);
-            put_spaced(text, value);
+            put_spaced_number(text, value);
         }
         Act::ADeq => put_words_and_number(text, b"adeq", actor),
         Act::Go => put_words_and_number(text, b"go", actor),

@@ -7,11 +7,11 @@
 ghost use Rattle.std.specs.Prelude.{◌≡◌, [], ◌∷◌, Ok, Err};
 ghost use Rattle.rd_marks.specs.Events.{as_reply};
 ghost use Rattle.rd_script.specs.Puts.{Puts, PutsUpTo};
-ghost use Rattle.rd_script.specs.Refusals.{trace_step_words, trace_mark_words, busy_words, any_words};
-ghost use Rattle.rd_script.specs.Replies.{text_of};
+ghost use Rattle.rd_script.specs.Refusals.{trace_step_words, trace_mark_words, busy_words, any_refusal_words};
+ghost use Rattle.rd_script.specs.Replies.{answer_text};
 
-use super::numbers::{put_spaced, put_words_and_number};
-use super::refusals::{name_of_fault, name_of_stop, put_refusal};
+use super::numbers::{put_spaced_number, put_words_and_number};
+use super::refusals::{fault_name, put_refusal, stop_name};
 use super::replies::{put_event_reply, put_reply};
 use super::texts::{Text, put};
 use crate::answers::{AnyRefusal, LineAnswer};
@@ -20,17 +20,17 @@ use rd_marks::{EventReply, Reply};
 
 /// Replaces the text by the line of an answer, with its line feed.
 pub fn set_answer(text: &mut Text, answer: &LineAnswer)
-    ensures { text.new.items ≡ text_of answer.now }
+    ensures { text.new.items ≡ answer_text answer.now }
 {
     match answer {
         Ok(reply) => set_reply(text, reply),
-        Err(refusal) => set_refused(text, refusal),
+        Err(refusal) => set_refusal(text, refusal),
     }
 }
 
 /// Replaces the text by the line of a reply, with its line feed.
 pub fn set_reply(text: &mut Text, reply: &Reply)
-    ensures { text.new.items ≡ text_of (Ok reply.now) }
+    ensures { text.new.items ≡ answer_text (Ok reply.now) }
 {
     text.clear();
     put_reply(text, reply);
@@ -39,7 +39,7 @@ pub fn set_reply(text: &mut Text, reply: &Reply)
 
 /// Replaces the text by the line of the reply to an event, with its line feed.
 pub fn set_event_reply(text: &mut Text, done: EventReply)
-    ensures { text.new.items ≡ text_of (Ok (as_reply done)) }
+    ensures { text.new.items ≡ answer_text (Ok (as_reply done)) }
 {
     text.clear();
     put_event_reply(text, done);
@@ -47,8 +47,8 @@ pub fn set_event_reply(text: &mut Text, done: EventReply)
 }
 
 /// Replaces the text by the line of a refusal, with its line feed.
-pub fn set_refused(text: &mut Text, refusal: &AnyRefusal)
-    ensures { text.new.items ≡ text_of (Err refusal.now) }
+pub fn set_refusal(text: &mut Text, refusal: &AnyRefusal)
+    ensures { text.new.items ≡ answer_text (Err refusal.now) }
 {
     text.clear();
     put(text, b"refused ");
@@ -65,12 +65,12 @@ pub fn end_line(text: &mut Text)
 
 /// Appends to the text the number, the name and the data of any refusal or fault.
 fn put_any_refusal(text: &mut Text, refusal: &AnyRefusal)
-    ensures { PutsUpTo 100 text.old.items text.new.items (any_words refusal.now) }
+    ensures { PutsUpTo 100 text.old.items text.new.items (any_refusal_words refusal.now) }
 {
     match *refusal {
         AnyRefusal::Refused(refusal) => put_refusal(text, refusal),
-        AnyRefusal::Unread(fault) => put(text, name_of_fault(fault)),
-        AnyRefusal::Stopped(fault) => put(text, name_of_stop(fault)),
+        AnyRefusal::Unread(fault) => put(text, fault_name(fault)),
+        AnyRefusal::Stopped(fault) => put(text, stop_name(fault)),
         AnyRefusal::Flawed(flaw) => put_words_and_number(
             text,
             b"26 Flaw",
@@ -104,7 +104,7 @@ fn put_trace_mark(text: &mut Text, mark: u64, step: u64, cause: Refusal)
     ensures { PutsUpTo 99 text.old.items text.new.items (trace_mark_words mark step cause) }
 {
     put_words_and_number(text, b"32 TraceMark", mark);
-    put_spaced(text, step);
+    put_spaced_number(text, step);
     put(text, b" cause ");
     put_refusal(text, cause);
 }

@@ -18,7 +18,7 @@ pub fn put_number(text: &mut Text, number: u64)
 }
 
 /// Appends to the text a space and a number.
-pub fn put_spaced(text: &mut Text, number: u64)
+pub fn put_spaced_number(text: &mut Text, number: u64)
     ensures { PutsUpTo 21 text.old.items text.new.items (spaced_number number) }
 {
     put(text, b" ");
@@ -31,7 +31,7 @@ pub fn put_words_and_number(text: &mut Text, words: &[u8], number: u64)
     ensures len { length (spaced_number number) ≤ 21 }
 {
     put(text, words);
-    put_spaced(text, number);
+    put_spaced_number(text, number);
 }
 
 /// Returns a bit as a number, 0 or 1.

@@ -2,11 +2,11 @@
 
 ghost use Rattle.std.specs.Prelude.{◌≤◌, ◌++◌, length};
 ghost use Rattle.rd_script.specs.Puts.{Puts, PutsUpTo};
-ghost use Rattle.rd_script.specs.Contents.{name_words};
+ghost use Rattle.rd_script.specs.Contents.{segment_name_words};
 ghost use Rattle.rd_script.specs.Spelling.{place_words};
 
-use super::contents::put_name;
-use super::numbers::{put_spaced, put_words_and_number};
+use super::contents::put_segment_name;
+use super::numbers::{put_spaced_number, put_words_and_number};
 use super::texts::{Text, put};
 use rd_cell::{Place, SegName};
 
@@ -22,15 +22,15 @@ pub fn put_place(text: &mut Text, place: Place)
         Place::Next(name) => put_words_and_name(text, b"next ", name),
         Place::Cell(name, index) => {
             put_words_and_name(text, b"cell ", name);
-            put_spaced(text, u64::from(index));
+            put_spaced_number(text, u64::from(index));
         }
         Place::Val(name, index) => {
             put_words_and_name(text, b"value ", name);
-            put_spaced(text, u64::from(index));
+            put_spaced_number(text, u64::from(index));
         }
         Place::Idx(name, index) => {
             put_words_and_name(text, b"index ", name);
-            put_spaced(text, u64::from(index));
+            put_spaced_number(text, u64::from(index));
         }
         Place::Whole(name) => put_words_and_name(text, b"whole ", name),
         Place::ArrHead => put(text, b"ahead"),
@@ -41,9 +41,9 @@ pub fn put_place(text: &mut Text, place: Place)
 
 /// Appends to the text these words, and a segment's name after them.
 fn put_words_and_name(text: &mut Text, words: &[u8], name: SegName)
-    ensures words { Puts text.old.items text.new.items (words.now ++ name_words name) }
-    ensures len { length (name_words name) ≤ 41 }
+    ensures words { Puts text.old.items text.new.items (words.now ++ segment_name_words name) }
+    ensures len { length (segment_name_words name) ≤ 41 }
 {
     put(text, words);
-    put_name(text, name);
+    put_segment_name(text, name);
 }

@@ -4,7 +4,7 @@ ghost use Rattle.std.specs.Prelude.{◌≡◌, ◌≤◌, length};
 ghost use Rattle.rd_script.specs.Puts.{PutsUpTo};
 ghost use Rattle.rd_script.specs.Refusals.{refusal_name, refusal_words, fault_name, stop_name};
 
-use super::numbers::put_spaced;
+use super::numbers::put_spaced_number;
 use super::texts::{Text, put};
 use crate::faults::{LineFault, ScriptFault};
 use rd_cell::Refusal;
@@ -14,17 +14,17 @@ use rd_cell::Refusal;
 pub fn put_refusal(text: &mut Text, refusal: Refusal)
     ensures { PutsUpTo 38 text.old.items text.new.items (refusal_words refusal) }
 {
-    put(text, name_of(refusal));
+    put(text, refusal_name(refusal));
     match refusal {
-        Refusal::NothingToUndo(live) => put_spaced(text, live),
-        Refusal::NoSuchStep(live) => put_spaced(text, live),
-        Refusal::Depended(step) => put_spaced(text, step),
+        Refusal::NothingToUndo(live) => put_spaced_number(text, live),
+        Refusal::NoSuchStep(live) => put_spaced_number(text, live),
+        Refusal::Depended(step) => put_spaced_number(text, step),
         _ => {}
     }
 }
 
 /// Returns the number and the name of the fault of a line.
-pub fn name_of_fault(fault: LineFault) -> &'static [u8]
+pub fn fault_name(fault: LineFault) -> &'static [u8]
     ensures name { result.now ≡ fault_name fault }
     ensures len { length result.now ≤ 17 }
 {
@@ -36,7 +36,7 @@ pub fn name_of_fault(fault: LineFault) -> &'static [u8]
 }
 
 /// Returns the number and the name of the fault that stopped a run.
-pub fn name_of_stop(fault: ScriptFault) -> &'static [u8]
+pub fn stop_name(fault: ScriptFault) -> &'static [u8]
     ensures name { result.now ≡ stop_name fault }
     ensures len { length result.now ≤ 17 }
 {
@@ -47,7 +47,7 @@ pub fn name_of_stop(fault: ScriptFault) -> &'static [u8]
 }
 
 /// Returns the number and the name of a refusal, without its data.
-fn name_of(refusal: Refusal) -> &'static [u8]
+fn refusal_name(refusal: Refusal) -> &'static [u8]
     ensures name { result.now ≡ refusal_name refusal }
     ensures len { length result.now ≤ 17 }
 {

@@ -4,12 +4,12 @@ ghost use Rattle.std.specs.Prelude.{◌≤◌, ◌+◌, length};
 ghost use Rattle.rd_marks.specs.Names.{bytes_of};
 ghost use Rattle.rd_marks.specs.Events.{as_reply};
 ghost use Rattle.rd_script.specs.Puts.{Puts, PutsUpTo};
-ghost use Rattle.rd_script.specs.Replies.{ended_call_words, step_number, origin_words, number_or_none, reply_words};
+ghost use Rattle.rd_script.specs.Replies.{ended_call_words, step_number_words, origin_words, number_or_none, reply_words};
 
 use super::actors::put_actor;
 use super::contents::put_content;
-use super::numbers::{put_number, put_spaced, put_words_and_number, yes_or_no};
-use super::steps::{put_call_reply, put_step};
+use super::numbers::{put_number, put_spaced_number, put_words_and_number, yes_or_no};
+use super::steps::{put_result, put_step};
 use super::texts::{Text, put};
 use crate::reading::keywords::Keyword;
 use rd_actor::OpReply;
@@ -24,7 +24,7 @@ pub fn put_reply(text: &mut Text, reply: &Reply)
         Reply::Applied { step, reply } => put_event_reply(text, EventReply { step, reply }),
         Reply::At { live, undone } => {
             put_words_and_number(text, b"at", live);
-            put_spaced(text, undone);
+            put_spaced_number(text, undone);
         }
         Reply::Marked(len) => put_words_and_number(text, b"marked", len),
         Reply::Dropped => put(text, b"dropped"),
@@ -32,7 +32,7 @@ pub fn put_reply(text: &mut Text, reply: &Reply)
         Reply::Mark { name, len } => {
             put(text, b"mark ");
             put_mark_name(text, name);
-            put_spaced(text, len);
+            put_spaced_number(text, len);
         }
         Reply::Same(same) => {
             put(text, b"same ");
@@ -68,7 +68,7 @@ fn put_ended_call(text: &mut Text, reply: Option<OpReply>)
         None => {}
         Some(reply) => {
             put(text, b" ");
-            put_call_reply(text, reply);
+            put_result(text, reply);
         }
     }
 }
@@ -87,7 +87,7 @@ fn put_origin(text: &mut Text, origin: Origin)
 
 /// Appends to the text the number of a step, or a hyphen if there is no such step.
 fn put_step_number(text: &mut Text, step: Option<u64>)
-    ensures { PutsUpTo 20 text.old.items text.new.items (step_number step) }
+    ensures { PutsUpTo 20 text.old.items text.new.items (step_number_words step) }
 {
     match step {
         None => put(text, b"-"),

@@ -2,9 +2,9 @@
 
 ghost use Rattle.std.specs.Prelude.{◌≡◌, ◌≤◌, length};
 ghost use Rattle.rd_script.specs.Puts.{PutsUpTo};
-ghost use Rattle.rd_script.specs.Steps.{step_place, access_word, access_answer, result_words, step_reply, done_words, step_words};
+ghost use Rattle.rd_script.specs.Steps.{step_place_words, access_kind_word, access_answer_words, result_words, step_result_words, access_words, step_words};
 
-use super::contents::{put_content, put_index, put_name, put_value, tail_word};
+use super::contents::{put_content, put_index, put_segment_name, put_value, tail_word};
 use super::events::put_event;
 use super::numbers::put_words_and_number;
 use super::places::put_place;
@@ -21,13 +21,13 @@ pub fn put_step(text: &mut Text, number: u64, entry: &Entry)
     put(text, b"; ");
     put_event(text, entry.event);
     put(text, b"; ");
-    put_done(text, entry);
+    put_access(text, entry);
     put(text, b"; ");
-    put_step_reply(text, entry.reply);
+    put_step_result(text, entry.reply);
 }
 
 /// Appends to the text the result of a call.
-pub fn put_call_reply(text: &mut Text, reply: OpReply)
+pub fn put_result(text: &mut Text, reply: OpReply)
     ensures { PutsUpTo 26 text.old.items text.new.items (result_words reply) }
 {
     match reply {
@@ -38,19 +38,19 @@ pub fn put_call_reply(text: &mut Text, reply: OpReply)
 }
 
 /// Appends to the text the place, the kind and the answer of a step's access.
-fn put_done(text: &mut Text, entry: &Entry)
-    ensures { PutsUpTo 145 text.old.items text.new.items (done_words entry.now) }
+fn put_access(text: &mut Text, entry: &Entry)
+    ensures { PutsUpTo 145 text.old.items text.new.items (access_words entry.now) }
 {
     put_step_place(text, entry.place);
     put(text, b"; ");
-    put(text, access_word(entry.place, entry.wrote));
+    put(text, access_kind_word(entry.place, entry.wrote));
     put(text, b"; ");
     put_access_answer(text, entry.answer);
 }
 
 /// Appends to the text the place of a step, or a hyphen if it has none.
 fn put_step_place(text: &mut Text, place: Option<Place>)
-    ensures { PutsUpTo 68 text.old.items text.new.items (step_place place) }
+    ensures { PutsUpTo 68 text.old.items text.new.items (step_place_words place) }
 {
     match place {
         None => put(text, b"-"),
@@ -60,8 +60,8 @@ fn put_step_place(text: &mut Text, place: Option<Place>)
 
 /// Returns the word for what a step did at its place: it read, wrote, or wrote only the index half.
 /// `none` if it has no place.
-fn access_word(place: Option<Place>, wrote: Wrote) -> &'static [u8]
-    ensures name { result.now ≡ access_word place wrote }
+fn access_kind_word(place: Option<Place>, wrote: Wrote) -> &'static [u8]
+    ensures name { result.now ≡ access_kind_word place wrote }
     ensures len { length result.now ≤ 11 }
 {
     match (place, wrote) {
@@ -74,7 +74,7 @@ fn access_word(place: Option<Place>, wrote: Wrote) -> &'static [u8]
 
 /// Appends to the text the answer of an access, or a hyphen if that is nothing.
 fn put_access_answer(text: &mut Text, answer: Answer)
-    ensures { PutsUpTo 62 text.old.items text.new.items (access_answer answer) }
+    ensures { PutsUpTo 62 text.old.items text.new.items (access_answer_words answer) }
 {
     match answer {
         Answer::Nothing => put(text, b"-"),
@@ -89,17 +89,17 @@ fn put_access_answer(text: &mut Text, answer: Answer)
         Answer::Lost => put(text, b"lost"),
         Answer::Made(name) => {
             put(text, b"made ");
-            put_name(text, name);
+            put_segment_name(text, name);
         }
     }
 }
 
 /// Appends to the text the result of the call that a step ended, or a hyphen if it ended none.
-fn put_step_reply(text: &mut Text, reply: Option<OpReply>)
-    ensures { PutsUpTo 26 text.old.items text.new.items (step_reply reply) }
+fn put_step_result(text: &mut Text, reply: Option<OpReply>)
+    ensures { PutsUpTo 26 text.old.items text.new.items (step_result_words reply) }
 {
     match reply {
         None => put(text, b"-"),
-        Some(reply) => put_call_reply(text, reply),
+        Some(reply) => put_result(text, reply),
     }
 }

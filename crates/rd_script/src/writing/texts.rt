@@ -5,10 +5,10 @@ ghost use Rattle.rd_script.specs.Puts.{Puts};
 use arrayvec::ArrayVec;
 
 /// The greatest number of bytes in a text.
-pub const MOST_BYTES: usize = 512;
+pub const MOST_TEXT_BYTES: usize = 512;
 
 /// A text of up to 512 bytes.
-pub type Text = ArrayVec<u8, MOST_BYTES>;
+pub type Text = ArrayVec<u8, MOST_TEXT_BYTES>;
 
 /// Appends words to the text. There must be room for all of them; otherwise the text stays as it
 /// is.

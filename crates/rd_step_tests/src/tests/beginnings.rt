@@ -1,7 +1,7 @@
 //! How many events two lists have in common at their beginning, by examples.
 
-use super::equal::same_at;
 use super::GO;
+use super::equal::same_at;
 use rd_actor::Act;
 use rd_step::{Event, common_beginning_len};
 

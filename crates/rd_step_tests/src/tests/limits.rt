@@ -168,7 +168,7 @@ fn flaw_if<const R: usize>(alloc: Global, changed: Changed) -> Result<Option<Fla
     requires few { R ≤ MOST_CELLS }
 {
     let actor = changed_actor(changed, END + R as u64);
-    let mut parts = test_kit::parts(alloc, actor, root::<R>(changed), Vec::new(alloc))?;
+    let mut parts = test_kit::one_actor_parts(alloc, actor, root::<R>(changed), Vec::new(alloc))?;
     match changed {
         Changed::Actors(count) => add_actors(alloc, &mut parts, count)?,
         Changed::QueueHead(n) => parts.qhead = segment(n),

@@ -5,7 +5,7 @@
 use super::Word::{Closed, H, Idx, Next, Pass, Safe, T, Val};
 use super::*;
 use rd_actor::OpReply;
-use test_kit::record;
+use test_kit::access_entry;
 
 /// One step, and what the table says of it.
 struct Row {
@@ -585,7 +585,7 @@ fn choice_leads(rt: &impl Abort, alloc: Global, starves: bool, pc: Pc) -> Result
     let entry = Entry {
         event,
         old_actor: actor,
-        ..record((1, None, Wrote::Nothing))
+        ..access_entry((1, None, Wrote::Nothing))
     };
     same(rt, world.step(event), Ok(entry));
     same(rt, world.actor(1), Some(Actor { pc, ..actor }));

@@ -103,7 +103,7 @@ fn makers(alloc: Global, count: u32) -> Result<Parts<1>, AllocError> {
     for _ in 0..count {
         list.push(ring)?;
     }
-    test_kit::parts(alloc, actor_at(Pc::E12, ENQ, &[]), ring, list)
+    test_kit::one_actor_parts(alloc, actor_at(Pc::E12, ENQ, &[]), ring, list)
 }
 
 #[test]

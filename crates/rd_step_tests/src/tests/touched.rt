@@ -3,7 +3,7 @@
 use super::equal::same_at;
 use rd_cell::{Cell, Content, Place, SegName, Wrote};
 use rd_step::Entry;
-use test_kit::record;
+use test_kit::access_entry;
 
 /// An entry, by what matters of it, and what it says.
 struct Row {
@@ -71,9 +71,9 @@ fn an_entry_says_what_its_step_wrote_and_made(rt: HostRuntime) {
     for row in ROWS {
         let entry = Entry {
             old_content: row.old_content,
-            ..record((2, row.place, row.wrote))
+            ..access_entry((2, row.place, row.wrote))
         };
         same_at(&rt, entry.written(), row.written, &entry);
-        same_at(&rt, entry.made(), row.made, &entry);
+        same_at(&rt, entry.made_segment(), row.made, &entry);
     }
 }

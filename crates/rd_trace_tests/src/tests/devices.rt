@@ -6,7 +6,7 @@ use rd_trace::{WriteTraceFault, write_trace};
 use std::alloc::Global;
 use std::process::Abort;
 use std::test::Fail;
-use test_kit::{End, Limit, PageWriter};
+use test_kit::{End, Limit, LimitedWriter};
 
 /// The trace of one event.
 const TRACE: &[u8] =
@@ -27,7 +27,7 @@ fn writes_are(
             most: *most,
             end: End::Fails,
         };
-        let writer = PageWriter::that_ends(&mut taken, limit);
+        let writer = LimitedWriter::with_limit(&mut taken, limit);
         let said = write_trace(alloc, &mut WriteSink::new(writer), &book);
         let began = TRACE.get(..*len) == Some(taken.as_slice());
         assert!(rt; said == *answer && began, "{good_writes} writes of {most}");

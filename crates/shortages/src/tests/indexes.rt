@@ -9,7 +9,7 @@ use rd_depend::{DependIndex, Probes, first_dependant};
 use rd_step::Entry;
 use std::alloc::{AllocError, Global};
 use std::process::Abort;
-use test_kit::record;
+use test_kit::access_entry;
 
 /// An index beside the entries that it is of.
 #[derive(Drop)]
@@ -122,7 +122,7 @@ fn an_index_that_is_refused_memory_finds_what_it_found_and_takes_the_step_the_ne
 ) {
     let mut indexed = fresh(&rt, rt.alloc());
     for access in &STEPS {
-        assert!(&rt; is_pushed(&mut indexed, record(*access)));
+        assert!(&rt; is_pushed(&mut indexed, access_entry(*access)));
     }
     assert!(&rt; indexed.finds_all());
 }
@@ -130,8 +130,8 @@ fn an_index_that_is_refused_memory_finds_what_it_found_and_takes_the_step_the_ne
 #[test]
 fn room_that_is_refused_to_an_index_is_made_the_next_time_and_pushes_ask_for_none(rt: HostRuntime) {
     let mut indexed = fresh(&rt, rt.alloc());
-    assert!(&rt; is_pushed(&mut indexed, record(STEPS[1])));
-    let entries = STEPS.map(record);
+    assert!(&rt; is_pushed(&mut indexed, access_entry(STEPS[1])));
+    let entries = STEPS.map(access_entry);
     assert!(&rt; has_room(&mut indexed, &entries));
     assert!(&rt; indexed.finds_all());
     for entry in &entries {

@@ -5,8 +5,8 @@ use super::trials::{Trial, look, plays};
 use std::alloc::Global;
 
 /// Two bookmarks of which neither begins the other, the race of two actors to put a new ring after
-/// a full one, a bookmark at its thirty steps, and eight of a third actor after them, which fill its
-/// list in the index.
+/// a full one, a bookmark at its thirty steps, and eight of a third actor after them, which fill
+/// its list in the index.
 const BEFORE: &str = "\
     deq 3\nmark x\nundo\ndeq 4\nmark y\nundo\nenq 1 7\ngo 1\ngo 1\ngo 1\ngo 1\ngo 1\ngo 1\n\
     enq 1 8\ngo 1\ngo 1\ngo 1\ngo 1\ngo 1\ngo 1\nenq 1 9\ngo 1\ngo 1\nenq 2 10\ngo 2\ngo 2\ngo 1\n\
@@ -14,8 +14,8 @@ const BEFORE: &str = "\
     deq 3\ngo 3\ngo 3\ngo 3\ngo 3\ngo 3\ndeq 3\ngo 3";
 
 /// Lines that take no memory. The event is the one that was undone. The steps of each bookmark that
-/// is set begin those of one that is there, and its name takes room that is left or given back. What
-/// is gone to lies on the way back, is made of steps that were undone, and lies ahead.
+/// is set begin those of one that is there, and its name takes room that is left or given back.
+/// What is gone to lies on the way back, is made of steps that were undone, and lies ahead.
 const MOVES: &[u8] =
     b"undo\ngo 3\ngoto all\nundo\nmark most\nundo 28\nback 3\nredo\nforward 2\nroll 27\nundo 30\nundo 1\nforward 5\ndrop x\ndrop x\ngoto z\nmark again\ngoto all\nback 4\ngoto all";
 

@@ -7,7 +7,7 @@ use std::alloc::Global;
 use std::process::Abort;
 use std::sync::Wait;
 use std::thread::Threads;
-use test_kit::PageWriter;
+use test_kit::LimitedWriter;
 
 /// The text of a view of the two scripts below. What one is answered does not depend on the other.
 pub(super) const USUAL: &[u8] = b"viewer 1\nok 1\nat 1 0\nviewer 2\nis open 0\nhistory 3\n";
@@ -32,7 +32,7 @@ fn script(rt: &impl Abort, alloc: Global, text: &[u8]) -> Vec<u8> {
 pub(super) fn viewed<R: Abort + Threads + Wait + Sync>(
     rt: &R,
     alloc: Global,
-    writer: PageWriter<'_>,
+    writer: LimitedWriter<'_>,
 ) -> Option<ViewFault> {
     let Trial { book, .. } = on_trial(rt, alloc);
     let scripts = [
@@ -47,7 +47,7 @@ pub(super) fn viewed<R: Abort + Threads + Wait + Sync>(
 /// says to whom.
 fn is_usual<R: Abort + Threads + Wait + Sync>(rt: &R, alloc: Global, page: &mut Vec<u8>) -> bool {
     page.clear();
-    let fault = viewed(rt, alloc, PageWriter::that_works(page));
+    let fault = viewed(rt, alloc, LimitedWriter::without_limit(page));
     if page.as_slice() == USUAL {
         assert!(rt; fault.is_none());
         return true;

@@ -5,7 +5,7 @@ use rd_cell::{Cell, Place, Refusal, SegName};
 use rd_step::{Parts, SegmentParts, Unassembled, World};
 use std::alloc::{AllocError, Global};
 use std::process::Abort;
-use test_kit::parts;
+use test_kit::one_actor_parts;
 
 /// The places of the queue, of the first segment, and of the one that actor 1 makes first.
 const PLACES: &[Place] = &[
@@ -106,7 +106,7 @@ fn put_together(rt: &impl Abort, alloc: Global, parts: Parts<2>) -> Result<World
 /// The parts of a world of one actor, which has made a segment.
 fn one_actor(alloc: Global) -> Result<Parts<2>, AllocError> {
     let made = Vec::from_array(alloc, [RING])?;
-    parts(alloc, Actor::poised(5), RING, made)
+    one_actor_parts(alloc, Actor::poised(5), RING, made)
 }
 
 /// The world of the parts above.

@@ -11,7 +11,7 @@ use std::process::Abort;
 use std::sync::Wait;
 use std::test::Fail;
 use std::thread::Threads;
-use test_kit::{ASKED, bytes_of};
+use test_kit::{ASKED, scripts_as_bytes};
 
 /// A book over the fresh world of four actors.
 fn fresh(alloc: Global) -> Result<Book<4>, Refusal> {
@@ -26,7 +26,7 @@ fn view_is<R: Threads + Wait + Abort + Sync>(
     scripts: &[&str],
     wanted: &str,
 ) -> Result<(), Fail> {
-    let bytes = bytes_of(alloc, scripts)?;
+    let bytes = scripts_as_bytes(alloc, scripts)?;
     let scripts = bytes.as_slice();
     assert!(rt; 1 <= scripts.len() && scripts.len() <= 64);
     let book = fresh(alloc)?;

@@ -1,8 +1,8 @@
 use Rattle.std.proofs.Common.{refl, ap, inr}
 use Rattle.clap.proofs.TakesLemmas.{passed_up}
 use Rattle.rd_command_line.specs.Options.{options_fault}
-use Rattle.rd_command_line.specs.CommandLine.{GivesFault, is_request}
-use Rattle.rd_command_line.proofs.OptionLemmas.{GivesFault-error, Reads-matches, GivesNoOptions-matches}
+use Rattle.rd_command_line.specs.CommandLine.{GivesFault, is_help_or_version}
+use Rattle.rd_command_line.proofs.OptionLemmas.{GivesFault-error, GivesOptions-matches, IsFaultlessWithoutOptions-matches}
 use Rattle.rd_command_line.proofs.command_line.options.Goals as goal
 
 pub returns-in_err-matches-clause-err : goal.returns-in_err-matches-clause-err
@@ -16,8 +16,8 @@ pub returns-in_default-clause-err : goal.returns-in_default-clause-err
 returns-in_default-clause-err g c =
     let app = c.in_ok-command.ensures in
     let nothing = (rw c.in_default.is at c.in_ok-options.ensures.none) refl in (
-      ap is_request c.in_ok-error.ensures.kind,
-      inr (GivesNoOptions-matches _ _ app.0 c.in_ok-matches.matches app.1 app.2 c.in_ok-matches.ensures.kinds c.in_ok-matches.ensures.ok.2 nothing),
+      ap is_help_or_version c.in_ok-error.ensures.kind,
+      inr (IsFaultlessWithoutOptions-matches _ _ app.0 c.in_ok-matches.matches app.1 app.2 c.in_ok-matches.ensures.kinds c.in_ok-matches.ensures.ok.2 nothing),
     )
 
 pub returns-then-has_too_many_files-clause-err : goal.returns-then-has_too_many_files-clause-err
@@ -25,7 +25,7 @@ returns-then-has_too_many_files-clause-err g c =
     let app = c.in_ok-command.ensures in
     let tells = rw c.in-Some.is at c.in_ok-options.ensures.some in (
       c.in-Some.options,
-      Reads-matches _ _ app.0 c.in_ok-matches.matches _ app.1 app.2 c.in_ok-matches.ensures.kinds c.in_ok-matches.ensures.ok.2 tells,
+      GivesOptions-matches _ _ app.0 c.in_ok-matches.matches _ app.1 app.2 c.in_ok-matches.ensures.kinds c.in_ok-matches.ensures.ok.2 tells,
       c.has_too_many_files.ensures.many c.if-has_too_many_files.true,
     )
 
@@ -33,4 +33,4 @@ pub returns-clause-ok : goal.returns-clause-ok
 returns-clause-ok g c =
     let app = c.in_ok-command.ensures in
     let tells = rw c.in-Some.is at c.in_ok-options.ensures.some in
-    Reads-matches _ _ app.0 c.in_ok-matches.matches _ app.1 app.2 c.in_ok-matches.ensures.kinds c.in_ok-matches.ensures.ok.2 tells
+    GivesOptions-matches _ _ app.0 c.in_ok-matches.matches _ app.1 app.2 c.in_ok-matches.ensures.kinds c.in_ok-matches.ensures.ok.2 tells

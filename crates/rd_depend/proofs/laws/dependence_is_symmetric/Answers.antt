@@ -1,5 +1,5 @@
-use Rattle.rd_depend.proofs.Prelude.{symmetric}
+use Rattle.rd_depend.proofs.Prelude.{depends_symmetric}
 use Rattle.rd_depend.proofs.laws.dependence_is_symmetric.Goals as goal
 
 pub returns : goal.returns
-returns c = symmetric
+returns c = depends_symmetric

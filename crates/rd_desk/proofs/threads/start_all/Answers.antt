@@ -1,5 +1,5 @@
 use Rattle.rd_desk.proofs.Prelude.{◌∙◌, ap, arith, length, subst, sym, map-id, AllZip, IsRoomFor, IsStarted, YieldsList-end, YieldsList-from_vec, YieldsList-from_zip, YieldsList-turn, all_zipped_more, common_steps, sendable}
-use Rattle.rd_desk.proofs.ChainLemmas.{pair_at, with_each, of_firsts}
+use Rattle.rd_desk.proofs.ChainLemmas.{AllZip-zip_at, AllZip-with_each, AllZip-of_firsts}
 use Rattle.rd_desk.proofs.threads.start_all.Goals as goal
 use Rattle.rd_desk.proofs.threads.start_all.Goals.{in-Ok, in-Err}
 
@@ -7,7 +7,7 @@ pub spawn_with-handle-requires-clause-runs : goal.spawn_with-handle-requires-cla
 spawn_with-handle-requires-clause-runs g c κs met =
     let turn = YieldsList-turn (YieldsList-from_zip (YieldsList-from_vec c.args.work.items (cc) (cc)) (YieldsList-from_vec c.args.answers.items (cc) (cc))) c.loop-pass.yielded c.loop-pass.pass-iterator c.loop-pass.yielded_by _ c.next.new.self _ c.in-Some.is c.next.ensures.steps in
     let ready = subst (λ p. g.G.Gate.takes c.args.gate.now p.0.0 × IsRoomFor p.0 p.1) (sym turn.1)
-    (pair_at (λ viewer room. g.G.Gate.takes c.args.gate.now viewer.0 × IsRoomFor viewer room) c.args.work.items c.args.answers.items (length c.loop-pass.yielded) ((c.in-Some.pass, c.in-Some.commands), c.in-Some.room) turn.0 (with_each IsRoomFor (λ viewer. g.G.Gate.takes c.args.gate.now viewer.0) c.args.work.items c.args.answers.items c.requires.own c.requires.answers)) in (
+    (AllZip-zip_at (λ viewer room. g.G.Gate.takes c.args.gate.now viewer.0 × IsRoomFor viewer room) c.args.work.items c.args.answers.items (length c.loop-pass.yielded) ((c.in-Some.pass, c.in-Some.commands), c.in-Some.room) turn.0 (AllZip-with_each IsRoomFor (λ viewer. g.G.Gate.takes c.args.gate.now viewer.0) c.args.work.items c.args.answers.items c.requires.own c.requires.answers)) in (
       (ready.0, ready.1.0, omega (arith, ready.1.1)),
       ((let s = c.type_bounds.send-G-Pass in search sendable depth 20), (let s = c.type_bounds.sync-R in search sendable depth 20), (let s = c.type_bounds.sync-G in search sendable depth 20)),
     )
@@ -16,7 +16,7 @@ pub spawn_with-requires-after_bounds : goal.spawn_with-requires-after_bounds
 spawn_with-requires-after_bounds g c κs within =
     let turn = YieldsList-turn (YieldsList-from_zip (YieldsList-from_vec c.args.work.items (cc) (cc)) (YieldsList-from_vec c.args.answers.items (cc) (cc))) c.loop-pass.yielded c.loop-pass.pass-iterator c.loop-pass.yielded_by _ c.next.new.self _ c.in-Some.is c.next.ensures.steps in
     let ready = subst (λ p. g.G.Gate.takes c.args.gate.now p.0.0 × IsRoomFor p.0 p.1) (sym turn.1)
-    (pair_at (λ viewer room. g.G.Gate.takes c.args.gate.now viewer.0 × IsRoomFor viewer room) c.args.work.items c.args.answers.items (length c.loop-pass.yielded) ((c.in-Some.pass, c.in-Some.commands), c.in-Some.room) turn.0 (with_each IsRoomFor (λ viewer. g.G.Gate.takes c.args.gate.now viewer.0) c.args.work.items c.args.answers.items c.requires.own c.requires.answers)) in rw c.in-Err.ensures.err (ready.0, ready.1.0, omega (arith, ready.1.1))
+    (AllZip-zip_at (λ viewer room. g.G.Gate.takes c.args.gate.now viewer.0 × IsRoomFor viewer room) c.args.work.items c.args.answers.items (length c.loop-pass.yielded) ((c.in-Some.pass, c.in-Some.commands), c.in-Some.room) turn.0 (AllZip-with_each IsRoomFor (λ viewer. g.G.Gate.takes c.args.gate.now viewer.0) c.args.work.items c.args.answers.items c.requires.own c.requires.answers)) in rw c.in-Err.ensures.err (ready.0, ready.1.0, omega (arith, ready.1.1))
 
 pub loop-pass-preserved : goal.loop-pass-preserved
 loop-pass-preserved g c = record {
@@ -32,4 +32,4 @@ loop-pass-preserved g c = record {
 pub returns : goal.returns
 returns g c =
     let over = YieldsList-end (YieldsList-from_zip (YieldsList-from_vec c.args.work.items (cc) (cc)) (YieldsList-from_vec c.args.answers.items (cc) (cc))) c.loop-pass.yielded c.loop-pass.pass-iterator c.loop-pass.yielded_by _ c.next.new.self c.in-None.is c.next.ensures.steps in
-    of_firsts IsRoomFor (IsStarted g.G.Gate.takes g.G.Gate.told c.args.gate.now) c.args.work.items c.args.answers.items c.loop-pass.started.items c.requires.answers (subst (λ ps. AllZip (λ p. IsStarted g.G.Gate.takes g.G.Gate.told c.args.gate.now p.0) ps c.loop-pass.started.items) (sym (map-id _) ∙ over.0) c.loop-pass.invariant.are_started)
+    AllZip-of_firsts IsRoomFor (IsStarted g.G.Gate.takes g.G.Gate.told c.args.gate.now) c.args.work.items c.args.answers.items c.loop-pass.started.items c.requires.answers (subst (λ ps. AllZip (λ p. IsStarted g.G.Gate.takes g.G.Gate.told c.args.gate.now p.0) ps c.loop-pass.started.items) (sym (map-id _) ∙ over.0) c.loop-pass.invariant.are_started)

@@ -3,7 +3,7 @@ use Rattle.rd_script.proofs.script.answer_line.Goals as goal
 
 pub returns-in-Err-clause-answers : goal.returns-in-Err-clause-answers
 returns-in-Err-clause-answers g c bytes held =
-    (Err c.in-Err.fault, Err (Unread c.in-Err.fault), c.in-Err.ensures bytes held, (refl, refl), c.set_refused.ensures)
+    (Err c.in-Err.fault, Err (Unread c.in-Err.fault), c.in-Err.ensures bytes held, (refl, refl), c.set_refusal.ensures)
 
 pub returns-in-Some-clause-answers : goal.returns-in-Some-clause-answers
 returns-in-Some-clause-answers g c bytes held =

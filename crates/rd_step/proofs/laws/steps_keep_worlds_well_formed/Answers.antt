@@ -1,5 +1,5 @@
-use Rattle.rd_step.proofs.Keeps.{keeps}
+use Rattle.rd_step.proofs.Keeps.{step_keeps_well_formed}
 use Rattle.rd_step.proofs.laws.steps_keep_worlds_well_formed.Goals as goal
 
 pub returns : goal.returns
-returns c = keeps
+returns c = step_keeps_well_formed

@@ -9,7 +9,7 @@ use Rattle.rd_step.specs.Room.{makes_segment}
 use Rattle.rd_step.proofs.Inverse.{undoes}
 use Rattle.rd_step.proofs.Removal.{can_undo}
 use Rattle.rd_step.proofs.Room.{room_used_returned}
-use Rattle.rd_step.proofs.Steps.{took}
+use Rattle.rd_step.proofs.Steps.{step_stages}
 use Rattle.rd_step_tests.proofs.tests.step_and_revert.Goals as goal
 
 pub revert-requires : goal.revert-requires
@@ -35,7 +35,7 @@ goes_again : (w v u : World) (e : Event) (x : Entry) → IsWellFormed w → step
     → u ≡ unstep v x → step u x.event ≡ Ok (record { world = v; entry = x })
 goes_again w v u e x formed h back =
     let s : Stepped = record { world = v; entry = x } in
-    let event : e ≡ x.event = ap (λ (y : Stepped). y.entry.event) (took w e s h).ends in
+    let event : e ≡ x.event = ap (λ (y : Stepped). y.entry.event) (step_stages w e s h).ends in
     subst₂ (λ (start : World) (f : Event). step start f ≡ Ok s) (sym (back ∙ undoes w e s formed h)) event h
 
 pub returns-clause-goes : goal.returns-clause-goes

@@ -1,10 +1,10 @@
 use Rattle.std.proofs.Common.{◌+◌, sym, ◌∙◌, arith}
-use Rattle.rd_trace.proofs.ArrayLemmas.{one_more_slot, rises_here, none_here}
+use Rattle.rd_trace.proofs.ArrayLemmas.{one_more_slot, rises_here, no_slot_here}
 use Rattle.rd_trace.proofs.arrays.slots_in.Goals as goal
 use Rattle.rd_trace.proofs.arrays.slots_in.Goals.{then-position-free-via-then-position-free, then-position-free-via-else-position-free+then-position-ge-SLOTS}
 
 pub returns-in_err-position-clause-none : goal.returns-in_err-position-clause-none
-returns-in_err-position-clause-none c = grind (arith, none_here)
+returns-in_err-position-clause-none c = grind (arith, no_slot_here)
 
 pub returns-then-position-free-clause-none : goal.returns-then-position-free-clause-none
 returns-then-position-free-clause-none c = grind (arith, rises_here, then-position-free-via-then-position-free, then-position-free-via-else-position-free+then-position-ge-SLOTS)

@@ -58,8 +58,8 @@ returns-in_err-step_all g c =
     (subst₂ (λ es fs. RefusesOne now.session.start (es ++ fs) fault) c.deref-2.ensures.value c.deref-3.ensures.value
     (from_old now (book_state c.go_to.new.book) (book_state c.step_all.new.book) c.deref-2.result.now c.deref-3.result.now (Err fault) c.in_ok-go_to.ensures.0 c.in_err-step_all.ensures.goes)))
 
-pub go_back-requires : goal.go_back-requires
-go_back-requires g c =
+pub undo_last-requires : goal.undo_last-requires
+undo_last-requires g c =
     let enough =
     enough_live (book_state c.set_marks.new.book) (book_state c.go_to.new.book) (book_state c.step_all.new.book) c.deref-2.result.now c.deref-3.result.now c.in_ok-go_to.ensures.0 c.in_ok-step_all.ensures.goes in
     (omega arith, omega (arith, c.len.ensures, c.deref-3.ensures.len, enough))
@@ -70,10 +70,10 @@ returns g c =
     let old = book_state c.open-book.result in
     let now = book_state c.set_marks.new.book in
     let stepped = book_state c.step_all.new.book in
-    let new = book_state c.go_back.new.self in
+    let new = book_state c.undo_last.new.self in
     let start = ap (λ (s : State). s.start) (c.open-book.ensures.session ∙ c.open.ensures.state) ∙ c.in_ok-world.ensures.1 in
     let set = subst (λ ms. SetsMarks old (map saved_mark ms) now (Ok tt)) c.deref.ensures.value c.in_ok-set_marks.ensures in
-    let left = subst (λ n. back stepped.session n ≡ Ok new.session) (c.len.ensures ∙ sym c.deref-3.ensures.len) c.go_back.ensures.session in
-    let made = made_live now (book_state c.go_to.new.book) stepped new c.deref-2.result.now c.deref-3.result.now c.in_ok-go_to.ensures.0 c.in_ok-step_all.ensures.goes left c.go_back.ensures.marks in
-    loads_value (view c.args.value) t c.in_ok-session.ensures (Ok c.go_back.new.self)
+    let left = subst (λ n. back stepped.session n ≡ Ok new.session) (c.len.ensures ∙ sym c.deref-3.ensures.len) c.undo_last.ensures.session in
+    let made = made_live now (book_state c.go_to.new.book) stepped new c.deref-2.result.now c.deref-3.result.now c.in_ok-go_to.ensures.0 c.in_ok-step_all.ensures.goes left c.undo_last.ensures.marks in
+    loads_value (view c.args.value) t c.in_ok-session.ensures (Ok c.undo_last.new.self)
     (plays t c.in_ok-world.ensures.0 old start now set new (subst₂ (λ es fs. MakesLive now es fs new) c.deref-2.ensures.value c.deref-3.ensures.value made))

@@ -1,7 +1,7 @@
 use Rattle.rd_view.proofs.Prelude.{book_state, book_with_history_send, crosses, desk_sync, length-map, number, number_of, opened_state, seat_send, sendable, ∥∥₁_map, ◌≡◌, ◌∙◌, length, map, ap, sym, arith}
 use Rattle.rd_desk.specs.contracts.recording.BookWithHistoryRecorded.TheImpl as Recorded
 use Rattle.rd_lock.proofs.PassLists.{length-numbers}
-use Rattle.rd_view.proofs.ViewingLemmas.{all_answered, new_may_ask, own_passes}
+use Rattle.rd_view.proofs.ViewingLemmas.{all_answered, new_are_viewers, own_passes}
 use Rattle.rd_view.proofs.viewing.run_over_desk.Goals as goal
 
 pub passes_with_commands-requires : goal.passes_with_commands-requires
@@ -17,7 +17,7 @@ pub ask_viewers-requires-sync-G : goal.ask_viewers-requires-sync-G
 ask_viewers-requires-sync-G g c κs within = search (desk_sync, sendable, crosses) depth 60 fits 100000
 
 pub ask_viewers-requires-clause-own : goal.ask_viewers-requires-clause-own
-ask_viewers-requires-clause-own g c κs within = new_may_ask _ _ c.in-Ok.desk c.in_ok-work.work.items (rw c.in_ok-work.ensures.passes c.in-Ok.ensures.ok.are_new)
+ask_viewers-requires-clause-own g c κs within = new_are_viewers _ _ c.in-Ok.desk c.in_ok-work.work.items (rw c.in_ok-work.ensures.passes c.in-Ok.ensures.ok.are_new)
 
 pub close-requires : goal.close-requires
 close-requires g c =

@@ -1,7 +1,7 @@
-use Rattle.rd_view.proofs.Prelude.{◌≡◌, ◌∙◌, arith, refl, sym, subst, ap, length, AllZip-long, IsViewed, Views, ViewsScripts, book_state, entries, viewed_text, view_text}
+use Rattle.rd_view.proofs.Prelude.{◌≡◌, ◌∙◌, arith, refl, sym, subst, ap, length, AllZip-long, IsViewed, ViewOf, ViewsScripts, book_state, entries, view_text, viewers_text}
 use Rattle.rd_script.proofs.ResultLemmas.{passed_up}
 use Rattle.rd_view.specs.declared.faults.ViewFault.TheVariants as fault
-use Rattle.rd_view.proofs.ViewEnds.{as_many, unviewed}
+use Rattle.rd_view.proofs.ViewEnds.{AreAnswered-long, ViewsScripts-unwritten}
 use Rattle.rd_view.proofs.viewing.view_scripts.Given.{Over}
 use Rattle.rd_view.proofs.viewing.view_scripts.Goals.{After-as_slice-4}
 use Rattle.rd_view.proofs.viewing.view_scripts.Goals as goal
@@ -12,25 +12,25 @@ run_over_desk-requires-after_bounds g c κs within =
 
 pub returns-in_err-answered : goal.returns-in_err-answered
 returns-in_err-answered g c = record {
-  views = passed_up (ViewsScripts _ _ _) c.in_err-answered.field-0.0 c.from_residual-in_err-answered.result c.from_residual-in_err-answered.ensures.1 (unviewed _ _ _ _ _ c.in_err-answered.field-0.0 c.in_err-answered.ensures.err refl c.requires.works);
+  views = passed_up (ViewsScripts _ _ _) c.in_err-answered.field-0.0 c.from_residual-in_err-answered.result c.from_residual-in_err-answered.ensures.1 (ViewsScripts-unwritten _ _ _ _ _ c.in_err-answered.field-0.0 c.in_err-answered.ensures.err refl c.requires.works);
 }
 
 pub text_of_view-requires : goal.text_of_view-requires
 text_of_view-requires g c =
-    ap length (c.as_slice-2.ensures.value ∙ sym c.as_slice.ensures.value) ∙ as_many _ _ 1 c.as_slice.result.now c.in_ok-answered.answered.items c.in_ok-answered.ensures.ok.are_answered
+    ap length (c.as_slice-2.ensures.value ∙ sym c.as_slice.ensures.value) ∙ AreAnswered-long _ _ 1 c.as_slice.result.now c.in_ok-answered.answered.items c.in_ok-answered.ensures.ok.are_answered
     ∙ ap length (sym c.as_slice-3.ensures.value)
 
 -- the text that is handed over is that of a view
 handed : (g : Over) (c : After-as_slice-4 g)
-    → (views : Views (book_state c.args.book) c.args.scripts.now (entries c.in_ok-answered.history)) × (c.as_slice-4.result.now ≡ viewed_text (book_state c.args.book) views)
+    → (views : ViewOf (book_state c.args.book) c.args.scripts.now (entries c.in_ok-answered.history)) × (c.as_slice-4.result.now ≡ view_text (book_state c.args.book) views)
 handed g c = (
   record {
     said = c.in_ok-said.said.items;
     answered = c.in_ok-answered.answered.items;
-    are_read = c.in_ok-said.ensures;
+    are_parsed = c.in_ok-said.ensures;
     is_viewed = subst (λ xs. IsViewed (book_state c.args.book) xs c.in_ok-answered.answered.items (entries c.in_ok-answered.history)) c.as_slice.ensures.value c.in_ok-answered.ensures.ok;
   },
-  c.as_slice-4.ensures.value ∙ (c.in_ok-text.ensures ∙ (λ i. view_text 1 (c.as_slice-2.ensures.value i) (c.as_slice-3.ensures.value i) (c.len.ensures i))),
+  c.as_slice-4.ensures.value ∙ (c.in_ok-text.ensures ∙ (λ i. viewers_text 1 (c.as_slice-2.ensures.value i) (c.as_slice-3.ensures.value i) (c.len.ensures i))),
 )
 
 pub returns-in_err-write_all : goal.returns-in_err-write_all

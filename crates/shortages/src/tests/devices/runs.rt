@@ -5,7 +5,7 @@ use rd_marks::Book;
 use rd_script::{ReadSource, ScriptFault, WriteSink, run};
 use std::alloc::Global;
 use std::process::Abort;
-use test_kit::{End, Limit, PageWriter, StripReader};
+use test_kit::{End, Limit, LimitedReader, LimitedWriter};
 
 /// A script with each command, obeyed or refused, and lines that spell none. Its last line has no
 /// line feed.
@@ -39,8 +39,8 @@ fn line_feeds(text: &[u8]) -> usize {
 
 /// How a run over these devices ends, if it is at a fault.
 fn fault_of(
-    reader: StripReader<'_>,
-    writer: PageWriter<'_>,
+    reader: LimitedReader<'_>,
+    writer: LimitedWriter<'_>,
     book: &mut Book<2>,
 ) -> Option<ScriptFault> {
     run(
@@ -54,8 +54,8 @@ fn fault_of(
 /// A run whose reader gives one byte a call and fails after this many: the whole lines among these
 /// are obeyed and answered, and no more.
 fn read_fails(failed: &mut Trial, twin: &mut Trial, bytes: usize) -> bool {
-    let reader = StripReader::of(SCRIPT, bytes, 1);
-    let writer = PageWriter::that_works(&mut failed.report);
+    let reader = LimitedReader::new(SCRIPT, bytes, 1);
+    let writer = LimitedWriter::without_limit(&mut failed.report);
     let fault = fault_of(reader, writer, &mut failed.book);
     let whole = lines_of(SCRIPT, line_feeds(&SCRIPT[..bytes.min(SCRIPT.len())]));
     fault == Some(ScriptFault::Read)
@@ -81,8 +81,8 @@ fn a_read_that_fails_at_any_call_leaves_the_whole_lines_before_it_done(rt: HostR
 /// A run whose writer takes no more than this: the line whose answer it was to take is obeyed, and
 /// no later one.
 fn write_fails(failed: &mut Trial, twin: &mut Trial, limit: Limit) -> bool {
-    let reader = StripReader::of(SCRIPT, usize::MAX, usize::MAX);
-    let writer = PageWriter::that_ends(&mut failed.report, limit);
+    let reader = LimitedReader::new(SCRIPT, usize::MAX, usize::MAX);
+    let writer = LimitedWriter::with_limit(&mut failed.report, limit);
     let fault = fault_of(reader, writer, &mut failed.book);
     let answered = line_feeds(failed.report.as_slice());
     let obeyed = lines_of(SCRIPT, answered.saturating_add(1));
@@ -141,8 +141,8 @@ fn is_run(slow: &mut Trial, twin: &mut Trial) -> bool {
         most: 1,
         end: End::Fails,
     };
-    let reader = StripReader::of(SCRIPT, usize::MAX, 1);
-    let writer = PageWriter::that_ends(&mut slow.report, limit);
+    let reader = LimitedReader::new(SCRIPT, usize::MAX, 1);
+    let writer = LimitedWriter::with_limit(&mut slow.report, limit);
     let fault = fault_of(reader, writer, &mut slow.book);
     fault.is_none()
         && plays(&mut twin.book, &[SCRIPT], &mut twin.report)
@@ -194,8 +194,8 @@ fn ends_so(failed: &mut Trial, row: &Row) -> bool {
         most: 1,
         end: End::Fails,
     };
-    let reader = StripReader::of(row.script, 1, 1000);
-    let writer = PageWriter::that_ends(&mut failed.report, limit);
+    let reader = LimitedReader::new(row.script, 1, 1000);
+    let writer = LimitedWriter::with_limit(&mut failed.report, limit);
     let fault = fault_of(reader, writer, &mut failed.book);
     fault == Some(row.fault)
         && has_text(&failed.report, row.report)

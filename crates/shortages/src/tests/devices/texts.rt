@@ -11,13 +11,13 @@ use std::alloc::Global;
 use std::process::Abort;
 use std::sync::Wait;
 use std::thread::Threads;
-use test_kit::{End, Limit, PageWriter};
+use test_kit::{End, Limit, LimitedWriter};
 
 /// Whether a trace whose writer ends after this many bytes ends with just these written.
 fn trace_ends(alloc: Global, book: &Book<2>, page: &mut Vec<u8>, calls: usize, end: End) -> bool {
     page.clear();
     let most = 1;
-    let writer = PageWriter::that_ends(&mut *page, Limit { calls, most, end });
+    let writer = LimitedWriter::with_limit(&mut *page, Limit { calls, most, end });
     let fault = write_trace(alloc, &mut WriteSink::new(writer), book).err();
     fault == Some(WriteTraceFault::Write)
         && page.len() == calls
@@ -46,7 +46,7 @@ fn view_ends<R: Abort + Threads + Wait + Sync>(
 ) -> bool {
     page.clear();
     let most = 1;
-    let writer = PageWriter::that_ends(&mut *page, Limit { calls, most, end });
+    let writer = LimitedWriter::with_limit(&mut *page, Limit { calls, most, end });
     let fault = views::viewed(rt, alloc, writer);
     fault == Some(ViewFault::Write)
         && page.len() == calls

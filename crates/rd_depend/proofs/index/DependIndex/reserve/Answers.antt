@@ -3,19 +3,19 @@ use Rattle.rd_depend.proofs.IndexKeys.{in_place, in_value, in_segment}
 use Rattle.rd_depend.proofs.IndexChanges.{within_spare, touched_by, spare_under, ready_kept}
 use Rattle.rd_depend.proofs.index.DependIndex.reserve.Goals as goal
 
-pub returns-in_err-grow-clause-succeeds : goal.returns-in_err-grow-clause-succeeds
-returns-in_err-grow-clause-succeeds c = λ h.
+pub returns-in_err-grow_to-clause-succeeds : goal.returns-in_err-grow_to-clause-succeeds
+returns-in_err-grow_to-clause-succeeds c = λ h.
     let x = c.args.entry.now in
     let lists = c.args.self.now.by_actor.items in
     let there : x.event.actor < length lists = within_spare lists x.event.actor (h (By x.event.actor) (touched_by x)) in
-    absurd (false≢true (c.in_err-grow.ensures.succeeds (omega arith)))
+    absurd (false≢true (c.in_err-grow_to.ensures.succeeds (omega arith)))
 
 pub returns-in_err-reserve_in-clause-succeeds : goal.returns-in_err-reserve_in-clause-succeeds
 returns-in_err-reserve_in-clause-succeeds c = λ h.
     let x = c.args.entry.now in
     let had : 0 < spare_at c.args.self.now.by_actor.items x.event.actor = h (By x.event.actor) (touched_by x) in
-    let more : spare_at c.args.self.now.by_actor.items x.event.actor ≤ spare_at c.grow.new.lists.items x.event.actor = c.grow.ensures.room x.event.actor in
-    let has : 0 < spare_at c.grow.new.lists.items x.event.actor = omega arith in
+    let more : spare_at c.args.self.now.by_actor.items x.event.actor ≤ spare_at c.grow_to.new.lists.items x.event.actor = c.grow_to.ensures.room x.event.actor in
+    let has : 0 < spare_at c.grow_to.new.lists.items x.event.actor = omega arith in
     absurd (false≢true (c.in_err-reserve_in.ensures.succeeds (rw c.from-actor.ensures has)))
 
 pub returns-in_err-place-clause-succeeds : goal.returns-in_err-place-clause-succeeds

@@ -1,5 +1,5 @@
 use Rattle.rd_depend.proofs.Prelude.{common_steps, nat_lt, before_first, DependIndex, IsAscending, ◌≡◌, refl, arith}
-use Rattle.rd_depend.proofs.IndexCuts.{cut_index, cut_room}
+use Rattle.rd_depend.proofs.IndexCuts.{index-cut, cut_room}
 use Rattle.rd_depend.proofs.IndexRoom.{each, each_capacity}
 use Rattle.rd_depend.proofs.index.DependIndex.truncate.Goals as goal
 
@@ -8,7 +8,7 @@ after c = let old = c.args.self.now in record { by_actor = c.remove_above_in_all
 
 pub returns-then-n-len-clause-left : goal.returns-then-n-len-clause-left
 returns-then-n-len-clause-left c = λ es is.
-    let all = cut_index c.args.self.now (after c) c.args.n
+    let all = index-cut c.args.self.now (after c) c.args.n
     (each c.args.self.now (after c) (λ ps qs. IsAscending ps → qs ≡ before_first (nat_lt c.args.n) ps) c.remove_above_in_all.ensures.lists c.truncate.ensures.lists) refl (omega arith) es is in
     record { lists = all.lists; len = all.len }
 

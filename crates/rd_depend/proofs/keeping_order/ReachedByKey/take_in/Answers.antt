@@ -11,4 +11,4 @@ returns-clause-reached c =
     let i = c.args.at in
     let one = c.in_ok-place.ensures.reached ∙ (λ j. taken_in_under (c.place_key.ensures j) (c.is_written-wrote.ensures j) i (reached_of c.args.self.now)) in
     let two = c.in_ok-value.ensures.reached ∙ (λ j. taken_in_under (c.value_key.ensures j) (c.is_value_written-value_written.ensures j) i (one j)) in
-    c.in_ok-segment.ensures.reached ∙ (λ j. taken_in_under (c.segment_key.ensures j) (c.is_making.ensures j) i (two j))
+    c.in_ok-segment.ensures.reached ∙ (λ j. taken_in_under (c.segment_key.ensures j) (c.is_whole_segment.ensures j) i (two j))

@@ -1,6 +1,6 @@
 use Rattle.rd_depend.proofs.Prelude.{◌≡◌, Option, Some, None, IsSome, cond, refl, sym, ap, subst, ◌∙◌, Key, Reached, key_eq, taken_in, taken_in_under, reached_of, reached_or_nothing}
 use Rattle.indexmap.specs.IndexMap.{get}
-use Rattle.rd_depend.proofs.ComparedSteps.{written_down}
+use Rattle.rd_depend.proofs.ComparedSteps.{inserted_is_taken_in}
 use Rattle.rd_depend.proofs.keeping_order.ReachedByKey.take_in_under.Goals as goal
 
 pub returns-in-Some-get_mut-clause-reached : goal.returns-in-Some-get_mut-clause-reached
@@ -9,7 +9,7 @@ returns-in-Some-get_mut-clause-reached c =
     let key = c.in-Some.key in
     let r = c.take_in.new.self in
     let was : get key_eq m key ≡ Some c.in-Some-get_mut.reached.now = sym c.in-Some-get_mut.ensures.value in
-    written_down (get key_eq m) (get key_eq (c.get_mut.follows.lender r)) key r c.args.wrote c.args.at
+    inserted_is_taken_in (get key_eq m) (get key_eq (c.get_mut.follows.lender r)) key r c.args.wrote c.args.at
     ((c.get_mut.follows.holds r).3 (subst (λ (o : Option Reached). IsSome o) (sym was) refl)).0
     (c.take_in.ensures.reached ∙ ap (λ (o : Option Reached). taken_in (reached_or_nothing key o) c.args.wrote c.args.at) (sym was))
     ∙ ap (λ (o : Option Key). taken_in_under o c.args.wrote c.args.at (reached_of c.args.self.now)) (sym c.in-Some.is)
@@ -20,7 +20,7 @@ returns-in-Ok-clause-reached c =
     let key = c.in-Some.key in
     let r = c.take_in-order.new.self in
     let was : get key_eq m key ≡ None = sym c.in_default-get_mut.ensures.value in
-    written_down (get key_eq m) (get key_eq c.insert.new.self) key r c.args.wrote c.args.at
+    inserted_is_taken_in (get key_eq m) (get key_eq c.insert.new.self) key r c.args.wrote c.args.at
     (λ q. c.in-Ok.ensures.updates.0 q ∙ (λ j. cond (key_eq key q) (Some r) (get key_eq (c.get_mut.follows.holds-at-none j) q)))
     (c.take_in-order.ensures.reached ∙ ap (λ (o : Option Reached). taken_in (reached_or_nothing key o) c.args.wrote c.args.at) (sym was))
     ∙ ap (λ (o : Option Key). taken_in_under o c.args.wrote c.args.at (reached_of c.args.self.now)) (sym c.in-Some.is)

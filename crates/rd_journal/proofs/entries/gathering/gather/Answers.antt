@@ -1,9 +1,9 @@
 use Rattle.rd_journal.proofs.Prelude.{put_mid, vec_capacity, append-nil, drop-drop, drop_at, length-take-le, depends_on_any, Entry, HasRoomFor, at_numbers, ◌≡◌, ◌∙◌, ◌+◌, ◌-◌, ◌<◌, ◌≤◌, ℕ, List, [], ◌∷◌, ◌++◌, length, take, drop, set, Bool, refl, sym, ap, subst, arith, rules, length-append, length-drop, drop_of_length-le, take_all}
-use Rattle.rd_journal.proofs.GatheringLoop.{live_of, live-length, UnderWay, next_one, first_gathered, before_next, joined, stayed, ended, carried}
+use Rattle.rd_journal.proofs.GatheringLoop.{live_of, live_of-length, UnderWay, next_one, first_gathered, before_next, joined, stayed, ended, carried}
 use Rattle.rd_journal.proofs.RoomLemmas.{fits_one, fits_between}
 use Rattle.rd_journal.proofs.Numbers.{order_below}
 use Rattle.rd_journal.proofs.entries.gathering.gather.Goals as goal
-use Rattle.rd_journal.proofs.entries.gathering.gather.Goals.{then-depends_after, else-depends_after}
+use Rattle.rd_journal.proofs.entries.gathering.gather.Goals.{then-depends_on_any_after, else-depends_on_any_after}
 
 -- what is told of the index is told of what is gathered
 told : (before block : List Entry) (x : Entry) (b : Bool) (n : ℕ) → length before ≡ n → b ≡ depends_on_any (drop n (before ++ block)) x → depends_on_any block x ≡ b
@@ -17,8 +17,8 @@ written n f live now dm copied gathered len same its number within = grind (arit
 pub entry_in-step-requires : goal.entry_in-step-requires
 entry_in-step-requires c = grind (arith, order_below)
 
-pub put_back-requires-clause-room : goal.put_back-requires-clause-room
-put_back-requires-clause-room c =
+pub push_with_room-requires-clause-room : goal.push_with_room-requires-clause-room
+push_with_room-requires-clause-room c =
     let es = c.args.slots.now in
     let ns = c.args.order.now.items in
     let n = next_one es ns ns c.args.live (c.args.k - 1) c.index-first.result.now c.requires.ordered c.requires.within (omega (arith, c.requires.some, c.requires.position)) refl refl
@@ -35,9 +35,9 @@ loop-next-init c =
     let pushed : v ∷ [] ≡ c.push_reserved.new.self.items = sym (c.push_reserved.ensures.items ∙ ap (λ (ms : List ℕ). ms ++ v ∷ []) c.requires.none) in
     record {
       under_way =
-          subst (λ (ms : List ℕ). UnderWay es ns ns ms c.args.index.now c.put_back.new.index c.args.k c.args.live (c.args.k - 1) c.args.k) pushed
-          (first_gathered es ns c.args.index.now c.put_back.new.index c.args.k c.args.live v c.entry_in-step.result.now c.requires.ordered c.requires.some c.requires.position c.requires.within n
-          c.entry_in-step.ensures c.requires.before c.put_back.ensures.put c.put_back.ensures.room);
+          subst (λ (ms : List ℕ). UnderWay es ns ns ms c.args.index.now c.push_with_room.new.index c.args.k c.args.live (c.args.k - 1) c.args.k) pushed
+          (first_gathered es ns c.args.index.now c.push_with_room.new.index c.args.k c.args.live v c.entry_in-step.result.now c.requires.ordered c.requires.some c.requires.position c.requires.within n
+          c.entry_in-step.ensures c.requires.before c.push_with_room.ensures.put c.push_with_room.ensures.room);
       order = refl;
       place = c.push_reserved.ensures.capacity;
     }
@@ -45,11 +45,11 @@ loop-next-init c =
 pub entry_in-entry-requires : goal.entry_in-entry-requires
 entry_in-entry-requires c = grind (arith, next_one)
 
-pub depends_after-requires : goal.depends_after-requires
-depends_after-requires c = grind (arith, live_of, live-length, length-append, length-take-le)
+pub depends_on_any_after-requires : goal.depends_on_any_after-requires
+depends_on_any_after-requires c = grind (arith, live_of, live_of-length, length-append, length-take-le)
 
-pub put_back-requires-then-depends_after-clause-room : goal.put_back-requires-then-depends_after-clause-room
-put_back-requires-then-depends_after-clause-room c =
+pub push_with_room-requires-then-depends_on_any_after-clause-room : goal.push_with_room-requires-then-depends_on_any_after-clause-room
+push_with_room-requires-then-depends_on_any_after-clause-room c =
     let es = c.args.slots.now in
     let ns = c.args.order.now.items in
     let now = c.loop-next.order.items in
@@ -82,29 +82,29 @@ loop-next-preserved c =
     let low : next < live = omega (arith, c.loop-next-test.true) in
     let n = next_one es ns now live next v c.requires.ordered c.requires.within low u.long u.later c.index-number.ensures in
     let len : length (take (k - 1) L) ≡ k - 1 =
-    length-take-le (k - 1) L (omega (arith, live-length es ns live c.requires.ordered c.requires.within, c.requires.position)) in
+    length-take-le (k - 1) L (omega (arith, live_of-length es ns live c.requires.ordered c.requires.within, c.requires.position)) in
     let said =
-    told (take (k - 1) L) (at_numbers es gathered) x c.depends_after.result (k - 1) len (c.depends_after.ensures (take (k - 1) L ++ at_numbers es gathered) u.indexed) in
+    told (take (k - 1) L) (at_numbers es gathered) x c.depends_on_any_after.result (k - 1) len (c.depends_on_any_after.ensures (take (k - 1) L ++ at_numbers es gathered) u.indexed) in
     let later : drop (next + 1) now ≡ drop (next + 1) ns =
     sym (drop-drop 1 next now ∙ ap (λ (m : ℕ). drop m now) (omega arith)) ∙ ap (λ (ms : List ℕ). drop 1 ms) u.later ∙ (drop-drop 1 next ns ∙ ap (λ (m : ℕ). drop m ns) (omega arith)) in
-    elim c.if-depends_after.branch [
-      | then-depends_after w ↦
+    elim c.if-depends_on_any_after.branch [
+      | then-depends_on_any_after w ↦
           record {
             under_way =
-                carried es ns now (gathered ++ v ∷ []) c.args.index.now w.put_back-then-depends_after.new.index k live front (next + 1) _ _ _ _
-                ((λ i. (w.order-is i).items)) ((λ i. (w.gathered-is i).items) ∙ w.push_reserved-then-depends_after.ensures.items) w.index-is w.front-is
-                (joined es ns now gathered c.args.index.now c.loop-next.index w.put_back-then-depends_after.new.index k live front next v x u low n c.entry_in-entry.ensures
-                (said ∙ w.if-depends_after.true) w.put_back-then-depends_after.ensures.put w.put_back-then-depends_after.ensures.room later);
+                carried es ns now (gathered ++ v ∷ []) c.args.index.now w.push_with_room-then-depends_on_any_after.new.index k live front (next + 1) _ _ _ _
+                ((λ i. (w.order-is i).items)) ((λ i. (w.gathered-is i).items) ∙ w.push_reserved-then-depends_on_any_after.ensures.items) w.index-is w.front-is
+                (joined es ns now gathered c.args.index.now c.loop-next.index w.push_with_room-then-depends_on_any_after.new.index k live front next v x u low n c.entry_in-entry.ensures
+                (said ∙ w.if-depends_on_any_after.true) w.push_with_room-then-depends_on_any_after.ensures.put w.push_with_room-then-depends_on_any_after.ensures.room later);
             order = ap vec_capacity w.order-is ∙ c.loop-next.invariant.order;
-            place = ap vec_capacity w.gathered-is ∙ w.push_reserved-then-depends_after.ensures.capacity ∙ c.loop-next.invariant.place;
+            place = ap vec_capacity w.gathered-is ∙ w.push_reserved-then-depends_on_any_after.ensures.capacity ∙ c.loop-next.invariant.place;
           }
-      | else-depends_after w ↦
+      | else-depends_on_any_after w ↦
           record {
             under_way =
                 carried es ns (set now front v) gathered c.args.index.now c.loop-next.index k live (front + 1) (next + 1) _ _ _ _
                 ((λ i. (w.order-is i).items)) ((λ i. (w.gathered-is i).items)) w.index-is w.front-is
                 (stayed es ns now gathered c.args.index.now c.loop-next.index k live front next v x u low c.requires.within n c.entry_in-entry.ensures
-                (said ∙ w.if-depends_after.false) later);
+                (said ∙ w.if-depends_on_any_after.false) later);
             order = ap vec_capacity w.order-is ∙ c.loop-next.invariant.order;
             place = ap vec_capacity w.gathered-is ∙ c.loop-next.invariant.place;
           }

@@ -6,11 +6,11 @@ use Rattle.rd_journal.proofs.entries.slots.put_at.Goals as goal
 pub index_mut-requires : goal.index_mut-requires
 index_mut-requires c = grind (arith, order_below)
 
-pub returns-then-place-len-clause-put : goal.returns-then-place-len-clause-put
-returns-then-place-len-clause-put c = grind (arith, put_over)
+pub returns-then-position-len-clause-put : goal.returns-then-position-len-clause-put
+returns-then-position-len-clause-put c = grind (arith, put_over)
 
-pub returns-else-place-len-clause-ordered : goal.returns-else-place-len-clause-ordered
-returns-else-place-len-clause-ordered c = grind (arith, length-append, order_push)
+pub returns-else-position-len-clause-ordered : goal.returns-else-position-len-clause-ordered
+returns-else-position-len-clause-ordered c = grind (arith, length-append, order_push)
 
-pub returns-else-place-len-clause-put : goal.returns-else-place-len-clause-put
-returns-else-place-len-clause-put c = grind (arith, order_below, at-length, at-append, at-push, drop_at, take_all, drop_all)
+pub returns-else-position-len-clause-put : goal.returns-else-position-len-clause-put
+returns-else-position-len-clause-put c = grind (arith, order_below, at-length, at-append, at-push, drop_at, take_all, drop_all)

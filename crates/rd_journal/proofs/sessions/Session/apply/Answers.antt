@@ -1,6 +1,6 @@
 use Rattle.rd_journal.proofs.Prelude.{ℕ, Err, ◌≡◌, ◌∙◌, ◌<◌, List, [], ◌∷◌, ◌++◌, length, take, drop, inl, inr, refl, sym, ap, subst, arith, opened_with, append-nil, take_all, take-append-le, drop-append_seam, Entry, HasRoomInstead, kept_entries, model, room, MOST_STEPS, error_passed_up, fact_passed_up, err_then, ok_then, IsLengthened, whole_journal, live_entries, ahead_entries, journal}
 use Rattle.rd_journal.proofs.Ahead.{with_undone, is_session, none_taken}
-use Rattle.rd_journal.proofs.Calls.{apply_refused, apply_goes, longer_session, still, unchanged, said_of_state}
+use Rattle.rd_journal.proofs.Calls.{apply_refused, apply_goes, longer_session, still, unchanged, may_refuse-state}
 use Rattle.rd_journal.proofs.RoomLemmas.{lacks_fewer, stepped_back}
 use Rattle.rd_journal.proofs.EntryLemmas.{full_entries}
 use Rattle.rd_journal.proofs.Runs.{now_formed, just_stepped}
@@ -14,7 +14,7 @@ pub returns-in_err-make_room_for-clause-memory : goal.returns-in_err-make_room_f
 returns-in_err-make_room_for-clause-memory g c = grind (arith, full_entries, error_passed_up, none_taken)
 
 pub returns-in_err-make_room_for-clause-err : goal.returns-in_err-make_room_for-clause-err
-returns-in_err-make_room_for-clause-err g c = said_of_state c.args.self.now c.args.event c.from_residual.result (returns-in_err-make_room_for-clause-memory g c)
+returns-in_err-make_room_for-clause-err g c = may_refuse-state c.args.self.now c.args.event c.from_residual.result (returns-in_err-make_room_for-clause-memory g c)
 
 pub returns-in_err-make_room_for-clause-unchanged : goal.returns-in_err-make_room_for-clause-unchanged
 returns-in_err-make_room_for-clause-unchanged g c =
@@ -38,7 +38,7 @@ returns-in_err-entry-clause-memory g c =
     ])
 
 pub returns-in_err-entry-clause-err : goal.returns-in_err-entry-clause-err
-returns-in_err-entry-clause-err g c = said_of_state c.args.self.now c.args.event c.from_residual-in_err-entry.result (returns-in_err-entry-clause-memory g c)
+returns-in_err-entry-clause-err g c = may_refuse-state c.args.self.now c.args.event c.from_residual-in_err-entry.result (returns-in_err-entry-clause-memory g c)
 
 pub returns-in_err-entry-clause-unchanged : goal.returns-in_err-entry-clause-unchanged
 returns-in_err-entry-clause-unchanged g c =
@@ -89,7 +89,7 @@ returns-then-is_err-clause-memory g c =
     )
 
 pub returns-then-is_err-clause-err : goal.returns-then-is_err-clause-err
-returns-then-is_err-clause-err g c = said_of_state {X = ℕ × Entry} c.args.self.now c.args.event (Err refusal.NoMemory) (returns-then-is_err-clause-memory g c)
+returns-then-is_err-clause-err g c = may_refuse-state {X = ℕ × Entry} c.args.self.now c.args.event (Err refusal.NoMemory) (returns-then-is_err-clause-memory g c)
 
 pub returns-then-is_err-clause-unchanged : goal.returns-then-is_err-clause-unchanged
 returns-then-is_err-clause-unchanged g c =
@@ -102,7 +102,7 @@ pub invariant_of-self-2 : goal.invariant_of-self-2
 invariant_of-self-2 g c =
     let self = c.args.self.now in
     let old = whole_journal (opened_with self.opened) (model self.world) self.entries in
-    let new = whole_journal (opened_with self.opened) (model c.step.new.self) c.exchange.new.self in
+    let new = whole_journal (opened_with self.opened) (model c.step.new.self) c.replace_after.new.self in
     let less : length old.live < MOST_STEPS = omega (arith, c.live_len.ensures, self.kept.few) in
     let whole : take c.live_len-live.result (live_entries c.make_room_for.new.self) ≡ old.live =
     ap (take c.live_len-live.result) c.make_room_for.ensures.live ∙ take_all c.live_len-live.result old.live (omega (arith, c.live_len-live.ensures)) in
@@ -121,7 +121,7 @@ pub returns-clause-ok : goal.returns-clause-ok
 returns-clause-ok g c =
     let self = c.args.self.now in
     let old = journal self in
-    let new = with_undone 0 (whole_journal (opened_with self.opened) (model c.step.new.self) c.exchange.new.self) in
+    let new = with_undone 0 (whole_journal (opened_with self.opened) (model c.step.new.self) c.replace_after.new.self) in
     let less : length old.live < MOST_STEPS = omega (arith, c.live_len.ensures, self.kept.few) in
     let whole : take c.live_len-live.result (live_entries c.make_room_for.new.self) ≡ old.live =
     ap (take c.live_len-live.result) c.make_room_for.ensures.live ∙ take_all c.live_len-live.result old.live (omega (arith, c.live_len-live.ensures)) in

@@ -1,5 +1,5 @@
 use Rattle.rd_journal.proofs.Prelude.{ℕ, refl, ◌∙◌, List, ap, sym, subst, arith, length, opened_with, model, room, Entry, IsIndexOf, moved_to, kept_entries, IsUndoneAlone, whole_journal}
-use Rattle.rd_journal.proofs.Ahead.{out_undone}
+use Rattle.rd_journal.proofs.Ahead.{alone_undone}
 use Rattle.rd_journal.proofs.ListLemmas.{IsNumber}
 use Rattle.rd_journal.proofs.LoneUndo.{may_undo_at, taken_out_front, taken_out_few}
 use Rattle.rd_journal.proofs.RoomLemmas.{given_back}
@@ -17,10 +17,10 @@ pub invariant_of-self : goal.invariant_of-self
 invariant_of-self g c =
     let self = c.args.self.now in
     let old = whole_journal (opened_with self.opened) (model self.world) self.entries in
-    let new = whole_journal (opened_with self.opened) (model c.unstep.new.world) c.undo_alone.new.self in
+    let new = whole_journal (opened_with self.opened) (model c.unstep.new.world) c.make_next_ahead.new.self in
     let x = c.live_at.result.now in
     let at : IsNumber old.live c.args.k x = record { some = c.requires.some; within = c.requires.position; here = c.live_at.ensures } in
-    let moved : IsUndoneAlone c.args.k old new = record { live = c.undo_alone.ensures.live; undone = c.undo_alone.ensures.ahead } in
+    let moved : IsUndoneAlone c.args.k old new = record { live = c.make_next_ahead.ensures.live; undone = c.make_next_ahead.ensures.ahead } in
     let may = may_undo_at old c.args.k x at c.requires.free self.kept.runs in
     let front = taken_out_front c.args.k old new x at moved in
     record {
@@ -32,7 +32,7 @@ invariant_of-self g c =
       within = omega (arith, self.within, ap length front);
       indexed =
           subst (λ (es : List Entry). IsIndexOf c.move_to.new.self es)
-          (ap (λ (n : ℕ). moved_to (kept_entries self.entries) c.args.k n) c.live_len.ensures ∙ sym c.undo_alone.ensures.kept)
+          (ap (λ (n : ℕ). moved_to (kept_entries self.entries) c.args.k n) c.live_len.ensures ∙ sym c.make_next_ahead.ensures.kept)
           (c.move_to.ensures.moved (kept_entries self.entries) self.indexed);
     }
 
@@ -40,10 +40,10 @@ pub returns : goal.returns
 returns g c =
     let self = c.args.self.now in
     let old = whole_journal (opened_with self.opened) (model self.world) self.entries in
-    let new = whole_journal (opened_with self.opened) (model c.unstep.new.world) c.undo_alone.new.self in
-    let moved : IsUndoneAlone c.args.k old new = record { live = c.undo_alone.ensures.live; undone = c.undo_alone.ensures.ahead } in
+    let new = whole_journal (opened_with self.opened) (model c.unstep.new.world) c.make_next_ahead.new.self in
+    let moved : IsUndoneAlone c.args.k old new = record { live = c.make_next_ahead.ensures.live; undone = c.make_next_ahead.ensures.ahead } in
     record {
-      entries = out_undone self.undone c.args.k old new c.requires.some c.requires.position moved;
+      entries = alone_undone self.undone c.args.k old new c.requires.some c.requires.position moved;
       start = refl;
-      capacity = c.undo_alone.ensures.capacity;
+      capacity = c.make_next_ahead.ensures.capacity;
     }

@@ -57,4 +57,4 @@ pub returns-clause-entries : goal.returns-clause-entries
 returns-clause-entries g c = grind (arith, common_steps)
 
 pub returns-clause-start : goal.returns-clause-start
-returns-clause-start g c = back_start _ c.gather_closure-count.result _ c.undo_many.ensures.state
+returns-clause-start g c = back_start _ c.gather_closure-count.result _ c.undo_last.ensures.state

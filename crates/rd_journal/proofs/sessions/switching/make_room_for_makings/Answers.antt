@@ -25,8 +25,8 @@ loop-number-preserved g c = record {
   same = c.make_room.ensures.unchanged ∙ c.loop-number.invariant.same;
   made =
       room_for_one_more c.args.given.now c.loop-number.number (room_after_undoing c.args.dropped.now (room c.loop-number.world)) (room_after_undoing c.args.dropped.now (room c.make_room.new.self))
-      c.loop-number.invariant.made (λ m. let b = c.make_room.ensures.room.kept m in omega arith) (let h = c.in_ok-make_room.ensures.room.ok in let its = asked c.args.dropped.now c.args.given.now c.makings_of.result c.makings_missing-counts.result c.loop-number.number c.from.result c.makings_of.ensures
-      c.makings_missing-counts.ensures c.from.ensures (omega (arith, c.loop-number-test.true, c.actors-number-end.ensures.within)) in omega arith);
+      c.loop-number.invariant.made (λ m. let b = c.make_room.ensures.room.kept m in omega arith) (let h = c.in_ok-make_room.ensures.room.ok in let its = asked c.args.dropped.now c.args.given.now c.making_counts.result c.making_counts_beyond-counts.result c.loop-number.number c.from.result c.making_counts.ensures
+      c.making_counts_beyond-counts.ensures c.from.ensures (omega (arith, c.loop-number-test.true, c.actors-number-end.ensures.within)) in omega arith);
   more = λ m. let a = c.loop-number.invariant.more m in let b = c.make_room.ensures.room.kept m in omega arith;
 }
 
@@ -45,15 +45,15 @@ returns-in_err-make_room-clause-err g c =
       c.in_err-make_room.ensures.err,
       (
         c.loop-number.number + 1,
-        let its = asked c.args.dropped.now c.args.given.now c.makings_of.result c.makings_missing-counts.result c.loop-number.number c.from.result c.makings_of.ensures
-            c.makings_missing-counts.ensures c.from.ensures (omega (arith, c.loop-number-test.true, c.actors-number-end.ensures.within)) in omega arith,
+        let its = asked c.args.dropped.now c.args.given.now c.making_counts.result c.making_counts_beyond-counts.result c.loop-number.number c.from.result c.making_counts.ensures
+            c.making_counts_beyond-counts.ensures c.from.ensures (omega (arith, c.loop-number-test.true, c.actors-number-end.ensures.within)) in omega arith,
       ),
     )
 
 pub returns-in_err-make_room-clause-succeeds : goal.returns-in_err-make_room-clause-succeeds
 returns-in_err-make_room-clause-succeeds g c none =
-    let its = asked c.args.dropped.now c.args.given.now c.makings_of.result c.makings_missing-counts.result c.loop-number.number c.from.result c.makings_of.ensures
-    c.makings_missing-counts.ensures c.from.ensures (omega (arith, c.loop-number-test.true, c.actors-number-end.ensures.within)) in
+    let its = asked c.args.dropped.now c.args.given.now c.making_counts.result c.making_counts_beyond-counts.result c.loop-number.number c.from.result c.making_counts.ensures
+    c.making_counts_beyond-counts.ensures c.from.ensures (omega (arith, c.loop-number-test.true, c.actors-number-end.ensures.within)) in
     grind arith
 
 pub returns-in_err-make_room-clause-room : goal.returns-in_err-make_room-clause-room

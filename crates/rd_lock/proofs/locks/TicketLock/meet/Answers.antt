@@ -1,7 +1,7 @@
 use Rattle.rd_lock.proofs.Prelude.{rules, map, ap, ◌∙◌, subst, AreComparable, Pairwise, in_hand, with_served_seen, lock_of}
-use Rattle.rd_lock.proofs.Looks.{looks_served}
-use Rattle.rd_lock.proofs.PassLists.{splits_it}
-use Rattle.rd_lock.proofs.Seats.{joins}
+use Rattle.rd_lock.proofs.Looks.{load_served_allowed}
+use Rattle.rd_lock.proofs.PassLists.{split_allowed_at}
+use Rattle.rd_lock.proofs.Seats.{join_allowed}
 use Rattle.rd_lock.proofs.Meetings.{both_look, in_line}
 use Rattle.rd_lock.proofs.locks.TicketLock.meet.Goals as goal
 
@@ -11,17 +11,17 @@ join_seat-requires g c = let one = c.args.one in let other = c.args.other in (
   c.requires.own.1.table,
   other.hand ∙ ap in_hand c.requires.out.1,
   search rules,
-  joins (lock_of g.T.Recorded.history g.T.Recorded.origin _ _) _ _ one.seat.me.0 other.seat.me.0 c.requires.out.0 c.requires.out.1,
+  join_allowed (lock_of g.T.Recorded.history g.T.Recorded.origin _ _) _ _ one.seat.me.0 other.seat.me.0 c.requires.out.0 c.requires.out.1,
 )
 
 pub load-served-requires : goal.load-served-requires
-load-served-requires g c = (search rules, search rules, looks_served (lock_of g.T.Recorded.history g.T.Recorded.origin _ _) _ _ c.join_seat.new.seat.me)
+load-served-requires g c = (search rules, search rules, load_served_allowed (lock_of g.T.Recorded.history g.T.Recorded.origin _ _) _ _ c.join_seat.new.seat.me)
 
 pub split_seat-second-requires : goal.split_seat-second-requires
 split_seat-second-requires g c = (
   search rules,
   search rules,
-  splits_it (lock_of g.T.Recorded.history g.T.Recorded.origin _ _) _ c.load-served.new.seat.me.0 _ _ (ap (λ m. m.0.stage) c.load-served.ensures.2.after ∙ ap (λ m. m.0.stage) c.join_seat.ensures.2)
+  split_allowed_at (lock_of g.T.Recorded.history g.T.Recorded.origin _ _) _ c.load-served.new.seat.me.0 _ _ (ap (λ m. m.0.stage) c.load-served.ensures.2.after ∙ ap (λ m. m.0.stage) c.join_seat.ensures.2)
       (both_look c.args.one.seat.me.0.members c.args.other.seat.me.0.members c.args.one.alone c.args.other.alone c.load-served.new.seat.me.0.members c.load-served.result
       (ap (λ m. m.0.members) c.load-served.ensures.2.after ∙ ap (λ m. map (with_served_seen c.load-served.result) m.0.members) c.join_seat.ensures.2)),
 )

@@ -1,13 +1,13 @@
 use Rattle.rd_lock.proofs.Prelude.{rules, ap, ◌∙◌, arith, map-append, lock_of}
 use Rattle.rd_lock.proofs.Lists.{every_append, every_from}
-use Rattle.rd_lock.proofs.PassLists.{next_new, numbers_more, splits_it}
+use Rattle.rd_lock.proofs.PassLists.{next_new, numbers_more, split_allowed_at}
 use Rattle.rd_lock.proofs.locks.TicketLock.open_at.Goals as goal
 
 pub split_seat-pass-requires : goal.split_seat-pass-requires
 split_seat-pass-requires g c = let i = c.loop-number.invariant in (
   i.table,
   search rules,
-  splits_it (lock_of g.T.Recorded.history g.T.Recorded.origin _ _) _ c.loop-number.seat.me.0 _ _ (ap (λ m. m.0.stage) i.left) (ap (λ m. m.0.members) i.left ∙ next_new _ _ _ _ (search rules)),
+  split_allowed_at (lock_of g.T.Recorded.history g.T.Recorded.origin _ _) _ c.loop-number.seat.me.0 _ _ (ap (λ m. m.0.stage) i.left) (ap (λ m. m.0.members) i.left ∙ next_new _ _ _ _ (search rules)),
 )
 
 pub invariant_of-push : goal.invariant_of-push

@@ -1,7 +1,7 @@
 use Rattle.rd_marks.proofs.Prelude.{List, ◌++◌, ◌≤◌, take, lit<, ap, subst, length, ◌∙◌, arith, on_err_weaker, length-map, Entry, journal, state, entries_at, events, IsRunFrom, AreInPieces, ◌≡◌, ℕ, suc, take-length, take-take, Event, Begins, Node, Stretch, stretch_list, IsWithin, IsAlong, IsDeepest, ◌+◌, MOST_STEPS, length-drop, drop_all}
 use Rattle.rd_marks.proofs.Here.{live_along}
 use Rattle.rd_marks.proofs.Starting.{entries_length, begins_shorter, stretch_within, events_length, events_of_first, first_events}
-use Rattle.rd_marks.proofs.EntryLemmas.{switched, joined_events, lacked, may_switch}
+use Rattle.rd_marks.proofs.EntryLemmas.{switched, joined_events, lacks_room_to_go, may_switch}
 use Rattle.rd_marks.proofs.bookmarks.going.switch_to.Goals as goal
 
 module _ (ss : List Stretch) where
@@ -28,35 +28,35 @@ module _ (ss : List Stretch) where
       let fact_3 = no_deeper node b.number es is deepest h in
       grind (arith, h, within, along, most node.number, fact_3, events_length ss node is, first_events ss b node.number, fact, take-take node.number b.number es, fact_2)
 
-pub follow-beginning-requires-clause-along : goal.follow-beginning-requires-clause-along
-follow-beginning-requires-clause-along g c =
-    (live_along c.args.stretches.now.list.items c.args.session.now c.args.here c.cut.result c.live-live.result c.live-live.ensures.events c.requires.here c.requires.stands c.cut.ensures.stretch
-    (omega (arith, c.cut.ensures.number)) (omega (arith, c.cut.ensures.number, c.len.ensures))).1
+pub deepest_agreeing_node-beginning-requires-clause-along : goal.deepest_agreeing_node-beginning-requires-clause-along
+deepest_agreeing_node-beginning-requires-clause-along g c =
+    (live_along c.args.stretches.now.list.items c.args.session.now c.args.here c.truncated.result c.live-live.result c.live-live.ensures.events c.requires.here c.requires.stands c.truncated.ensures.stretch
+    (omega (arith, c.truncated.ensures.number)) (omega (arith, c.truncated.ensures.number, c.len.ensures))).1
 
 pub switch-requires : goal.switch-requires
 switch-requires g c =
     let ss = c.args.stretches.now.list.items in
-    let n = c.common-common.result in
-    let said = c.common-common.ensures in
+    let n = c.common_len-common.result in
+    let said = c.common_len-common.ensures in
     let given = c.deref.ensures.value ∙ c.in-Ok.ensures.ok in
-    let same = common_live ss c.follow-beginning.result c.args.node n (events c.live-live.result) (state c.args.session.now).live c.live-live.ensures.events said.first
-    c.follow-beginning.ensures.along said.alike in
+    let same = common_live ss c.deepest_agreeing_node-beginning.result c.args.node n (events c.live-live.result) (state c.args.session.now).live c.live-live.ensures.events said.first
+    c.deepest_agreeing_node-beginning.ensures.along said.alike in
     let run = subst (λ (xs : List Entry). IsRunFrom (state c.args.session.now).start xs) c.live-live.ensures.entries c.live-live.ensures.run in
     let live = length-map c.live-live.result (λ (x : Entry). x.event) in
     let few : n + length c.deref.result.now ≤ MOST_STEPS =
     omega (arith, said.second, entries_length ss c.args.node c.requires.within, c.requires.run.few, ap length given, length-drop n (entries_at ss c.args.node)) in
     let may = may_switch (journal c.args.session.now) n c.deref.result.now (entries_at ss c.args.node) given run c.requires.run same in
-    (lit< tt, (omega (arith, said.first, c.follow-beginning.ensures.along.enough, ap length c.live-live.ensures.entries, live), (few, may)))
+    (lit< tt, (omega (arith, said.first, c.deepest_agreeing_node-beginning.ensures.along.enough, ap length c.live-live.ensures.entries, live), (few, may)))
 
 pub returns-in-Err-clause-succeeds : goal.returns-in-Err-clause-succeeds
 returns-in-Err-clause-succeeds g c =
-    λ h. c.in-Err.ensures.succeeds (whole_common c.args.stretches.now.list.items c.follow-beginning.result c.args.node c.common-common.result (events c.live-live.result) c.requires.within
-    c.follow-beginning.ensures.along c.follow-beginning.ensures.deepest (grind (arith, c.live-live.ensures.events, h)) c.common-common.ensures.second c.common-common.ensures.most)
+    λ h. c.in-Err.ensures.succeeds (whole_common c.args.stretches.now.list.items c.deepest_agreeing_node-beginning.result c.args.node c.common_len-common.result (events c.live-live.result) c.requires.within
+    c.deepest_agreeing_node-beginning.ensures.along c.deepest_agreeing_node-beginning.ensures.deepest (grind (arith, c.live-live.ensures.events, h)) c.common_len-common.ensures.second c.common_len-common.ensures.most)
 
 pub returns-in-Ok-clause-ok : goal.returns-in-Ok-clause-ok
 returns-in-Ok-clause-ok g c =
-    let fact = switched c.switch.result (state c.args.session.now) (state c.switch.new.self) c.common-common.result c.deref.result.now (entries_at c.args.stretches.now.list.items c.args.node) in
-    let fact_2 = common_live c.args.stretches.now.list.items c.follow-beginning.result c.args.node c.common-common.result (events c.live-live.result) (state c.args.session.now).live in
+    let fact = switched c.switch.result (state c.args.session.now) (state c.switch.new.self) c.common_len-common.result c.deref.result.now (entries_at c.args.stretches.now.list.items c.args.node) in
+    let fact_2 = common_live c.args.stretches.now.list.items c.deepest_agreeing_node-beginning.result c.args.node c.common_len-common.result (events c.live-live.result) (state c.args.session.now).live in
     grind (arith, c.deref.ensures.value, c.in-Ok.ensures.ok, c.switch.ensures.ok, fact_2, fact)
 
 pub returns-in-Ok-clause-unchanged : goal.returns-in-Ok-clause-unchanged
@@ -64,23 +64,23 @@ returns-in-Ok-clause-unchanged g c = on_err_weaker c.switch.result (λ is. is.jo
 
 pub returns-in-Ok-clause-succeeds : goal.returns-in-Ok-clause-succeeds
 returns-in-Ok-clause-succeeds g c = λ h.
-    let all = whole_common c.args.stretches.now.list.items c.follow-beginning.result c.args.node c.common-common.result (events c.live-live.result) c.requires.within c.follow-beginning.ensures.along
-    c.follow-beginning.ensures.deepest (grind (arith, c.live-live.ensures.events, h)) c.common-common.ensures.second c.common-common.ensures.most in
+    let all = whole_common c.args.stretches.now.list.items c.deepest_agreeing_node-beginning.result c.args.node c.common_len-common.result (events c.live-live.result) c.requires.within c.deepest_agreeing_node-beginning.ensures.along
+    c.deepest_agreeing_node-beginning.ensures.deepest (grind (arith, c.live-live.ensures.events, h)) c.common_len-common.ensures.second c.common_len-common.ensures.most in
     let long = entries_length c.args.stretches.now.list.items c.args.node c.requires.within in
-    c.switch.ensures.succeeds (c.deref.ensures.value ∙ c.in-Ok.ensures.ok ∙ drop_all c.common-common.result (entries_at c.args.stretches.now.list.items c.args.node) (omega (arith, all, long)))
+    c.switch.ensures.succeeds (c.deref.ensures.value ∙ c.in-Ok.ensures.ok ∙ drop_all c.common_len-common.result (entries_at c.args.stretches.now.list.items c.args.node) (omega (arith, all, long)))
 
 pub returns-in-Ok-clause-err : goal.returns-in-Ok-clause-err
 returns-in-Ok-clause-err g c =
     let ss = c.args.stretches.now.list.items in
-    let n = c.common-common.result in
-    let said = c.common-common.ensures in
+    let n = c.common_len-common.result in
+    let said = c.common_len-common.ensures in
     let ys = entries_at ss c.args.node in
     let given = c.deref.ensures.value ∙ c.in-Ok.ensures.ok in
-    let same = common_live ss c.follow-beginning.result c.args.node n (events c.live-live.result) (state c.args.session.now).live c.live-live.ensures.events said.first
-    c.follow-beginning.ensures.along said.alike in
+    let same = common_live ss c.deepest_agreeing_node-beginning.result c.args.node n (events c.live-live.result) (state c.args.session.now).live c.live-live.ensures.events said.first
+    c.deepest_agreeing_node-beginning.ensures.along said.alike in
     let all = ap (λ (xs : List Entry). take n (state c.args.session.now).live ++ events xs) given ∙ joined_events n (state c.args.session.now).live ys same in
     let run = subst (λ (xs : List Entry). IsRunFrom (state c.args.session.now).start xs) c.live-live.ensures.entries c.live-live.ensures.run in
     let live = length-map c.live-live.result (λ (x : Entry). x.event) in
-    let within : n ≤ length (journal c.args.session.now).live = omega (arith, said.first, c.follow-beginning.ensures.along.enough, ap length c.live-live.ensures.entries, live) in
+    let within : n ≤ length (journal c.args.session.now).live = omega (arith, said.first, c.deepest_agreeing_node-beginning.ensures.along.enough, ap length c.live-live.ensures.entries, live) in
     let may = may_switch (journal c.args.session.now) n c.deref.result.now ys given run c.requires.run same in
-    lacked c.switch.result c.args.session.now n c.deref.result.now (events ys) (AreInPieces ss c.args.node) all within may c.switch.ensures.err
+    lacks_room_to_go c.switch.result c.args.session.now n c.deref.result.now (events ys) (AreInPieces ss c.args.node) all within may c.switch.ensures.err

@@ -1,4 +1,4 @@
-use Rattle.rd_marks.proofs.Prelude.{refl, marks_of, lists_in, state}
+use Rattle.rd_marks.proofs.Prelude.{refl, marks_of, named_entries_in, state}
 use Rattle.rd_marks.proofs.AnswerLemmas.{move_answered}
 use Rattle.rd_marks.proofs.ObeyLemmas.{answers_start, forward_start}
 use Rattle.rd_marks.proofs.books.Book.answer_forward.Goals as goal
@@ -10,5 +10,5 @@ invariant_of-self g c =
 
 pub returns : goal.returns
 returns g c =
-    move_answered c.args.self.now.session c.forward-done.new.self (marks_of (lists_in c.args.self.now.bookmarks)) _ c.counts_after.result c.forward-done.result _
-    c.forward-done.ensures.state refl c.counts_after.ensures.ok c.counts_after.ensures.err
+    move_answered c.args.self.now.session c.forward-done.new.self (marks_of (named_entries_in c.args.self.now.bookmarks)) _ c.answer_to_move.result c.forward-done.result _
+    c.forward-done.ensures.state refl c.answer_to_move.ensures.ok c.answer_to_move.ensures.err

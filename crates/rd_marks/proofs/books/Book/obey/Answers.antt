@@ -1,4 +1,4 @@
-use Rattle.rd_marks.proofs.Prelude.{IsOk, ap, sym, subst, Command, as_event, book_state, name_room, NeedsNoMemory, arith}
+use Rattle.rd_marks.proofs.Prelude.{IsOk, ap, sym, subst, Command, as_event, book_state, name_room, SetsMarkWithoutMemory, arith}
 use Rattle.rd_marks.specs.declared.commands.Command.TheVariants as command
 use Rattle.rd_marks.proofs.ObeyLemmas.{no_event_refused, obeyed_leaves, refused_event}
 use Rattle.rd_marks.proofs.books.Book.obey.Goals as goal
@@ -53,4 +53,4 @@ returns-in-GotoMark-clause-start g c = (obeyed_leaves (book_state c.args.self.no
 
 pub returns-in-Mark-clause-succeeds : goal.returns-in-Mark-clause-succeeds
 returns-in-Mark-clause-succeeds g c =
-    subst (λ (x : Command). NeedsNoMemory (book_state c.args.self.now) (name_room c.args.self.now) x → IsOk c.answer_mark.result) (sym c.in-Mark.is) c.answer_mark.ensures.succeeds
+    subst (λ (x : Command). SetsMarkWithoutMemory (book_state c.args.self.now) (name_room c.args.self.now) x → IsOk c.answer_mark.result) (sym c.in-Mark.is) c.answer_mark.ensures.succeeds

@@ -1,9 +1,9 @@
 use Rattle.std.proofs.Common.{arith}
-use Rattle.rd_ring.proofs.SegmentLemmas.{tail_ended}
+use Rattle.rd_ring.proofs.SegmentLemmas.{RefusesAt-tail_end}
 use Rattle.rd_ring.proofs.segments.Segment.add_tail.Goals as goal
 
 pub returns-then-self-eq-COUNTER_END-clause-err : goal.returns-then-self-eq-COUNTER_END-clause-err
-returns-then-self-eq-COUNTER_END-clause-err g c = tail_ended c.args.self.now c.if-self-eq-COUNTER_END.true
+returns-then-self-eq-COUNTER_END-clause-err g c = RefusesAt-tail_end c.args.self.now c.if-self-eq-COUNTER_END.true
 
 pub returns-clause-ok : goal.returns-clause-ok
 returns-clause-ok g c = grind arith

@@ -9,4 +9,4 @@ pub loop-length-preserved : goal.loop-length-preserved
 loop-length-preserved g c = grind (arith, goes_on)
 
 pub returns-in-None-2-clause-reads : goal.returns-in-None-2-clause-reads
-returns-in-None-2-clause-reads g c = is_last _ c.loop-length.invariant (rw c.in-None-2.is at c.in_ok-byte.ensures.gives) c.if-length-eq0.false
+returns-in-None-2-clause-reads g c = is_last _ c.loop-length.invariant (rw c.in-None-2.is at c.in_ok-next_byte.ensures.gives) c.if-length-eq0.false

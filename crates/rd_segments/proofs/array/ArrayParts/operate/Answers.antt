@@ -1,5 +1,5 @@
 use Rattle.std.proofs.Common.{refl, arith}
-use Rattle.rd_segments.proofs.Prelude.{array_of, array_part, place_operates}
+use Rattle.rd_segments.proofs.Prelude.{array_contents_with, array_contents, Operates-from_OperatesOn}
 use Rattle.rd_segments.proofs.ArrayLemmas.{head_other, tail_other, slot_does}
 use Rattle.rd_segments.proofs.array.ArrayParts.operate.Goals as goal
 use Rattle.rd_cell.specs.declared.places.Place.TheVariants as place
@@ -10,14 +10,14 @@ pub returns-in-ArrHead-clause-ok : goal.returns-in-ArrHead-clause-ok
 returns-in-ArrHead-clause-ok c =
     let a = c.args.self.now in
     let n = c.operate_on_counter.new.counter in
-    place_operates place.ArrHead c.args.place c.args.operation (content.Number a.head) (content.Number n) (array_part a) (array_of n a.tail a.cells)
+    Operates-from_OperatesOn place.ArrHead c.args.place c.args.operation (content.Number a.head) (content.Number n) (array_contents a) (array_contents_with n a.tail a.cells)
     c.in-ArrHead.is (λ q. refl) refl refl refl (head_other a.head n a.tail a.cells) c.operate_on_counter.result c.operate_on_counter.ensures.ok
 
 pub returns-in-ArrTail-clause-ok : goal.returns-in-ArrTail-clause-ok
 returns-in-ArrTail-clause-ok c =
     let a = c.args.self.now in
     let n = c.operate_on_counter-in-ArrTail.new.counter in
-    place_operates place.ArrTail c.args.place c.args.operation (content.Number a.tail) (content.Number n) (array_part a) (array_of a.head n a.cells)
+    Operates-from_OperatesOn place.ArrTail c.args.place c.args.operation (content.Number a.tail) (content.Number n) (array_contents a) (array_contents_with a.head n a.cells)
     c.in-ArrTail.is (λ q. refl) refl refl refl (tail_other a.head a.tail n a.cells) c.operate_on_counter-in-ArrTail.result c.operate_on_counter-in-ArrTail.ensures.ok
 
 pub returns-else-from-ge-SLOTS-clause-ok : goal.returns-else-from-ge-SLOTS-clause-ok

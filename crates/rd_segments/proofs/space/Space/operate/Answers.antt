@@ -1,4 +1,4 @@
-use Rattle.rd_segments.proofs.Prelude.{ap, contents_by, contents_of, on_err_weaker, place_operates, refl, segments_of, sym}
+use Rattle.rd_segments.proofs.Prelude.{ap, contents_by, contents_of, on_err_weaker, Operates-from_OperatesOn, refl, segments_of, sym}
 use Rattle.rd_cell.specs.declared.places.Place.TheVariants as place
 use Rattle.rd_cell.specs.declared.contents.Content.TheVariants as content
 use Rattle.rd_segments.proofs.SpaceLemmas.{space_operates, same_fields, head_others, tail_others, array_operates}
@@ -13,7 +13,7 @@ pub returns-in-QHead-clause-ok : goal.returns-in-QHead-clause-ok
 returns-in-QHead-clause-ok g c =
     let s = c.args.self.now in
     let name = c.operate_on_name.new.name in
-    place_operates place.QHead c.args.place c.args.operation (content.Name s.qhead) (content.Name name)
+    Operates-from_OperatesOn place.QHead c.args.place c.args.operation (content.Name s.qhead) (content.Name name)
     (contents_of s.makers.items s.qhead s.qtail s.array) (contents_of s.makers.items name s.qtail s.array)
     c.in-QHead.is (λ q. refl) refl refl refl (head_others s.makers.items s.qhead name s.qtail s.array) c.operate_on_name.result c.operate_on_name.ensures.ok
 
@@ -21,7 +21,7 @@ pub returns-in-QTail-clause-ok : goal.returns-in-QTail-clause-ok
 returns-in-QTail-clause-ok g c =
     let s = c.args.self.now in
     let name = c.operate_on_name-in-QTail.new.name in
-    place_operates place.QTail c.args.place c.args.operation (content.Name s.qtail) (content.Name name)
+    Operates-from_OperatesOn place.QTail c.args.place c.args.operation (content.Name s.qtail) (content.Name name)
     (contents_of s.makers.items s.qhead s.qtail s.array) (contents_of s.makers.items s.qhead name s.array)
     c.in-QTail.is (λ q. refl) refl refl refl (tail_others s.makers.items s.qhead s.qtail name s.array) c.operate_on_name-in-QTail.result c.operate_on_name-in-QTail.ensures.ok
 

@@ -1,7 +1,7 @@
-use Rattle.rd_step.proofs.Prelude.{◌∙◌, sym, subst, inl, arith, makes, model, world_of_fields, IsWellFormed, uses_passed_up, uses_too}
+use Rattle.rd_step.proofs.Prelude.{◌∙◌, sym, subst, inl, arith, is_make, model, world_of_fields, IsWellFormed, uses_passed_up, uses_too}
 use Rattle.rd_step.proofs.PassedUp.{error_passed_up, fact_passed_up}
-use Rattle.rd_step.proofs.Steps.{step_not_needed}
-use Rattle.rd_step.proofs.Keeps.{keeps}
+use Rattle.rd_step.proofs.Steps.{step-refused_by_need}
+use Rattle.rd_step.proofs.Keeps.{step_keeps_well_formed}
 use Rattle.rd_step.proofs.WorldLemmas.{needs_by, may_perform, step_refuses, step_goes, makes_by, same_world}
 use Rattle.rd_step.proofs.worlds.World.step.Goals as goal
 
@@ -10,7 +10,7 @@ returns-in_err-access-clause-err g c =
     let self = c.args.self.now in
     let needs = needs_by self c.args.event c.in-Some.actor _ (sym c.in-Some.ensures) c.in_err-access.ensures in
     error_passed_up _ c.in_err-access.field-0.0 c.from_residual.result c.from_residual.ensures.1
-    (inl (step_not_needed (world_of_fields self.space self.actors.items) c.args.event c.in-Some.actor c.in_err-access.field-0.0
+    (inl (step-refused_by_need (world_of_fields self.space self.actors.items) c.args.event c.in-Some.actor c.in_err-access.field-0.0
     (sym c.in-Some.ensures) needs))
 
 pub perform-requires : goal.perform-requires
@@ -45,7 +45,7 @@ returns-in_err-done-clause-unchanged g c =
 pub returns-in_err-done-clause-room : goal.returns-in_err-done-clause-room
 returns-in_err-done-clause-room g c =
     let has = sym c.in-Some.ensures in
-    uses_passed_up c.in_err-done.field-0.0 c.from_residual-in_err-done.result (makes c.in_ok-access.access) _ c.args.event.actor _ _
+    uses_passed_up c.in_err-done.field-0.0 c.from_residual-in_err-done.result (is_make c.in_ok-access.access) _ c.args.event.actor _ _
     (makes_by (model c.args.self.now) c.args.event c.in-Some.actor c.in_ok-access.access has (needs_by c.args.self.now c.args.event c.in-Some.actor _ has c.in_ok-access.ensures))
     c.from_residual-in_err-done.ensures.1 c.in_err-done.ensures.room
 
@@ -53,7 +53,7 @@ pub invariant_of-self-2-clause-well_formed : goal.invariant_of-self-2-clause-wel
 invariant_of-self-2-clause-well_formed g c =
     let self = c.args.self.now in
     let needs = needs_by self c.args.event c.in-Some.actor _ (sym c.in-Some.ensures) c.in_ok-access.ensures in
-    keeps (model self) c.args.event _ self.well_formed
+    step_keeps_well_formed (model self) c.args.event _ self.well_formed
     (step_goes _ self.space c.perform.new.space self.actors.items c.set_actor.new.actors.items c.args.event c.in-Some.actor
     c.in_ok-access.access c.in_ok-done.done c.after-reply.result
     (sym c.in-Some.ensures) needs c.in_ok-done.ensures.ok c.after-reply.ensures c.set_actor.ensures.done)
@@ -69,6 +69,6 @@ returns-clause-ok g c =
 pub returns-clause-room : goal.returns-clause-room
 returns-clause-room g c =
     let has = sym c.in-Some.ensures in
-    uses_too c.in_ok-done.done _ (makes c.in_ok-access.access) _ c.args.event.actor _ _
+    uses_too c.in_ok-done.done _ (is_make c.in_ok-access.access) _ c.args.event.actor _ _
     (makes_by (model c.args.self.now) c.args.event c.in-Some.actor c.in_ok-access.access has (needs_by c.args.self.now c.args.event c.in-Some.actor _ has c.in_ok-access.ensures))
     c.in_ok-done.ensures.room

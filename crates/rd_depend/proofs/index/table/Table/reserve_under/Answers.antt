@@ -7,7 +7,7 @@ returns-in_err-slot-clause-succeeds c = λ h. absurd (false≢true (c.in_err-slo
 
 pub returns-in_err-reserve_in-clause-succeeds : goal.returns-in_err-reserve_in-clause-succeeds
 returns-in_err-reserve_in-clause-succeeds c = λ h.
-    let mid = c.slot_or_new.new.self in
+    let mid = c.find_or_add.new.self in
     let more : spare_in c.args.self.now false c.args.key ≤ spare_in mid false c.args.key = c.in_ok-slot.ensures.same.room false c.args.key in
     let had : 0 < spare_in c.args.self.now false c.args.key = h false refl in
     let has : 0 < spare_in mid false c.args.key = omega arith in
@@ -15,7 +15,7 @@ returns-in_err-reserve_in-clause-succeeds c = λ h.
 
 pub returns-in_err-reserve_if-clause-succeeds : goal.returns-in_err-reserve_if-clause-succeeds
 returns-in_err-reserve_if-clause-succeeds c = λ h.
-    let mid = c.slot_or_new.new.self in
+    let mid = c.find_or_add.new.self in
     absurd (false≢true (c.in_err-reserve_if.ensures.succeeds (λ wrote.
     let more : spare_in c.args.self.now true c.args.key ≤ spare_in mid true c.args.key = c.in_ok-slot.ensures.same.room true c.args.key in
     let had : 0 < spare_in c.args.self.now true c.args.key = h true wrote in

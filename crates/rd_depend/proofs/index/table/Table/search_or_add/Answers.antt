@@ -1,0 +1,12 @@
+use Rattle.rd_depend.proofs.Prelude.{arith, common_steps}
+use Rattle.rd_depend.proofs.IndexTable.{absent, keeps_pushed, slot_last}
+use Rattle.rd_depend.proofs.index.table.Table.search_or_add.Goals as goal
+
+pub invariant_of-self-2 : goal.invariant_of-self-2
+invariant_of-self-2 c = grind (arith, common_steps, absent)
+
+pub returns-clause-same : goal.returns-clause-same
+returns-clause-same c = grind (arith, keeps_pushed)
+
+pub returns-clause-slot : goal.returns-clause-slot
+returns-clause-slot c = grind (arith, slot_last)

@@ -1,6 +1,0 @@
-use Rattle.rd_journal.proofs.Prelude.{common_steps, arith}
-use Rattle.rd_journal.proofs.Calls.{back_start}
-use Rattle.rd_journal.proofs.sessions.Session.go_along.Goals as goal
-
-pub returns-else-n-len-clause-state : goal.returns-else-n-len-clause-state
-returns-else-n-len-clause-state g c = let start = back_start _ _ _ c.undo_many.ensures.state in grind (arith, common_steps)

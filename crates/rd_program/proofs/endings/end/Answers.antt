@@ -1,5 +1,0 @@
-use Rattle.std.proofs.Common.{rules}
-use Rattle.rd_program.proofs.endings.end.Goals as goal
-
-pub returns-in-Err : goal.returns-in-Err
-returns-in-Err g c = rw c.in-Err.is (search rules, rw c.refusal.ensures at c.write_line.ensures)
