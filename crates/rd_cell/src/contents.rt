@@ -1,5 +1,7 @@
 //! The content of a place.
 
+ghost use Rattle.std.specs.Prelude.{◌≡◌, ◌↔◌, IsTrue};
+
 use super::cells::Cell;
 use super::places::SegName;
 
@@ -12,6 +14,15 @@ pub enum ArrSlot {
     Top,
     /// A value that an enqueue swapped in.
     Value(u64),
+}
+
+impl ArrSlot {
+    /// Whether the slot is empty.
+    pub fn is_empty(self) -> bool
+        ensures { IsTrue result ↔ (self ≡ ArrSlot.Empty) }
+    {
+        self == ArrSlot::Empty
+    }
 }
 
 /// The content of one place. Each kind of place has one kind of content.

@@ -18,5 +18,5 @@ pub use access::{Access, Done};
 pub use cells::Cell;
 pub use contents::{ArrSlot, Content};
 pub use operations::{Answer, Operation};
-pub use places::{Place, SegName, Wrote, overlaps, written};
+pub use places::{Place, SegName, Wrote, overlaps, some_overlap, written};
 pub use refusal::Refusal;

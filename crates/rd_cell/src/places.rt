@@ -2,7 +2,7 @@
 //! wrote.
 
 ghost use Rattle.std.specs.Prelude.{◌≡◌};
-ghost use Rattle.rd_cell.specs.Places.{covers, is_of_array, is_of_segment, is_of_cell, overlaps, segment_of, index_half, is_nothing, written};
+ghost use Rattle.rd_cell.specs.Places.{covers, is_of_array, is_of_segment, is_of_cell, overlaps, some_overlap, segment_of, index_half, is_nothing, written};
 
 /// The name of a segment: (maker, n) is the segment that actor `maker` made as its n-th, counted
 /// from 0. The root is (0, 0).
@@ -102,6 +102,46 @@ impl Place {
             _ => self,
         }
     }
+
+    /// Whether `other` is this place or a part of it: they are equal, `other` is a half of this
+    /// cell, or this is the whole of the segment of `other`.
+    #[inline(always)]
+    fn covers(self, other: Place) -> bool
+        ensures { result ≡ covers self other }
+    {
+        match self {
+            Place::Whole(name) => other.is_of_segment(name),
+            Place::Cell(name, i) => other.is_of_cell(name, i),
+            _ => self == other,
+        }
+    }
+
+    /// Whether this is one of a cell's two halves, or the cell itself.
+    fn is_of_cell(self, name: SegName, i: u8) -> bool
+        ensures { result ≡ is_of_cell name i self }
+    {
+        match self {
+            Place::Cell(of, j) | Place::Val(of, j) | Place::Idx(of, j) => name == of && i == j,
+            _ => false,
+        }
+    }
+
+    /// Whether this belongs to the segment of this name, or is the whole of it.
+    fn is_of_segment(self, name: SegName) -> bool
+        ensures { result ≡ is_of_segment name self }
+    {
+        match self {
+            Place::Head(of)
+            | Place::Tail(of)
+            | Place::Next(of)
+            | Place::Cell(of, _)
+            | Place::Val(of, _)
+            | Place::Idx(of, _)
+            | Place::Whole(of) => name == of,
+            Place::QHead | Place::QTail | Place::ArrHead | Place::ArrTail | Place::ArrCell(_) =>
+                false,
+        }
+    }
 }
 
 /// Returns the place that names what an access at this place wrote: the place itself, or only the
@@ -126,47 +166,19 @@ pub fn overlaps(a: Place, b: Place) -> bool
 {
     // A search for a dependant asks this for each step, so two places are compared only once.
     match a {
-        Place::Whole(name) => is_of_segment(name, b),
-        Place::Cell(name, i) => is_of_cell(name, i, b) || covers(b, a),
-        _ => covers(b, a),
+        Place::Whole(name) => b.is_of_segment(name),
+        Place::Cell(name, i) => b.is_of_cell(name, i) || b.covers(a),
+        _ => b.covers(a),
     }
 }
 
-/// Whether `b` is `a` or a part of it: they are equal, `b` is a half of the cell `a`, or `a` is the
-/// whole of the segment of `b`.
+/// Whether there are two places, and they overlap.
 #[inline(always)]
-fn covers(a: Place, b: Place) -> bool
-    ensures { result ≡ covers a b }
+pub fn some_overlap(a: Option<Place>, b: Option<Place>) -> bool
+    ensures { result ≡ some_overlap a b }
 {
-    match a {
-        Place::Whole(name) => is_of_segment(name, b),
-        Place::Cell(name, i) => is_of_cell(name, i, b),
-        _ => a == b,
-    }
-}
-
-/// Whether a place is one of this cell's two halves, or the cell itself.
-fn is_of_cell(name: SegName, i: u8, place: Place) -> bool
-    ensures { result ≡ is_of_cell name i place }
-{
-    match place {
-        Place::Cell(of, j) | Place::Val(of, j) | Place::Idx(of, j) => name == of && i == j,
+    match (a, b) {
+        (Some(p), Some(q)) => overlaps(p, q),
         _ => false,
-    }
-}
-
-/// Whether a place belongs to this segment, or is the whole of it.
-fn is_of_segment(name: SegName, place: Place) -> bool
-    ensures { result ≡ is_of_segment name place }
-{
-    match place {
-        Place::Head(of)
-        | Place::Tail(of)
-        | Place::Next(of)
-        | Place::Cell(of, _)
-        | Place::Val(of, _)
-        | Place::Idx(of, _)
-        | Place::Whole(of) => name == of,
-        Place::QHead | Place::QTail | Place::ArrHead | Place::ArrTail | Place::ArrCell(_) => false,
     }
 }
