@@ -1,4 +1,5 @@
-//! An actor's record, the acts that it may be asked to do, and the replies of its calls.
+//! Control points, calls, the acts that an actor may be asked to do, the replies of calls, and an
+//! actor's record.
 
 ghost use Rattle.std.specs.Prelude.{◌≡◌, ◌↔◌, IsTrue};
 ghost use Rattle.rd_actor.specs.Actors.{idle, poised, calling};
@@ -126,10 +127,10 @@ pub enum OpReply {
 pub struct Actor {
     /// The control point where the actor is.
     pub pc: Pc,
-    /// The pass of a dequeue over its segment, 1 or 2; 0 before the first pass and in all other
-    /// calls.
+    /// The pass of a dequeue over its segment: Q1 sets 1, Q13 sets 2. It is 0 before a dequeue's
+    /// first Q1, and in all other calls.
     pub pass: u8,
-    /// The closed bit that the actor's repair read.
+    /// The closed bit that the actor's repair read last at Q9.
     pub closed: bool,
     /// The safe bit that the actor read last from a cell.
     pub safe: bool,
@@ -141,9 +142,9 @@ pub struct Actor {
     pub next: SegName,
     /// The call that the actor is in, if any.
     pub op: Option<Op>,
-    /// The tail counter that the actor read or drew from last, at most 2^62.
+    /// The tail counter that the actor read or drew from last at E4, Q8, Q9 or A1, at most 2^62.
     pub t: u64,
-    /// The head counter that the actor read or drew from last, at most 2^62.
+    /// The head counter that the actor read or drew from last at E9, Q2, Q10 or B1, at most 2^62.
     pub h: u64,
     /// The value that the actor read last from a cell, or none.
     pub val: Option<u64>,

@@ -15,18 +15,21 @@ impl Actor {
         ensures { result ≡ words_fit self.now }
     {
         match self.pc {
-            Pc::Idle => has_idle_words(self),
-            Pc::E1 | Pc::E2 | Pc::E3 | Pc::E4 | Pc::E5 | Pc::E6 => is_in_enqueue(self),
-            Pc::E7 => is_in_enqueue(self) && self.val.is_none() && !self.safe && self.idx <= self.t,
-            Pc::E8 => is_in_enqueue(self) && self.val.is_none() && self.idx <= self.t,
-            Pc::E9 | Pc::E10 | Pc::E11 | Pc::E12 | Pc::E13 | Pc::E14 => is_in_enqueue(self),
+            Pc::Idle => self.has_idle_words(),
+            Pc::E1 | Pc::E2 | Pc::E3 | Pc::E4 | Pc::E5 | Pc::E6 => self.is_in_enqueue(),
+            Pc::E7 => self.is_in_enqueue()
+                && self.val.is_none()
+                && !self.safe
+                && self.idx <= self.t,
+            Pc::E8 => self.is_in_enqueue() && self.val.is_none() && self.idx <= self.t,
+            Pc::E9 | Pc::E10 | Pc::E11 | Pc::E12 | Pc::E13 | Pc::E14 => self.is_in_enqueue(),
             Pc::Q1 => is_dequeue(self.op) && self.pass <= 2,
-            Pc::Q2 | Pc::Q3 | Pc::Q4 => is_in_pass(self),
-            Pc::Q5 => is_in_pass(self) && self.val.is_some() && self.idx == self.h,
-            Pc::Q6 => is_in_pass(self) && self.val.is_some() && self.idx < self.h,
-            Pc::Q7 => is_in_pass(self) && self.val.is_none() && self.idx <= self.h,
-            Pc::Q8 | Pc::Q9 | Pc::Q10 | Pc::Q11 => is_in_pass(self),
-            Pc::Q12 => is_in_pass(self) && !self.closed && self.t < self.h,
+            Pc::Q2 | Pc::Q3 | Pc::Q4 => self.is_in_pass(),
+            Pc::Q5 => self.is_in_pass() && self.val.is_some() && self.idx == self.h,
+            Pc::Q6 => self.is_in_pass() && self.val.is_some() && self.idx < self.h,
+            Pc::Q7 => self.is_in_pass() && self.val.is_none() && self.idx <= self.h,
+            Pc::Q8 | Pc::Q9 | Pc::Q10 | Pc::Q11 => self.is_in_pass(),
+            Pc::Q12 => self.is_in_pass() && !self.closed && self.t < self.h,
             Pc::Q13 => is_dequeue(self.op) && self.pass == 1,
             Pc::Q14 => is_dequeue(self.op) && self.pass == 2,
             Pc::A1 => is_array_enqueue(self.op) && self.pass == 0,
@@ -35,37 +38,37 @@ impl Actor {
             Pc::B2 | Pc::B3 => is_array_dequeue(self.op) && self.pass == 0 && self.h < SLOTS as u64,
         }
     }
-}
 
-/// Whether all words except the control point are those of an actor in no call.
-fn has_idle_words(actor: &Actor) -> bool
-    ensures { result ≡ has_idle_words actor.now }
-{
-    actor.op.is_none()
-        && actor.crq == SegName::ROOT
-        && actor.new == SegName::ROOT
-        && actor.next == SegName::ROOT
-        && actor.t == 0
-        && actor.h == 0
-        && !actor.closed
-        && actor.val.is_none()
-        && !actor.safe
-        && actor.idx == 0
-        && actor.pass == 0
-}
+    /// Whether all words except the control point are those of an actor in no call.
+    fn has_idle_words(&self) -> bool
+        ensures { result ≡ has_idle_words self.now }
+    {
+        self.op.is_none()
+            && self.crq == SegName::ROOT
+            && self.new == SegName::ROOT
+            && self.next == SegName::ROOT
+            && self.t == 0
+            && self.h == 0
+            && !self.closed
+            && self.val.is_none()
+            && !self.safe
+            && self.idx == 0
+            && self.pass == 0
+    }
 
-/// Whether the actor is in an enqueue, with pass 0.
-fn is_in_enqueue(actor: &Actor) -> bool
-    ensures { result ≡ is_in_enqueue actor.now }
-{
-    is_enqueue(actor.op) && actor.pass == 0
-}
+    /// Whether the actor is in an enqueue, with pass 0.
+    fn is_in_enqueue(&self) -> bool
+        ensures { result ≡ is_in_enqueue self.now }
+    {
+        is_enqueue(self.op) && self.pass == 0
+    }
 
-/// Whether the actor is in a dequeue, in pass 1 or 2 over its segment.
-fn is_in_pass(actor: &Actor) -> bool
-    ensures { result ≡ is_in_pass actor.now }
-{
-    is_dequeue(actor.op) && (actor.pass == 1 || actor.pass == 2)
+    /// Whether the actor is in a dequeue, in pass 1 or 2 over its segment.
+    fn is_in_pass(&self) -> bool
+        ensures { result ≡ is_in_pass self.now }
+    {
+        is_dequeue(self.op) && (self.pass == 1 || self.pass == 2)
+    }
 }
 
 /// Whether this is an enqueue that is not on the array; false if there is no call.
