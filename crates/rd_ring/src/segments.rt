@@ -284,8 +284,9 @@ impl<const R: usize> Segment<R> {
         self.cells[usize::from(i)] = cell;
     }
 
-    /// Sets the value of the cell of this number, which must be below `R`, to this old one. This
-    /// undoes a write of the value half.
+    /// Sets the value of the cell of this number, which must be below `R`, to this old one.
+    /// Operations at a value half only read, so this undoes no write: it is for `restore`, which
+    /// takes every place of the segment.
     pub fn restore_value(&mut self, i: u8, val: Option<u64>)
         requires { i < R }
         ensures { RestoresAt (λ s. Place.Val s i) (Content.Val val) self.old self.new }
@@ -294,7 +295,8 @@ impl<const R: usize> Segment<R> {
     }
 
     /// Sets the safe bit and the index of the cell of this number, which must be below `R`, to
-    /// these old ones. This undoes a write of the index half.
+    /// these old ones. Operations at an index half only read, so this undoes no write: it is for
+    /// `restore`, which takes every place of the segment.
     pub fn restore_index(&mut self, i: u8, safe: bool, idx: u64)
         requires { i < R }
         ensures { RestoresAt (λ s. Place.Idx s i) (Content.Idx safe idx) self.old self.new }
