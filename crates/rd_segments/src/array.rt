@@ -69,9 +69,9 @@ impl ArrayParts {
     ///
     /// # Errors
     ///
-    /// `ArrayEnd` for a fetch-and-add on a counter that is 64; `NoSuchPlace` if the array has no
-    /// such place, or if the operation is for another kind of content. No actor asks for either.
-    /// The array is then as before.
+    /// `ArrayEnd` for a fetch-and-add on a counter that is at least 64; `NoSuchPlace` if the array
+    /// has no such place, or if the operation is for another kind of content. No actor asks for
+    /// either. The array is then as before.
     pub(crate) fn operate(&mut self, place: Place, operation: Operation) -> Result<Done, Refusal>
         requires { IsTrue (suits_array operation) }
         ensures ok { IfOk result (λ done. Operates everywhere place operation done
@@ -114,20 +114,13 @@ impl ArrayParts {
 fn are_empty_slots(slots: &[ArrSlot]) -> bool
     ensures { IsTrue result ↔ All (λ slot. slot ≡ ArrSlot.Empty) slots.now }
 {
-    slots.iter().all(|slot| is_empty_slot(slot))
-}
-
-/// Whether a slot is empty.
-fn is_empty_slot(slot: &ArrSlot) -> bool
-    ensures { IsTrue result ↔ (slot.now ≡ ArrSlot.Empty) }
-{
-    *slot == ArrSlot::Empty
+    slots.iter().all(|slot| slot.is_empty())
 }
 
 /// Does a read or a fetch-and-add on a counter of the array, and returns what it found, answered
 /// and wrote. `place` is the counter's place, for the record alone. The operation must not be
-/// `Add`, a segment's fetch-and-add. Fails with `ArrayEnd` if a fetch-and-add finds 64, and with
-/// `NoSuchPlace` for any other operation; the counter then stays.
+/// `Add`, a segment's fetch-and-add. Fails with `ArrayEnd` if a fetch-and-add finds at least 64,
+/// and with `NoSuchPlace` for any other operation; the counter then stays.
 fn operate_on_counter(
     counter: &mut u64,
     place: Place,

@@ -175,9 +175,9 @@ impl<const R: usize> Space<R> {
     /// # Errors
     ///
     /// `CounterEnd` for a fetch-and-add on a segment's counter that is 2^62, `ArrayEnd` for one on
-    /// a counter of the array that is 64; `NoSuchPlace` if there is no such place, or if the
-    /// operation is for another kind of content. No actor asks for either. The space is then as
-    /// before.
+    /// a counter of the array that is at least 64; `NoSuchPlace` if there is no such place, or if
+    /// the operation is for another kind of content. No actor asks for either. The space is then
+    /// as before.
     pub fn operate(&mut self, place: Place, operation: Operation) -> Result<Done, Refusal>
         requires { IsTrue (suits place operation) }
         ensures ok { IfOk result (λ done. Operates everywhere place operation done
