@@ -1,10 +1,8 @@
 //! What a step and its undoing do to the two fields of a world, the space and the actors.
 
-ghost use Rattle.std.specs.Prelude.{◌≡◌, ◌≢◌, ◌+◌, ◌<◌, ◌≤◌, ◌↔◌, ℕ, true, Some, None, Ok, IsSome, IsTrue, IfOk, IfErr, OnErr, length};
+ghost use Rattle.std.specs.Prelude.{◌≡◌, ◌≢◌, ◌+◌, ◌<◌, ◌≤◌, ℕ, true, Some, None, Ok, IsSome, IsTrue, IfOk, IfErr, OnErr, length};
 ghost use Rattle.rd_ring.specs.Prelude.{MOST_CELLS, MOST_SEGMENTS, Make, perform, restore, everywhere, HasEffect};
-ghost use Rattle.std.specs.List.{All};
 ghost use Rattle.rd_segments.specs.Room.{room_returned, UsesMakersRoom, ReturnsMakersRoom};
-ghost use Rattle.rd_actor.specs.Actors.{idle};
 ghost use Rattle.rd_segments.specs.Space.{contents, list_count, making_count, room, makers_room};
 ghost use Rattle.rd_step.specs.Step.{revert, with_actor, CanPutBack};
 ghost use Rattle.rd_cell.specs.Access.{access_suits};
@@ -145,12 +143,4 @@ fn make_segment<const R: usize>(
 {
     let name = space.make(actor, value)?;
     Ok(Done::of_making(name))
-}
-
-/// Whether all of these actors are idle, as they are before their first step and after their last
-/// call is over or undone.
-pub fn are_idle(actors: &[Actor]) -> bool
-    ensures { IsTrue result ↔ All (λ actor. actor ≡ idle) actors.now }
-{
-    actors.iter().all(|actor| actor.is_idle())
 }

@@ -69,45 +69,142 @@ pub enum Unassembled {
     NoMemory,
 }
 
-/// Returns the first flaw of these parts, or none if they make a well-formed world.
-pub(crate) fn first_flaw<const R: usize>(parts: &Parts<R>) -> Option<Flaw>
-    requires { R ≤ MOST_CELLS }
-    ensures { result ≡ first_flaw parts.now }
-{
-    let index_end = COUNTER_END + R as u64;
-    if !makers_fit(parts) {
-        Some(Flaw::Makers)
-    } else if !place_names_fit(parts) {
-        Some(Flaw::PlaceNames)
-    } else if !actor_names_fit(parts) {
-        Some(Flaw::ActorNames)
-    } else if !all_counters_fit(parts) {
-        Some(Flaw::Counters)
-    } else if !all_indexes_fit(parts, index_end) {
-        Some(Flaw::Indexes)
-    } else if !array_fits(&parts.array) {
-        Some(Flaw::ArrayCounters)
-    } else if !actor_numbers_fit(&parts.actors, index_end) {
-        Some(Flaw::ActorNumbers)
-    } else if !actor_words_fit(&parts.actors) {
-        Some(Flaw::ActorWords)
-    } else {
-        None
+impl<const R: usize> Parts<R> {
+    /// Returns the first flaw of these parts, or none if they make a well-formed world.
+    pub(crate) fn first_flaw(&self) -> Option<Flaw>
+        requires { R ≤ MOST_CELLS }
+        ensures { result ≡ first_flaw self.now }
+    {
+        let index_end = COUNTER_END + R as u64;
+        if !self.makers_fit() {
+            Some(Flaw::Makers)
+        } else if !self.place_names_fit() {
+            Some(Flaw::PlaceNames)
+        } else if !self.actor_names_fit() {
+            Some(Flaw::ActorNames)
+        } else if !self.all_counters_fit() {
+            Some(Flaw::Counters)
+        } else if !self.all_indexes_fit(index_end) {
+            Some(Flaw::Indexes)
+        } else if !array_fits(&self.array) {
+            Some(Flaw::ArrayCounters)
+        } else if !actor_numbers_fit(&self.actors, index_end) {
+            Some(Flaw::ActorNumbers)
+        } else if !actor_words_fit(&self.actors) {
+            Some(Flaw::ActorWords)
+        } else {
+            None
+        }
     }
-}
 
-/// Whether there are 1 to 16 actors, and a list for each maker from 0 to their number: maker 0 with
-/// one segment, each other maker with at most 65,535.
-fn makers_fit<const R: usize>(parts: &Parts<R>) -> bool
-    requires { R ≤ MOST_CELLS }
-    ensures { result ≡ makers_fit parts.now }
-{
-    let actors = parts.actors.len();
-    1 <= actors
-        && actors <= MOST_ACTORS
-        && parts.segments.len() == actors + 1
-        && parts.segments[0].len() == 1
-        && lists_fit(&parts.segments)
+    /// Whether there are 1 to 16 actors, and a list for each maker from 0 to their number: maker 0
+    /// with one segment, each other maker with at most 65,535.
+    fn makers_fit(&self) -> bool
+        requires { R ≤ MOST_CELLS }
+        ensures { result ≡ makers_fit self.now }
+    {
+        let actors = self.actors.len();
+        1 <= actors
+            && actors <= MOST_ACTORS
+            && self.segments.len() == actors + 1
+            && self.segments[0].len() == 1
+            && lists_fit(&self.segments)
+    }
+
+    /// Whether the queue's ends and each next that is set name a segment that is there.
+    fn place_names_fit(&self) -> bool
+        requires { R ≤ MOST_CELLS }
+        ensures { result ≡ place_names_fit self.now }
+    {
+        self.has_segment(self.qhead) && self.has_segment(self.qtail) && self.all_nexts_fit()
+    }
+
+    /// Whether each next that is set names a segment that is there.
+    fn all_nexts_fit(&self) -> bool
+        requires { R ≤ MOST_CELLS }
+        ensures { result ≡ each_segment (λ s.
+            next_fits (has_segment self.now) s.next) self.now.segments.items }
+    {
+        self.segments.iter().all(
+            |list| -> bool
+                ensures { result ≡ list_all (λ s.
+                    next_fits (has_segment self.entry.now) s.next) list.now.items }
+            {
+                list.iter().all(
+                    |segment| -> bool
+                        ensures { result ≡ next_fits (has_segment self.entry.now) segment.now.next }
+                    {
+                        match segment.next {
+                            None => true,
+                            Some(name) => self.has_segment(name),
+                        }
+                    },
+                )
+            },
+        )
+    }
+
+    /// Whether the parts have a segment of this name.
+    fn has_segment(&self, name: SegName) -> bool
+        ensures { result ≡ has_segment self.now name }
+    {
+        match self.segments.get(usize::from(name.maker)) {
+            None => false,
+            Some(list) => list.get(name.n as usize).is_some(),
+        }
+    }
+
+    /// Whether the parts have the segments that each actor's words name.
+    fn actor_names_fit(&self) -> bool
+        requires { R ≤ MOST_CELLS }
+        ensures { result ≡ actor_names_fit self.now }
+    {
+        self.actors.iter().all(
+            |actor| -> bool
+                ensures { result ≡ names_fit (has_segment self.entry.now) actor.now }
+            {
+                self.has_segment(actor.crq)
+                    && self.has_segment(actor.new)
+                    && self.has_segment(actor.next)
+            },
+        )
+    }
+
+    /// Whether both counters of each segment are at most 2^62.
+    fn all_counters_fit(&self) -> bool
+        requires { R ≤ MOST_CELLS }
+        ensures { result ≡ each_segment counters_fit self.now.segments.items }
+    {
+        self.segments.iter().all(
+            |list| -> bool
+                ensures { result ≡ list_all counters_fit list.now.items }
+            {
+                list.iter().all(
+                    |segment| -> bool
+                        ensures { result ≡ counters_fit segment.now }
+                    { segment.head <= COUNTER_END && segment.tail <= COUNTER_END },
+                )
+            },
+        )
+    }
+
+    /// Whether each cell's index is at most `end`.
+    fn all_indexes_fit(&self, end: u64) -> bool
+        requires { R ≤ MOST_CELLS }
+        ensures { result ≡ each_segment (indexes_fit end) self.now.segments.items }
+    {
+        self.segments.iter().all(
+            |list| -> bool
+                ensures { result ≡ list_all (indexes_fit end) list.now.items }
+            {
+                list.iter().all(
+                    |segment| -> bool
+                        ensures { result ≡ indexes_fit end segment.now }
+                    { segment.cells[..].iter().all(|cell| cell.idx <= end) },
+                )
+            },
+        )
+    }
 }
 
 /// Whether each maker's list has at most 65,535 segments.
@@ -119,101 +216,6 @@ fn lists_fit<const R: usize>(makers: &[Vec<SegmentParts<R>>]) -> bool
         |list| -> bool
             ensures { result ≡ nat_le (length list.now.items) MOST_SEGMENTS }
         { list.len() <= MOST_SEGMENTS },
-    )
-}
-
-/// Whether the queue's ends and each next that is set name a segment that is there.
-fn place_names_fit<const R: usize>(parts: &Parts<R>) -> bool
-    requires { R ≤ MOST_CELLS }
-    ensures { result ≡ place_names_fit parts.now }
-{
-    has_segment(parts, parts.qhead) && has_segment(parts, parts.qtail) && all_nexts_fit(parts)
-}
-
-/// Whether each next that is set names a segment that is there.
-fn all_nexts_fit<const R: usize>(parts: &Parts<R>) -> bool
-    requires { R ≤ MOST_CELLS }
-    ensures { result ≡ each_segment (λ s.
-        next_fits (has_segment parts.now) s.next) parts.now.segments.items }
-{
-    parts.segments.iter().all(
-        |list| -> bool
-            ensures { result ≡ list_all (λ s.
-                next_fits (has_segment parts.entry.now) s.next) list.now.items }
-        {
-            list.iter().all(
-                |segment| -> bool
-                    ensures { result ≡ next_fits (has_segment parts.entry.now) segment.now.next }
-                {
-                    match segment.next {
-                        None => true,
-                        Some(name) => has_segment(parts, name),
-                    }
-                },
-            )
-        },
-    )
-}
-
-/// Whether the parts have a segment of this name.
-fn has_segment<const R: usize>(parts: &Parts<R>, name: SegName) -> bool
-    ensures { result ≡ has_segment parts.now name }
-{
-    match parts.segments.get(usize::from(name.maker)) {
-        None => false,
-        Some(list) => list.get(name.n as usize).is_some(),
-    }
-}
-
-/// Whether the parts have the segments that each actor's words name.
-fn actor_names_fit<const R: usize>(parts: &Parts<R>) -> bool
-    requires { R ≤ MOST_CELLS }
-    ensures { result ≡ actor_names_fit parts.now }
-{
-    parts.actors.iter().all(
-        |actor| -> bool
-            ensures { result ≡ names_fit (has_segment parts.entry.now) actor.now }
-        {
-            has_segment(parts, actor.crq)
-                && has_segment(parts, actor.new)
-                && has_segment(parts, actor.next)
-        },
-    )
-}
-
-/// Whether both counters of each segment are at most 2^62.
-fn all_counters_fit<const R: usize>(parts: &Parts<R>) -> bool
-    requires { R ≤ MOST_CELLS }
-    ensures { result ≡ each_segment counters_fit parts.now.segments.items }
-{
-    parts.segments.iter().all(
-        |list| -> bool
-            ensures { result ≡ list_all counters_fit list.now.items }
-        {
-            list.iter().all(
-                |segment| -> bool
-                    ensures { result ≡ counters_fit segment.now }
-                { segment.head <= COUNTER_END && segment.tail <= COUNTER_END },
-            )
-        },
-    )
-}
-
-/// Whether each cell's index is at most `end`.
-fn all_indexes_fit<const R: usize>(parts: &Parts<R>, end: u64) -> bool
-    requires { R ≤ MOST_CELLS }
-    ensures { result ≡ each_segment (indexes_fit end) parts.now.segments.items }
-{
-    parts.segments.iter().all(
-        |list| -> bool
-            ensures { result ≡ list_all (indexes_fit end) list.now.items }
-        {
-            list.iter().all(
-                |segment| -> bool
-                    ensures { result ≡ indexes_fit end segment.now }
-                { segment.cells[..].iter().all(|cell| cell.idx <= end) },
-            )
-        },
     )
 }
 

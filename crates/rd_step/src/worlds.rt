@@ -2,6 +2,8 @@
 
 ghost use Rattle.std.specs.Prelude.{◌≡◌, ◌≢◌, ◌+◌, ◌<◌, ◌≤◌, ◌↔◌, ℕ, suc, None, Ok, Err, IsSome, IsTrue, IfOk, IfErr, OnOk, OnErr, length};
 ghost use Rattle.rd_ring.specs.Prelude.{MOST_CELLS, MOST_ACTORS, content_at};
+ghost use Rattle.std.specs.List.{All};
+ghost use Rattle.rd_actor.specs.Actors.{idle};
 ghost use Rattle.rd_segments.specs.Room.{room_returned, UsesMakersRoom, ReturnsMakersRoom, AddsMakersRoom};
 ghost use Rattle.rd_segments.specs.Space.{list_count};
 ghost use Rattle.rd_step.specs.Step.{step, revert, CanPutBack};
@@ -13,8 +15,8 @@ ghost use Rattle.rd_step.specs.World.{World as Model};
 ghost use Rattle.rd_step.specs.Parts.{world_of_parts, first_flaw, RefusesParts};
 
 use super::entries::{Entry, Event};
-use super::fields::{actor_in, are_idle, perform, revert_fields, set_actor};
-use super::flaws::{Unassembled, first_flaw};
+use super::fields::{actor_in, perform, revert_fields, set_actor};
+use super::flaws::Unassembled;
 use super::parts::Parts;
 use rd_actor::{Actor, after, need};
 use rd_cell::{Content, Place, Refusal};
@@ -115,7 +117,7 @@ impl<const R: usize> World<R> {
         ensures flawless { OnOk result (first_flaw parts.entry ≡ None) }
         ensures err { IfErr result (λ e. RefusesParts parts.entry e) }
     {
-        if let Some(flaw) = first_flaw(&parts) {
+        if let Some(flaw) = parts.first_flaw() {
             return Err(Unassembled::Flaw(flaw));
         }
         match Space::from_parts(
@@ -313,4 +315,12 @@ impl<const R: usize> World<R> {
         self.space.make_room(actor, more)?;
         Ok(())
     }
+}
+
+/// Whether all of these actors are idle, as they are before their first step and after their last
+/// call is over or undone.
+fn are_idle(actors: &[Actor]) -> bool
+    ensures { IsTrue result ↔ All (λ actor. actor ≡ idle) actors.now }
+{
+    actors.iter().all(|actor| actor.is_idle())
 }
