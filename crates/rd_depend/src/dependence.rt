@@ -1,10 +1,10 @@
 //! Dependence of two entries, and the first dependant of an entry in a list.
 
 ghost use Rattle.std.specs.Prelude.{◌≡◌, ◌≤◌, length};
-ghost use Rattle.rd_step.specs.Prelude.{some_overlap, interfere, depends, first_dependant};
+ghost use Rattle.rd_step.specs.Prelude.{interfere, depends, first_dependant};
 ghost use Rattle.rd_depend.specs.Sharing.{either_wrote};
 
-use rd_cell::{Place, overlaps};
+use rd_cell::some_overlap;
 use rd_step::Entry;
 
 /// Whether two steps depend on each other: they have the same actor, or both touched a place that
@@ -38,17 +38,6 @@ fn either_wrote(a: &Entry, b: &Entry) -> bool
     ensures { result ≡ either_wrote a.now b.now }
 {
     !a.wrote.is_nothing() || !b.wrote.is_nothing()
-}
-
-/// Whether there are two places, and they overlap.
-#[inline(always)]
-fn some_overlap(a: Option<Place>, b: Option<Place>) -> bool
-    ensures { result ≡ some_overlap a b }
-{
-    match (a, b) {
-        (Some(p), Some(q)) => overlaps(p, q),
-        _ => false,
-    }
 }
 
 /// Returns the number, from 1, of the first step after the `k`-th that depends on it; `None` if no
