@@ -6,7 +6,7 @@
 //! viewer knows at which lengths memory may be refused. The book is in a box, so a call moves a few
 //! words into the lock and out of it, and not the book.
 
-ghost use Rattle.std.specs.Prelude.{◌≡◌, ◌<◌, ◌≤◌, [], length, vec_len, vec_capacity, IfOk, OnOk, IfErr, OnErr};
+ghost use Rattle.std.specs.Prelude.{◌≡◌, ◌≤◌, [], length, vec_len, vec_capacity, IfOk, IfErr};
 ghost use Rattle.rd_marks.specs.Book.{book_state};
 ghost use Rattle.rd_desk.specs.declared.gates.DeskRefusal.TheVariants.{NotRecorded};
 ghost use Rattle.rd_desk.specs.Histories.{MOST_CALLS as most_calls, entries, IsCapacity, IsLeftBy, LeavesHistory};
@@ -15,7 +15,7 @@ use super::gates::{Answer, DeskRefusal};
 use super::histories::{Call, History, MOST_CALLS};
 use rd_lock::Recorded;
 use rd_marks::{Book, Command};
-use std::alloc::{AllocError, Global};
+use std::alloc::Global;
 use std::snapshot::Snapshot;
 
 /// A book with its history. For contracts alone, it also has the book that was opened.
@@ -84,7 +84,7 @@ impl<const R: usize> BookWithHistory<R> {
         if self.history.entries.len() == MOST_CALLS {
             return Err(DeskRefusal::HistoryFull);
         }
-        if make_room(&mut self.history.entries).is_err() {
+        if self.history.make_room().is_err() {
             return Err(DeskRefusal::NotRecorded);
         }
         let call = Call {
@@ -95,22 +95,4 @@ impl<const R: usize> BookWithHistory<R> {
         self.history.entries.push_reserved((viewer, call));
         Ok(answer)
     }
-}
-
-/// The number of calls for which a history's list has room after it has grown once.
-const FIRST_ROOM: usize = 4;
-
-/// Makes room for one more call, if there is none: the list grows by as many calls as it has, and
-/// at least by `FIRST_ROOM`. Fails only if memory is refused, and the list stays full then.
-fn make_room(calls: &mut Vec<(u64, Call)>) -> Result<(), AllocError>
-    requires grown { IsCapacity (vec_capacity calls.old) }
-    ensures grown { IsCapacity (vec_capacity calls.new) }
-    ensures items { calls.new.items ≡ calls.old.items }
-    ensures ok { OnOk result (vec_len calls.new < vec_capacity calls.new) }
-    ensures err { OnErr result (vec_capacity calls.old ≤ vec_len calls.old) }
-{
-    if calls.len() < calls.capacity() {
-        return Ok(());
-    }
-    calls.reserve_exact(calls.len().max(FIRST_ROOM))
 }
