@@ -9,11 +9,11 @@ ghost use Rattle.clap.specs.Walk.{Text};
 ghost use Rattle.clap.specs.Words.{app_of, found_of, kind_of, rows_of, rule_of, subcommand_rows_of};
 ghost use Rattle.clap.specs.declared.builder.command.Command.TheViews.{out-Command};
 ghost use Rattle.clap.specs.declared.error.kind.ErrorKind.TheVariants.{InvalidValue};
-ghost use Rattle.rd_command_line.specs.Options.{IsRefusedOrNoMemory, AreInRange, flag_text};
+ghost use Rattle.rd_command_line.specs.Options.{IsRefusedOrNoMemory, AreInRange, flag_text, ring_text};
 ghost use Rattle.rd_command_line.specs.CommandLine.{BothAreRingSizes, ValueNamesPair, AreRingSizes, GivesSubcommand, GivesWorld, GivesFile, GivesRun, GivesView, GivesLoad, GivesOptions, GivesFault};
 ghost use Rattle.rd_command_line.specs.CommandLine.{file_rule, files_rule, actors_rule, ring_rule, trace_rule, run_app_without_trace, run_app, view_app, load_app, program_app};
 
-use super::requests::{Options, OptionsFault, parse_ring};
+use super::requests::{Options, OptionsFault};
 use clap::error::ErrorKind;
 use clap::{Arg, ArgAction, ArgMatches, Command, Error, value_parser};
 use rd_cell::limits::MOST_ACTORS;
@@ -194,6 +194,20 @@ fn file_and_trace<'a>(matches: &ArgMatches<'a>) -> Option<(&'a str, bool)>
     let file = matches.get_str("file")?;
     let trace = parse_flag(matches.get_str("trace")?)?;
     Some((file, trace))
+}
+
+/// Returns the ring that a text of the command line spells, `2`, `4` or `8`, or none for any other
+/// text.
+fn parse_ring(text: &str) -> Option<Ring>
+    ensures some { IfSome result (λ ring. text.now ≡ ring_text ring) }
+    ensures none { IsNone result → (ring : Ring) → text.now ≢ ring_text ring }
+{
+    match text {
+        "2" => Some(Ring::Two),
+        "4" => Some(Ring::Four),
+        "8" => Some(Ring::Eight),
+        _ => None,
+    }
 }
 
 /// Returns whether a flag is set, by the text that `clap` keeps for it: `true` or `false`. Returns

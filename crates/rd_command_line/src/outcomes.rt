@@ -45,7 +45,8 @@ pub fn show_outcome<O: Sink, E: Sink>(
 
 /// Writes the message for a command line that gives no options, and returns the exit status: 0
 /// after `Shown`, 2 after `Refused` or `TooManyFiles`, 1 after `NoMemory`. If memory for a text of
-/// `clap` is refused, the program ends as after `NoMemory`. Standard error must not have failed
+/// `clap` is refused, the program ends as after `NoMemory`. The status is the same if a stream
+/// fails, and a stream that gets no message is not called. Standard error must not have failed
 /// before, nor must standard output if the fault is `Shown`.
 fn show_options_fault<O: Sink, E: Sink>(
     alloc: Global,

@@ -1,29 +1,15 @@
 //! What a command line asks for, or why it gives no options.
 
-ghost use Rattle.std.specs.Prelude.{◌≡◌, ◌≢◌, ◌<◌, ◌≤◌, true, false, IfSome, IsNone};
+ghost use Rattle.std.specs.Prelude.{◌≡◌, ◌<◌, ◌≤◌, true, false};
 ghost use Rattle.rd_desk.specs.declared.desks.TheConstants.{MOST_VIEWERS};
 ghost use Rattle.rd_command_line.specs.declared.requests.OptionsFault.TheVariants.{NoMemory};
-ghost use Rattle.rd_command_line.specs.Options.{file_count, ring_text, options_fault};
+ghost use Rattle.rd_command_line.specs.Options.{file_count, options_fault};
 
 use clap::Error;
 use clap::error::ErrorKind;
 use rd_desk::MOST_VIEWERS;
 use rd_script::Ring;
 use std::alloc::AllocError;
-
-/// Returns the ring that a text of the command line spells, `2`, `4` or `8`, or none for any other
-/// text.
-pub fn parse_ring(text: &str) -> Option<Ring>
-    ensures some { IfSome result (λ ring. text.now ≡ ring_text ring) }
-    ensures none { IsNone result → (ring : Ring) → text.now ≢ ring_text ring }
-{
-    match text {
-        "2" => Some(Ring::Two),
-        "4" => Some(Ring::Four),
-        "8" => Some(Ring::Eight),
-        _ => None,
-    }
-}
 
 /// What the command line asks for.
 #[derive(Debug, Drop, PartialEq, Eq)]
