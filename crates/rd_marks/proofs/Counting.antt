@@ -1,6 +1,6 @@
 -- The number of entries in the stretches is the number of different lists, except the empty one,
 -- that begin the events of some bookmark.
-use Rattle.rd_marks.proofs.Prelude.{◌≡◌, ℕ, zero, suc, ◌+◌, ◌-◌, ◌<◌, ◌≤◌, inl, inr, refl, sym, ap, ◌∙◌, subst, List, [], ◌∷◌, ◌++◌, length, take, map, sum_by, Contains, length-append, length-take, arith, range_with_len, take-length, cases_lt, cases_eq, nat_tests, get_or-map, length-map, length-take-le, take-map, take-take, sum_by-cons, Contains-append_left, Contains-append_right, Contains-append_cases, Event, Entry, Begins, MarkName, Stretch, Node, marks_of, named_entries, stretch_list, shared_at, entries_at, AreNested, AreFresh, node_len_in_stretch, greatest_len_in_stretch, AreNeeded, IsAlong, IsDeepest, entry_count, events}
+use Rattle.rd_marks.proofs.Prelude.{◌≡◌, ℕ, zero, suc, ◌+◌, ◌-◌, ◌<◌, ◌≤◌, inl, inr, refl, sym, ap, ◌∙◌, subst, List, [], ◌∷◌, ◌++◌, length, take, map, sum_by, Contains, length-append, length-take, arith, range_with_len, take-length, cases_lt, cases_eq, nat_tests, get_or-map, length-map, length-take-le, take-map, take-take, sum_by-cons, Contains-append_left, Contains-append_right, Contains-append_cases, Event, Entry, Begins, MarkName, Stretch, Node, marks_of, named_entries, stretch_list, shared_at, entries_at, AreNested, AreFresh, node_len_in_stretch, greatest_len_in_stretch, AreNeeded, AgreesFor, IsDeepest, entry_count, events}
 use Rattle.std.proofs.lemmas.List.FromFn.{length-map-range_with_len, get_or-map-range_with_len}
 use Rattle.rd_marks.specs.Beginnings.{IsBeginning, AreDistinct, CountsBeginnings, NeedsNoEntry}
 use Rattle.rd_marks.proofs.MarkLemmas.{mark_of}
@@ -73,7 +73,7 @@ lists_counted (s ∷ ss) = omega (arith, lists_more s ss (length ss), lists_coun
 abbrev IsListed : List Stretch → ℕ → List Event → Type 0
 IsListed ss n es = (at : ℕ) × (at < n) × (shared_at ss at < length es) × Begins es (events (stretch_list ss at))
 
-along_begun : (ss : List Stretch) (i : ℕ) (es : List Event) → Begins es (events (stretch_list ss i)) → IsAlong ss i (length es) es
+along_begun : (ss : List Stretch) (i : ℕ) (es : List Event) → Begins es (events (stretch_list ss i)) → AgreesFor ss i (length es) es
 along_begun ss i es b = record { enough = omega arith; alike = b ∙ sym (take-length es) }
 
 begun_within : (ss : List Stretch) (i : ℕ) (es : List Event) → Begins es (events (stretch_list ss i)) → length es ≤ length (stretch_list ss i)
@@ -94,7 +94,7 @@ begins_list ss ms es h =
     (p.stretch, grind (arith, b, begins_shorter es (events (take p.number xs)) b, event_length (take p.number xs), length-take p.number xs, events_of_first p.number xs, take-take (length es) p.number (events xs)))
 
 -- if a bookmark needs no new entry, the search for its events finds all of them
-pub all_along : (ss : List Stretch) (ms : List (MarkName × Node)) (at n : ℕ) (es : List Event) → IsAlong ss at n es → IsDeepest ss n es
+pub all_along : (ss : List Stretch) (ms : List (MarkName × Node)) (at n : ℕ) (es : List Event) → AgreesFor ss at n es → IsDeepest ss n es
     → NeedsNoEntry (marks_of (named_entries ss ms)) es → n ≡ length es
 all_along ss ms at n es along deepest none =
     elim (cases_lt n (length es)) [

@@ -1,5 +1,5 @@
 -- How each call keeps the fact that the events of `here` begin the session's track.
-use Rattle.rd_marks.proofs.Prelude.{◌≡◌, ℕ, zero, suc, ◌-◌, ◌≤◌, refl, ap, List, [], ◌∷◌, ◌++◌, length, take, drop, Ok, arith, take-append_seam, take-length, take-map, take-take, take-append-le, length-map, length-take, closure, items_where_false, Event, Entry, Begins, Session, Journal, ahead_entries, state, track, State, Node, Stretch, stretch_list, entries_at, IsWithin, IsAlong, events, live_event, is_live, went_through, Result, Refusal, and_then, cases_lt, drop_all, append-nil}
+use Rattle.rd_marks.proofs.Prelude.{◌≡◌, ℕ, zero, suc, ◌-◌, ◌≤◌, refl, ap, List, [], ◌∷◌, ◌++◌, length, take, drop, Ok, arith, take-append_seam, take-length, take-map, take-take, take-append-le, length-map, length-take, closure, items_where_false, Event, Entry, Begins, Session, Journal, ahead_entries, state, track, State, Node, Stretch, stretch_list, entries_at, IsWithin, AgreesFor, events, live_event, is_live, went_through, Result, Refusal, and_then, cases_lt, drop_all, append-nil}
 use Rattle.rd_journal.specs.Moves.{IsLengthened, IsUndoneAlone, IsRolledBack}
 use Rattle.rd_marks.proofs.Starting.{begins_events, begins_shorter, begins_trans, events_length, events_of_first, fewer_begin, entries_length}
 
@@ -52,7 +52,7 @@ module _ (ss : List Stretch) where
   -- begins the live events
   pub live_along : {R : ℕ} (session : Session R) (here at : Node) (xs : List Entry) → events xs ≡ (state session).live → IsWithin ss here
       → Begins (events (entries_at ss here)) (track session) → at.stretch ≡ here.stretch → at.number ≤ here.number → at.number ≤ length xs
-      → IsWithin ss at × IsAlong ss at.stretch at.number (events xs)
+      → IsWithin ss at × AgreesFor ss at.stretch at.number (events xs)
   live_along session here at xs its within stands same fewer few =
       let first = fewer_begin ss here at within same fewer in
       let all = length-map xs (λ (x : Entry). x.event) in

@@ -1,5 +1,5 @@
 -- The bookmarks after one was added, and after stretches were cut.
-use Rattle.rd_marks.proofs.Prelude.{◌≡◌, ℕ, zero, suc, ◌^◌, ◌<◌, ◌≤◌, inl, inr, refl, sym, ap, ◌∙◌, subst, List, [], ◌∷◌, ◌++◌, map, length, take, drop, length-append, All, arith, cases_lt, sum_by-le, length-map, map-append, take-append-drop, All-push, All-contains, All-head, All-map, All-nil, All-tail, World, MOST_STEPS, Event, Entry, Begins, MarkName, Node, Stretch, Shift, shifted, Stays, IsGrown, IsShrunk, KeepsEntries, MOST_MARKS, AreEntriesOfRun, AreRuns, IsKept, IsPruned, named_entries, nodes_of, entry_count, stretch_list, entries_at, greatest_len_in_stretch, needed_at, IsWithin, IsAlong, AreNested, AreNeeded, AreNeededFrom, nat_tests, events, IsRunFrom, run, take-length, map-id}
+use Rattle.rd_marks.proofs.Prelude.{◌≡◌, ℕ, zero, suc, ◌^◌, ◌<◌, ◌≤◌, inl, inr, refl, sym, ap, ◌∙◌, subst, List, [], ◌∷◌, ◌++◌, map, length, take, drop, length-append, All, arith, cases_lt, sum_by-le, length-map, map-append, take-append-drop, All-push, All-contains, All-head, All-map, All-nil, All-tail, World, MOST_STEPS, Event, Entry, Begins, MarkName, Node, Stretch, Shift, shifted, Stays, IsGrown, IsShrunk, KeepsEntries, MOST_MARKS, AreEntriesOfRun, AreRuns, IsKept, IsPruned, named_entries, nodes_of, entry_count, stretch_list, entries_at, greatest_len_in_stretch, needed_at, IsWithin, AgreesFor, AreNested, AreNeeded, AreNeededFrom, nat_tests, events, IsRunFrom, run, take-length, map-id}
 use Rattle.std.proofs.lemmas.Map.Made.{keys_of-map_values}
 use mathlib.Core.List.{map-map}
 use Rattle.rd_marks.specs.declared.stretches.changes.Grown.{Grown}
@@ -46,7 +46,7 @@ module _ (old new : List Stretch) (unchanged : KeepsEntries old new) where
 -- A node whose events begin the live ones has the first live entries
 
 pub same_entries : (w : World) (ss : List Stretch) → AreNested ss → (ms : List (MarkName × Node)) → AreNeeded ss (nodes_of ms) → AreRuns w (named_entries ss ms)
-    → (at : Node) → IsWithin ss at → (live : List Entry) → IsRunFrom w live → IsAlong ss at.stretch at.number (events live) → entries_at ss at ≡ take at.number live
+    → (at : Node) → IsWithin ss at → (live : List Entry) → IsRunFrom w live → AgreesFor ss at.stretch at.number (events live) → entries_at ss at ≡ take at.number live
 same_entries w ss rule ms needed runs at within live run along = by at.number refl
   where
     by : (n : ℕ) → at.number ≡ n → entries_at ss at ≡ take at.number live
@@ -114,7 +114,7 @@ pub record IsSet (w : World) (old new : List Stretch) (ms es : List (MarkName ×
 
 module _ (w : World) (old new : List Stretch) (rule : AreNested old) (ms : List (MarkName × Node)) (here : Node) (kept : IsKept old ms here) (fewer : length (named_entries old ms) < MOST_MARKS)
     (runs : AreRuns w (named_entries old ms)) (live : List Entry) (run : AreEntriesOfRun w live) (steps : List Event) (stands : Begins (events (entries_at old here)) steps)
-    (began : Begins (events live) steps) (at : Node) (within : IsWithin old at) (along : IsAlong old at.stretch at.number (events live))
+    (began : Begins (events live) steps) (at : Node) (within : IsWithin old at) (along : AgreesFor old at.stretch at.number (events live))
     (grown : Grown) (grows : IsGrown old new at live grown) (name : MarkName) where
   stay : All (λ (m : MarkName × Node). Stays old new grown.shift m.1) ms
   stay = λ k d inside. grows.stays _ (kept.within k d inside)

@@ -1,5 +1,5 @@
 -- Reading the entries of a node, and comparing the stretches with other entries.
-use Rattle.rd_marks.proofs.Prelude.{◌≡◌, ◌⊎◌, ℕ, zero, suc, ◌+◌, ◌-◌, ◌<◌, ◌≤◌, length-drop, refl, sym, ap, ◌∙◌, List, [], ◌∷◌, ◌++◌, length, take, drop, get_or, reverse, slice_get, option_map, Some, arith, drop-cons, take-add, cases_lt, append_assoc, drop-map, drop-take, length-map, reverse-append, take-take, slice_get-map, slice_get_read, Event, Entry, Node, Stretch, entry_count, stretch_list, list_before, shared_at, entries_at, IsWithin, IsCanonical, IsAlong, AreNested, AreFresh, events, numbered, slice_get_within, get_or_from_slice_get, take-suc}
+use Rattle.rd_marks.proofs.Prelude.{◌≡◌, ◌⊎◌, ℕ, zero, suc, ◌+◌, ◌-◌, ◌<◌, ◌≤◌, length-drop, refl, sym, ap, ◌∙◌, List, [], ◌∷◌, ◌++◌, length, take, drop, get_or, reverse, slice_get, option_map, Some, arith, drop-cons, take-add, cases_lt, append_assoc, drop-map, drop-take, length-map, reverse-append, take-take, slice_get-map, slice_get_read, Event, Entry, Node, Stretch, entry_count, stretch_list, list_before, shared_at, entries_at, IsWithin, IsCanonical, AgreesFor, AreNested, AreFresh, events, numbered, slice_get_within, get_or_from_slice_get, take-suc}
 use Rattle.rd_journal.proofs.ListLemmas.{nth}
 use Rattle.rd_marks.proofs.StretchLists.{own_at, stretch_there, total, shared_within, begins_shared, behind_shared, list_past}
 use Rattle.rd_marks.proofs.Fresh.{Follows, follows_compared, follows_skipped, along_itself, along_within, between}
@@ -83,14 +83,14 @@ module _ (ss : List Stretch) (rule : AreNested ss) where
       grind (arith, its, behind_shared ss rule p.stretch (shared_at ss p.stretch), slice_get_take (stretch_list ss p.stretch) p.number (p.number - 1), fact)
 
   -- how many events of another list a stretch's list begins with
-  module _ (i n m : ℕ) (es : List Event) (shared : shared_at ss i ≤ n) (along : IsAlong ss i n es) where
+  module _ (i n m : ℕ) (es : List Event) (shared : shared_at ss i ≤ n) (along : AgreesFor ss i n es) where
     own_events : drop n (events (stretch_list ss i)) ≡ events (drop (n - shared_at ss i) (own_at ss i))
     own_events = sym (events_behind n (stretch_list ss i)) ∙ ap events (behind_shared ss rule i n shared)
 
-    pub along_further : m ≤ length es - n → take m (events (drop (n - shared_at ss i) (own_at ss i))) ≡ take m (drop n es) → IsAlong ss i (n + m) es
+    pub along_further : m ≤ length es - n → take m (events (drop (n - shared_at ss i) (own_at ss i))) ≡ take m (drop n es) → AgreesFor ss i (n + m) es
     along_further few same = grind (arith, few, same, along, own_events, take-add n m (events (stretch_list ss i)), take-add n m es)
 
-    pub along_no_further : ((e : Event) → slice_get (events (drop (n - shared_at ss i) (own_at ss i))) m ≡ Some e → slice_get (drop n es) m ≡ Some e → ⊥) → IsAlong ss i (suc (n + m)) es → ⊥
+    pub along_no_further : ((e : Event) → slice_get (events (drop (n - shared_at ss i) (own_at ss i))) m ≡ Some e → slice_get (drop n es) m ≡ Some e → ⊥) → AgreesFor ss i (suc (n + m)) es → ⊥
     along_no_further apart further =
         let xs = events (stretch_list ss i) in
         let found = nth es (n + m) further.enough in
@@ -100,7 +100,7 @@ module _ (ss : List Stretch) (rule : AreNested ss) where
 -- Following the stretches along events
 
 module _ (ss : List Stretch) (rule : AreNested ss) (fresh : AreFresh ss) (es : List Event) (k : ℕ) (at : Node) (f : Follows ss es k at.stretch at.number) (high : at.stretch ≤ k) where
-  pub step_compared : (at.stretch ≡ k) ⊎ (at.number ≤ shared_at ss k) → shared_at ss k ≤ at.number → (m : ℕ) → at.number ≤ m → IsAlong ss k m es → (IsAlong ss k (suc m) es → ⊥)
+  pub step_compared : (at.stretch ≡ k) ⊎ (at.number ≤ shared_at ss k) → shared_at ss k ≤ at.number → (m : ℕ) → at.number ≤ m → AgreesFor ss k m es → (AgreesFor ss k (suc m) es → ⊥)
       → (next : Node) → (at.number < m → next ≡ record { stretch = k; number = m }) → (m ≡ at.number → next ≡ at) → Follows ss es (suc k) next.stretch next.number × (next.stretch ≤ k)
   step_compared low shared m h along most next more others = grind (arith, cases_lt at.number m, more, others, follows_compared ss rule fresh es k at.stretch at.number m f h along most)
 

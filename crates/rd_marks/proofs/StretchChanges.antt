@@ -1,5 +1,5 @@
 -- Inserting, removing and changing a stretch keeps the invariant, and each node keeps its entries.
-use Rattle.rd_marks.proofs.Prelude.{◌≡◌, ◌⊎◌, ℕ, zero, suc, ◌+◌, ◌-◌, ◌<◌, ◌≤◌, inl, inr, refl, sym, ap, ◌∙◌, subst, List, [], ◌∷◌, ◌++◌, map, length, take, length-take, arith, cases_lt, cases_eq, cases_order, nat_tests, length-map, take-append-le, take-take, take-map, MOST_STEPS, Event, Entry, Stretch, Node, stretch_list, list_before, shared_at, entries_at, IsWithin, AreNested, AreFresh, greatest_len_in_stretch, needed_at, AreNeeded, AreNeededFrom, IsAlong, IsDeepest, after_insertion, after_removal, events, max}
+use Rattle.rd_marks.proofs.Prelude.{◌≡◌, ◌⊎◌, ℕ, zero, suc, ◌+◌, ◌-◌, ◌<◌, ◌≤◌, inl, inr, refl, sym, ap, ◌∙◌, subst, List, [], ◌∷◌, ◌++◌, map, length, take, length-take, arith, cases_lt, cases_eq, cases_order, nat_tests, length-map, take-append-le, take-take, take-map, MOST_STEPS, Event, Entry, Stretch, Node, stretch_list, list_before, shared_at, entries_at, IsWithin, AreNested, AreFresh, greatest_len_in_stretch, needed_at, AreNeeded, AreNeededFrom, AgreesFor, IsDeepest, after_insertion, after_removal, events, max}
 use Rattle.rd_marks.proofs.StretchLists.{shared_within, take_continued, IsChanged, IsInserted, IsReplaced}
 use Rattle.rd_marks.proofs.Fresh.{along_taken, along_itself, along_both, later_apart}
 
@@ -54,14 +54,14 @@ module _ (old new : List Stretch) (j more : ℕ) (change : IsChanged old new j m
 
   -- `AreFresh` stays if two things hold. No earlier list begins with the changed one up to its
   -- first own event. The changed one begins with no later list up to that list's first own event
-  fresh_changed : AreFresh old → ((m : ℕ) → m < j → IsAlong new j (suc (shared_at new j)) (events (stretch_list old m)) → ⊥)
-      → ((k : ℕ) → j < more + k → k < length old → IsAlong old k (suc (shared_at old k)) (events (stretch_list new j)) → ⊥) → AreFresh new
+  fresh_changed : AreFresh old → ((m : ℕ) → m < j → AgreesFor new j (suc (shared_at new j)) (events (stretch_list old m)) → ⊥)
+      → ((k : ℕ) → j < more + k → k < length old → AgreesFor old k (suc (shared_at old k)) (events (stretch_list new j)) → ⊥) → AreFresh new
   fresh_changed fresh own later i m h l a =
       elim (cases_eq i j) [
         | inl same ↦ grind arith
         | inr other ↦
             let from = moved i other l in
-            let b : IsAlong old from.0 (suc (shared_at old from.0)) (events (stretch_list new m)) = grind (arith, a, from.1, along_taken old new from.0 i) in
+            let b : AgreesFor old from.0 (suc (shared_at old from.0)) (events (stretch_list new m)) = grind (arith, a, from.1, along_taken old new from.0 i) in
             grind (arith, b, h, l, change.small, cases_eq m j, moved m, later from.0, from.1, fresh from.0)
       ]
 
@@ -78,9 +78,9 @@ module _ (old new : List Stretch) (j : ℕ) (s : Stretch) (change : IsInserted o
 
   -- `AreFresh` stays if no list went on as the new one does after the entries that it shares
   pub fresh_inserted : AreNested old → AreFresh old → (at : ℕ) (es : List Event) → events (stretch_list new j) ≡ es → (0 < length old → at < j)
-      → IsAlong old at s.shared es → IsDeepest old s.shared es → AreFresh new
+      → AgreesFor old at s.shared es → IsDeepest old s.shared es → AreFresh new
   fresh_inserted rule fresh at es its low along deepest =
-      let on = λ (m : ℕ) (a : IsAlong new j (suc (shared_at new j)) (events (stretch_list old m))).
+      let on = λ (m : ℕ) (a : AgreesFor new j (suc (shared_at new j)) (events (stretch_list old m))).
       along_both old new m j _ _ (along_itself old m _ (omega (arith, a.enough, length-map (stretch_list old m) (λ (x : Entry). x.event)))) a in
       fresh_changed old new j 1 change.changed fresh (λ m h a. grind (arith, h, its, change.changed.within, change.here.1, deepest m, on m a))
       (λ k high there a. later_apart old rule fresh es at s.shared k (omega (arith, low (omega (arith, there)), high)) there along deepest (rw its at a))
@@ -143,18 +143,18 @@ module _ (old new : List Stretch) (j : ℕ) (change : IsReplaced old new j) wher
   -- `AreFresh` stays if the list is as before up to its first own event, and begins with no later
   -- list up to that list's first own event
   fresh_replaced : AreFresh old → take (suc (shared_at old j)) (stretch_list old j) ≡ take (suc (shared_at old j)) (stretch_list new j)
-      → ((k : ℕ) → j < k → k < length old → IsAlong old k (suc (shared_at old k)) (events (stretch_list new j)) → ⊥) → AreFresh new
+      → ((k : ℕ) → j < k → k < length old → AgreesFor old k (suc (shared_at old k)) (events (stretch_list new j)) → ⊥) → AreFresh new
   fresh_replaced fresh opening later =
       fresh_changed old new j 0 change.changed fresh
       (λ m h a. fresh j m h change.inside (grind (arith, a, opening, change.shared, along_taken old new j j (suc (shared_at old j)))))
       (λ k h there a. later k (omega (arith, h)) there a)
 
   pub fresh_appended : AreNested old → AreFresh old → (rest : List Entry) (es : List Event) → stretch_list new j ≡ stretch_list old j ++ rest
-      → events (stretch_list new j) ≡ es → IsAlong old j (length (stretch_list old j)) es → IsDeepest old (length (stretch_list old j)) es → AreFresh new
+      → events (stretch_list new j) ≡ es → AgreesFor old j (length (stretch_list old j)) es → IsDeepest old (length (stretch_list old j)) es → AreFresh new
   fresh_appended rule fresh rest es its all along deepest =
       fresh_replaced fresh (sym (ap (take (suc (shared_at old j))) its ∙ take-append-le (suc (shared_at old j)) (stretch_list old j) rest (omega (arith, rule.some j change.inside))))
       (λ k h l a. later_apart old rule fresh es j (length (stretch_list old j)) k h l along deepest
-      (subst (λ (fs : List Event). IsAlong old k (suc (shared_at old k)) fs) all a))
+      (subst (λ (fs : List Event). AgreesFor old k (suc (shared_at old k)) fs) all a))
 
   pub fresh_cut : AreFresh old → (n : ℕ) → shared_at old j < n → stretch_list new j ≡ take n (stretch_list old j) → AreFresh new
   fresh_cut fresh n less its =

@@ -1,5 +1,5 @@
 -- The contracts of adding entries to the stretches and of cutting a stretch.
-use Rattle.rd_marks.proofs.Prelude.{◌≡◌, ℕ, zero, suc, ◌-◌, ◌<◌, ◌≤◌, ◌^◌, refl, sym, ap, ◌∙◌, subst, List, [], ◌∷◌, ◌++◌, length, take, drop, set, insert, remove, length-take, arith, drop-length, nat_tests, append-nil, map-append, map-id, take_all, MOST_STEPS, Entry, Node, Stretch, Shift, greatest_len_in_stretch, stretch_list, list_before, shared_at, entries_at, IsWithin, IsEnd, IsAlong, IsDeepest, AreNested, AreFresh, CanShiftUp, IsGrown, IsShrunk, KeepsEntries, events, cases_order}
+use Rattle.rd_marks.proofs.Prelude.{◌≡◌, ℕ, zero, suc, ◌-◌, ◌<◌, ◌≤◌, ◌^◌, refl, sym, ap, ◌∙◌, subst, List, [], ◌∷◌, ◌++◌, length, take, drop, set, insert, remove, length-take, arith, drop-length, nat_tests, append-nil, map-append, map-id, take_all, MOST_STEPS, Entry, Node, Stretch, Shift, greatest_len_in_stretch, stretch_list, list_before, shared_at, entries_at, IsWithin, IsEnd, AgreesFor, IsDeepest, AreNested, AreFresh, CanShiftUp, IsGrown, IsShrunk, KeepsEntries, events, cases_order}
 use Rattle.rd_marks.specs.declared.stretches.changes.Shift.TheVariants.{Same, Up, Down}
 use Rattle.rd_marks.proofs.StretchLists.{own_at, shared_within, inserted_at, removed_at, appended_at, cut_at}
 use Rattle.rd_marks.proofs.Fresh.{along_taken}
@@ -30,7 +30,7 @@ pub record Grows (old new : List Stretch) (at : Node) (entries : List Entry) (sh
   pub grown : IsGrown old new at entries (record { node = node; shift = shift })
 
 module _ (ss : List Stretch) (few : length ss < 2 ^ 64) (rule : AreNested ss) (fresh : AreFresh ss) (live : List Entry) (most : length live ≤ MOST_STEPS) (at : Node)
-    (more : at.number < length live) (along : IsAlong ss at.stretch at.number (events live)) (deepest : IsDeepest ss at.number (events live)) where
+    (more : at.number < length live) (along : AgreesFor ss at.stretch at.number (events live)) (deepest : IsDeepest ss at.number (events live)) where
   -- a list of the node's entries and then the later live ones has the live events
   live_list : (xs : List Entry) → xs ≡ entries_at ss at ++ drop at.number live → (events xs ≡ events live) × (length xs ≡ length live)
   live_list xs its =
@@ -56,7 +56,7 @@ module _ (ss : List Stretch) (few : length ss < 2 ^ 64) (rule : AreNested ss) (f
       record {
         nested = nested;
         fresh =
-            fresh_appended ss new j change rule fresh rest (events live) both.1 lives.0 (subst (λ (m : ℕ). IsAlong ss j m (events live)) end.all along)
+            fresh_appended ss new j change rule fresh rest (events live) both.1 lives.0 (subst (λ (m : ℕ). AgreesFor ss j m (events live)) end.all along)
             (subst (λ (m : ℕ). IsDeepest ss m (events live)) end.all deepest);
         grown = record {
           within = omega (arith, long);
@@ -85,7 +85,7 @@ module _ (ss : List Stretch) (few : length ss < 2 ^ 64) (rule : AreNested ss) (f
       record {
         nested = nested;
         fresh =
-            before j first begins (λ k low on. fresh_inserted ss new j s change rule fresh k (events live) lives.0 low (subst (λ (m : ℕ). IsAlong ss k m (events live)) (sym shared) on)
+            before j first begins (λ k low on. fresh_inserted ss new j s change rule fresh k (events live) lives.0 low (subst (λ (m : ℕ). AgreesFor ss k m (events live)) (sym shared) on)
             (subst (λ (m : ℕ). IsDeepest ss m (events live)) (sym shared) deepest));
         grown = record {
           within = omega (arith, long);
@@ -98,10 +98,10 @@ module _ (ss : List Stretch) (few : length ss < 2 ^ 64) (rule : AreNested ss) (f
     where
       -- the list before the new stretch begins with the events of the node
       before : (j : ℕ) → (0 < length ss → 0 < j) → take at.number (list_before ss j) ≡ entries_at ss at
-          → {X : Type 0} → ((k : ℕ) → (0 < length ss → k < j) → IsAlong ss k at.number (events live) → X) → X
+          → {X : Type 0} → ((k : ℕ) → (0 < length ss → k < j) → AgreesFor ss k at.number (events live) → X) → X
       before zero first begins go = go 0 (λ some. omega (arith, first some)) (none begins)
         where
-          none : take at.number [] ≡ entries_at ss at → IsAlong ss 0 at.number (events live)
+          none : take at.number [] ≡ entries_at ss at → AgreesFor ss 0 at.number (events live)
           none h = along_taken ss ss 0 at.stretch at.number (events live) (grind arith) along
       before (suc k) first begins go = go k (λ some. omega arith) (along_taken ss ss k at.stretch at.number (events live) begins along)
 

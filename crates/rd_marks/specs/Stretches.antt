@@ -61,14 +61,14 @@ pub record AreNested (ss : List Stretch) : Type 0 where
   pub few : (i : ℕ) → i < length ss → length (stretch_list ss i) ≤ MOST_STEPS
 
 -- there are at least n of these events, and the list of the i-th stretch begins with the first n
-pub record IsAlong (ss : List Stretch) (i n : ℕ) (es : List Event) : Type 0 where
+pub record AgreesFor (ss : List Stretch) (i n : ℕ) (es : List Event) : Type 0 where
   pub enough : n ≤ length es
   pub alike : take n (events (stretch_list ss i)) ≡ take n es
 
 -- no earlier list begins with the events that a stretch's list shares and the first event of its
 -- own
 abbrev pub AreFresh : List Stretch → Type 0
-AreFresh ss = (i j : ℕ) → j < i → i < length ss → IsAlong ss i (suc (shared_at ss i)) (events (stretch_list ss j)) → ⊥
+AreFresh ss = (i j : ℕ) → j < i → i < length ss → AgreesFor ss i (suc (shared_at ss i)) (events (stretch_list ss j)) → ⊥
 
 -- the number of entries of a node if it is in the i-th stretch, otherwise 0
 abbrev pub node_len_in_stretch : ℕ → Node → ℕ
@@ -94,7 +94,7 @@ AreNeeded ss nodes = AreNeededFrom 0 ss nodes
 
 -- no stretch's list begins with the first n + 1 of these events
 abbrev pub IsDeepest : List Stretch → ℕ → List Event → Type 0
-IsDeepest ss n es = (i : ℕ) → i < length ss → IsAlong ss i (suc n) es → ⊥
+IsDeepest ss n es = (i : ℕ) → i < length ss → AgreesFor ss i (suc n) es → ⊥
 
 -- the number of entries that the stretches keep, all together
 abbrev pub entry_count : List Stretch → ℕ

@@ -79,7 +79,7 @@ pub(crate) struct Grown {
 }
 
 impl Stretches {
-    ghost use Rattle.rd_marks.specs.Stretches.{list_before, shared_at, entries_at, IsWithin, IsEnd, IsAlong, IsDeepest};
+    ghost use Rattle.rd_marks.specs.Stretches.{list_before, shared_at, entries_at, IsWithin, IsEnd, AgreesFor, IsDeepest};
     ghost use Rattle.rd_marks.specs.Changes.{IsGrown, IsShrunk, KeepsEntries};
 
     /// Inserts the live entries that come after those of node `at`: at the end of its stretch if
@@ -100,7 +100,7 @@ impl Stretches {
     ) -> Result<Grown, AllocError>
         requires within { IsWithin self.old.list.items at }
         requires few { length live.now ≤ MOST_STEPS }
-        requires along { IsAlong self.old.list.items at.stretch at.number (events live.now) }
+        requires agrees { AgreesFor self.old.list.items at.stretch at.number (events live.now) }
         requires deepest { IsDeepest self.old.list.items at.number (events live.now) }
         ensures ok { IfOk result
             (λ grown. IsGrown self.old.list.items self.new.list.items at live.now grown) }
@@ -143,7 +143,7 @@ impl Stretches {
         requires end { IsEnd self.old.list.items at }
         requires more { at.number < length live.now }
         requires few { length live.now ≤ MOST_STEPS }
-        requires along { IsAlong self.old.list.items at.stretch at.number (events live.now) }
+        requires agrees { AgreesFor self.old.list.items at.stretch at.number (events live.now) }
         requires deepest { IsDeepest self.old.list.items at.number (events live.now) }
         ensures ok { IfOk result
             (λ grown. IsGrown self.old.list.items self.new.list.items at live.now grown) }
@@ -171,7 +171,7 @@ impl Stretches {
         requires within { IsWithin self.old.list.items at }
         requires more { at.number < length live.now }
         requires few { length live.now ≤ MOST_STEPS }
-        requires along { IsAlong self.old.list.items at.stretch at.number (events live.now) }
+        requires agrees { AgreesFor self.old.list.items at.stretch at.number (events live.now) }
         requires deepest { IsDeepest self.old.list.items at.number (events live.now) }
         ensures ok { IfOk result
             (λ grown. IsGrown self.old.list.items self.new.list.items at live.now grown) }

@@ -8,15 +8,16 @@ use rd_journal::EntryList;
 use rd_step::{Entry, common_beginning_len};
 
 impl Stretches {
-    ghost use Rattle.rd_marks.specs.Stretches.{shared_at, IsWithin, IsAlong, IsDeepest};
+    ghost use Rattle.rd_marks.specs.Stretches.{shared_at, IsWithin, AgreesFor, IsDeepest};
 
     /// Returns the node with the most entries among those whose events begin the live ones. The
     /// search starts at `from`, which must be such a node.
     pub(crate) fn deepest_agreeing_node(&self, from: Node, live: &EntryList) -> Node
         requires within { IsWithin self.now.list.items from }
-        requires along { IsAlong self.now.list.items from.stretch from.number (events live.now) }
+        requires agrees { AgreesFor self.now.list.items from.stretch from.number (events live.now) }
         ensures within { IsWithin self.now.list.items result }
-        ensures along { IsAlong self.now.list.items result.stretch result.number (events live.now) }
+        ensures agrees { AgreesFor self.now.list.items result.stretch result.number
+            (events live.now) }
         ensures deepest { IsDeepest self.now.list.items result.number (events live.now) }
     {
         let mut at = self.canonical_node(from);
@@ -39,10 +40,10 @@ impl Stretches {
     fn agreement_len(&self, i: usize, n: usize, live: &EntryList) -> usize
         requires there { i < length self.now.list.items }
         requires own { shared_at self.now.list.items i ≤ n }
-        requires along { IsAlong self.now.list.items i n (events live.now) }
+        requires agrees { AgreesFor self.now.list.items i n (events live.now) }
         ensures more { n ≤ result }
-        ensures along { IsAlong self.now.list.items i result (events live.now) }
-        ensures most { IsAlong self.now.list.items i (suc result) (events live.now) → ⊥ }
+        ensures agrees { AgreesFor self.now.list.items i result (events live.now) }
+        ensures most { AgreesFor self.now.list.items i (suc result) (events live.now) → ⊥ }
     {
         let stretch = &self.list[i];
         n + common_beginning_len(

@@ -6,8 +6,8 @@ use Rattle.rd_marks.proofs.bookmarks.Bookmarks.set.Given.{Over}
 use Rattle.rd_marks.proofs.bookmarks.Bookmarks.set.Goals.{After-here_after_growth-self, In_err-grown}
 use Rattle.rd_marks.proofs.bookmarks.Bookmarks.set.Goals as goal
 
-pub deepest_agreeing_node-at-requires-clause-along : goal.deepest_agreeing_node-at-requires-clause-along
-deepest_agreeing_node-at-requires-clause-along g c =
+pub deepest_agreeing_node-at-requires-clause-agrees : goal.deepest_agreeing_node-at-requires-clause-agrees
+deepest_agreeing_node-at-requires-clause-agrees g c =
     (live_along c.args.self.now.stretches.list.items c.args.session.now c.args.self.now.here c.truncated.result c.live-live.result c.live-live.ensures.events c.args.self.now.kept.lies c.requires.stands
     c.truncated.ensures.stretch (omega (arith, c.truncated.ensures.number)) (omega (arith, c.truncated.ensures.number, c.len.ensures))).1
 
@@ -42,7 +42,7 @@ returns-in_err-grown-clause-stands g c = rw (stay g (goal.at.returns-in_err-grow
 
 pub returns-in_err-grown-clause-succeeds : goal.returns-in_err-grown-clause-succeeds
 returns-in_err-grown-clause-succeeds g c =
-    let fact = all_along c.args.self.now.stretches.list.items c.args.self.now.names.entries c.deepest_agreeing_node-at.result.stretch c.deepest_agreeing_node-at.result.number (events c.live-live.result) c.deepest_agreeing_node-at.ensures.along
+    let fact = all_along c.args.self.now.stretches.list.items c.args.self.now.names.entries c.deepest_agreeing_node-at.result.stretch c.deepest_agreeing_node-at.result.number (events c.live-live.result) c.deepest_agreeing_node-at.ensures.agrees
     c.deepest_agreeing_node-at.ensures.deepest in
     grind (arith, length-map, c.live-live.ensures.events, c.in_err-grown.ensures.succeeds, fact)
 
@@ -58,7 +58,7 @@ put_last g c =
     let live = c.live-live in
     let at = c.deepest_agreeing_node-at in
     is_set _ _ _ b.stretches.nested _ _ b.kept c.requires.few c.requires.runs live.result (record { few = live.ensures.few; ran = live.ensures.run }) _ c.requires.stands
-    (live_begin c.args.session.now live.result live.ensures.events) at.result at.ensures.within at.ensures.along c.in_ok-grown.grown c.in_ok-grown.ensures.ok c.args.name _ _
+    (live_begin c.args.session.now live.result live.ensures.events) at.result at.ensures.within at.ensures.agrees c.in_ok-grown.grown c.in_ok-grown.ensures.ok c.args.name _ _
     c.reserve.ensures.entries c.add_bookmark.ensures _ c.len-2.result c.here_after_growth-self.ensures.near c.here_after_growth-self.ensures.far
 
 pub invariant_of-self-2 : goal.invariant_of-self-2

@@ -1,4 +1,4 @@
-use Rattle.rd_marks.proofs.Prelude.{List, ◌++◌, ◌≤◌, take, lit<, ap, subst, length, ◌∙◌, arith, on_err_weaker, length-map, Entry, journal, state, entries_at, events, IsRunFrom, AreInPieces, ◌≡◌, ℕ, suc, take-length, take-take, Event, Begins, Node, Stretch, stretch_list, IsWithin, IsAlong, IsDeepest, ◌+◌, MOST_STEPS, length-drop, drop_all}
+use Rattle.rd_marks.proofs.Prelude.{List, ◌++◌, ◌≤◌, take, lit<, ap, subst, length, ◌∙◌, arith, on_err_weaker, length-map, Entry, journal, state, entries_at, events, IsRunFrom, AreInPieces, ◌≡◌, ℕ, suc, take-length, take-take, Event, Begins, Node, Stretch, stretch_list, IsWithin, AgreesFor, IsDeepest, ◌+◌, MOST_STEPS, length-drop, drop_all}
 use Rattle.rd_marks.proofs.Here.{live_along}
 use Rattle.rd_marks.proofs.Starting.{entries_length, begins_shorter, stretch_within, events_length, events_of_first, first_events}
 use Rattle.rd_marks.proofs.EntryLemmas.{switched, joined_events, lacks_room_to_go, may_switch}
@@ -6,7 +6,7 @@ use Rattle.rd_marks.proofs.bookmarks.going.switch_to.Goals as goal
 
 module _ (ss : List Stretch) where
   -- the live events have the first n in common with a node if a node whose events begin them has
-  common_live : (b node : Node) (n : ℕ) (es live : List Event) → es ≡ live → n ≤ b.number → IsAlong ss b.stretch b.number es
+  common_live : (b node : Node) (n : ℕ) (es live : List Event) → es ≡ live → n ≤ b.number → AgreesFor ss b.stretch b.number es
       → take n (entries_at ss b) ≡ take n (entries_at ss node) → take n live ≡ take n (events (entries_at ss node))
   common_live b node n es live same within along alike =
       let fact = take-take n b.number (events (stretch_list ss b.stretch)) in
@@ -19,7 +19,7 @@ module _ (ss : List Stretch) where
       grind (arith, h, deepest node.stretch, stretch_within ss node is, events_length ss node is, begins_shorter, first_events ss node (suc n), fact)
 
   -- if the node's events begin the live ones, all of them are found to be in common
-  whole_common : (b node : Node) (n : ℕ) (es : List Event) → IsWithin ss node → IsAlong ss b.stretch b.number es → IsDeepest ss b.number es
+  whole_common : (b node : Node) (n : ℕ) (es : List Event) → IsWithin ss node → AgreesFor ss b.stretch b.number es → IsDeepest ss b.number es
       → Begins (events (entries_at ss node)) es → n ≤ node.number
       → ((m : ℕ) → m ≤ b.number → m ≤ node.number → take m (events (entries_at ss b)) ≡ take m (events (entries_at ss node)) → m ≤ n) → node.number ≡ n
   whole_common b node n es is along deepest h within most =
@@ -28,8 +28,8 @@ module _ (ss : List Stretch) where
       let fact_3 = no_deeper node b.number es is deepest h in
       grind (arith, h, within, along, most node.number, fact_3, events_length ss node is, first_events ss b node.number, fact, take-take node.number b.number es, fact_2)
 
-pub deepest_agreeing_node-beginning-requires-clause-along : goal.deepest_agreeing_node-beginning-requires-clause-along
-deepest_agreeing_node-beginning-requires-clause-along g c =
+pub deepest_agreeing_node-beginning-requires-clause-agrees : goal.deepest_agreeing_node-beginning-requires-clause-agrees
+deepest_agreeing_node-beginning-requires-clause-agrees g c =
     (live_along c.args.stretches.now.list.items c.args.session.now c.args.here c.truncated.result c.live-live.result c.live-live.ensures.events c.requires.here c.requires.stands c.truncated.ensures.stretch
     (omega (arith, c.truncated.ensures.number)) (omega (arith, c.truncated.ensures.number, c.len.ensures))).1
 
@@ -40,18 +40,18 @@ switch-requires g c =
     let said = c.common_len-common.ensures in
     let given = c.deref.ensures.value ∙ c.in-Ok.ensures.ok in
     let same = common_live ss c.deepest_agreeing_node-beginning.result c.args.node n (events c.live-live.result) (state c.args.session.now).live c.live-live.ensures.events said.first
-    c.deepest_agreeing_node-beginning.ensures.along said.alike in
+    c.deepest_agreeing_node-beginning.ensures.agrees said.alike in
     let run = subst (λ (xs : List Entry). IsRunFrom (state c.args.session.now).start xs) c.live-live.ensures.entries c.live-live.ensures.run in
     let live = length-map c.live-live.result (λ (x : Entry). x.event) in
     let few : n + length c.deref.result.now ≤ MOST_STEPS =
     omega (arith, said.second, entries_length ss c.args.node c.requires.within, c.requires.run.few, ap length given, length-drop n (entries_at ss c.args.node)) in
     let may = may_switch (journal c.args.session.now) n c.deref.result.now (entries_at ss c.args.node) given run c.requires.run same in
-    (lit< tt, (omega (arith, said.first, c.deepest_agreeing_node-beginning.ensures.along.enough, ap length c.live-live.ensures.entries, live), (few, may)))
+    (lit< tt, (omega (arith, said.first, c.deepest_agreeing_node-beginning.ensures.agrees.enough, ap length c.live-live.ensures.entries, live), (few, may)))
 
 pub returns-in-Err-clause-succeeds : goal.returns-in-Err-clause-succeeds
 returns-in-Err-clause-succeeds g c =
     λ h. c.in-Err.ensures.succeeds (whole_common c.args.stretches.now.list.items c.deepest_agreeing_node-beginning.result c.args.node c.common_len-common.result (events c.live-live.result) c.requires.within
-    c.deepest_agreeing_node-beginning.ensures.along c.deepest_agreeing_node-beginning.ensures.deepest (grind (arith, c.live-live.ensures.events, h)) c.common_len-common.ensures.second c.common_len-common.ensures.most)
+    c.deepest_agreeing_node-beginning.ensures.agrees c.deepest_agreeing_node-beginning.ensures.deepest (grind (arith, c.live-live.ensures.events, h)) c.common_len-common.ensures.second c.common_len-common.ensures.most)
 
 pub returns-in-Ok-clause-ok : goal.returns-in-Ok-clause-ok
 returns-in-Ok-clause-ok g c =
@@ -64,7 +64,7 @@ returns-in-Ok-clause-unchanged g c = on_err_weaker c.switch.result (λ is. is.jo
 
 pub returns-in-Ok-clause-succeeds : goal.returns-in-Ok-clause-succeeds
 returns-in-Ok-clause-succeeds g c = λ h.
-    let all = whole_common c.args.stretches.now.list.items c.deepest_agreeing_node-beginning.result c.args.node c.common_len-common.result (events c.live-live.result) c.requires.within c.deepest_agreeing_node-beginning.ensures.along
+    let all = whole_common c.args.stretches.now.list.items c.deepest_agreeing_node-beginning.result c.args.node c.common_len-common.result (events c.live-live.result) c.requires.within c.deepest_agreeing_node-beginning.ensures.agrees
     c.deepest_agreeing_node-beginning.ensures.deepest (grind (arith, c.live-live.ensures.events, h)) c.common_len-common.ensures.second c.common_len-common.ensures.most in
     let long = entries_length c.args.stretches.now.list.items c.args.node c.requires.within in
     c.switch.ensures.succeeds (c.deref.ensures.value ∙ c.in-Ok.ensures.ok ∙ drop_all c.common_len-common.result (entries_at c.args.stretches.now.list.items c.args.node) (omega (arith, all, long)))
@@ -77,10 +77,10 @@ returns-in-Ok-clause-err g c =
     let ys = entries_at ss c.args.node in
     let given = c.deref.ensures.value ∙ c.in-Ok.ensures.ok in
     let same = common_live ss c.deepest_agreeing_node-beginning.result c.args.node n (events c.live-live.result) (state c.args.session.now).live c.live-live.ensures.events said.first
-    c.deepest_agreeing_node-beginning.ensures.along said.alike in
+    c.deepest_agreeing_node-beginning.ensures.agrees said.alike in
     let all = ap (λ (xs : List Entry). take n (state c.args.session.now).live ++ events xs) given ∙ joined_events n (state c.args.session.now).live ys same in
     let run = subst (λ (xs : List Entry). IsRunFrom (state c.args.session.now).start xs) c.live-live.ensures.entries c.live-live.ensures.run in
     let live = length-map c.live-live.result (λ (x : Entry). x.event) in
-    let within : n ≤ length (journal c.args.session.now).live = omega (arith, said.first, c.deepest_agreeing_node-beginning.ensures.along.enough, ap length c.live-live.ensures.entries, live) in
+    let within : n ≤ length (journal c.args.session.now).live = omega (arith, said.first, c.deepest_agreeing_node-beginning.ensures.agrees.enough, ap length c.live-live.ensures.entries, live) in
     let may = may_switch (journal c.args.session.now) n c.deref.result.now ys given run c.requires.run same in
     lacks_room_to_go c.switch.result c.args.session.now n c.deref.result.now (events ys) (AreInPieces ss c.args.node) all within may c.switch.ensures.err

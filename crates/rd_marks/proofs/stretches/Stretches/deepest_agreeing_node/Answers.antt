@@ -10,8 +10,8 @@ loop-i-init c = grind (arith, along_taken, follows_start, own_number)
 pub returns-then-shared-at-clause-deepest : goal.returns-then-shared-at-clause-deepest
 returns-then-shared-at-clause-deepest c = grind (arith, follows_stopped)
 
-pub agreement_len-requires-clause-along : goal.agreement_len-requires-clause-along
-agreement_len-requires-clause-along c = grind (arith, else-i-at-via-then-i-at+else-shared-at, else-i-at-via-else-i-at, follows_here)
+pub agreement_len-requires-clause-agrees : goal.agreement_len-requires-clause-agrees
+agreement_len-requires-clause-agrees c = grind (arith, else-i-at-via-then-i-at+else-shared-at, else-i-at-via-else-i-at, follows_here)
 
 pub loop-i-preserved : goal.loop-i-preserved
 loop-i-preserved c =
@@ -29,7 +29,7 @@ loop-i-preserved c =
     elim c.if-shared-at-2.branch [
       | then-shared-at-2 w ↦
           let deeper_node = w.deeper_node-at.ensures in
-          rw w.at-is (compared (omega (arith, w.if-shared-at-2.true, c.shared_count-shared.ensures)) w.agreement_len.result w.agreement_len.ensures.more w.agreement_len.ensures.along w.agreement_len.ensures.most _ deeper_node.more deeper_node.others)
+          rw w.at-is (compared (omega (arith, w.if-shared-at-2.true, c.shared_count-shared.ensures)) w.agreement_len.result w.agreement_len.ensures.more w.agreement_len.ensures.agrees w.agreement_len.ensures.most _ deeper_node.more deeper_node.others)
       | else-shared-at-2 w ↦ rw w.at-is (skipped (omega (arith, w.if-shared-at-2.false, c.shared_count-shared.ensures)))
     ] in
     record { follows = rw e on.0; high = omega (arith, on.1); own = λ here. absurd (omega (arith, here, on.1)) }
