@@ -4,25 +4,24 @@
 //! from the session's start. Nothing outside this crate depends on that.
 //!
 //! `books/obeying` does commands and answers queries, `books/moves` undoes and redoes,
-//! `books/marking` sets, drops and compares bookmarks and goes to them, and `books/saving` has what
-//! saving and loading a book need. The other methods of a book are here.
+//! `books/marking` sets, drops, counts, reads and compares bookmarks and goes to them, and
+//! `books/saving` has what saving and loading a book need. The other methods of a book are here.
 
 mod marking;
 mod moves;
 mod obeying;
 mod saving;
 
-ghost use Rattle.std.specs.Prelude.{◌≡◌, ◌<◌, ◌≤◌, ◌⊎◌, [], length, Ok, OnErr, IfErr};
+ghost use Rattle.std.specs.Prelude.{◌≡◌, ◌<◌, ◌≤◌, ◌⊎◌, [], Ok, OnErr, IfErr};
 ghost use Rattle.rd_step.specs.Prelude.{result_map};
 ghost use Rattle.rd_step.specs.Run.{events};
 ghost use Rattle.rd_depend.specs.Beginnings.{Begins};
 ghost use Rattle.rd_journal.specs.Sessions.{state, track, MayRefuse};
 ghost use Rattle.rd_marks.specs.BookmarksFields.{AreRuns};
-ghost use Rattle.rd_marks.specs.Bookmarks.{named_entries_in, stretches_in, here_entries};
-ghost use Rattle.rd_marks.specs.Stretches.{entry_count};
+ghost use Rattle.rd_marks.specs.Bookmarks.{named_entries_in, here_entries};
 
 use super::bookmarks::Bookmarks;
-use super::replies::EventReply;
+use super::replies::{EventReply, Reply};
 use rd_cell::Refusal;
 use rd_journal::Session;
 use rd_step::Event;
@@ -54,10 +53,8 @@ impl<const R: usize> Drop for Book<R> {
 }
 
 impl<const R: usize> Book<R> {
-    ghost use Rattle.rd_marks.specs.Beginnings.{CountsBeginnings};
     ghost use Rattle.rd_marks.specs.Book.{book_state, session_of};
-    ghost use Rattle.rd_marks.specs.Rules.{KeepsRules};
-    ghost use Rattle.rd_marks.specs.Commands.{IsEventAnswer};
+    ghost use Rattle.rd_marks.specs.Commands.{IsEventAnswer, step_counts};
     ghost use Rattle.rd_marks.specs.Events.{as_reply};
 
     /// Returns a book of this session, without bookmarks. It takes no memory.
@@ -104,21 +101,13 @@ impl<const R: usize> Book<R> {
         })
     }
 
-    /// Returns the number of bookmarks, at most `MOST_MARKS`. Their names are different, and the
-    /// events of each can run from the session's start.
-    pub fn marks(&self) -> u64
-        ensures count { result ≡ length (book_state self.now).marks }
-        ensures rules { KeepsRules (book_state self.now) }
+    /// Returns the reply `At`, with the numbers of live and undone steps now.
+    fn step_counts(&self) -> Reply
+        ensures { result ≡ step_counts (book_state self.now).session }
     {
-        self.bookmarks.len() as u64
-    }
-
-    /// Returns the number of different lists, except the empty one, that begin the steps of some
-    /// bookmark. The book keeps this many entries for its bookmarks. It takes no memory.
-    pub fn nodes(&self) -> u64
-        ensures counts { CountsBeginnings (book_state self.now).marks result }
-        ensures entries { result ≡ entry_count (stretches_in self.now.bookmarks) }
-    {
-        self.bookmarks.kept_entry_count() as u64
+        Reply::At {
+            live: self.session.len(),
+            undone: self.session.undone_len(),
+        }
     }
 }

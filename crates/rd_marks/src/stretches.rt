@@ -40,6 +40,8 @@ pub(crate) struct Node {
 }
 
 impl Node {
+    ghost use Rattle.rd_marks.specs.Stretches.{node_len_in_stretch};
+
     /// The node without entries.
     pub(crate) const START: Node = Node {
         stretch: 0,
@@ -55,6 +57,27 @@ impl Node {
             stretch: self.stretch,
             number: n.min(self.number),
         }
+    }
+
+    /// Returns the node of the first `n` entries of this one if it is in stretch `i`, otherwise
+    /// this one.
+    pub(crate) fn truncated_if_in_stretch(self, i: usize, n: usize) -> Node
+        ensures stretch { result.stretch ≡ self.stretch }
+        ensures number { result.number ≤ self.number }
+        ensures left { result.stretch ≡ i → result.number ≤ n }
+    {
+        if self.stretch == i {
+            self.truncated(n)
+        } else {
+            self
+        }
+    }
+
+    /// Returns the number of entries of this node if it is in stretch `i`, otherwise 0.
+    pub(crate) fn len_in_stretch(self, i: usize) -> usize
+        ensures { result ≡ node_len_in_stretch i self }
+    {
+        if self.stretch == i { self.number } else { 0 }
     }
 }
 

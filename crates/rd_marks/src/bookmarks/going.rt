@@ -7,7 +7,7 @@ ghost use Rattle.rd_journal.specs.Sessions.{state, track, journal, LacksRoomFor}
 ghost use Rattle.rd_marks.specs.BookmarksFields.{AreEntriesOfRun};
 ghost use Rattle.rd_marks.specs.Stretches.{entries_at, IsWithin, AreInPieces};
 
-use super::super::stretches::{Node, Stretches};
+use super::super::stretches::Node;
 use super::Bookmarks;
 use rd_cell::Refusal;
 use rd_journal::Session;
@@ -59,54 +59,53 @@ impl Bookmarks {
             session.go_along_track(node.number as u64);
             return Ok(());
         }
-        switch_to(&self.stretches, alloc, session, self.here, node)?;
+        self.switch_to(alloc, session, node)?;
         self.here = node;
         Ok(())
     }
-}
 
-/// Makes the steps of a node the live ones, and leaves no undone step. It keeps the live steps with
-/// which both lists begin, and makes the rest of the node's steps again. The node's entries must be
-/// those of a run from the session's start. The search for the kept steps starts at `here`, whose
-/// events must begin the session's track.
-///
-/// # Errors
-///
-/// `NoMemory` if memory was refused for the steps that are made again, or for a copy of their
-/// entries if the node's entries lie in more than one stretch. Nothing has changed then. This never
-/// happens if the live steps begin with the node's.
-fn switch_to<const R: usize>(
-    stretches: &Stretches,
-    alloc: Global,
-    session: &mut Session<R>,
-    here: Node,
-    node: Node,
-) -> Result<(), Refusal>
-    requires here { IsWithin stretches.now.list.items here }
-    requires within { IsWithin stretches.now.list.items node }
-    requires run { AreEntriesOfRun (state session.old).start
-        (entries_at stretches.now.list.items node) }
-    requires stands { Begins (events (entries_at stretches.now.list.items here))
-        (track session.old) }
-    ensures ok { OnOk result (state session.new
-        ≡ record {
-          start = (state session.old).start;
-          live = events (entries_at stretches.now.list.items node);
-          undone = [];
-        }) }
-    ensures err { IfErr result (λ refusal. (refusal ≡ Refusal.NoMemory)
-        × (LacksRoomFor session.old (events (entries_at stretches.now.list.items node))
-        ⊎ AreInPieces stretches.now.list.items node)) }
-    ensures succeeds { Begins (events (entries_at stretches.now.list.items node))
-        (state session.old).live → IsOk result }
-    ensures unchanged { OnErr result (journal session.new ≡ journal session.old) }
-    ensures track { OnErr result (track session.new ≡ track session.old) }
-{
-    let live = session.live();
-    let beginning = stretches.deepest_agreeing_node(here.truncated(live.len()), &live);
-    let common = stretches.common_len(beginning, node);
-    match stretches.entries_after(alloc, node, common) {
-        Err(_) => Err(Refusal::NoMemory),
-        Ok(entries) => session.switch(common as u64, &entries),
+    /// Makes the steps of a node of these bookmarks the live ones, and leaves no undone step. It
+    /// keeps the live steps with which both lists begin, and makes the rest of the node's steps
+    /// again. The node's entries must be those of a run from the session's start. The search for
+    /// the kept steps starts at `here`, whose events must begin the session's track.
+    ///
+    /// # Errors
+    ///
+    /// `NoMemory` if memory was refused for the steps that are made again, or for a copy of their
+    /// entries if the node's entries lie in more than one stretch. Nothing has changed then. This
+    /// never happens if the live steps begin with the node's.
+    fn switch_to<const R: usize>(
+        &self,
+        alloc: Global,
+        session: &mut Session<R>,
+        node: Node,
+    ) -> Result<(), Refusal>
+        requires within { IsWithin (stretches_in self.now) node }
+        requires run { AreEntriesOfRun (state session.old).start
+            (entries_at (stretches_in self.now) node) }
+        requires stands { Begins (events (here_entries self.now)) (track session.old) }
+        ensures ok { OnOk result (state session.new
+            ≡ record {
+              start = (state session.old).start;
+              live = events (entries_at (stretches_in self.now) node);
+              undone = [];
+            }) }
+        ensures err { IfErr result (λ refusal. (refusal ≡ Refusal.NoMemory)
+            × (LacksRoomFor session.old (events (entries_at (stretches_in self.now) node))
+            ⊎ AreInPieces (stretches_in self.now) node)) }
+        ensures succeeds { Begins (events (entries_at (stretches_in self.now) node))
+            (state session.old).live → IsOk result }
+        ensures unchanged { OnErr result (journal session.new ≡ journal session.old) }
+        ensures track { OnErr result (track session.new ≡ track session.old) }
+    {
+        let live = session.live();
+        let beginning = self
+            .stretches
+            .deepest_agreeing_node(self.here.truncated(live.len()), &live);
+        let common = self.stretches.common_len(beginning, node);
+        match self.stretches.entries_after(alloc, node, common) {
+            Err(_) => Err(Refusal::NoMemory),
+            Ok(entries) => session.switch(common as u64, &entries),
+        }
     }
 }

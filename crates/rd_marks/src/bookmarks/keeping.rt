@@ -8,7 +8,7 @@ ghost use Rattle.indexmap.specs.IndexMap.{spare};
 ghost use Rattle.rd_marks.specs.Changes.{shifted, CanShiftUp};
 ghost use Rattle.rd_marks.specs.BookmarksFields.{nodes_of, IsPruned};
 ghost use Rattle.rd_marks.specs.Names.{mark_name_eq};
-ghost use Rattle.rd_marks.specs.Stretches.{greatest_len_in_stretch, node_len_in_stretch, IsWithin, AreNeededFrom};
+ghost use Rattle.rd_marks.specs.Stretches.{greatest_len_in_stretch, IsWithin, AreNeededFrom};
 
 use super::super::names::MarkName;
 use super::super::stretches::{Grown, Node, Shift, Stretches};
@@ -84,21 +84,7 @@ fn trim(stretches: &mut Stretches, names: &mut IndexMap<MarkName, Node>, here: &
         .max(greatest_len_in_stretch(names, i));
     let shift = stretches.shrink(i, needed);
     shift_nodes(names, shift);
-    *here = shift.shifted(truncated_if_in_stretch(*here, i, needed));
-}
-
-/// Returns a node cut to its first `n` entries if it is in stretch `i`, otherwise the node as it
-/// is.
-fn truncated_if_in_stretch(node: Node, i: usize, n: usize) -> Node
-    ensures stretch { result.stretch ≡ node.stretch }
-    ensures number { result.number ≤ node.number }
-    ensures left { result.stretch ≡ i → result.number ≤ n }
-{
-    if node.stretch == i {
-        node.truncated(n)
-    } else {
-        node
-    }
+    *here = shift.shifted(here.truncated_if_in_stretch(i, needed));
 }
 
 /// Returns the greatest number of entries of a bookmark's node in stretch `i`, or 0 if no
@@ -111,16 +97,9 @@ fn greatest_len_in_stretch(names: &IndexMap<MarkName, Node>, i: usize) -> usize
         let Some((_, node)) = names.get_index(index) else {
             unreachable!();
         };
-        greatest = greatest.max(node_len_in_stretch(i, *node));
+        greatest = greatest.max(node.len_in_stretch(i));
     }
     greatest
-}
-
-/// Returns the number of entries of a node if it is in stretch `i`, otherwise 0.
-fn node_len_in_stretch(i: usize, node: Node) -> usize
-    ensures { result ≡ node_len_in_stretch i node }
-{
-    if node.stretch == i { node.number } else { 0 }
 }
 
 /// Replaces the node of each bookmark by the one that has its entries after the stretches were

@@ -1,19 +1,23 @@
 //! Bookmarks of a book: the methods on them, and the commands, each of which calls its method and
 //! replies.
 
-ghost use Rattle.std.specs.Prelude.{◌≡◌, ◌<◌, ◌≤◌, ◌⊎◌, Ok, Err, OnOk, OnErr, IfErr, IsOk};
+ghost use Rattle.std.specs.Prelude.{◌≡◌, ◌<◌, ◌≤◌, ◌⊎◌, length, Ok, Err, OnOk, OnErr, IfErr, IsOk};
+ghost use Rattle.rd_marks.specs.Bookmarks.{stretches_in};
+ghost use Rattle.rd_marks.specs.Stretches.{entry_count};
 
 use super::super::names::MarkName;
 use super::super::replies::Reply;
 use super::Book;
 use rd_cell::Refusal;
 use rd_cell::limits::MOST_MARKS;
+use rd_step::Event;
 
 impl<const R: usize> Book<R> {
-    ghost use Rattle.rd_marks.specs.Beginnings.{NeedsNoEntry};
+    ghost use Rattle.rd_marks.specs.Beginnings.{CountsBeginnings, NeedsNoEntry};
     ghost use Rattle.rd_marks.specs.Book.{book_state, name_room, MayRefuseIfGoto};
-    ghost use Rattle.rd_marks.specs.BookState.{events_by_name, mark, drop_mark, goto_mark, mark_at, GotoMakesSteps, AnswersSame};
+    ghost use Rattle.rd_marks.specs.BookState.{events_by_name, mark, drop_mark, goto_mark, mark_at, mark_event, GotoMakesSteps, AnswersSame};
     ghost use Rattle.rd_marks.specs.Commands.{IsObeyed, SetsMarkWithoutMemory};
+    ghost use Rattle.rd_marks.specs.Rules.{KeepsRules};
     ghost use Rattle.rd_marks.specs.declared.commands.Command.TheVariants as command;
 
     /// Sets a bookmark of this name at the live steps, as the last one in the list of bookmarks.
@@ -112,6 +116,24 @@ impl<const R: usize> Book<R> {
         }
     }
 
+    /// Returns the number of bookmarks, at most `MOST_MARKS`. Their names are different, and the
+    /// events of each can run from the session's start.
+    pub fn marks(&self) -> u64
+        ensures count { result ≡ length (book_state self.now).marks }
+        ensures rules { KeepsRules (book_state self.now) }
+    {
+        self.bookmarks.len() as u64
+    }
+
+    /// Returns the number of different lists, except the empty one, that begin the steps of some
+    /// bookmark. The book keeps this many entries for its bookmarks. It takes no memory.
+    pub fn nodes(&self) -> u64
+        ensures counts { CountsBeginnings (book_state self.now).marks result }
+        ensures entries { result ≡ entry_count (stretches_in self.now.bookmarks) }
+    {
+        self.bookmarks.kept_entry_count() as u64
+    }
+
     /// Returns the name of the bookmark of this number, counted from 1, and the number of steps
     /// that were live when it was set.
     ///
@@ -127,6 +149,21 @@ impl<const R: usize> Book<R> {
         match self.bookmarks.at(i as usize - 1) {
             None => Err(Refusal::NoMark),
             Some((name, node)) => Ok((name, node.number as u64)),
+        }
+    }
+
+    /// Returns event `n` of bookmark `i`, both counted from 1, or `None` if there is no such
+    /// bookmark or event. It takes no memory, and looks at each stretch at most once. To read all
+    /// events, use `mark_events`.
+    pub fn mark_event(&self, i: u64, n: u64) -> Option<Event>
+        ensures { result ≡ mark_event (book_state self.now) i n }
+    {
+        if i == 0 {
+            return None;
+        }
+        match self.bookmarks.at(i as usize - 1) {
+            None => None,
+            Some((_, node)) => self.bookmarks.event_at(node, n),
         }
     }
 

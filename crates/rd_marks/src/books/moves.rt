@@ -75,16 +75,6 @@ impl<const R: usize> Book<R> {
         self.answer_to_move(done)
     }
 
-    /// Returns the reply `At`, with the numbers of live and undone steps now.
-    pub(super) fn step_counts(&self) -> Reply
-        ensures { result ≡ step_counts (book_state self.now).session }
-    {
-        Reply::At {
-            live: self.session.len(),
-            undone: self.session.undone_len(),
-        }
-    }
-
     /// Returns the answer to a move that was tried: the numbers of live and undone steps now, or
     /// the move's refusal.
     fn answer_to_move(&self, done: Result<(), Refusal>) -> Result<Reply, Refusal>

@@ -10,22 +10,7 @@ use std::alloc::Global;
 
 impl<const R: usize> Book<R> {
     ghost use Rattle.rd_marks.specs.Book.{book_state};
-    ghost use Rattle.rd_marks.specs.BookState.{mark_events, mark_event, at_events, to_start, AnswersMarkEvents};
-
-    /// Returns event `n` of bookmark `i`, both counted from 1, or `None` if there is no such
-    /// bookmark or event. It takes no memory, and looks at each stretch at most once. To read all
-    /// events, use `mark_events`.
-    pub fn mark_event(&self, i: u64, n: u64) -> Option<Event>
-        ensures { result ≡ mark_event (book_state self.now) i n }
-    {
-        if i == 0 {
-            return None;
-        }
-        match self.bookmarks.at(i as usize - 1) {
-            None => None,
-            Some((_, node)) => self.bookmarks.event_at(node, n),
-        }
-    }
+    ghost use Rattle.rd_marks.specs.BookState.{mark_events, at_events, to_start, AnswersMarkEvents};
 
     /// Returns the events of bookmark `i`, counted from 1: those that were live when it was set. It
     /// takes time that grows with their number.

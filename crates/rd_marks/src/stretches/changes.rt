@@ -1,7 +1,6 @@
 //! Adding entries to the stretches, and removing entries that no node needs.
 
 ghost use Rattle.std.specs.Prelude.{◌≡◌, ◌↔◌, ◌<◌, ◌≤◌, ◌+◌, ◌++◌, suc, take, length, vec_capacity, IsTrue, OnOk, OnErr, IfOk, IsOk};
-ghost use Rattle.rd_marks.specs.Changes.{after_insertion, after_removal, CanShiftUp};
 ghost use Rattle.rd_step.specs.Prelude.{MOST_STEPS};
 ghost use Rattle.rd_step.specs.Run.{events};
 
@@ -34,38 +33,43 @@ impl Shift {
     {
         match self {
             Shift::Same => node,
-            Shift::Up(i) => after_insertion(i, node),
-            Shift::Down(i) => after_removal(i, node),
+            Shift::Up(i) => node.after_insertion(i),
+            Shift::Down(i) => node.after_removal(i),
         }
     }
 }
 
-/// Returns the node that has the same entries after a stretch was inserted with number `i`. A node
-/// without entries stays as it is, and one with entries must have a stretch number below 2^64 - 1.
-fn after_insertion(i: usize, node: Node) -> Node
-    requires { CanShiftUp node }
-    ensures { result ≡ after_insertion i node }
-{
-    if node.number == 0 || node.stretch < i {
-        return node;
-    }
-    Node {
-        stretch: node.stretch + 1,
-        number: node.number,
-    }
-}
+impl Node {
+    ghost use Rattle.rd_marks.specs.Changes.{after_insertion, after_removal, CanShiftUp};
 
-/// Returns the node that has the same entries after stretch `i` was removed. The node must have
-/// none of this stretch's own entries.
-fn after_removal(i: usize, node: Node) -> Node
-    ensures { result ≡ after_removal i node }
-{
-    if node.stretch < i {
-        return node;
+    /// Returns the node that has the same entries after a stretch was inserted with number `i`. A
+    /// node without entries stays as it is, and one with entries must have a stretch number below
+    /// 2^64 - 1.
+    fn after_insertion(self, i: usize) -> Node
+        requires { CanShiftUp self }
+        ensures { result ≡ after_insertion i self }
+    {
+        if self.number == 0 || self.stretch < i {
+            return self;
+        }
+        Node {
+            stretch: self.stretch + 1,
+            number: self.number,
+        }
     }
-    Node {
-        stretch: node.stretch.saturating_sub(1),
-        number: node.number,
+
+    /// Returns the node that has the same entries after stretch `i` was removed. The node must have
+    /// none of this stretch's own entries.
+    fn after_removal(self, i: usize) -> Node
+        ensures { result ≡ after_removal i self }
+    {
+        if self.stretch < i {
+            return self;
+        }
+        Node {
+            stretch: self.stretch.saturating_sub(1),
+            number: self.number,
+        }
     }
 }
 

@@ -7,4 +7,4 @@ loop-index-preserved c =
     let k = c.loop-index.index in
     let e : k + 1 ≡ suc k = omega arith in
     let next = greatest_next c.args.i k c.args.names.now.entries (c.in-Some.field-0-0.now, c.in-Some.node.now) (sym c.in-Some.ensures.entry) in
-    rw e (record { greatest = omega (arith, c.max-greatest.ensures, c.node_len_in_stretch.ensures, c.loop-index.invariant.greatest, next) })
+    rw e (record { greatest = omega (arith, c.max-greatest.ensures, c.len_in_stretch.ensures, c.loop-index.invariant.greatest, next) })

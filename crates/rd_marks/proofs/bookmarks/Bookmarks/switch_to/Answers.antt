@@ -1,8 +1,8 @@
-use Rattle.rd_marks.proofs.Prelude.{List, ◌++◌, ◌≤◌, take, lit<, ap, subst, length, ◌∙◌, arith, on_err_weaker, length-map, Entry, journal, state, entries_at, events, IsRunFrom, AreInPieces, ◌≡◌, ℕ, suc, take-length, take-take, Event, Begins, Node, Stretch, stretch_list, IsWithin, AgreesFor, IsDeepest, ◌+◌, MOST_STEPS, length-drop, drop_all}
+use Rattle.rd_marks.proofs.Prelude.{List, ◌++◌, ◌≤◌, take, lit<, ap, subst, length, ◌∙◌, arith, on_err_weaker, length-map, Entry, journal, state, entries_at, events, IsRunFrom, AreInPieces, ◌≡◌, ℕ, suc, take-length, take-take, Event, Begins, Node, Stretch, stretch_list, stretches_in, IsWithin, AgreesFor, IsDeepest, ◌+◌, MOST_STEPS, length-drop, drop_all}
 use Rattle.rd_marks.proofs.Here.{live_along}
 use Rattle.rd_marks.proofs.Starting.{entries_length, begins_shorter, stretch_within, events_length, events_of_first, first_events}
 use Rattle.rd_marks.proofs.EntryLemmas.{switched, joined_events, lacks_room_to_go, may_switch}
-use Rattle.rd_marks.proofs.bookmarks.going.switch_to.Goals as goal
+use Rattle.rd_marks.proofs.bookmarks.Bookmarks.switch_to.Goals as goal
 
 module _ (ss : List Stretch) where
   -- the live events have the first n in common with a node if a node whose events begin them has
@@ -30,12 +30,12 @@ module _ (ss : List Stretch) where
 
 pub deepest_agreeing_node-beginning-requires-clause-agrees : goal.deepest_agreeing_node-beginning-requires-clause-agrees
 deepest_agreeing_node-beginning-requires-clause-agrees g c =
-    (live_along c.args.stretches.now.list.items c.args.session.now c.args.here c.truncated.result c.live-live.result c.live-live.ensures.events c.requires.here c.requires.stands c.truncated.ensures.stretch
+    (live_along (stretches_in c.args.self.now) c.args.session.now c.args.self.now.here c.truncated.result c.live-live.result c.live-live.ensures.events c.args.self.now.kept.lies c.requires.stands c.truncated.ensures.stretch
     (omega (arith, c.truncated.ensures.number)) (omega (arith, c.truncated.ensures.number, c.len.ensures))).1
 
 pub switch-requires : goal.switch-requires
 switch-requires g c =
-    let ss = c.args.stretches.now.list.items in
+    let ss = stretches_in c.args.self.now in
     let n = c.common_len-common.result in
     let said = c.common_len-common.ensures in
     let given = c.deref.ensures.value ∙ c.in-Ok.ensures.ok in
@@ -50,13 +50,13 @@ switch-requires g c =
 
 pub returns-in-Err-clause-succeeds : goal.returns-in-Err-clause-succeeds
 returns-in-Err-clause-succeeds g c =
-    λ h. c.in-Err.ensures.succeeds (whole_common c.args.stretches.now.list.items c.deepest_agreeing_node-beginning.result c.args.node c.common_len-common.result (events c.live-live.result) c.requires.within
+    λ h. c.in-Err.ensures.succeeds (whole_common (stretches_in c.args.self.now) c.deepest_agreeing_node-beginning.result c.args.node c.common_len-common.result (events c.live-live.result) c.requires.within
     c.deepest_agreeing_node-beginning.ensures.agrees c.deepest_agreeing_node-beginning.ensures.deepest (grind (arith, c.live-live.ensures.events, h)) c.common_len-common.ensures.second c.common_len-common.ensures.most)
 
 pub returns-in-Ok-clause-ok : goal.returns-in-Ok-clause-ok
 returns-in-Ok-clause-ok g c =
-    let fact = switched c.switch.result (state c.args.session.now) (state c.switch.new.self) c.common_len-common.result c.deref.result.now (entries_at c.args.stretches.now.list.items c.args.node) in
-    let fact_2 = common_live c.args.stretches.now.list.items c.deepest_agreeing_node-beginning.result c.args.node c.common_len-common.result (events c.live-live.result) (state c.args.session.now).live in
+    let fact = switched c.switch.result (state c.args.session.now) (state c.switch.new.self) c.common_len-common.result c.deref.result.now (entries_at (stretches_in c.args.self.now) c.args.node) in
+    let fact_2 = common_live (stretches_in c.args.self.now) c.deepest_agreeing_node-beginning.result c.args.node c.common_len-common.result (events c.live-live.result) (state c.args.session.now).live in
     grind (arith, c.deref.ensures.value, c.in-Ok.ensures.ok, c.switch.ensures.ok, fact_2, fact)
 
 pub returns-in-Ok-clause-unchanged : goal.returns-in-Ok-clause-unchanged
@@ -64,14 +64,14 @@ returns-in-Ok-clause-unchanged g c = on_err_weaker c.switch.result (λ is. is.jo
 
 pub returns-in-Ok-clause-succeeds : goal.returns-in-Ok-clause-succeeds
 returns-in-Ok-clause-succeeds g c = λ h.
-    let all = whole_common c.args.stretches.now.list.items c.deepest_agreeing_node-beginning.result c.args.node c.common_len-common.result (events c.live-live.result) c.requires.within c.deepest_agreeing_node-beginning.ensures.agrees
+    let all = whole_common (stretches_in c.args.self.now) c.deepest_agreeing_node-beginning.result c.args.node c.common_len-common.result (events c.live-live.result) c.requires.within c.deepest_agreeing_node-beginning.ensures.agrees
     c.deepest_agreeing_node-beginning.ensures.deepest (grind (arith, c.live-live.ensures.events, h)) c.common_len-common.ensures.second c.common_len-common.ensures.most in
-    let long = entries_length c.args.stretches.now.list.items c.args.node c.requires.within in
-    c.switch.ensures.succeeds (c.deref.ensures.value ∙ c.in-Ok.ensures.ok ∙ drop_all c.common_len-common.result (entries_at c.args.stretches.now.list.items c.args.node) (omega (arith, all, long)))
+    let long = entries_length (stretches_in c.args.self.now) c.args.node c.requires.within in
+    c.switch.ensures.succeeds (c.deref.ensures.value ∙ c.in-Ok.ensures.ok ∙ drop_all c.common_len-common.result (entries_at (stretches_in c.args.self.now) c.args.node) (omega (arith, all, long)))
 
 pub returns-in-Ok-clause-err : goal.returns-in-Ok-clause-err
 returns-in-Ok-clause-err g c =
-    let ss = c.args.stretches.now.list.items in
+    let ss = stretches_in c.args.self.now in
     let n = c.common_len-common.result in
     let said = c.common_len-common.ensures in
     let ys = entries_at ss c.args.node in
