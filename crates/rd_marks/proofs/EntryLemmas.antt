@@ -1,5 +1,5 @@
 -- The entries of a session's live steps, and what switching to entries of a run leaves.
-use Rattle.rd_marks.proofs.Prelude.{◌≡◌, ℕ, zero, suc, drop, ◌≤◌, refl, List, [], ◌∷◌, ◌++◌, length, take, ◌⊎◌, inl, Result, Ok, Err, OnOk, IfErr, arith, capacity, room, index, LacksRoomFor, Session, state, journal, Refusal, World, run, Event, take-append-drop, drop-map, Entry, State, state_of, switch, Journal, AreEntriesOfRun, events, run_entries, IsRunFrom, LacksRoom, first_step}
+use Rattle.rd_marks.proofs.Prelude.{◌≡◌, ℕ, zero, suc, drop, ◌≤◌, refl, List, [], ◌∷◌, ◌++◌, length, take, ◌⊎◌, inl, Result, Ok, Err, OnOk, IfErr, arith, capacity, room, index, LacksRoomFor, Session, state, journal, Refusal, World, run, Event, take-append-drop, drop-map, length-map, Entry, State, state_of, switch, Journal, AreEntriesOfRun, CanRun, events, run_entries, IsRunFrom, LacksRoom, first_step, runs_to}
 use Rattle.rd_cell.specs.declared.refusal.Refusal.TheVariants as refusal
 
 -- A start and its events determine the entries of a run
@@ -12,6 +12,10 @@ begin_alike (suc n) w [] [] p q h = refl
 begin_alike (suc n) w [] (y ∷ ys) p q h = cc
 begin_alike (suc n) w (x ∷ xs) [] p q h = cc
 begin_alike (suc n) w (x ∷ xs) (y ∷ ys) p q h = grind (arith, first_step w x xs p, first_step w y ys q, begin_alike n (first_step w y ys q).after xs ys)
+
+-- the events of the entries of a run can run from its start
+pub events_can_run : (w : World) (xs : List Entry) → AreEntriesOfRun w xs → CanRun w (events xs)
+events_can_run w xs h = record { few = omega (arith, h.few, length-map xs (λ (x : Entry). x.event)); runs = grind (arith, runs_to w xs h.ran) }
 
 -- if n live events agree with a run's, they and the run's later events are all events of the run
 pub joined_events : (n : ℕ) (es : List Event) (ys : List Entry) → take n es ≡ take n (events ys) → take n es ++ events (drop n ys) ≡ events ys

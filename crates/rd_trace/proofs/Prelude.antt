@@ -4,8 +4,8 @@ pub use Rattle.rd_cell.proofs.Prelude.{AllByRecursion, BTreeMap, Bool, Decides, 
 unfoldable pub use Rattle.rd_cell.proofs.Prelude.{IsDistinct}
 pub use Rattle.rd_ring.proofs.Prelude.{ArrSlot, COUNTER_END, Cell, MOST_ACTORS, MOST_CELLS, MOST_SEGMENTS, SLOTS, SegName, counters_fit}
 pub use Rattle.rd_segments.proofs.Prelude.{array_contents, by_name, by_number, contents_by, segment_count, count_in, some_parts_contents, segments_by}
-pub use Rattle.rd_step.proofs.Prelude.{Act, Actor, ArrayParts, MOST_STEPS, Pc, Ran, Refusal, SegmentParts, Stepped, World, array_fits, events, first_flaw, fresh_world, indexes_fit, model, names_fit, next_fits, numbered, numbers_within, result_map, run, run_entries, step, words_fit, world_of_parts}
-pub use Rattle.rd_journal.proofs.Prelude.{IsRun, Journal, State, apply, back, journal, state, state_of, step_after, with_event}
+pub use Rattle.rd_step.proofs.Prelude.{Act, Actor, ArrayParts, MOST_STEPS, Pc, Ran, Refusal, SegmentParts, Stepped, World, array_fits, events, first_flaw, fresh_world, indexes_fit, model, names_fit, next_fits, numbered, numbers_within, result_map, run, step, words_fit, world_of_parts}
+pub use Rattle.rd_journal.proofs.Prelude.{State, apply, back, state, step_after, with_event}
 pub use Rattle.rd_marks.proofs.Prelude.{Answered, AnswersMarkEvents, BookState, CanRun, IsEventAnswer, HaveDifferentNames, KeepsRules, MOST_MARKS, Mark, MarksCanRun, answer_with, at_events, book_state, bytes_of, is_mark_name, is_name_byte, mark, mark_at, mark_events, mark_name_eq, events_by_name, opened_ring, session_of, with_session}
 pub use Rattle.rd_script.proofs.Prelude.{Book, Reply}
 pub use Rattle.rd_script.specs.AnyBook.{IsBookIn, any_state}

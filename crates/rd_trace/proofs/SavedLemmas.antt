@@ -1,7 +1,6 @@
 -- Whole sessions as JSON values.
-use Rattle.rd_trace.proofs.Prelude.{◌≡◌, refl, inl, inr, Err, NoMemory, BadTrace, same_Some, ℕ, ◌+◌, ◌<◌, ◌≤◌, List, [], ◌∷◌, ◌++◌, length, take, get_or, Some, None, Result, Ok, IsOk, sym, ap, ◌∙◌, arith, length-append, length-map, map-append, take_more, get_or-map, Data, Refusal, MOST_STEPS, Ran, run_entries, Entry, state_of, BookState, CanRun, Reads, Gives, SpellEach, items_by, event_of, event_data, SpellsWorld, SpellMarks, mark_data, member_count, Trace, IsVersion1, IsVersion2, IsEitherVersion, loaded_state, saved_trace, book_data, LoadTraceFault, start_flaw, Journal, IsRun, events}
+use Rattle.rd_trace.proofs.Prelude.{◌≡◌, refl, inl, inr, Err, NoMemory, BadTrace, same_Some, ℕ, ◌+◌, ◌<◌, List, [], ◌∷◌, ◌++◌, length, take, get_or, Some, None, Result, Ok, sym, ap, ◌∙◌, arith, length-map, take_more, get_or-map, Data, Entry, BookState, Reads, Gives, SpellEach, items_by, event_of, event_data, SpellsWorld, SpellMarks, mark_data, member_count, Trace, IsVersion1, IsVersion2, IsEitherVersion, loaded_state, saved_trace, book_data, LoadTraceFault, start_flaw, events}
 use mathlib.Core.Logic.{⊎_elim}
-use Rattle.rd_journal.proofs.Walks.{whole_run}
 use Rattle.rd_trace.specs.declared.saved.SavedSession.{SavedSession}
 
 -- ---- what is read
@@ -20,15 +19,6 @@ version2_read d six (Err BadTrace) h = λ t. ⊎_elim (λ (k : IsVersion1 d t). 
 version2_read d six (Err _) h = absurd h
 
 -- ---- what is written
-
--- events whose run has entries can run
-can_run : (o : Result Ran Refusal) (xs : List Entry) → run_entries o ≡ Ok xs → IsOk o
-can_run o xs h = grind arith
-
--- the live events of a journal, and then its undone ones, can run from its start
-pub goes_through : (j : Journal) → IsRun j → length j.live + length j.undone ≤ MOST_STEPS
-    → CanRun (state_of j).start ((state_of j).live ++ (state_of j).undone)
-goes_through j runs few = record { few = simp (length-append, length-map) few; runs = can_run _ _ (simp map-append at (whole_run j runs)) }
 
 -- the JSON value as which a book is written spells it, if the values of its members spell them
 pub book_spelled : (b : BookState) (start : Data) → SpellsWorld b.session.start start → SpellEach (Gives event_of) (items_by event_data b.session.live) b.session.live

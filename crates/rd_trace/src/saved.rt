@@ -1,12 +1,11 @@
 //! Whole sessions as JSON: the object of version 1, which is only read, and the object of version
 //! 2, which is read and written.
 
-ghost use Rattle.std.specs.Prelude.{◌≡◌, ◌≤◌, ◌++◌, Some, codes, IfOk, OnOk, IsUtf8, string_bytes};
+ghost use Rattle.std.specs.Prelude.{◌≡◌, ◌≤◌, Some, codes, IfOk, OnOk, IsUtf8, string_bytes};
 ghost use Rattle.serde_json.specs.View.{view};
 ghost use Rattle.rd_step.specs.Prelude.{MOST_CELLS};
 ghost use Rattle.rd_journal.specs.Sessions.{state};
 ghost use Rattle.rd_marks.specs.Book.{book_state};
-ghost use Rattle.rd_marks.specs.Rules.{CanRun};
 ghost use Rattle.rd_trace.specs.Numbers.{member_count, number_at};
 ghost use Rattle.rd_trace.specs.Starts.{IsStartValue};
 ghost use Rattle.rd_trace.specs.Spelled.{Reads, Gives};
@@ -24,6 +23,7 @@ use super::starts::{Start, actor_count_at, start_in, start_json};
 use super::texts::put_number;
 use rd_journal::Session;
 use rd_marks::Book;
+use rd_marks::laws::the_events_of_a_session_can_run;
 use rd_step::Event;
 use serde_json::Value;
 use std::alloc::{AllocError, Global};
@@ -141,7 +141,7 @@ pub fn trace_text<const R: usize>(alloc: Global, book: &Book<R>) -> Result<Strin
         → IsTextOf (book_state book.now) (string_bytes text)) }
 {
     let session = book.session();
-    events_go_through(session);
+    the_events_of_a_session_can_run(session);
     let mut text = String::new(alloc);
     text.push_str("{\"events\":[")?;
     put_live_events(&mut text, session)?;
@@ -155,15 +155,6 @@ pub fn trace_text<const R: usize>(alloc: Global, book: &Book<R>) -> Result<Strin
     put_undone_events(&mut text, session)?;
     text.push_str("],\"version\":2}\n")?;
     Ok(text)
-}
-
-/// Does nothing. Its contract is a law, which follows from the contract of the session's world: the
-/// live events of a session, and then its undone ones, can run from its start.
-fn events_go_through<const R: usize>(session: &Session<R>)
-    ensures { CanRun (state session.now).start
-        ((state session.now).live ++ (state session.now).undone) }
-{
-    let _world = session.world();
 }
 
 /// Returns the JSON value of the start of a session. Fails only if memory is refused.

@@ -20,4 +20,4 @@ returns g c = λ utf8.
     (rw (c.in_ok-push_str-2.ensures.bytes, c.in_ok-put_live_events.ensures.text, c.in_ok-push_str.ensures.bytes, c.new-text.ensures.bytes, ring))) in
     subst (λ x. IsTextOf (of x) text) same
     (text_of_book (of s) start.start text (subst (λ n. n < 2 ^ 64) (sym ring) (omega arith)) start.is_start start.back c.in_ok-put_live_events.ensures.kept c.in_ok-put_marks.ensures.marks.kept
-    c.in_ok-put_undone_events.ensures.kept rules c.events_go_through.ensures (parts ∙ sym (book_text _ _ _ _ _)) utf8)
+    c.in_ok-put_undone_events.ensures.kept rules c.the_events_of_a_session_can_run.ensures (parts ∙ sym (book_text _ _ _ _ _)) utf8)

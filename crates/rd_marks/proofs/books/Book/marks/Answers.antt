@@ -1,11 +1,9 @@
-use Rattle.rd_marks.proofs.Prelude.{arith, named_entries_in, sym, List, IsDistinct, length-map, World, Entry, MarkName, mark_name_eq, Mark, AreEntriesOfRun, marks_of, events, CanRun, All-map, runs_to, state, subst}
+use Rattle.rd_marks.proofs.Prelude.{arith, named_entries_in, sym, List, IsDistinct, length-map, MarkName, mark_name_eq, Mark, marks_of, CanRun, All-map, state, subst}
 use Rattle.std.proofs.lemmas.List.Elements.{recursion_from_All}
 use mathlib.Core.List.{map-map}
+use Rattle.rd_marks.proofs.EntryLemmas.{events_can_run}
 use Rattle.rd_marks.proofs.MarkLemmas.{mark_of}
 use Rattle.rd_marks.proofs.books.Book.marks.Goals as goal
-
-events_go : (w : World) (xs : List Entry) → AreEntriesOfRun w xs → CanRun w (events xs)
-events_go w xs h = record { few = omega (arith, h.few, length-map xs (λ (x : Entry). x.event)); runs = grind (arith, runs_to w xs h.ran) }
 
 pub returns-clause-rules : goal.returns-clause-rules
 returns-clause-rules g c =
@@ -15,5 +13,5 @@ returns-clause-rules g c =
     record {
       few = omega (arith, c.len.ensures.count, c.len.ensures.few, length-map lists mark_of);
       names = subst (λ (names : List MarkName). IsDistinct mark_name_eq names) (sym (map-map (λ (m : Mark). m.name) mark_of lists)) c.len.ensures.unique;
-      through = recursion_from_All through (marks_of lists) (All-map through mark_of lists (λ k d inside. events_go _ _ (book.runs k d inside)));
+      through = recursion_from_All through (marks_of lists) (All-map through mark_of lists (λ k d inside. events_can_run _ _ (book.runs k d inside)));
     }
