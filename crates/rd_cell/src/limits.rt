@@ -16,6 +16,9 @@ pub const SLOTS: usize = 64;
 /// The most actors that a world may have.
 pub const MOST_ACTORS: usize = 16;
 
+/// The number of values that an actor's number, a `u8`, can have.
+pub const ACTOR_NUMBERS: usize = 256;
+
 /// The most steps that may be live in a journal.
 pub const MOST_STEPS: usize = 65_535;
 

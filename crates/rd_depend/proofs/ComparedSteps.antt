@@ -1,5 +1,5 @@
 -- What the code keeps while it compares two runs is right after one more step.
-use Rattle.rd_depend.proofs.Prelude.{common_steps, slice_get_past, and_from, and_parts, map-append, reverse-append, option_to_list, set, is_nothing, slice_get-set_same, slice_get-set_other, Entry, Key, NumberedStep, Reached, is_value_written, key_eq, place_key, value_key, segment_key, key_eq-true, key_eq-sym, is_whole_segment, taken_in, taken_in_under, IsInOrder, IsAfter, left_in, reached_or_nothing, with_first, list_at, items_of, ◌≡◌, ◌↔◌, ℕ, ◌+◌, ◌<◌, ◌≤◌, Bool, true, false, not, ◌&&◌, if◌then◌else◌, cond, IsTrue, List, [], ◌∷◌, ◌++◌, length, map, reverse, Vec, Global, Option, Some, IsSome, MatchOption, refl, sym, ap, ◌∙◌, arith}
+use Rattle.rd_depend.proofs.Prelude.{common_steps, slice_get_past, and_from, and_parts, map-append, reverse-append, option_to_list, set, is_nothing, slice_get-set_same, slice_get-set_other, Entry, Key, NumberedStep, Reached, is_value_written, key_eq, place_key, value_key, segment_key, key_eq-true, key_eq-sym, is_whole_segment, taken_in, taken_in_under, IsInOrder, IsAfter, left_in, reached_or_nothing, with_first, list_at, items_of, ◌≡◌, ◌↔◌, ℕ, ◌+◌, ◌<◌, ◌≤◌, Bool, true, false, not, ◌&&◌, if◌then◌else◌, cond, IsTrue, List, [], ◌∷◌, ◌++◌, length, map, reverse, Vec, Global, Option, Some, IsSome, MatchOption, refl, sym, ap, subst, ◌∙◌, arith}
 
 -- How far steps reached, under one key and under all
 
@@ -15,6 +15,12 @@ inserted_is_taken_in old new key r w i news its = λ j k. (ap (reached_or_nothin
     by : (k : Key) (b : Bool) → (b ≡ true → key ≡ k) → key_eq k key ≡ b → reached_or_nothing k (cond b (Some r) (old k)) ≡ (if key_eq k key then taken_in (s k) w i else s k)
     by k true same e = its ∙ ap (λ (q : Key). taken_in (s q) w i) (same refl) ∙ ap (λ (b : Bool). if b then taken_in (s k) w i else s k) (sym e)
     by k false same e = ap (λ (b : Bool). if b then taken_in (s k) w i else s k) (sym e)
+
+-- whether a step comes after all earlier ones under a key is decided by values equal to these
+pub after_as : (p : Bool) (s t : Key → Reached) (k l : Option Key) (w u : Bool) (i : ℕ) → s ≡ t → k ≡ l → w ≡ u → IsTrue p ↔ IsAfter s k w i → IsTrue p ↔ IsAfter t l u i
+after_as p s t k l w u i states keys wrote h =
+    subst (λ (r : Key → Reached). IsTrue p ↔ IsAfter r l u i) states
+    (subst (λ (o : Option Key). IsTrue p ↔ IsAfter s o u i) keys (subst (λ (b : Bool). IsTrue p ↔ IsAfter s k b i) wrote h))
 
 -- a step is in order if it is in order under each of its keys as they are taken in one after
 -- another

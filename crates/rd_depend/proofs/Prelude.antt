@@ -37,5 +37,5 @@ pub use Rattle.rd_depend.specs.declared.index.changing.EntryKeys.{EntryKeys}
 pub use Rattle.rd_depend.specs.declared.index.keys.Key.{Key}
 pub use Rattle.rd_depend.specs.declared.index.keys.Key.TheVariants.{At, In}
 pub use Rattle.rd_depend.specs.declared.index.table.Table.{Table}
-pub use Rattle.rd_depend.specs.declared.keeping_order.NumberedStep.{NumberedStep}
+pub use Rattle.rd_depend.specs.declared.steps_by_actor.NumberedStep.{NumberedStep}
 pub use Rattle.rd_depend.specs.declared.keeping_order.Reached.{Reached}

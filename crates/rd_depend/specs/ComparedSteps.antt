@@ -6,10 +6,10 @@ use Rattle.std.specs.declared.alloc.Global.{Global}
 use Rattle.indexmap.specs.IndexMap.{get}
 use Rattle.rd_step.specs.declared.entries.Entry.{Entry}
 use Rattle.rd_depend.specs.declared.index.keys.Key.{Key}
-use Rattle.rd_depend.specs.declared.keeping_order.NumberedStep.{NumberedStep}
+use Rattle.rd_depend.specs.declared.steps_by_actor.NumberedStep.{NumberedStep}
 use Rattle.rd_depend.specs.declared.keeping_order.Reached.{Reached}
 use Rattle.rd_depend.specs.declared.keeping_order.ReachedByKey.{ReachedByKey}
-use Rattle.rd_depend.specs.declared.keeping_order.StepsByActor.{StepsByActor}
+use Rattle.rd_depend.specs.declared.steps_by_actor.StepsByActor.{StepsByActor}
 use Rattle.rd_depend.specs.Keys.{key_eq}
 use Rattle.rd_depend.specs.Tables.{list_at}
 use Rattle.rd_depend.specs.KeepingOrder.{Numbered, nothing_reached, IsNext, with_step, with_steps}

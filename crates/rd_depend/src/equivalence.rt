@@ -4,13 +4,15 @@
 //! others. The lists are equivalent exactly if each actor makes the same steps in the same order in
 //! both, and steps that depend on each other are in the same order (`keeping_order`).
 
-ghost use Rattle.std.specs.Prelude.{◌≡◌, ◌≤◌, length, true, false, IfOk, OnErr};
+ghost use Rattle.std.specs.Prelude.{◌≡◌, ◌≤◌, ◌↔◌, length, true, false, IsTrue, IfOk, OnErr};
 ghost use Rattle.rd_step.specs.Run.{events};
 ghost use Rattle.rd_depend.specs.Beginnings.{NeitherBegins};
 ghost use Rattle.rd_depend.specs.Equivalence.{DecidesEquivalence};
+ghost use Rattle.rd_depend.specs.KeepingOrder.{AreAlike};
 ghost use Rattle.rd_depend.specs.ComparedSteps.{IsMatched, IsOutOfOrder, left_of, reached_of};
 
-use super::keeping_order::{ReachedByKey, StepsByActor, are_alike};
+use super::keeping_order::ReachedByKey;
+use super::steps_by_actor::StepsByActor;
 use rd_step::{Entry, common_beginning_len};
 use std::alloc::{AllocError, Global};
 
@@ -78,4 +80,11 @@ fn match_next(
         return Ok(false);
     }
     reached.take_in(entry, other.at)
+}
+
+/// Whether the two steps have the same event and the same place, and wrote the same part of it.
+fn are_alike(a: &Entry, b: &Entry) -> bool
+    ensures { IsTrue result ↔ AreAlike a.now b.now }
+{
+    a.event == b.event && a.place == b.place && a.wrote == b.wrote
 }

@@ -8,20 +8,16 @@
 //! wrote. A making counts as a write of its segment, and any other step at a place of the segment
 //! as a read of it.
 
-ghost use Rattle.std.specs.Prelude.{◌≡◌, ◌↔◌, ◌<◌, [], ℕ, length, Some, None, IsTrue, IfOk, OnOk, MatchOption};
+ghost use Rattle.std.specs.Prelude.{◌≡◌, ◌↔◌, ◌<◌, IsTrue, IfOk, OnOk};
 ghost use Rattle.rd_depend.specs.declared.index.keys.Key.{Key as KeyOf};
-ghost use Rattle.rd_depend.specs.KeepingOrder.{AreAlike, IsAfter, IsInOrder, last_blocking, is_whole_segment, nothing_reached, taken_in, with_step, taken_in_under};
-ghost use Rattle.rd_depend.specs.ComparedSteps.{steps_by_actor, left_of, reached_of, with_first};
-ghost use Rattle.rd_depend.specs.Tables.{list_at};
+ghost use Rattle.rd_depend.specs.KeepingOrder.{IsAfter, IsInOrder, last_blocking, is_whole_segment, nothing_reached, taken_in, with_step, taken_in_under};
+ghost use Rattle.rd_depend.specs.ComparedSteps.{reached_of};
 
-use super::index::keys::{Key, is_value_written, is_written, place_key, segment_key, value_key};
+use super::index::keys::{Key, is_value_written};
 use indexmap::IndexMap;
 use rd_cell::Place;
 use rd_step::Entry;
 use std::alloc::{AllocError, Global};
-
-/// The number of values that an actor's number, a `u8`, can have.
-const ACTOR_NUMBERS: usize = 256;
 
 /// How far the steps under one key reached in the second run. Each field is the greatest number of
 /// such a step there, from 1, or 0 if there is none.
@@ -81,12 +77,12 @@ impl ReachedByKey {
         ensures reached { OnOk result (reached_of self.new
             ≡ with_step (reached_of self.old) entry.now at) }
     {
-        let wrote = is_written(entry.wrote);
+        let wrote = !entry.wrote.is_nothing();
         let value_written = is_value_written(entry.wrote);
-        let place = self.take_in_under(place_key(entry.place), wrote, at)?;
-        let value = self.take_in_under(value_key(entry.place), value_written, at)?;
+        let place = self.take_in_under(entry.place.map(Key::of_place), wrote, at)?;
+        let value = self.take_in_under(entry.place.and_then(Key::of_value), value_written, at)?;
         let segment = self.take_in_under(
-            segment_key(entry.place),
+            entry.place.and_then(Key::of_segment),
             is_whole_segment(entry.place),
             at,
         )?;
@@ -130,97 +126,4 @@ fn is_whole_segment(place: Option<Place>) -> bool
     ensures { result ≡ is_whole_segment place }
 {
     matches!(place, Some(Place::Whole(_)))
-}
-
-/// A step with its number in its run.
-#[derive(Clone, Copy, Debug)]
-pub(crate) struct NumberedStep<'a> {
-    /// The step's number, from 1.
-    pub(crate) at: usize,
-    /// The step's entry.
-    pub(crate) entry: &'a Entry,
-}
-
-/// The steps of a run that are left to compare, by actor.
-#[derive(Drop)]
-pub(crate) struct StepsByActor<'a> {
-    /// By the actor's number. Each list has the actor's first step last, so that it can be popped.
-    steps: Vec<Vec<NumberedStep<'a>>>,
-}
-
-impl<'a> StepsByActor<'a> {
-    /// Returns all steps of these entries by actor, each with its number in the list, from 1.
-    ///
-    /// # Errors
-    ///
-    /// `AllocError` if memory is refused.
-    pub(crate) fn of(alloc: Global, entries: &'a [Entry]) -> Result<StepsByActor<'a>, AllocError>
-        ensures { IfOk result (λ steps. (n : ℕ) → left_of steps n
-            ≡ steps_by_actor entries.entry.now n) }
-    {
-        let mut steps = StepsByActor {
-            steps: empty_list_per_actor(alloc)?,
-        };
-        let mut index = entries.len();
-        while index > 0 {
-            index -= 1;
-            steps.push_front(index + 1, &entries[index])?;
-        }
-        Ok(steps)
-    }
-
-    /// Adds a step, with its number in the run, in front of those of its actor. There must be a
-    /// list for each number that an actor may have. Fails only if memory is refused.
-    fn push_front(&mut self, at: usize, entry: &'a Entry) -> Result<(), AllocError>
-        requires { length self.old.steps.items ≡ ACTOR_NUMBERS }
-        ensures number { length self.new.steps.items ≡ ACTOR_NUMBERS }
-        ensures ok { OnOk result ((n : ℕ) → left_of self.new n
-            ≡ with_first (left_of self.old) entry.entry.now.event.actor (at, entry.entry.now) n) }
-    {
-        self.steps[usize::from(entry.event.actor)].push(NumberedStep { at, entry })?;
-        Ok(())
-    }
-
-    /// Removes and returns the first step that is left of the actor; `None` if none is left.
-    pub(crate) fn pop_front(&mut self, actor: u8) -> Option<NumberedStep<'a>>
-        ensures { MatchOption result (left_of self.old actor ≡ [])
-            (λ p. (n : ℕ) → left_of self.old n
-            ≡ with_first (left_of self.new) actor (p.at, p.entry.now) n) }
-    {
-        match self.steps.get_mut(usize::from(actor)) {
-            None => None,
-            Some(steps) => steps.pop(),
-        }
-    }
-
-    /// Whether no step is left.
-    pub(crate) fn is_empty(&self) -> bool
-        ensures { IsTrue result ↔ ((n : ℕ) → left_of self.now n ≡ []) }
-    {
-        for steps in &self.steps {
-            if !steps.is_empty() {
-                return false;
-            }
-        }
-        true
-    }
-}
-
-/// Whether the two steps have the same event and the same place, and wrote the same part of it.
-pub(crate) fn are_alike(a: &Entry, b: &Entry) -> bool
-    ensures { IsTrue result ↔ AreAlike a.now b.now }
-{
-    a.event == b.event && a.place == b.place && a.wrote == b.wrote
-}
-
-/// Returns an empty list for each number that an actor may have. Fails only if memory is refused.
-fn empty_list_per_actor<'a>(alloc: Global) -> Result<Vec<Vec<NumberedStep<'a>>>, AllocError>
-    ensures { IfOk result (λ lists. (length lists.items ≡ ACTOR_NUMBERS)
-        × ((n : ℕ) → list_at lists.items n ≡ [])) }
-{
-    let mut lists = Vec::new(alloc);
-    for _actor in 0..ACTOR_NUMBERS {
-        lists.push(Vec::new(alloc))?;
-    }
-    Ok(lists)
 }

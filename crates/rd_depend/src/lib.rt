@@ -13,6 +13,7 @@ mod equivalence;
 mod index;
 mod keeping_order;
 pub mod laws;
+mod steps_by_actor;
 
 pub use dependence::{depends, first_dependant};
 pub use equivalence::are_equivalent;

@@ -8,7 +8,7 @@ ghost use Rattle.rd_depend.specs.Changes.{Adds, KeepsPositions, entry_keys, IsRe
 ghost use Rattle.rd_depend.specs.Moved.{moved_to};
 
 use super::DependIndex;
-use super::keys::{Key, is_value_written, is_written, place_key, segment_key, value_key};
+use super::keys::{Key, is_value_written};
 use super::lists::{grow_to, move_in_all, put_in, remove_above_in_all, remove_last_in, reserve_in};
 use rd_cell::limits::MOST_STEPS;
 use rd_step::Entry;
@@ -32,6 +32,30 @@ struct EntryKeys {
     value: EntryKey,
     /// The key of its segment, if its place is of a segment or the whole of one.
     segment: EntryKey,
+}
+
+impl EntryKeys {
+    /// Returns the keys under which an entry is kept, each with whether it is kept there among
+    /// those that wrote.
+    fn of(entry: &Entry) -> EntryKeys
+        ensures { result ≡ entry_keys entry.now }
+    {
+        let wrote = !entry.wrote.is_nothing();
+        EntryKeys {
+            place: EntryKey {
+                key: entry.place.map(Key::of_place),
+                wrote,
+            },
+            value: EntryKey {
+                key: entry.place.and_then(Key::of_value),
+                wrote: is_value_written(entry.wrote),
+            },
+            segment: EntryKey {
+                key: entry.place.and_then(Key::of_segment),
+                wrote,
+            },
+        }
+    }
 }
 
 /// The indices of an entry's keys in the table, each none where there is no key.
@@ -62,10 +86,27 @@ impl DependIndex {
         ensures room { OnOk result (UsesRoom self.old self.new (entry.now ∷ [])) }
         ensures room_stays { OnErr result (KeepsRoom self.old self.new) }
     {
-        let homes = entry_keys(entry);
+        let homes = EntryKeys::of(entry);
         let slots = self.reserve(entry, &homes)?;
         self.put(entry, &homes, slots);
         Ok(())
+    }
+
+    /// Puts the entry at the next position, for which there must be room, so that it takes no
+    /// memory and can't fail. There must be fewer than `MOST_STEPS` positions.
+    #[tactic(auto, using(crate::proofs::IndexRoom::room_left))]
+    pub fn push_reserved(&mut self, entry: &Entry)
+        requires few { position_count self.old < MOST_STEPS }
+        requires room { HasRoomFor self.old (entry.now ∷ []) }
+        ensures put { (es : List SomeEntry) → IsIndexOf self.old es
+            → IsIndexOf self.new (es ++ entry.now ∷ []) }
+        ensures room { (rest : List SomeEntry) → HasRoomFor self.old (entry.now ∷ rest)
+            → HasRoomFor self.new rest }
+    {
+        match self.push(entry) {
+            Ok(()) => {}
+            Err(_) => unreachable!(),
+        }
     }
 
     /// Puts these entries at the next positions, in their order, all or none. The index must be
@@ -125,7 +166,7 @@ impl DependIndex {
     {
         self.len -= 1;
         remove_last_in(&mut self.by_actor, usize::from(entry.event.actor));
-        let homes = entry_keys(entry);
+        let homes = EntryKeys::of(entry);
         self.by_key.remove_last(homes.place.key, homes.place.wrote);
         self.by_key.remove_last(homes.value.key, homes.value.wrote);
         self.by_key
@@ -258,27 +299,5 @@ impl DependIndex {
             left -= 1;
             self.pop(&entries[left]);
         }
-    }
-}
-
-/// Returns the keys under which an entry is kept, each with whether it is kept there among those
-/// that wrote.
-fn entry_keys(entry: &Entry) -> EntryKeys
-    ensures { result ≡ entry_keys entry.now }
-{
-    let wrote = is_written(entry.wrote);
-    EntryKeys {
-        place: EntryKey {
-            key: place_key(entry.place),
-            wrote,
-        },
-        value: EntryKey {
-            key: value_key(entry.place),
-            wrote: is_value_written(entry.wrote),
-        },
-        segment: EntryKey {
-            key: segment_key(entry.place),
-            wrote,
-        },
     }
 }

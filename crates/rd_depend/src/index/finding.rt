@@ -14,7 +14,8 @@ ghost use Rattle.rd_depend.specs.Probes.{probe_count};
 ghost use Rattle.rd_depend.specs.Keys.{is_under_some};
 
 use super::DependIndex;
-use super::keys::{Key, is_value_written, value_key};
+use super::keys::{Key, is_value_written};
+use super::lists::positions_in;
 use super::positions::Positions;
 use super::probes::Probes;
 use super::table::Among;
@@ -81,7 +82,7 @@ impl DependIndex {
     {
         let among = Among::writes_if(wrote.is_nothing());
         let of_value = Among::writes_if(!is_value_written(wrote));
-        let by_value = self.first_under(k, value_key(Some(place)), of_value, probes);
+        let by_value = self.first_under(k, Key::of_value(place), of_value, probes);
         let own = self.first_under(k, Some(Key::for_search(place)), among, probes);
         let whole = self.first_under(k, Key::of_whole(place), among, probes);
         earlier(by_value, earlier(own, whole))
@@ -123,20 +124,8 @@ impl DependIndex {
         ensures cost { probe_count probes.new ≤ probe_count probes.old + 19 }
         ensures counts { probe_count probes.old < probe_count probes.new }
     {
-        let list = positions_of(&self.by_actor, actor);
+        let list = positions_in(&self.by_actor, usize::from(actor));
         Positions::found(list, probes).first_above(k, probes)
-    }
-}
-
-/// Returns the positions of this actor's steps; none if the actor has no list.
-fn positions_of(by_actor: &[Vec<u32>], actor: u8) -> &[u32]
-    ensures { result.now ≡ list_at by_actor.now actor }
-{
-    let index = usize::from(actor);
-    if index < by_actor.len() {
-        &by_actor[index]
-    } else {
-        &[]
     }
 }
 

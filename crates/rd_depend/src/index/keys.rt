@@ -3,11 +3,11 @@
 //!
 //! Each key is hashed as one number, since a step looks all of its keys up.
 
-ghost use Rattle.std.specs.Prelude.{◌≡◌, ◌+◌, ◌*◌, ◌<◌, not, Some, None};
+ghost use Rattle.std.specs.Prelude.{◌≡◌, ◌+◌, ◌*◌, ◌<◌};
 ghost use Rattle.std.specs.Hash as fed;
 ghost use Rattle.std.specs.Cmp.{partial_equiv_from_equiv};
-ghost use Rattle.rd_cell.specs.Places.{is_nothing};
-ghost use Rattle.rd_depend.specs.Keys.{key_eq, key_number, search_key, place_number, packed, key_of_segment, place_key, value_key, segment_key, whole_key, is_value_written};
+ghost use Rattle.rd_cell.specs.Places.{index_half};
+ghost use Rattle.rd_depend.specs.Keys.{key_eq, key_number, search_key, place_number, packed, key_of_segment, value_key_of_place, whole_key, is_value_written};
 ghost use Rattle.rd_depend.specs.KeyLaws.{key_equiv, key_number-same};
 
 use rd_cell::{Place, SegName, Wrote};
@@ -23,6 +23,23 @@ pub(crate) enum Key {
 }
 
 impl Key {
+    /// Returns the key of the place itself; for a cell, the key of its index half.
+    pub(crate) fn of_place(place: Place) -> Key
+        ensures { result ≡ Key.At (index_half place) }
+    {
+        Key::At(place.index_half())
+    }
+
+    /// Returns the key of the place's value half; `None` if the place isn't a cell.
+    pub(crate) fn of_value(place: Place) -> Option<Key>
+        ensures { result ≡ value_key_of_place place }
+    {
+        match place {
+            Place::Cell(name, index) => Some(Key::At(Place::Val(name, index))),
+            _ => None,
+        }
+    }
+
     /// Returns the key of the place's segment, also for the whole of a segment; `None` for the
     /// queue's ends and the array.
     pub(crate) fn of_segment(place: Place) -> Option<Key>
@@ -75,44 +92,6 @@ impl Key {
             Key::In(name) => packed(10, name, 0),
         }
     }
-}
-
-/// Returns the key of the place, if there is a place; for a cell, the key of its index half.
-pub(crate) fn place_key(place: Option<Place>) -> Option<Key>
-    ensures { result ≡ place_key place }
-{
-    match place {
-        None => None,
-        Some(place) => Some(Key::At(place.index_half())),
-    }
-}
-
-/// Returns the key of the value half of this place, if there is a place and it is a cell.
-pub(crate) fn value_key(place: Option<Place>) -> Option<Key>
-    ensures { result ≡ value_key place }
-{
-    match place {
-        Some(Place::Cell(name, index)) => Some(Key::At(Place::Val(name, index))),
-        _ => None,
-    }
-}
-
-/// Returns the key of the place's segment, if there is a place and it is in a segment or is the
-/// whole of one.
-pub(crate) fn segment_key(place: Option<Place>) -> Option<Key>
-    ensures { result ≡ segment_key place }
-{
-    match place {
-        None => None,
-        Some(place) => Key::of_segment(place),
-    }
-}
-
-/// Whether an access that wrote this part of its place wrote anything.
-pub(crate) fn is_written(wrote: Wrote) -> bool
-    ensures { result ≡ not (is_nothing wrote) }
-{
-    !wrote.is_nothing()
 }
 
 /// Whether an access to a cell that wrote this part of it wrote the value half.

@@ -10,6 +10,17 @@ use std::alloc::{AllocError, Global};
 /// The least number of positions for which a full list makes room.
 const POSITIONS: usize = 8;
 
+/// Returns the positions in the list of this number; none if there is no such list.
+pub(crate) fn positions_in(lists: &[Vec<u32>], index: usize) -> &[u32]
+    ensures { result.now ≡ list_at lists.now index }
+{
+    if index < lists.len() {
+        &lists[index]
+    } else {
+        &[]
+    }
+}
+
 /// Adds empty lists until there are at least this many.
 ///
 /// # Errors

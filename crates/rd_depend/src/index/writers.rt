@@ -11,7 +11,7 @@ ghost use Rattle.rd_depend.specs.Keys.{is_under_some};
 ghost use Rattle.rd_depend.specs.Writers.{last_position, writes_to};
 
 use super::DependIndex;
-use super::keys::{Key, value_key};
+use super::keys::Key;
 use super::positions::Positions;
 use super::probes::Probes;
 use super::table::Among;
@@ -31,7 +31,7 @@ impl DependIndex {
         ensures counts { probe_count probes.old < probe_count probes.new }
     {
         let n = n as u32;
-        let by_value = self.last_write_under(n, value_key(Some(place)), probes);
+        let by_value = self.last_write_under(n, Key::of_value(place), probes);
         let own = self.last_write_under(n, Some(Key::for_search(place)), probes);
         let whole = self.last_write_under(n, Key::of_whole(place), probes);
         later(by_value, later(own, whole))

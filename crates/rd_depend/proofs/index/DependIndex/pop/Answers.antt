@@ -22,7 +22,7 @@ pub returns-clause-left : goal.returns-clause-left
 returns-clause-left c = λ es is.
     let len : c.args.self.now.len - 1 + 1 ≡ c.args.self.now.len = omega (arith, last_len c.args.self.now c.args.entry.now c.requires) in
     dropped _ _ c.args.entry.now es
-    (drops _ _ c.args.entry.now c.entry_keys-homes.result c.remove_last.new.self c.remove_last-2.new.self c.from.result c.entry_keys-homes.ensures c.from.ensures
+    (drops _ _ c.args.entry.now c.of-homes.result c.remove_last.new.self c.remove_last-2.new.self c.from.result c.of-homes.ensures c.from.ensures
     len c.remove_last_in.ensures.lists c.remove_last_in.ensures.room c.remove_last.ensures c.remove_last-2.ensures c.remove_last-3.ensures) is
 
 pub returns-clause-room : goal.returns-clause-room
@@ -32,5 +32,5 @@ returns-clause-room c =
     record { by_actor = c.remove_last_in.new.lists; by_key = c.remove_last-3.new.self; len = old.len - 1; alloc = old.alloc; few = omega (arith, old.few) } in
     let len : old.len - 1 + 1 ≡ old.len = omega (arith, last_len old c.args.entry.now c.requires) in
     gives_room old new c.args.entry.now
-    (drops old new c.args.entry.now c.entry_keys-homes.result c.remove_last.new.self c.remove_last-2.new.self c.from.result c.entry_keys-homes.ensures c.from.ensures
+    (drops old new c.args.entry.now c.of-homes.result c.remove_last.new.self c.remove_last-2.new.self c.from.result c.of-homes.ensures c.from.ensures
     len c.remove_last_in.ensures.lists c.remove_last_in.ensures.room c.remove_last.ensures c.remove_last-2.ensures c.remove_last-3.ensures)

@@ -1,5 +1,5 @@
 use Rattle.rd_depend.proofs.Prelude.{◌≡◌, ℕ, ◌+◌, ◌≤◌, length, drop, by_actor, left_of, enumerate_from}
-use Rattle.rd_depend.proofs.keeping_order.StepsByActor.of.Given as goal
+use Rattle.rd_depend.proofs.steps_by_actor.StepsByActor.of.Given as goal
 
 abbrev pub invariant-loop-index : goal.invariant-loop-index
 invariant-loop-index l = record {

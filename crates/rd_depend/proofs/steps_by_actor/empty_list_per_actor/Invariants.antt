@@ -1,5 +1,5 @@
 use Rattle.rd_depend.proofs.Prelude.{◌≡◌, ℕ, [], length, list_at}
-use Rattle.rd_depend.proofs.keeping_order.empty_list_per_actor.Given as goal
+use Rattle.rd_depend.proofs.steps_by_actor.empty_list_per_actor.Given as goal
 
 abbrev pub invariant-loop-actor : goal.invariant-loop-actor
 invariant-loop-actor l = record {

@@ -1,6 +1,6 @@
 use Rattle.rd_depend.proofs.Prelude.{ℕ, ◌≡◌, ◌<◌, ◌++◌, ◌∷◌, [], List, length, Vec, Global, get_or, ap, sym, ◌∙◌, arith, set, slice_get-get_or, NumberedStep, left_in, list_at, items_of}
 use Rattle.rd_depend.proofs.ComparedSteps.{pushed}
-use Rattle.rd_depend.proofs.keeping_order.StepsByActor.push_front.Goals as goal
+use Rattle.rd_depend.proofs.steps_by_actor.StepsByActor.push_front.Goals as goal
 
 pub returns-clause-ok : goal.returns-clause-ok
 returns-clause-ok c n =

@@ -1,5 +1,5 @@
 use Rattle.rd_depend.proofs.Prelude.{◌≡◌, ℕ, ◌<◌, [], left_of}
-use Rattle.rd_depend.proofs.keeping_order.StepsByActor.is_empty.Given as goal
+use Rattle.rd_depend.proofs.steps_by_actor.StepsByActor.is_empty.Given as goal
 
 abbrev pub invariant-loop-steps : goal.invariant-loop-steps
 invariant-loop-steps l = (n : ℕ) → n < l.steps-index → left_of l.self n ≡ []
