@@ -39,6 +39,12 @@ pub fn lone_undos_that_take_a_step_out_take_its_closure_out()
         → IsInClosure entries k j → number_after_undos ns j ≡ None }
 {}
 
+/// A list of events that runs is causally equivalent to itself.
+#[tactic(auto, using(rd_step::proofs::Equivalence::equivalence_reflexive))]
+pub fn equivalence_is_reflexive()
+    ensures { (w : World) (es : List Event) (r : Ran) → run w es ≡ Ok r → IsEquivalent w es es }
+{}
+
 /// Causal equivalence of two runs from one start is symmetric.
 pub fn equivalence_is_symmetric()
     ensures { (w : World) (es fs : List Event) (r q : Ran) → run w es ≡ Ok r → run w fs ≡ Ok q

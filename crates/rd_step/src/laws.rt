@@ -57,12 +57,6 @@ pub fn equivalent_schedules_reach_one_world()
         → ReachesTheSame r q }
 {}
 
-/// A list of events that runs is causally equivalent to itself.
-#[tactic(auto, using(crate::proofs::Equivalence::equivalence_reflexive))]
-pub fn equivalence_is_reflexive()
-    ensures { (w : Model) (es : List Event) (r : Ran) → run w es ≡ Ok r → IsEquivalent w es es }
-{}
-
 /// Swapping two neighbours that do not depend on each other, anywhere in a list that runs, gives a
 /// causally equivalent list.
 #[tactic(auto, using(crate::proofs::Equivalence::swapped_within))]
