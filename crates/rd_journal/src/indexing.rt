@@ -5,8 +5,7 @@
 //! removes all positions after the first ones that stay, and then puts the new ones in. The room of
 //! removed positions is kept, so these can always be put back.
 
-ghost use Rattle.std.specs.Prelude.{◌++◌, ◌+◌, ◌<◌, ◌≤◌, [], List, ◌∷◌, OnOk, OnErr, length, take, drop};
-ghost use Rattle.rd_step.specs.declared.entries.Entry.{Entry as SomeEntry};
+ghost use Rattle.std.specs.Prelude.{◌++◌, ◌+◌, ◌≤◌, OnOk, OnErr, length, take, drop};
 ghost use Rattle.rd_step.specs.Prelude.{MOST_STEPS};
 ghost use Rattle.rd_depend.specs.Index.{IsIndexOf, HasRoomFor, HasRoomInstead, GivesRoom, position_count};
 ghost use Rattle.rd_journal.specs.Entries.{kept_entries};
@@ -90,23 +89,6 @@ pub(crate) fn fill_index(index: &mut DependIndex, entries: &Entries)
     ensures { IsIndexOf index.new (kept_entries entries.now) }
 {
     for next in index.len() as usize..entries.kept_len() {
-        push_with_room(index, entries.kept_at(next));
-    }
-}
-
-/// Puts an entry at the index's next position, for which there must be room, so that it takes no
-/// memory and can't fail. There must be fewer than `MOST_STEPS` positions.
-#[tactic(auto, using(rd_depend::proofs::IndexRoom::room_left))]
-pub(crate) fn push_with_room(index: &mut DependIndex, entry: &Entry)
-    requires few { position_count index.old < MOST_STEPS }
-    requires room { HasRoomFor index.old (entry.now ∷ []) }
-    ensures put { (es : List SomeEntry) → IsIndexOf index.old es
-        → IsIndexOf index.new (es ++ entry.now ∷ []) }
-    ensures room { (rest : List SomeEntry) → HasRoomFor index.old (entry.now ∷ rest)
-        → HasRoomFor index.new rest }
-{
-    match index.push(entry) {
-        Ok(()) => {}
-        Err(_) => unreachable!(),
+        index.push_reserved(entries.kept_at(next));
     }
 }

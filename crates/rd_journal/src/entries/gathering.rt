@@ -10,7 +10,6 @@ ghost use Rattle.rd_step.specs.Prelude.{closure_of, without_closure, MOST_STEPS}
 ghost use Rattle.rd_depend.specs.Index.{IsIndexOf, HasRoomFor};
 ghost use Rattle.rd_journal.specs.Numbers.{at_numbers, IsOrder};
 
-use crate::indexing::push_with_room;
 use rd_depend::DependIndex;
 use rd_step::Entry;
 
@@ -65,13 +64,13 @@ pub(crate) fn gather(
     let mut front = k - 1;
     let first = order[front];
     let step = entry_in(slots, first);
-    push_with_room(index, step);
+    index.push_reserved(step);
     gathered.push_reserved(first);
     for next in k..live {
         let number = order[next];
         let entry = entry_in(slots, number);
         if index.depends_on_any_after(k as u64 - 1, entry) {
-            push_with_room(index, entry);
+            index.push_reserved(entry);
             gathered.push_reserved(number);
         } else {
             order[front] = number;

@@ -1,4 +1,4 @@
-//! Undoing the last live steps, and redoing the steps that were undone last.
+//! Undoing the last live steps, and redoing the next ones ahead, whether or not they were undone.
 
 ghost use Rattle.std.specs.Prelude.{◌≡◌, ◌≤◌, length, take, Ok};
 ghost use Rattle.rd_journal.specs.Entries.{ahead_entries};

@@ -13,11 +13,8 @@ use super::super::indexing::replace_in_index;
 use super::Session;
 use super::stepping::{step_all_again, undo_after};
 use rd_cell::Refusal;
-use rd_cell::limits::MOST_STEPS;
+use rd_cell::limits::{ACTOR_NUMBERS, MOST_STEPS};
 use rd_step::{Entry, World};
-
-/// The number of values of a `u8`, one for each number that an actor could have.
-const ACTOR_NUMBERS: usize = 256;
 
 impl<const R: usize> Session<R> {
     ghost use Rattle.rd_journal.specs.Sessions.{journal, state, room, capacity, index, KeepsItsSteps};

@@ -17,8 +17,8 @@ written n f live now dm copied gathered len same its number within = grind (arit
 pub entry_in-step-requires : goal.entry_in-step-requires
 entry_in-step-requires c = grind (arith, order_below)
 
-pub push_with_room-requires-clause-room : goal.push_with_room-requires-clause-room
-push_with_room-requires-clause-room c =
+pub push_reserved-requires-clause-room : goal.push_reserved-requires-clause-room
+push_reserved-requires-clause-room c =
     let es = c.args.slots.now in
     let ns = c.args.order.now.items in
     let n = next_one es ns ns c.args.live (c.args.k - 1) c.index-first.result.now c.requires.ordered c.requires.within (omega (arith, c.requires.some, c.requires.position)) refl refl
@@ -32,14 +32,14 @@ loop-next-init c =
     let v = c.index-first.result.now in
     let n = next_one es ns ns c.args.live (c.args.k - 1) v c.requires.ordered c.requires.within (omega (arith, c.requires.some, c.requires.position)) refl refl
     c.index-first.ensures in
-    let pushed : v ∷ [] ≡ c.push_reserved.new.self.items = sym (c.push_reserved.ensures.items ∙ ap (λ (ms : List ℕ). ms ++ v ∷ []) c.requires.none) in
+    let pushed : v ∷ [] ≡ c.push_reserved-2.new.self.items = sym (c.push_reserved-2.ensures.items ∙ ap (λ (ms : List ℕ). ms ++ v ∷ []) c.requires.none) in
     record {
       under_way =
-          subst (λ (ms : List ℕ). UnderWay es ns ns ms c.args.index.now c.push_with_room.new.index c.args.k c.args.live (c.args.k - 1) c.args.k) pushed
-          (first_gathered es ns c.args.index.now c.push_with_room.new.index c.args.k c.args.live v c.entry_in-step.result.now c.requires.ordered c.requires.some c.requires.position c.requires.within n
-          c.entry_in-step.ensures c.requires.before c.push_with_room.ensures.put c.push_with_room.ensures.room);
+          subst (λ (ms : List ℕ). UnderWay es ns ns ms c.args.index.now c.push_reserved.new.self c.args.k c.args.live (c.args.k - 1) c.args.k) pushed
+          (first_gathered es ns c.args.index.now c.push_reserved.new.self c.args.k c.args.live v c.entry_in-step.result.now c.requires.ordered c.requires.some c.requires.position c.requires.within n
+          c.entry_in-step.ensures c.requires.before c.push_reserved.ensures.put c.push_reserved.ensures.room);
       order = refl;
-      place = c.push_reserved.ensures.capacity;
+      place = c.push_reserved-2.ensures.capacity;
     }
 
 pub entry_in-entry-requires : goal.entry_in-entry-requires
@@ -48,8 +48,8 @@ entry_in-entry-requires c = grind (arith, next_one)
 pub depends_on_any_after-requires : goal.depends_on_any_after-requires
 depends_on_any_after-requires c = grind (arith, live_of, live_of-length, length-append, length-take-le)
 
-pub push_with_room-requires-then-depends_on_any_after-clause-room : goal.push_with_room-requires-then-depends_on_any_after-clause-room
-push_with_room-requires-then-depends_on_any_after-clause-room c =
+pub push_reserved-requires-then-depends_on_any_after-clause-room : goal.push_reserved-requires-then-depends_on_any_after-clause-room
+push_reserved-requires-then-depends_on_any_after-clause-room c =
     let es = c.args.slots.now in
     let ns = c.args.order.now.items in
     let now = c.loop-next.order.items in
@@ -91,12 +91,12 @@ loop-next-preserved c =
       | then-depends_on_any_after w ↦
           record {
             under_way =
-                carried es ns now (gathered ++ v ∷ []) c.args.index.now w.push_with_room-then-depends_on_any_after.new.index k live front (next + 1) _ _ _ _
-                ((λ i. (w.order-is i).items)) ((λ i. (w.gathered-is i).items) ∙ w.push_reserved-then-depends_on_any_after.ensures.items) w.index-is w.front-is
-                (joined es ns now gathered c.args.index.now c.loop-next.index w.push_with_room-then-depends_on_any_after.new.index k live front next v x u low n c.entry_in-entry.ensures
-                (said ∙ w.if-depends_on_any_after.true) w.push_with_room-then-depends_on_any_after.ensures.put w.push_with_room-then-depends_on_any_after.ensures.room later);
+                carried es ns now (gathered ++ v ∷ []) c.args.index.now w.push_reserved-then-depends_on_any_after.new.self k live front (next + 1) _ _ _ _
+                ((λ i. (w.order-is i).items)) ((λ i. (w.gathered-is i).items) ∙ w.push_reserved-then-depends_on_any_after-2.ensures.items) w.index-is w.front-is
+                (joined es ns now gathered c.args.index.now c.loop-next.index w.push_reserved-then-depends_on_any_after.new.self k live front next v x u low n c.entry_in-entry.ensures
+                (said ∙ w.if-depends_on_any_after.true) w.push_reserved-then-depends_on_any_after.ensures.put w.push_reserved-then-depends_on_any_after.ensures.room later);
             order = ap vec_capacity w.order-is ∙ c.loop-next.invariant.order;
-            place = ap vec_capacity w.gathered-is ∙ w.push_reserved-then-depends_on_any_after.ensures.capacity ∙ c.loop-next.invariant.place;
+            place = ap vec_capacity w.gathered-is ∙ w.push_reserved-then-depends_on_any_after-2.ensures.capacity ∙ c.loop-next.invariant.place;
           }
       | else-depends_on_any_after w ↦
           record {
