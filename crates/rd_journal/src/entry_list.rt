@@ -4,6 +4,7 @@
 
 ghost use Rattle.std.specs.Prelude.{◌≡◌, ◌<◌, ◌≤◌, List, None, Some, length, drop, slice_get, slice_index_or, MatchOption};
 ghost use Rattle.std.specs.List.{All};
+ghost use Rattle.rd_step.specs.Lists.{numbered};
 ghost use Rattle.rd_journal.specs.Numbers.{at_numbers};
 
 use rd_step::{Entry, Event, EventList};
@@ -67,6 +68,17 @@ impl<'a> EntryList<'a> {
         } else {
             None
         }
+    }
+
+    /// Returns the entry of this number, counted from 1; `None` if there is none.
+    pub fn numbered(&self, number: u64) -> Option<&'a Entry>
+        ensures { MatchOption result (numbered self.now number ≡ None)
+            (λ entry. numbered self.now number ≡ Some entry.now) }
+    {
+        if number == 0 {
+            return None;
+        }
+        self.get(number as usize - 1)
     }
 
     /// Returns the entries after the first `n`, which must be at most `len`.

@@ -1,8 +1,7 @@
 //! The search for an origin: it goes back from a step to the last earlier one that passes a test.
 
-ghost use Rattle.std.specs.Prelude.{◌≡◌, ◌-◌, Bool, take, Some, None, MatchOption};
+ghost use Rattle.std.specs.Prelude.{◌≡◌, ◌-◌, Bool, take};
 ghost use Rattle.std.specs.Fn.{FnReturnsAt};
-ghost use Rattle.rd_step.specs.Lists.{numbered};
 ghost use Rattle.rd_step.specs.declared.entries.Entry.{Entry as SomeEntry};
 ghost use Rattle.rd_step.specs.Prelude.{and_then};
 ghost use Rattle.rd_journal.specs.Sessions.{state};
@@ -68,7 +67,7 @@ fn last_call(steps: &EntryList, number: Option<u64>) -> Option<u64>
     ensures { result ≡ last_call steps.now number }
 {
     let number = number?;
-    let step = step_numbered(steps, number)?;
+    let step = steps.numbered(number)?;
     last_below(steps, number, |call| begins_call(step.event.actor, call))
 }
 
@@ -82,7 +81,7 @@ fn last_below<F: Fn(&Entry) -> bool>(steps: &EntryList, below: u64, test: F) -> 
         → result ≡ last_position passes (take (below - 1) steps.now) }
 {
     for number in (1..below).rev() {
-        let Some(step) = step_numbered(steps, number) else {
+        let Some(step) = steps.numbered(number) else {
             continue;
         };
         if test(step) {
@@ -90,17 +89,6 @@ fn last_below<F: Fn(&Entry) -> bool>(steps: &EntryList, below: u64, test: F) -> 
         }
     }
     None
-}
-
-/// Returns the entry of the step of this number, counted from 1, or none if there is no such step.
-fn step_numbered<'a>(steps: &EntryList<'a>, number: u64) -> Option<&'a Entry>
-    ensures { MatchOption result (numbered steps.now number ≡ None)
-        (λ step. numbered steps.now number ≡ Some step.now) }
-{
-    if number == 0 {
-        return None;
-    }
-    steps.get(number as usize - 1)
 }
 
 /// Whether the step put a value into this cell of a segment or slot of the array.
