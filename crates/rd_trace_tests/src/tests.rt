@@ -20,48 +20,59 @@ use rd_step::World;
 use rd_trace::{AnyBook, LoadTraceFault, load_trace, write_trace};
 use std::alloc::Global;
 use std::process::Abort;
-use std::test::Fail;
+
+/// Lines, each with how often it is played.
+type Lines = &'static [(&'static str, u64)];
+
+/// Plays a script over a book, and answers its report.
+fn report<const R: usize>(
+    rt: &impl Abort,
+    alloc: Global,
+    script: &str,
+    book: &mut Book<R>,
+) -> Vec<u8> {
+    let mut report = Vec::new(alloc);
+    let script = &mut ReadSource::new(script.as_bytes());
+    run(script, &mut WriteSink::new(&mut report), book).expect(rt, "not played");
+    report
+}
 
 /// A book over a fresh world of four actors, in which each of these lines was played this many
 /// times.
-fn played<const R: usize>(alloc: Global, lines: &[(&str, u64)]) -> Result<Book<R>, Fail>
+fn played<const R: usize>(rt: &impl Abort, alloc: Global, lines: Lines) -> Book<R>
     requires positive { 1 ≤ R }
     requires small { R ≤ 64 }
 {
-    let world = World::<R>::fresh(alloc, 4)?;
+    let world = World::<R>::fresh(alloc, 4).expect(rt, "out of memory");
     let mut book = Book::open(alloc, Session::open(alloc, world));
     for (line, times) in lines {
-        for _ in 0..*times {
-            let mut report = Vec::new(alloc);
-            run(
-                &mut ReadSource::new(line.as_bytes()),
-                &mut WriteSink::new(&mut report),
-                &mut book,
-            )?;
-        }
+        let script = line
+            .repeat(alloc, *times as usize)
+            .expect(rt, "out of memory");
+        let _ = report(rt, alloc, &script, &mut book);
     }
-    Ok(book)
+    book
 }
 
 /// The text that is written of a book.
-fn written<const R: usize>(alloc: Global, book: &Book<R>) -> Result<Vec<u8>, Fail> {
+fn written<const R: usize>(rt: &impl Abort, alloc: Global, book: &Book<R>) -> Vec<u8> {
     let mut text = Vec::new(alloc);
-    write_trace(alloc, &mut WriteSink::new(&mut text), book)?;
-    Ok(text)
+    write_trace(alloc, &mut WriteSink::new(&mut text), book).expect(rt, "not written");
+    text
 }
 
 /// The text that is written of a book is this one.
-fn text_is<const R: usize>(
-    rt: &impl Abort,
-    alloc: Global,
-    book: &Book<R>,
-    text: &str,
-) -> Result<(), Fail> {
-    assert!(rt;
-        written(alloc, book)?.as_slice() == text.as_bytes(),
-        "trace {text}"
-    );
-    Ok(())
+fn text_is<const R: usize>(rt: &impl Abort, alloc: Global, book: &Book<R>, text: &str) {
+    let right = written(rt, alloc, book).as_slice() == text.as_bytes();
+    assert!(rt; right, "trace {text}");
+}
+
+/// The text that is written of the book of these lines is this one.
+fn is_written<const R: usize>(rt: &impl Abort, alloc: Global, lines: Lines, text: &str)
+    requires positive { 1 ≤ R }
+    requires small { R ≤ 64 }
+{
+    text_is(rt, alloc, &played::<R>(rt, alloc, lines), text);
 }
 
 /// Compares why the bytes that are shown so are not loaded.
@@ -86,36 +97,35 @@ fn are_bad(rt: &impl Abort, alloc: Global, texts: &[&str]) {
     }
 }
 
-#[test]
-fn the_live_events_are_written(rt: HostRuntime) -> Result<(), Fail> {
-    let book = played::<4>(rt.alloc(), &[("enq 1 7\n", 1), ("go 1\n", 1)])?;
-    let text =
-        "{\"events\":[[\"enq\",1,7],[\"go\",1]],\"marks\":[],\"ring\":4,\"start\":{\"fresh\":4},\"undone\":[],\"version\":2}\n";
-    text_is(&rt, rt.alloc(), &book, text)
-}
+/// Live events, and the text of their trace over rings of four cells.
+const LIVE: (Lines, &str) = (
+    &[("enq 1 7\n", 1), ("go 1\n", 1)],
+    "{\"events\":[[\"enq\",1,7],[\"go\",1]],\"marks\":[],\"ring\":4,\"start\":{\"fresh\":4},\"undone\":[],\"version\":2}\n",
+);
+
+/// An event of each other word, and the text of their trace over rings of eight cells.
+const WORDS: (Lines, &str) = (
+    &[
+        ("deq 2\n", 1),
+        ("aenq 3 18446744073709551615\n", 1),
+        ("adeq 4\n", 1),
+        ("starve 4 no\n", 1),
+    ],
+    "{\"events\":[[\"deq\",2],[\"aenq\",3,18446744073709551615],[\"adeq\",4]],\"marks\":[],\"ring\":8,\"start\":{\"fresh\":4},\"undone\":[],\"version\":2}\n",
+);
+
+/// An event, and what is written of it over rings of three cells, which no trace has.
+const NO_RING: (Lines, &str) = (
+    &[("adeq 4\n", 1)],
+    "{\"events\":[[\"adeq\",4]],\"marks\":[],\"ring\":3,\"start\":{\"fresh\":4},\"undone\":[],\"version\":2}\n",
+);
 
 #[test]
-fn each_event_has_its_word(rt: HostRuntime) -> Result<(), Fail> {
-    let book = played::<8>(
-        rt.alloc(),
-        &[
-            ("deq 2\n", 1),
-            ("aenq 3 18446744073709551615\n", 1),
-            ("adeq 4\n", 1),
-            ("starve 4 no\n", 1),
-        ],
-    )?;
-    let text =
-        "{\"events\":[[\"deq\",2],[\"aenq\",3,18446744073709551615],[\"adeq\",4]],\"marks\":[],\"ring\":8,\"start\":{\"fresh\":4},\"undone\":[],\"version\":2}\n";
-    text_is(&rt, rt.alloc(), &book, text)
-}
-
-#[test]
-fn a_ring_that_no_trace_has_is_written_too(rt: HostRuntime) -> Result<(), Fail> {
-    let book = played::<3>(rt.alloc(), &[("adeq 4\n", 1)])?;
-    let text =
-        "{\"events\":[[\"adeq\",4]],\"marks\":[],\"ring\":3,\"start\":{\"fresh\":4},\"undone\":[],\"version\":2}\n";
-    text_is(&rt, rt.alloc(), &book, text)?;
-    are_bad(&rt, rt.alloc(), &[text]);
-    Ok(())
+fn the_live_events_are_written_each_by_its_word_also_over_a_ring_that_no_trace_has(
+    rt: HostRuntime,
+) {
+    is_written::<4>(&rt, rt.alloc(), LIVE.0, LIVE.1);
+    is_written::<8>(&rt, rt.alloc(), WORDS.0, WORDS.1);
+    is_written::<3>(&rt, rt.alloc(), NO_RING.0, NO_RING.1);
+    are_bad(&rt, rt.alloc(), &[NO_RING.1]);
 }

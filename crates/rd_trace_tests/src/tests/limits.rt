@@ -1,64 +1,58 @@
 //! Traces as long as may be, and longer.
 
-use super::{AnyBook, LoadTraceFault, fault_is, written};
+use super::{AnyBook, LoadTraceFault, fault_is, text_is};
 use rd_cell::Refusal;
 use rd_trace::load_trace;
-use std::alloc::{AllocError, Global};
+use std::alloc::Global;
 use std::process::Abort;
-use std::test::Fail;
 
 /// A dequeue of an empty queue, with a comma after each event.
 const DEQUEUE: &str =
     "[\"deq\",1],[\"go\",1],[\"go\",1],[\"go\",1],[\"go\",1],[\"go\",1],[\"go\",1],[\"go\",1],[\"go\",1],[\"go\",1],[\"go\",1],[\"go\",1],";
 
-/// The three events that fill a session after those of 5461 dequeues.
-const FILLING: &str = "[\"deq\",1],[\"go\",1],[\"go\",1]";
-
-/// As many events as a session has at most less three, those of 5461 dequeues, and these after
-/// them.
-fn dequeues(alloc: Global, last: &str) -> Result<String, AllocError> {
-    let calls = DEQUEUE.repeat(alloc, 5461)?;
-    format!(in alloc; "{calls}{last}")
+/// A text, in which `*` stands for the events of 5461 dequeues: as many events as a session has at
+/// most less three.
+fn spelled(rt: &impl Abort, alloc: Global, text: &str) -> String {
+    let dequeues = DEQUEUE.repeat(alloc, 5461).expect(rt, "out of memory");
+    text.replace(alloc, "*", &dequeues)
+        .expect(rt, "out of memory")
 }
 
-/// A trace with these events live and these undone, and with a bookmark at these.
-fn trace_of(alloc: Global, live: &str, marked: &str, undone: &str) -> Result<String, AllocError> {
-    format!(in alloc;
-        "{{\"events\":[{live}],\"marks\":[{{\"events\":[{marked}],\"name\":\"a\"}}],\"ring\":4,\"start\":{{\"fresh\":4}},\"undone\":[{undone}],\"version\":2}}\n"
-    )
-}
+/// Traces, and how many of their events are live.
+const WHOLE: &[(&str, u64)] = &[
+    // a trace has as many events as a session
+    (
+        "{\"events\":[*[\"deq\",1],[\"go\",1],[\"go\",1]],\"marks\":[{\"events\":[],\"name\":\"a\"}],\"ring\":4,\"start\":{\"fresh\":4},\"undone\":[],\"version\":2}\n",
+        65_535,
+    ),
+    // live and undone events are as many together
+    (
+        "{\"events\":[*[\"deq\",1]],\"marks\":[{\"events\":[],\"name\":\"a\"}],\"ring\":4,\"start\":{\"fresh\":4},\"undone\":[[\"go\",1],[\"go\",1]],\"version\":2}\n",
+        65_533,
+    ),
+    // a bookmark has as many events as a session
+    (
+        "{\"events\":[[\"deq\",2]],\"marks\":[{\"events\":[*[\"deq\",1],[\"go\",1],[\"go\",1]],\"name\":\"a\"}],\"ring\":4,\"start\":{\"fresh\":4},\"undone\":[[\"go\",2]],\"version\":2}\n",
+        1,
+    ),
+];
 
 /// A trace is loaded as this many live steps, and written again.
-fn is_whole(rt: &impl Abort, alloc: Global, text: &str, live: u64) -> Result<(), Fail> {
-    let AnyBook::Four(book) = load_trace(alloc, text.as_bytes())? else {
-        panic!(rt; "the ring has changed");
-    };
-    let same = written(alloc, &book)?.as_slice() == text.as_bytes();
-    assert!(rt; book.session().len() == live && same, "{live} live");
-    Ok(())
+fn is_whole(rt: &impl Abort, alloc: Global, text: &str, live: u64) {
+    match load_trace(alloc, text.as_bytes()) {
+        Ok(AnyBook::Four(book)) => {
+            assert!(rt; book.session().len() == live, "{live} live");
+            text_is(rt, alloc, &book, text);
+        }
+        _ => panic!(rt; "no trace of the ring"),
+    }
 }
 
 #[test]
-fn a_trace_has_as_many_events_as_a_session(rt: HostRuntime) -> Result<(), Fail> {
-    let alloc = rt.alloc();
-    let live = dequeues(alloc, FILLING)?;
-    is_whole(&rt, alloc, &trace_of(alloc, &live, "", "")?, 65_535)
-}
-
-#[test]
-fn live_and_undone_events_are_as_many_together(rt: HostRuntime) -> Result<(), Fail> {
-    let alloc = rt.alloc();
-    let live = dequeues(alloc, "[\"deq\",1]")?;
-    let text = trace_of(alloc, &live, "", "[\"go\",1],[\"go\",1]")?;
-    is_whole(&rt, alloc, &text, 65_533)
-}
-
-#[test]
-fn a_bookmark_has_as_many_events_as_a_session(rt: HostRuntime) -> Result<(), Fail> {
-    let alloc = rt.alloc();
-    let marked = dequeues(alloc, FILLING)?;
-    let text = trace_of(alloc, "[\"deq\",2]", &marked, "[\"go\",2]")?;
-    is_whole(&rt, alloc, &text, 1)
+fn a_trace_and_a_bookmark_have_as_many_events_as_a_session(rt: HostRuntime) {
+    for (text, live) in WHOLE {
+        is_whole(&rt, rt.alloc(), &spelled(&rt, rt.alloc(), *text), *live);
+    }
 }
 
 /// The fault of the 65,536th of the live events and the undone ones after them.
@@ -67,45 +61,38 @@ const TOO_LONG: LoadTraceFault = LoadTraceFault::TraceStep {
     cause: Refusal::TooLong,
 };
 
-#[test]
-fn one_event_more_is_too_long(rt: HostRuntime) -> Result<(), Fail> {
-    let alloc = rt.alloc();
-    let last = format!(in alloc; "{FILLING},[\"go\",1]")?;
-    let text = trace_of(alloc, &dequeues(alloc, &last)?, "", "")?;
-    fault_is(&rt, alloc, text.as_bytes(), TOO_LONG, "of live events");
-    Ok(())
-}
+/// Traces that are too long, and their faults.
+const LONGER: &[(&str, LoadTraceFault)] = &[
+    // one event more
+    (
+        "{\"events\":[*[\"deq\",1],[\"go\",1],[\"go\",1],[\"go\",1]],\"marks\":[{\"events\":[],\"name\":\"a\"}],\"ring\":4,\"start\":{\"fresh\":4},\"undone\":[],\"version\":2}\n",
+        TOO_LONG,
+    ),
+    // one event more in version 1
+    (
+        "{\"actors\":4,\"events\":[*[\"deq\",1],[\"go\",1],[\"go\",1],[\"go\",1]],\"ring\":4,\"version\":1}",
+        TOO_LONG,
+    ),
+    // one undone event more, whatever else refuses it
+    (
+        "{\"events\":[*[\"deq\",1]],\"marks\":[{\"events\":[],\"name\":\"a\"}],\"ring\":4,\"start\":{\"fresh\":4},\"undone\":[[\"go\",1],[\"go\",1],[\"deq\",9]],\"version\":2}\n",
+        TOO_LONG,
+    ),
+    // one event more of a bookmark
+    (
+        "{\"events\":[],\"marks\":[{\"events\":[*[\"deq\",1],[\"go\",1],[\"go\",1],[\"go\",1]],\"name\":\"a\"}],\"ring\":4,\"start\":{\"fresh\":4},\"undone\":[],\"version\":2}\n",
+        LoadTraceFault::TraceMark {
+            mark: 1,
+            step: 65_536,
+            cause: Refusal::TooLong,
+        },
+    ),
+];
 
 #[test]
-fn one_event_more_in_version_1_is_too_long(rt: HostRuntime) -> Result<(), Fail> {
-    let alloc = rt.alloc();
-    let last = format!(in alloc; "{FILLING},[\"go\",1]")?;
-    let live = dequeues(alloc, &last)?;
-    let text = format!(in alloc; "{{\"actors\":4,\"events\":[{live}],\"ring\":4,\"version\":1}}")?;
-    fault_is(&rt, alloc, text.as_bytes(), TOO_LONG, "of version 1");
-    Ok(())
-}
-
-#[test]
-fn one_undone_event_more_is_too_long_whatever_else_refuses_it(rt: HostRuntime) -> Result<(), Fail> {
-    let alloc = rt.alloc();
-    let live = dequeues(alloc, "[\"deq\",1]")?;
-    let undone = "[\"go\",1],[\"go\",1],[\"deq\",9]";
-    let text = trace_of(alloc, &live, "", undone)?;
-    fault_is(&rt, alloc, text.as_bytes(), TOO_LONG, undone);
-    Ok(())
-}
-
-#[test]
-fn one_event_more_of_a_bookmark_is_too_long(rt: HostRuntime) -> Result<(), Fail> {
-    let alloc = rt.alloc();
-    let last = format!(in alloc; "{FILLING},[\"go\",1]")?;
-    let text = trace_of(alloc, "", &dequeues(alloc, &last)?, "")?;
-    let too_long = LoadTraceFault::TraceMark {
-        mark: 1,
-        step: 65_536,
-        cause: Refusal::TooLong,
-    };
-    fault_is(&rt, alloc, text.as_bytes(), too_long, "of a bookmark");
-    Ok(())
+fn one_event_more_is_too_long(rt: HostRuntime) {
+    for (text, fault) in LONGER {
+        let spelled = spelled(&rt, rt.alloc(), *text);
+        fault_is(&rt, rt.alloc(), spelled.as_bytes(), *fault, *text);
+    }
 }

@@ -12,84 +12,73 @@ use std::test::Fail;
 use test_kit::long_script;
 
 /// The text that is written of a book.
-fn trace_of(alloc: Global, book: &AnyBook) -> Result<Vec<u8>, Fail> {
+fn trace_of(rt: &impl Abort, alloc: Global, book: &AnyBook) -> Vec<u8> {
     let mut text = Vec::new(alloc);
-    write_any_trace(alloc, &mut WriteSink::new(&mut text), book)?;
-    Ok(text)
+    write_any_trace(alloc, &mut WriteSink::new(&mut text), book).expect(rt, "not written");
+    text
 }
 
-/// The text that is written of the book of a script over the fresh world of this many actors and
-/// this ring.
-fn trace_of_script(alloc: Global, script: &str, ring: Ring, actors: u8) -> Result<Vec<u8>, Fail>
+/// The book of a script over the fresh world of this many actors and this ring.
+fn book_of(rt: &impl Abort, alloc: Global, script: &str, ring: Ring, actors: u8) -> AnyBook
     requires some { 1 ≤ actors }
     requires few { actors ≤ 16 }
 {
-    let mut book = AnyBook::fresh(alloc, ring, actors)?;
+    let mut book = AnyBook::fresh(alloc, ring, actors).expect(rt, "out of memory");
     let mut report = Vec::new(alloc);
-    book.run(
-        &mut ReadSource::new(script.as_bytes()),
-        &mut WriteSink::new(&mut report),
-    )?;
-    trace_of(alloc, &book)
-}
-
-/// The text that is written of the book that a text is loaded as.
-fn trace_of_loaded(alloc: Global, text: &[u8]) -> Result<Vec<u8>, Fail> {
-    let book = load_trace(alloc, text)?;
-    trace_of(alloc, &book)
+    let script = &mut ReadSource::new(script.as_bytes());
+    book.run(script, &mut WriteSink::new(&mut report))
+        .expect(rt, "not played");
+    book
 }
 
 /// What is written of the book of a script is loaded, and written again.
-fn comes_back(
-    rt: &impl Abort,
-    alloc: Global,
-    script: &str,
-    ring: Ring,
-    actors: u8,
-) -> Result<(), Fail>
+fn comes_back(rt: &impl Abort, alloc: Global, script: &str, ring: Ring, actors: u8)
     requires some { 1 ≤ actors }
     requires few { actors ≤ 16 }
 {
-    let text = trace_of_script(alloc, script, ring, actors)?;
-    let again = trace_of_loaded(alloc, &text)?;
+    let text = trace_of(rt, alloc, &book_of(rt, alloc, script, ring, actors));
+    let loaded = load_trace(alloc, &text).expect(rt, "no trace");
+    let again = trace_of(rt, alloc, &loaded);
     assert!(rt;
         again.as_slice() == text.as_slice(),
         "{actors} actors, {ring:?}"
     );
-    Ok(())
 }
 
-/// Runs a long script of lines of these kinds for each number of actors over each ring.
-fn come_back(rt: &impl Abort, alloc: Global, kinds: &[&str]) -> Result<(), Fail> {
-    for actors in 1..17 {
-        let script = long_script(alloc, kinds, 32, u64::from(actors))?;
-        comes_back(rt, alloc, &script, Ring::Two, actors)?;
-        comes_back(rt, alloc, &script, Ring::Four, actors)?;
-        comes_back(rt, alloc, &script, Ring::Eight, actors)?;
-    }
+/// The kinds of lines.
+const KINDS: &[&str] = &[
+    "enq A K",
+    "deq A",
+    "enq A K",
+    "deq A",
+    "aenq A K",
+    "adeq A",
+    "starve A yes",
+    "starve A no",
+    "undo",
+    "undo K",
+    "roll K",
+    "redo",
+    "mark nK",
+    "goto nK",
+];
+
+/// Runs a long script of lines of these kinds for this number of actors over each ring.
+fn come_back(rt: &impl Abort, alloc: Global, actors: u8) -> Result<(), Fail>
+    requires some { 1 ≤ actors }
+    requires few { actors ≤ 16 }
+{
+    let script = long_script(alloc, KINDS, 32, u64::from(actors))?;
+    comes_back(rt, alloc, &script, Ring::Two, actors);
+    comes_back(rt, alloc, &script, Ring::Four, actors);
+    comes_back(rt, alloc, &script, Ring::Eight, actors);
     Ok(())
 }
 
 #[test]
 fn the_trace_of_a_long_run_comes_back(rt: HostRuntime) -> Result<(), Fail> {
-    come_back(
-        &rt,
-        rt.alloc(),
-        &[
-            "enq A K",
-            "deq A",
-            "enq A K",
-            "deq A",
-            "aenq A K",
-            "adeq A",
-            "starve A yes",
-            "starve A no",
-            "undo",
-            "undo K",
-            "roll K",
-            "redo",
-            "mark nK",
-            "goto nK",
-        ],
-    )
+    for actors in 1..17 {
+        come_back(&rt, rt.alloc(), actors)?;
+    }
+    Ok(())
 }

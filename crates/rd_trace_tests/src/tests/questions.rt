@@ -3,13 +3,11 @@
 
 ghost use Rattle.std.specs.Prelude.{◌≤◌};
 
-use super::{played, written};
-use rd_marks::Book;
-use rd_script::{ReadSource, WriteSink, run};
+use super::{Lines, again, played, report, written};
+use rd_script::{ReadSource, WriteSink};
 use rd_trace::{AnyBook, load_trace};
-use std::alloc::Global;
+use std::alloc::{AllocError, Global};
 use std::process::Abort;
-use std::test::Fail;
 
 /// Places that a world may have.
 const PLACES: &[&str] = &[
@@ -44,16 +42,16 @@ const PLACES: &[&str] = &[
 ];
 
 /// Lines that ask, and then some that go on.
-fn questions(alloc: Global) -> Result<String, Fail> {
+fn questions(alloc: Global) -> Result<String, AllocError> {
     let mut script = String::new(alloc);
     for place in PLACES {
-        write!(script, "show {place}\nwriter {place}\n")?;
+        script.push_str(&format!(in alloc; "show {place}\nwriter {place}\n")?)?;
     }
     for k in 0..46 {
-        write!(script, "step {k}\norigin {k}\n")?;
+        script.push_str(&format!(in alloc; "step {k}\norigin {k}\n")?)?;
     }
     for number in 0..6 {
-        write!(script, "actor {number}\nmarkat {number}\n")?;
+        script.push_str(&format!(in alloc; "actor {number}\nmarkat {number}\n")?)?;
     }
     script.push_str(
         "len\nmarks\nsame a b\nsame b a\nsame a a\nredo\nstep 1\nforward 6\nstep 7\nundo 3\ngoto b\nlen\ngoto a\nlen\n",
@@ -61,200 +59,91 @@ fn questions(alloc: Global) -> Result<String, Fail> {
     Ok(script)
 }
 
-/// The report of a script over a book.
-fn report<const R: usize>(
-    alloc: Global,
-    script: &str,
-    book: &mut Book<R>,
-) -> Result<Vec<u8>, Fail> {
-    let mut report = Vec::new(alloc);
-    run(
-        &mut ReadSource::new(script.as_bytes()),
-        &mut WriteSink::new(&mut report),
-        book,
-    )?;
-    Ok(report)
-}
-
 /// The report of a script over the book that a text is loaded as.
-fn loaded_report(alloc: Global, script: &str, text: &[u8]) -> Result<Vec<u8>, Fail> {
-    let mut book: AnyBook = load_trace(alloc, text)?;
+pub(super) fn loaded_report(rt: &impl Abort, alloc: Global, script: &str, text: &[u8]) -> Vec<u8> {
+    let mut book: AnyBook = load_trace(alloc, text).expect(rt, "no trace");
     let mut report = Vec::new(alloc);
-    book.run(
-        &mut ReadSource::new(script.as_bytes()),
-        &mut WriteSink::new(&mut report),
-    )?;
-    Ok(report)
+    let script = &mut ReadSource::new(script.as_bytes());
+    book.run(script, &mut WriteSink::new(&mut report))
+        .expect(rt, "not played");
+    report
 }
 
 /// The book of these lines, and the one that it is loaded as, answer alike.
-fn answer_alike<const R: usize>(
-    rt: &impl Abort,
-    alloc: Global,
-    lines: &[(&str, u64)],
-) -> Result<(), Fail>
+fn answer_alike<const R: usize>(rt: &impl Abort, alloc: Global, script: &str, lines: Lines)
     requires positive { 1 ≤ R }
     requires small { R ≤ 64 }
 {
-    let mut book = played::<R>(alloc, lines)?;
-    let text = written(alloc, &book)?;
-    let script = questions(alloc)?;
-    let wanted = report(alloc, &script, &mut book)?;
-    let given = loaded_report(alloc, &script, &text)?;
+    let mut book = played::<R>(rt, alloc, lines);
+    let text = written(rt, alloc, &book);
+    let wanted = report(rt, alloc, script, &mut book);
+    let given = loaded_report(rt, alloc, script, &text);
     assert!(rt; given.as_slice() == wanted.as_slice());
-    Ok(())
 }
 
-#[test]
-fn an_undone_enqueue(rt: HostRuntime) -> Result<(), Fail> {
-    answer_alike::<4>(
-        &rt,
-        rt.alloc(),
-        &[("enq 1 7\n", 1), ("go 1\n", 6), ("back 7\n", 1)],
-    )
-}
+/// Further lines over rings of four cells.
+const OVER_FOUR: &[Lines] = &[
+    // a dequeue of an empty queue
+    &[
+        ("deq 1\n", 1),
+        ("go 1\n", 11),
+        ("back 12\n", 1),
+        ("forward 12\n", 1),
+    ],
+    // two bookmarks and an undone step
+    &[(
+        "enq 1 7\ndeq 2\ngo 1\ngo 2\nmark a\nback 2\ngo 2\ngo 1\nmark b\nback 1\n",
+        1,
+    )],
+    // two bookmarks and a goto
+    &[(
+        "enq 1 7\ndeq 2\ngo 1\ngo 2\nmark a\nback 2\ngo 2\ngo 1\nmark b\nback 1\ngoto a\n",
+        1,
+    )],
+    // steps that were undone alone
+    &[(
+        "enq 1 7\ndeq 2\ngo 1\ngo 2\nmark a\nundo 3\nundo 3\nmark b\n",
+        1,
+    )],
+];
 
-#[test]
-fn a_dequeue_of_an_empty_queue(rt: HostRuntime) -> Result<(), Fail> {
-    answer_alike::<4>(
-        &rt,
-        rt.alloc(),
-        &[
-            ("deq 1\n", 1),
-            ("go 1\n", 11),
-            ("back 12\n", 1),
-            ("forward 12\n", 1),
-        ],
-    )
-}
+/// Lines over rings of two cells.
+const OVER_TWO: &[Lines] = &[
+    again::RACE,
+    // a dequeue across two rings
+    &[
+        ("deq 2\n", 1),
+        ("go 2\n", 10),
+        ("enq 1 7\n", 1),
+        ("go 1\n", 6),
+        ("enq 1 8\n", 1),
+        ("go 1\n", 6),
+        ("enq 1 9\n", 1),
+        ("go 1\n", 10),
+        ("go 2\n", 5),
+    ],
+    // a cell that is marked unsafe
+    &[
+        ("enq 1 7\n", 1),
+        ("go 1\n", 6),
+        ("deq 2\n", 1),
+        ("go 2\n", 2),
+        ("deq 3\n", 1),
+        ("go 3\n", 11),
+        ("deq 3\n", 1),
+        ("go 3\n", 5),
+        ("go 2\n", 3),
+    ],
+];
 
-#[test]
-fn a_starving_enqueue(rt: HostRuntime) -> Result<(), Fail> {
-    answer_alike::<4>(
-        &rt,
-        rt.alloc(),
-        &[
-            ("enq 1 7\n", 1),
-            ("go 1\n", 3),
-            ("deq 2\n", 1),
-            ("go 2\n", 5),
-            ("go 1\n", 3),
-            ("starve 1 yes\n", 1),
-            ("go 1\n", 4),
-        ],
-    )
-}
-
-#[test]
-fn a_dequeue_across_two_rings(rt: HostRuntime) -> Result<(), Fail> {
-    answer_alike::<2>(
-        &rt,
-        rt.alloc(),
-        &[
-            ("deq 2\n", 1),
-            ("go 2\n", 10),
-            ("enq 1 7\n", 1),
-            ("go 1\n", 6),
-            ("enq 1 8\n", 1),
-            ("go 1\n", 6),
-            ("enq 1 9\n", 1),
-            ("go 1\n", 10),
-            ("go 2\n", 5),
-        ],
-    )
-}
-
-#[test]
-fn two_rings_that_race(rt: HostRuntime) -> Result<(), Fail> {
-    answer_alike::<2>(
-        &rt,
-        rt.alloc(),
-        &[
-            ("enq 1 7\n", 1),
-            ("go 1\n", 6),
-            ("enq 1 8\n", 1),
-            ("go 1\n", 6),
-            ("enq 1 9\n", 1),
-            ("go 1\n", 2),
-            ("enq 2 10\n", 1),
-            ("go 2\n", 2),
-            ("go 1\n", 5),
-            ("go 2\ngo 1\ngo 2\n", 1),
-            ("undo 27\nredo\n", 1),
-            ("go 2\ngo 1\n", 1),
-        ],
-    )
-}
-
-#[test]
-fn a_cell_that_is_marked_unsafe(rt: HostRuntime) -> Result<(), Fail> {
-    answer_alike::<2>(
-        &rt,
-        rt.alloc(),
-        &[
-            ("enq 1 7\n", 1),
-            ("go 1\n", 6),
-            ("deq 2\n", 1),
-            ("go 2\n", 2),
-            ("deq 3\n", 1),
-            ("go 3\n", 11),
-            ("deq 3\n", 1),
-            ("go 3\n", 5),
-            ("go 2\n", 3),
-        ],
-    )
-}
-
-#[test]
-fn two_bookmarks_and_an_undone_step(rt: HostRuntime) -> Result<(), Fail> {
-    answer_alike::<4>(
-        &rt,
-        rt.alloc(),
-        &[(
-            "enq 1 7\ndeq 2\ngo 1\ngo 2\nmark a\nback 2\ngo 2\ngo 1\nmark b\nback 1\n",
-            1,
-        )],
-    )
-}
-
-#[test]
-fn two_bookmarks_and_a_goto(rt: HostRuntime) -> Result<(), Fail> {
-    answer_alike::<4>(
-        &rt,
-        rt.alloc(),
-        &[(
-            "enq 1 7\ndeq 2\ngo 1\ngo 2\nmark a\nback 2\ngo 2\ngo 1\nmark b\nback 1\ngoto a\n",
-            1,
-        )],
-    )
-}
-
-#[test]
-fn the_array_queue(rt: HostRuntime) -> Result<(), Fail> {
-    answer_alike::<4>(
-        &rt,
-        rt.alloc(),
-        &[
-            ("aenq 1 7\n", 1),
-            ("go 1\n", 1),
-            ("adeq 2\n", 1),
-            ("go 2\n", 2),
-            ("go 1\ngo 2\n", 1),
-            ("go 1\n", 2),
-        ],
-    )
-}
-
-#[test]
-fn steps_that_were_undone_alone(rt: HostRuntime) -> Result<(), Fail> {
-    answer_alike::<4>(
-        &rt,
-        rt.alloc(),
-        &[(
-            "enq 1 7\ndeq 2\ngo 1\ngo 2\nmark a\nundo 3\nundo 3\nmark b\n",
-            1,
-        )],
-    )
+/// The books of each of these lines, and those that they are loaded as, answer alike.
+fn all_answer_alike<const R: usize>(rt: &impl Abort, alloc: Global, script: &str, rows: &[Lines])
+    requires positive { 1 ≤ R }
+    requires small { R ≤ 64 }
+{
+    for lines in rows {
+        answer_alike::<R>(rt, alloc, script, *lines);
+    }
 }
 
 /// One run as traces of both versions.
@@ -264,12 +153,13 @@ const BOTH: [&str; 2] = [
 ];
 
 #[test]
-fn both_versions_of_one_run(rt: HostRuntime) -> Result<(), Fail> {
-    let alloc = rt.alloc();
-    let script = questions(alloc)?;
+fn a_loaded_book_answers_as_the_book_that_was_written(rt: HostRuntime) {
+    let script = questions(rt.alloc()).expect(&rt, "out of memory");
+    all_answer_alike::<4>(&rt, rt.alloc(), &script, again::OVER_FOUR);
+    all_answer_alike::<4>(&rt, rt.alloc(), &script, OVER_FOUR);
+    all_answer_alike::<2>(&rt, rt.alloc(), &script, OVER_TWO);
     let [first, second] = BOTH;
-    let given = loaded_report(alloc, &script, first.as_bytes())?;
-    let wanted = loaded_report(alloc, &script, second.as_bytes())?;
-    assert!(rt; given.as_slice() == wanted.as_slice());
-    Ok(())
+    let given = loaded_report(&rt, rt.alloc(), &script, first.as_bytes());
+    let wanted = loaded_report(&rt, rt.alloc(), &script, second.as_bytes());
+    assert!(&rt; given.as_slice() == wanted.as_slice());
 }

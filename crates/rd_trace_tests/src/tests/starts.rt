@@ -1,72 +1,59 @@
 //! Starts of one's own: written and loaded, flawed, and of another form.
 
+use super::questions::loaded_report;
 use super::{AnyBook, are_bad, fault_is, text_is};
 use rd_journal::Session;
 use rd_marks::Book;
-use rd_script::{ReadSource, WriteSink, run};
 use rd_step::{Flaw, World};
 use rd_trace::{LoadTraceFault, load_trace};
-use std::alloc::Global;
+use std::alloc::{AllocError, Global};
 use std::process::Abort;
-use std::test::Fail;
 
 /// The start of one actor at the fetch-and-add of its enqueue, over a ring of two cells.
 const POISED: &str =
     "{\"actors\":[{\"closed\":false,\"crq\":[0,0],\"h\":0,\"idx\":0,\"new\":[0,0],\"next\":[0,0],\"op\":[\"enq\",1],\"pass\":0,\"pc\":\"E4\",\"safe\":false,\"t\":0,\"val\":null}],\"array\":{\"cells\":[],\"head\":0,\"tail\":0},\"qhead\":[0,0],\"qtail\":[0,0],\"segments\":[[{\"cells\":[[true,0,null],[true,1,null]],\"closed\":false,\"head\":0,\"next\":null,\"tail\":0}],[]]}";
 
 /// A trace of a start over rings of two cells.
-fn trace_of(alloc: Global, start: &str) -> Result<String, Fail> {
-    Ok(format!(in alloc;
+fn trace_of(rt: &impl Abort, alloc: Global, start: &str) -> String {
+    let text = format!(in alloc;
         "{{\"events\":[],\"marks\":[],\"ring\":2,\"start\":{start},\"undone\":[],\"version\":2}}\n"
-    )?)
+    );
+    text.expect(rt, "out of memory")
 }
 
-/// A trace of the start above, in which a part of the text stands for another.
-fn trace_with(alloc: Global, old: &str, new: &str) -> Result<String, Fail> {
-    trace_of(alloc, &POISED.replacen(alloc, old, new, 1)?)
-}
-
-/// The book over rings of two cells that a text is loaded as.
-fn loaded(rt: &impl Abort, alloc: Global, text: &str) -> Result<Book<2>, Fail> {
-    let AnyBook::Two(book) = load_trace(alloc, text.as_bytes())? else {
-        panic!(rt; "the ring has changed");
-    };
-    Ok(book)
+/// A trace of a start in which a part of the text stands for another.
+fn trace_with(rt: &impl Abort, alloc: Global, start: &str, old: &str, new: &str) -> String {
+    let start = start.replacen(alloc, old, new, 1);
+    trace_of(rt, alloc, &start.expect(rt, "out of memory"))
 }
 
 /// What is written of the book that a text is loaded as is this other text.
-fn is_written_as(rt: &impl Abort, alloc: Global, text: &str, wanted: &str) -> Result<(), Fail> {
-    text_is(rt, alloc, &loaded(rt, alloc, text)?, wanted)
-}
-
-/// With the new part for the old one, the start has this flaw.
-fn flaw_is(rt: &impl Abort, alloc: Global, old: &str, new: &str, flaw: Flaw) -> Result<(), Fail> {
-    let text = trace_with(alloc, old, new)?;
-    fault_is(
-        rt,
-        alloc,
-        text.as_bytes(),
-        LoadTraceFault::Flawed(flaw),
-        new,
-    );
-    Ok(())
-}
-
-/// With the new part for the old one, the text is no trace.
-fn with_is_bad(rt: &impl Abort, alloc: Global, rows: &[(&str, &str)]) -> Result<(), Fail> {
-    for (old, new) in rows {
-        let text = trace_with(alloc, *old, *new)?;
-        are_bad(rt, alloc, &[&text]);
+fn is_written_as(rt: &impl Abort, alloc: Global, text: &[u8], wanted: &str) {
+    match load_trace(alloc, text) {
+        Ok(AnyBook::Two(book)) => text_is(rt, alloc, &book, wanted),
+        _ => panic!(rt; "no trace of the ring"),
     }
-    Ok(())
+}
+
+/// A trace of a start is loaded, and written as it was.
+fn comes_back(rt: &impl Abort, alloc: Global, start: &str) {
+    let text = trace_of(rt, alloc, start);
+    is_written_as(rt, alloc, text.as_bytes(), &text);
+}
+
+/// With the new part for the old one in each row, a start comes back.
+fn come_back(rt: &impl Abort, alloc: Global, start: &str, rows: &[(&str, &str)]) {
+    for (old, new) in rows {
+        let text = trace_with(rt, alloc, start, *old, *new);
+        is_written_as(rt, alloc, text.as_bytes(), &text);
+    }
 }
 
 #[test]
-fn a_poised_world_is_written_as_its_parts(rt: HostRuntime) -> Result<(), Fail> {
-    let alloc = rt.alloc();
-    let world = World::<2>::poised(alloc, 1)?;
-    let book = Book::open(alloc, Session::open(alloc, world));
-    text_is(&rt, alloc, &book, &trace_with(alloc, "", "")?)
+fn a_poised_world_is_written_as_its_parts(rt: HostRuntime) {
+    let world = World::<2>::poised(rt.alloc(), 1).expect(&rt, "out of memory");
+    let book = Book::open(rt.alloc(), Session::open(rt.alloc(), world));
+    text_is(&rt, rt.alloc(), &book, &trace_of(&rt, rt.alloc(), POISED));
 }
 
 /// The actor of the start above, what is there after it, and a list of no segment.
@@ -78,20 +65,11 @@ const BEHIND: &str =
 
 const NO_SEGMENT: &str = ",[]";
 
-#[test]
-fn a_start_of_16_actors_and_17_lists_of_segments_comes_back(rt: HostRuntime) -> Result<(), Fail> {
-    let alloc = rt.alloc();
+/// A start of 16 actors and 17 lists of segments.
+fn large_start(alloc: Global) -> Result<String, AllocError> {
     let others = format!(in alloc; ",{ACTOR}")?.repeat(alloc, 15)?;
     let lists = NO_SEGMENT.repeat(alloc, 16)?;
-    let start = format!(in alloc; "{{\"actors\":[{ACTOR}{others}{BEHIND}{lists}]}}")?;
-    let text = trace_of(alloc, &start)?;
-    is_written_as(&rt, alloc, &text, &text)
-}
-
-#[test]
-fn a_start_of_parts_comes_back(rt: HostRuntime) -> Result<(), Fail> {
-    let text = trace_with(rt.alloc(), "", "")?;
-    is_written_as(&rt, rt.alloc(), &text, &text)
+    format!(in alloc; "{{\"actors\":[{ACTOR}{others}{BEHIND}{lists}]}}")
 }
 
 /// The parts of the fresh world of one actor over rings of two cells, and how a trace spells that
@@ -102,9 +80,18 @@ const FRESH_PARTS: &str =
 const FRESH: &str = "{\"fresh\":1}";
 
 #[test]
-fn parts_of_a_fresh_world_are_written_as_fresh(rt: HostRuntime) -> Result<(), Fail> {
-    let text = trace_of(rt.alloc(), FRESH_PARTS)?;
-    is_written_as(&rt, rt.alloc(), &text, &trace_of(rt.alloc(), FRESH)?)
+fn starts_come_back_and_parts_of_a_fresh_world_are_written_as_fresh(rt: HostRuntime) {
+    let large = large_start(rt.alloc()).expect(&rt, "out of memory");
+    comes_back(&rt, rt.alloc(), &large);
+    comes_back(&rt, rt.alloc(), POISED);
+    comes_back(&rt, rt.alloc(), FULL);
+    let text = trace_of(&rt, rt.alloc(), FRESH_PARTS);
+    is_written_as(
+        &rt,
+        rt.alloc(),
+        text.as_bytes(),
+        &trace_of(&rt, rt.alloc(), FRESH),
+    );
 }
 
 /// Parts of a text of the fresh world's parts, and what stands for each in the parts of a world
@@ -129,16 +116,6 @@ const NEARLY_FRESH: &[(&str, &str)] = &[
         "\"op\":[\"deq\"],\"pass\":0,\"pc\":\"Q1\"",
     ),
 ];
-
-#[test]
-fn parts_of_any_other_world_are_written_as_parts(rt: HostRuntime) -> Result<(), Fail> {
-    let alloc = rt.alloc();
-    for (old, new) in NEARLY_FRESH {
-        let text = trace_of(alloc, &FRESH_PARTS.replacen(alloc, *old, *new, 1)?)?;
-        is_written_as(&rt, alloc, &text, &text)?;
-    }
-    Ok(())
-}
 
 /// The control points at which an actor with this call and pass may be, with this head position and
 /// this value.
@@ -178,35 +155,33 @@ const POINTS: &[(&[&str], &str, u64, &str)] = &[
 
 /// A start whose actor is at this control point, with these words, is loaded, shown with it and
 /// written again.
-fn stands_at(
-    rt: &impl Abort,
-    alloc: Global,
-    pc: &str,
-    call: &str,
-    h: u64,
-    val: &str,
-) -> Result<(), Fail> {
+fn stands_at(rt: &impl Abort, alloc: Global, pc: &str, (call, h, val): (&str, u64, &str)) {
     let words = format!(in alloc;
         "\"h\":{h},\"idx\":0,\"new\":[0,0],\"next\":[0,0],{call},\"pc\":\"{pc}\",\"safe\":false,\"t\":0,\"val\":{val}}}"
-    )?;
-    let fresh =
-        "\"h\":0,\"idx\":0,\"new\":[0,0],\"next\":[0,0],\"op\":null,\"pass\":0,\"pc\":\"Idle\",\"safe\":false,\"t\":0,\"val\":null}";
-    let text = trace_of(alloc, &FRESH_PARTS.replacen(alloc, fresh, &words, 1)?)?;
-    is_written_as(rt, alloc, &text, &text)?;
-    let report = report_over(rt, alloc, &text, "actor 1\n")?;
-    let begins = format!(in alloc; "actor {pc} ")?;
+    ).expect(rt, "out of memory");
+    let text = trace_with(rt, alloc, FRESH_PARTS, IDLE_WORDS, &words);
+    is_written_as(rt, alloc, text.as_bytes(), &text);
+    let report = loaded_report(rt, alloc, "actor 1\n", text.as_bytes());
+    let begins = format!(in alloc; "actor {pc} ").expect(rt, "out of memory");
     assert!(rt; report.starts_with(begins.as_bytes()), "{pc}");
-    Ok(())
+}
+
+/// The words of the idle actor of the fresh world, but for those before them.
+const IDLE_WORDS: &str =
+    "\"h\":0,\"idx\":0,\"new\":[0,0],\"next\":[0,0],\"op\":null,\"pass\":0,\"pc\":\"Idle\",\"safe\":false,\"t\":0,\"val\":null}";
+
+/// An actor may be at each of these control points, with these words.
+fn stands_at_each(rt: &impl Abort, alloc: Global, points: &[&str], words: (&str, u64, &str)) {
+    for pc in points {
+        stands_at(rt, alloc, *pc, words);
+    }
 }
 
 #[test]
-fn an_actor_stands_at_the_control_point_that_is_spelled(rt: HostRuntime) -> Result<(), Fail> {
+fn an_actor_stands_at_the_control_point_that_is_spelled(rt: HostRuntime) {
     for (points, call, h, val) in POINTS {
-        for pc in *points {
-            stands_at(&rt, rt.alloc(), *pc, *call, *h, *val)?;
-        }
+        stands_at_each(&rt, rt.alloc(), *points, (*call, *h, *val));
     }
-    Ok(())
 }
 
 /// The parts of a world of three actors and four segments, nearly each of whose words is another.
@@ -262,91 +237,80 @@ const SHOWN: &[(&str, &str)] = &[
     ("show tail 1.0", "is open 15"),
 ];
 
-/// The report of a script over the book that a text is loaded as.
-fn report_over(rt: &impl Abort, alloc: Global, text: &str, script: &str) -> Result<Vec<u8>, Fail> {
-    let mut book = loaded(rt, alloc, text)?;
-    let mut report = Vec::new(alloc);
-    run(
-        &mut ReadSource::new(script.as_bytes()),
-        &mut WriteSink::new(&mut report),
-        &mut book,
-    )?;
-    Ok(report)
-}
-
 #[test]
-fn each_word_of_a_start_is_where_its_key_says(rt: HostRuntime) -> Result<(), Fail> {
-    let alloc = rt.alloc();
-    let mut script = String::new(alloc);
-    let mut wanted = String::new(alloc);
+fn each_word_of_a_start_is_where_its_key_says(rt: HostRuntime) {
+    let text = trace_of(&rt, rt.alloc(), FULL);
+    let mut script = String::new(rt.alloc());
+    let mut wanted = String::new(rt.alloc());
     for (line, reply) in SHOWN {
-        write!(script, "{line}\n")?;
-        write!(wanted, "{reply}\n")?;
+        push_line(&rt, &mut script, *line);
+        push_line(&rt, &mut wanted, *reply);
     }
-    let report = report_over(&rt, alloc, &trace_of(alloc, FULL)?, &script)?;
-    assert_eq!(rt; report.as_slice(), wanted.as_bytes());
-    Ok(())
+    let report = loaded_report(&rt, rt.alloc(), &script, text.as_bytes());
+    assert!(&rt; report.as_slice() == wanted.as_bytes());
 }
 
-#[test]
-fn each_word_of_a_start_comes_back(rt: HostRuntime) -> Result<(), Fail> {
-    let text = trace_of(rt.alloc(), FULL)?;
-    is_written_as(&rt, rt.alloc(), &text, &text)
+/// Appends a line to a text.
+fn push_line(rt: &impl Abort, text: &mut String, line: &str) {
+    text.push_str(line).expect(rt, "out of memory");
+    text.push('\n').expect(rt, "out of memory");
 }
 
 /// A trace with other white space, escapes and another order of keys in each of its objects.
 const ANOTHER_ORDER: &[u8] =
     b" {\"version\" : 2,\r\n\"undone\":[[\"g\\u006f\",1]],\t\"ring\":2,\"start\":{\"segments\":[[{\"tail\":0,\"next\":null,\"head\":0,\"closed\":false,\"cells\":[ [true,0,null],[true,1,null]]}],[]],\"qtail\":[0,0],\"qhead\":[0 ,0],\"array\":{\"tail\":0,\"head\":0,\"cells\":[]},\"actors\":[{\"val\":null,\"t\":0,\"safe\":false,\"pc\":\"\\u00454\",\"pass\":0,\"op\":[\"\\u0065nq\",1],\"next\":[0,0],\"new\":[0,0],\"idx\":0,\"h\":0,\"crq\":[0,0],\"closed\":false}]},\"marks\":[{\"name\":\"\\u0061\",\"\\u0065vents\":[[\"go\",1]]}],\"events\":[ [\"go\", 1]]}\n\n";
 
-#[test]
-fn white_space_escapes_and_the_order_of_keys_do_not_matter(rt: HostRuntime) -> Result<(), Fail> {
-    let alloc = rt.alloc();
-    let compact = format!(in alloc;
-        "{{\"events\":[[\"go\",1]],\"marks\":[{{\"events\":[[\"go\",1]],\"name\":\"a\"}}],\"ring\":2,\"start\":{POISED},\"undone\":[[\"go\",1]],\"version\":2}}\n"
-    )?;
-    let AnyBook::Two(book) = load_trace(alloc, ANOTHER_ORDER)? else {
-        panic!(rt; "the ring has changed");
-    };
-    text_is(&rt, alloc, &book, &compact)
-}
+/// As it is written, but for the start, which is the one above.
+const IN_ORDER: [&str; 2] = [
+    "{\"events\":[[\"go\",1]],\"marks\":[{\"events\":[[\"go\",1]],\"name\":\"a\"}],\"ring\":2,\"start\":",
+    ",\"undone\":[[\"go\",1]],\"version\":2}\n",
+];
 
 #[test]
-fn the_words_of_a_start_are_those_of_its_text(rt: HostRuntime) -> Result<(), Fail> {
-    let alloc = rt.alloc();
-    let rows = &[
-        (
-            "\"cells\":[],\"head\":0",
-            "\"cells\":[[0,\"top\"],[63,5]],\"head\":7",
-        ),
-        ("[true,0,null],[true,1,null]", "[false,2,null],[true,1,9]"),
-        (
-            "\"closed\":false,\"head\":0,\"next\":null,\"tail\":0",
-            "\"closed\":true,\"head\":1,\"next\":null,\"tail\":3",
-        ),
-        ("\"t\":0", "\"t\":5"),
-        (
-            "\"op\":[\"enq\",1],\"pass\":0,\"pc\":\"E4\"",
-            "\"op\":[\"deq\"],\"pass\":2,\"pc\":\"Q3\"",
-        ),
-        (
-            "\"op\":[\"enq\",1],\"pass\":0,\"pc\":\"E4\"",
-            "\"op\":[\"aenq\",8],\"pass\":0,\"pc\":\"A2\"",
-        ),
-        (
-            "\"op\":[\"enq\",1],\"pass\":0,\"pc\":\"E4\"",
-            "\"op\":[\"adeq\"],\"pass\":0,\"pc\":\"B3\"",
-        ),
-        (
-            "\"head\":0,\"next\":null",
-            "\"head\":4611686018427387904,\"next\":[0,0]",
-        ),
-        ("[true,0,null]", "[true,0,18446744073709551615]"),
-    ];
-    for (old, new) in rows {
-        let text = trace_with(alloc, *old, *new)?;
-        is_written_as(&rt, alloc, &text, &text)?;
-    }
-    Ok(())
+fn white_space_escapes_and_the_order_of_keys_do_not_matter(rt: HostRuntime) {
+    let compact = IN_ORDER
+        .join(rt.alloc(), POISED)
+        .expect(&rt, "out of memory");
+    is_written_as(&rt, rt.alloc(), ANOTHER_ORDER, &compact);
+}
+
+/// Parts of the start above, and what stands for each.
+const OTHERS: &[(&str, &str)] = &[
+    (
+        "\"cells\":[],\"head\":0",
+        "\"cells\":[[0,\"top\"],[63,5]],\"head\":7",
+    ),
+    ("[true,0,null],[true,1,null]", "[false,2,null],[true,1,9]"),
+    (
+        "\"closed\":false,\"head\":0,\"next\":null,\"tail\":0",
+        "\"closed\":true,\"head\":1,\"next\":null,\"tail\":3",
+    ),
+    ("\"t\":0", "\"t\":5"),
+    (
+        "\"op\":[\"enq\",1],\"pass\":0,\"pc\":\"E4\"",
+        "\"op\":[\"deq\"],\"pass\":2,\"pc\":\"Q3\"",
+    ),
+    (
+        "\"op\":[\"enq\",1],\"pass\":0,\"pc\":\"E4\"",
+        "\"op\":[\"aenq\",8],\"pass\":0,\"pc\":\"A2\"",
+    ),
+    (
+        "\"op\":[\"enq\",1],\"pass\":0,\"pc\":\"E4\"",
+        "\"op\":[\"adeq\"],\"pass\":0,\"pc\":\"B3\"",
+    ),
+    (
+        "\"head\":0,\"next\":null",
+        "\"head\":4611686018427387904,\"next\":[0,0]",
+    ),
+    ("[true,0,null]", "[true,0,18446744073709551615]"),
+];
+
+#[test]
+fn the_words_of_a_start_are_those_of_its_text_and_other_parts_are_written_as_parts(
+    rt: HostRuntime,
+) {
+    come_back(&rt, rt.alloc(), POISED, OTHERS);
+    come_back(&rt, rt.alloc(), FRESH_PARTS, NEARLY_FRESH);
 }
 
 /// A part of the start above, what stands for it, and the flaw that the start has then.
@@ -379,80 +343,75 @@ const FLAWS: &[(&str, &str, Flaw)] = &[
 ];
 
 #[test]
-fn a_flaw_is_named(rt: HostRuntime) -> Result<(), Fail> {
+fn a_flaw_is_named(rt: HostRuntime) {
     for (old, new, flaw) in FLAWS {
-        flaw_is(&rt, rt.alloc(), *old, *new, *flaw)?;
+        let text = trace_with(&rt, rt.alloc(), POISED, *old, *new);
+        let fault = LoadTraceFault::Flawed(*flaw);
+        fault_is(&rt, rt.alloc(), text.as_bytes(), fault, *new);
     }
-    Ok(())
 }
 
-#[test]
-fn other_words_are_no_trace(rt: HostRuntime) -> Result<(), Fail> {
-    with_is_bad(
-        &rt,
-        rt.alloc(),
-        &[
-            ("\"pc\":\"E4\"", "\"pc\":\"E15\""),
-            ("\"pc\":\"E4\"", "\"pc\":\"e4\""),
-            ("\"pc\":\"E4\"", "\"pc\":\"\""),
-            ("\"pc\":\"E4\"", "\"pc\":4"),
-            ("\"op\":[\"enq\",1]", "\"op\":[\"enq\"]"),
-            ("\"op\":[\"enq\",1]", "\"op\":[\"deq\",1]"),
-            ("\"op\":[\"enq\",1]", "\"op\":[\"hop\"]"),
-            ("\"op\":[\"enq\",1]", "\"op\":[]"),
-            ("\"op\":[\"enq\",1]", "\"op\":[\"enq\",1,2]"),
-            ("\"op\":[\"enq\",1]", "\"op\":[\"enq\",-1]"),
-            ("\"op\":[\"enq\",1]", "\"op\":\"enq\""),
-            ("\"pass\":0", "\"pass\":256"),
-            ("\"pass\":0", "\"pass\":-1"),
-            ("\"closed\":false,\"crq\"", "\"closed\":0,\"crq\""),
-            ("\"safe\":false", "\"safe\":null"),
-            ("\"t\":0", "\"t\":18446744073709551616"),
-            ("\"t\":0", "\"t\":1.0"),
-            ("\"t\":0", "\"t\":0,\"u\":0"),
-            ("\"t\":0,", ""),
-            ("\"t\":0", "\"u\":0"),
-            ("\"val\":null", "\"val\":\"none\""),
-            ("\"crq\":[0,0]", "\"crq\":[0]"),
-            ("\"crq\":[0,0]", "\"crq\":[256,0]"),
-            ("\"crq\":[0,0]", "\"crq\":[0,4294967296]"),
-            ("\"crq\":[0,0]", "\"crq\":[0,0,0]"),
-            ("\"crq\":[0,0]", "\"crq\":null"),
-        ],
-    )
-}
+/// Parts of the start above, and what makes the text no trace in the place of each.
+const BAD: &[(&str, &str)] = &[
+    // other words
+    ("\"pc\":\"E4\"", "\"pc\":\"E15\""),
+    ("\"pc\":\"E4\"", "\"pc\":\"e4\""),
+    ("\"pc\":\"E4\"", "\"pc\":\"\""),
+    ("\"pc\":\"E4\"", "\"pc\":4"),
+    ("\"op\":[\"enq\",1]", "\"op\":[\"enq\"]"),
+    ("\"op\":[\"enq\",1]", "\"op\":[\"deq\",1]"),
+    ("\"op\":[\"enq\",1]", "\"op\":[\"hop\"]"),
+    ("\"op\":[\"enq\",1]", "\"op\":[]"),
+    ("\"op\":[\"enq\",1]", "\"op\":[\"enq\",1,2]"),
+    ("\"op\":[\"enq\",1]", "\"op\":[\"enq\",-1]"),
+    ("\"op\":[\"enq\",1]", "\"op\":\"enq\""),
+    ("\"pass\":0", "\"pass\":256"),
+    ("\"pass\":0", "\"pass\":-1"),
+    ("\"closed\":false,\"crq\"", "\"closed\":0,\"crq\""),
+    ("\"safe\":false", "\"safe\":null"),
+    ("\"t\":0", "\"t\":18446744073709551616"),
+    ("\"t\":0", "\"t\":1.0"),
+    ("\"t\":0", "\"t\":0,\"u\":0"),
+    ("\"t\":0,", ""),
+    ("\"t\":0", "\"u\":0"),
+    ("\"val\":null", "\"val\":\"none\""),
+    ("\"crq\":[0,0]", "\"crq\":[0]"),
+    ("\"crq\":[0,0]", "\"crq\":[256,0]"),
+    ("\"crq\":[0,0]", "\"crq\":[0,4294967296]"),
+    ("\"crq\":[0,0]", "\"crq\":[0,0,0]"),
+    ("\"crq\":[0,0]", "\"crq\":null"),
+    // other segments and arrays
+    ("[true,0,null],[true,1,null]", "[true,0,null]"),
+    (
+        "[true,0,null],[true,1,null]",
+        "[true,0,null],[true,1,null],[true,2,null]",
+    ),
+    ("[true,0,null]", "[true,0]"),
+    ("[true,0,null]", "[1,0,null]"),
+    ("[true,0,null]", "[true,0,\"7\"]"),
+    ("[true,0,null]", "[true,0,null,null]"),
+    ("\"next\":null", "\"next\":0"),
+    ("\"next\":null", "\"nextt\":null"),
+    ("\"next\":null", "\"next\":null,\"more\":1"),
+    (",[]]}", ",{}]}"),
+    ("\"cells\":[],", "\"cells\":[[64,7]],"),
+    ("\"cells\":[],", "\"cells\":[[1,7],[1,8]],"),
+    ("\"cells\":[],", "\"cells\":[[1,7],[0,8]],"),
+    ("\"cells\":[],", "\"cells\":[[0,\"empty\"]],"),
+    ("\"cells\":[],", "\"cells\":[[0,null]],"),
+    ("\"cells\":[],", "\"cells\":[[0]],"),
+    ("\"cells\":[],", "\"cells\":[[0,7,7]],"),
+    ("\"cells\":[],", "\"cells\":[7],"),
+    ("\"cells\":[],", ""),
+    ("\"qhead\":[0,0]", "\"qhead\":0"),
+    ("\"qhead\":[0,0],", ""),
+    ("\"qhead\":[0,0]", "\"qhead\":[0,0],\"fresh\":4"),
+];
 
 #[test]
-fn other_segments_and_arrays_are_no_trace(rt: HostRuntime) -> Result<(), Fail> {
-    with_is_bad(
-        &rt,
-        rt.alloc(),
-        &[
-            ("[true,0,null],[true,1,null]", "[true,0,null]"),
-            (
-                "[true,0,null],[true,1,null]",
-                "[true,0,null],[true,1,null],[true,2,null]",
-            ),
-            ("[true,0,null]", "[true,0]"),
-            ("[true,0,null]", "[1,0,null]"),
-            ("[true,0,null]", "[true,0,\"7\"]"),
-            ("[true,0,null]", "[true,0,null,null]"),
-            ("\"next\":null", "\"next\":0"),
-            ("\"next\":null", "\"nextt\":null"),
-            ("\"next\":null", "\"next\":null,\"more\":1"),
-            (",[]]}", ",{}]}"),
-            ("\"cells\":[],", "\"cells\":[[64,7]],"),
-            ("\"cells\":[],", "\"cells\":[[1,7],[1,8]],"),
-            ("\"cells\":[],", "\"cells\":[[1,7],[0,8]],"),
-            ("\"cells\":[],", "\"cells\":[[0,\"empty\"]],"),
-            ("\"cells\":[],", "\"cells\":[[0,null]],"),
-            ("\"cells\":[],", "\"cells\":[[0]],"),
-            ("\"cells\":[],", "\"cells\":[[0,7,7]],"),
-            ("\"cells\":[],", "\"cells\":[7],"),
-            ("\"cells\":[],", ""),
-            ("\"qhead\":[0,0]", "\"qhead\":0"),
-            ("\"qhead\":[0,0],", ""),
-            ("\"qhead\":[0,0]", "\"qhead\":[0,0],\"fresh\":4"),
-        ],
-    )
+fn other_words_segments_and_arrays_are_no_trace(rt: HostRuntime) {
+    for (old, new) in BAD {
+        let text = trace_with(&rt, rt.alloc(), POISED, *old, *new);
+        are_bad(&rt, rt.alloc(), &[&text]);
+    }
 }

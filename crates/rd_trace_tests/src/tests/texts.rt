@@ -3,7 +3,6 @@
 use super::{AnyBook, are_bad, fault_is, faults_are, text_is};
 use rd_cell::Refusal;
 use rd_trace::{LoadTraceFault, load_trace};
-use std::test::Fail;
 
 #[test]
 fn a_text_that_is_cut_is_no_trace(rt: HostRuntime) {
@@ -19,118 +18,96 @@ fn a_text_that_is_cut_is_no_trace(rt: HostRuntime) {
     }
 }
 
-#[test]
-fn other_numbers_are_no_trace(rt: HostRuntime) {
-    are_bad(
-        &rt,
-        rt.alloc(),
-        &[
-            "{\"actors\":0,\"events\":[],\"ring\":4,\"version\":1}",
-            "{\"actors\":17,\"events\":[],\"ring\":4,\"version\":1}",
-            "{\"actors\":272,\"events\":[],\"ring\":4,\"version\":1}",
-            "{\"actors\":4,\"events\":[],\"ring\":3,\"version\":1}",
-            "{\"actors\":4,\"events\":[],\"ring\":4,\"version\":0}",
-            "{\"actors\":4,\"events\":[],\"ring\":4,\"version\":2}",
-            "{\"actors\":4.0,\"events\":[],\"ring\":4,\"version\":1}",
-            "{\"actors\":4,\"events\":[],\"ring\":4,\"version\":1.0}",
-            "{\"actors\":4,\"events\":[],\"ring\":4,\"version\":1e0}",
-            "{\"actors\":\"4\",\"events\":[],\"ring\":4,\"version\":1}",
-        ],
-    );
-}
+/// Texts that are no trace.
+const BAD: &[&str] = &[
+    // with other numbers
+    "{\"actors\":0,\"events\":[],\"ring\":4,\"version\":1}",
+    "{\"actors\":17,\"events\":[],\"ring\":4,\"version\":1}",
+    "{\"actors\":272,\"events\":[],\"ring\":4,\"version\":1}",
+    "{\"actors\":4,\"events\":[],\"ring\":3,\"version\":1}",
+    "{\"actors\":4,\"events\":[],\"ring\":4,\"version\":0}",
+    "{\"actors\":4,\"events\":[],\"ring\":4,\"version\":2}",
+    "{\"actors\":4.0,\"events\":[],\"ring\":4,\"version\":1}",
+    "{\"actors\":4,\"events\":[],\"ring\":4,\"version\":1.0}",
+    "{\"actors\":4,\"events\":[],\"ring\":4,\"version\":1e0}",
+    "{\"actors\":\"4\",\"events\":[],\"ring\":4,\"version\":1}",
+    // with other members
+    "{\"actors\":4,\"events\":[],\"ring\":4,\"start\":0,\"version\":1}",
+    "{\"actors\":4,\"events\":[],\"ring\":4}",
+    "{\"events\":[],\"ring\":4,\"version\":1}",
+    "{\"actors\":4,\"event\":[],\"ring\":4,\"version\":1}",
+    "{\"actors\":4,\"events\":{},\"ring\":4,\"version\":1}",
+    "{\"actors\":4,\"events\":[],\"ring\":4,\"version\":1}}",
+    "[4,[],4,1]",
+    "4",
+    "",
+    // with other events
+    "{\"actors\":4,\"events\":[[\"go\",256]],\"ring\":4,\"version\":1}",
+    "{\"actors\":4,\"events\":[[\"go\",-1]],\"ring\":4,\"version\":1}",
+    "{\"actors\":4,\"events\":[[\"go\",1.0]],\"ring\":4,\"version\":1}",
+    "{\"actors\":4,\"events\":[[\"go\"]],\"ring\":4,\"version\":1}",
+    "{\"actors\":4,\"events\":[[\"go\",1,7]],\"ring\":4,\"version\":1}",
+    "{\"actors\":4,\"events\":[[\"enq\",1]],\"ring\":4,\"version\":1}",
+    "{\"actors\":4,\"events\":[[\"enq\",1,7,8]],\"ring\":4,\"version\":1}",
+    "{\"actors\":4,\"events\":[[\"enq\",1,18446744073709551616]],\"ring\":4,\"version\":1}",
+    "{\"actors\":4,\"events\":[[\"starve\",1,1]],\"ring\":4,\"version\":1}",
+    "{\"actors\":4,\"events\":[[\"hop\",1]],\"ring\":4,\"version\":1}",
+    "{\"actors\":4,\"events\":[[1,\"go\"]],\"ring\":4,\"version\":1}",
+    "{\"actors\":4,\"events\":[{\"go\":1}],\"ring\":4,\"version\":1}",
+    "{\"actors\":4,\"events\":[[\"enq\",1,7],null],\"ring\":4,\"version\":1}",
+];
 
 #[test]
-fn other_members_are_no_trace(rt: HostRuntime) {
-    are_bad(
-        &rt,
-        rt.alloc(),
-        &[
-            "{\"actors\":4,\"events\":[],\"ring\":4,\"start\":0,\"version\":1}",
-            "{\"actors\":4,\"events\":[],\"ring\":4}",
-            "{\"events\":[],\"ring\":4,\"version\":1}",
-            "{\"actors\":4,\"event\":[],\"ring\":4,\"version\":1}",
-            "{\"actors\":4,\"events\":{},\"ring\":4,\"version\":1}",
-            "{\"actors\":4,\"events\":[],\"ring\":4,\"version\":1}}",
-            "[4,[],4,1]",
-            "4",
-            "",
-        ],
-    );
-}
-
-#[test]
-fn other_events_are_no_trace(rt: HostRuntime) {
-    are_bad(
-        &rt,
-        rt.alloc(),
-        &[
-            "{\"actors\":4,\"events\":[[\"go\",256]],\"ring\":4,\"version\":1}",
-            "{\"actors\":4,\"events\":[[\"go\",-1]],\"ring\":4,\"version\":1}",
-            "{\"actors\":4,\"events\":[[\"go\",1.0]],\"ring\":4,\"version\":1}",
-            "{\"actors\":4,\"events\":[[\"go\"]],\"ring\":4,\"version\":1}",
-            "{\"actors\":4,\"events\":[[\"go\",1,7]],\"ring\":4,\"version\":1}",
-            "{\"actors\":4,\"events\":[[\"enq\",1]],\"ring\":4,\"version\":1}",
-            "{\"actors\":4,\"events\":[[\"enq\",1,7,8]],\"ring\":4,\"version\":1}",
-            "{\"actors\":4,\"events\":[[\"enq\",1,18446744073709551616]],\"ring\":4,\"version\":1}",
-            "{\"actors\":4,\"events\":[[\"starve\",1,1]],\"ring\":4,\"version\":1}",
-            "{\"actors\":4,\"events\":[[\"hop\",1]],\"ring\":4,\"version\":1}",
-            "{\"actors\":4,\"events\":[[1,\"go\"]],\"ring\":4,\"version\":1}",
-            "{\"actors\":4,\"events\":[{\"go\":1}],\"ring\":4,\"version\":1}",
-            "{\"actors\":4,\"events\":[[\"enq\",1,7],null],\"ring\":4,\"version\":1}",
-        ],
-    );
-}
-
-#[test]
-fn bytes_that_are_no_text_are_no_trace(rt: HostRuntime) -> Result<(), Fail> {
-    let open = "[".repeat(rt.alloc(), 200)?;
+fn other_numbers_members_and_events_are_no_trace(rt: HostRuntime) {
+    are_bad(&rt, rt.alloc(), BAD);
+    let open = "[".repeat(rt.alloc(), 200).expect(&rt, "out of memory");
     are_bad(&rt, rt.alloc(), &[&open]);
     let not_utf8 = b"{\"actors\":4,\"events\":[[\"go\xff\",1]],\"ring\":4,\"version\":1}";
     let bad = LoadTraceFault::BadTrace;
     fault_is(&rt, rt.alloc(), not_utf8, bad, "that is no UTF-8");
-    Ok(())
 }
+
+/// Texts of which an event is refused, and their faults.
+const FAULTS: &[(&str, LoadTraceFault)] = &[
+    (
+        "{\"actors\":4,\"events\":[[\"enq\",1,7],[\"go\",1],[\"starve\",1,true],[\"go\",9]],\"ring\":4,\"version\":1}",
+        LoadTraceFault::TraceStep {
+            step: 3,
+            cause: Refusal::NoChoice,
+        },
+    ),
+    (
+        "{\"actors\":4,\"events\":[[\"go\",0]],\"ring\":4,\"version\":1}",
+        LoadTraceFault::TraceStep {
+            step: 1,
+            cause: Refusal::NoActor,
+        },
+    ),
+    (
+        "{\"actors\":1,\"events\":[[\"deq\",1],[\"deq\",2]],\"ring\":2,\"version\":1}",
+        LoadTraceFault::TraceStep {
+            step: 2,
+            cause: Refusal::NoActor,
+        },
+    ),
+];
 
 #[test]
 fn the_first_refused_event_is_named(rt: HostRuntime) {
-    faults_are(
-        &rt,
-        rt.alloc(),
-        &[
-            (
-                "{\"actors\":4,\"events\":[[\"enq\",1,7],[\"go\",1],[\"starve\",1,true],[\"go\",9]],\"ring\":4,\"version\":1}",
-                LoadTraceFault::TraceStep {
-                    step: 3,
-                    cause: Refusal::NoChoice,
-                },
-            ),
-            (
-                "{\"actors\":4,\"events\":[[\"go\",0]],\"ring\":4,\"version\":1}",
-                LoadTraceFault::TraceStep {
-                    step: 1,
-                    cause: Refusal::NoActor,
-                },
-            ),
-            (
-                "{\"actors\":1,\"events\":[[\"deq\",1],[\"deq\",2]],\"ring\":2,\"version\":1}",
-                LoadTraceFault::TraceStep {
-                    step: 2,
-                    cause: Refusal::NoActor,
-                },
-            ),
-        ],
-    );
+    faults_are(&rt, rt.alloc(), FAULTS);
 }
 
+/// A trace with white space, an escape and another order of keys, and as it is written.
+const SPACED: &[u8] =
+    b" {\t\"version\" : 1,\r\n\"ring\":2 , \"events\": [ [ \"\\u0065nq\" , 1, 7 ],[\"go\",1] ],\"actors\":16 }\n\n";
+
+const COMPACT: &str =
+    "{\"events\":[[\"enq\",1,7],[\"go\",1]],\"marks\":[],\"ring\":2,\"start\":{\"fresh\":16},\"undone\":[],\"version\":2}\n";
+
 #[test]
-fn white_space_escapes_and_the_order_of_keys_do_not_matter(rt: HostRuntime) -> Result<(), Fail> {
-    let alloc = rt.alloc();
-    let text =
-        b" {\t\"version\" : 1,\r\n\"ring\":2 , \"events\": [ [ \"\\u0065nq\" , 1, 7 ],[\"go\",1] ],\"actors\":16 }\n\n";
-    let AnyBook::Two(book) = load_trace(alloc, text)? else {
-        return Err(Fail::from(Refusal::NoMark));
-    };
-    let compact =
-        "{\"events\":[[\"enq\",1,7],[\"go\",1]],\"marks\":[],\"ring\":2,\"start\":{\"fresh\":16},\"undone\":[],\"version\":2}\n";
-    text_is(&rt, alloc, &book, compact)
+fn white_space_escapes_and_the_order_of_keys_do_not_matter(rt: HostRuntime) {
+    match load_trace(rt.alloc(), SPACED) {
+        Ok(AnyBook::Two(book)) => text_is(&rt, rt.alloc(), &book, COMPACT),
+        _ => panic!(&rt; "no trace of the ring"),
+    }
 }
