@@ -11,94 +11,92 @@ use std::alloc::Global;
 use std::process::{Abort, ExitCode};
 use test_kit::BrokenWriter;
 
-/// Ends after each fault, and compares the status with 1 and what is written to standard error.
-fn faults_are(rt: &impl Abort, alloc: Global, rows: &[(ProgramFault, &str)]) {
-    for (fault, line) in rows {
-        let mut errors = Vec::new(alloc);
-        let status = show_program_fault(&Err(*fault), &mut WriteSink::new(&mut errors));
-        assert_eq!(rt; status, ExitCode::FAILURE, "line {line}");
-        assert_eq!(rt; errors.as_slice(), line.as_bytes());
+/// Ends after an outcome, and compares the status, and what is written to standard error.
+fn ends_with(
+    rt: &impl Abort,
+    alloc: Global,
+    outcome: Result<u64, ProgramFault>,
+    status: ExitCode,
+    line: &str,
+) {
+    let mut errors = Vec::new(alloc);
+    let ended = show_program_fault(&outcome, &mut WriteSink::new(&mut errors));
+    let said = errors.as_slice() == line.as_bytes();
+    assert!(rt; ended == status && said, "line {line}");
+}
+
+/// Each fault, and its line.
+const FAULTS: &[(ProgramFault, &str)] = &[
+    (ProgramFault::NoMemory, "lcrqdb: refused 20 NoMemory\n"),
+    (ProgramFault::Read, "lcrqdb: refused 24 Read\n"),
+    (
+        ProgramFault::Script(ScriptFault::Read),
+        "lcrqdb: refused 24 Read\n",
+    ),
+    (
+        ProgramFault::Script(ScriptFault::Write),
+        "lcrqdb: refused 25 Write\n",
+    ),
+    (
+        ProgramFault::Load(LoadTraceFault::NoMemory),
+        "lcrqdb: refused 20 NoMemory\n",
+    ),
+    (
+        ProgramFault::Load(LoadTraceFault::BadTrace),
+        "lcrqdb: refused 27 BadTrace\n",
+    ),
+    (
+        ProgramFault::Load(LoadTraceFault::Flawed(Flaw::Counters)),
+        "lcrqdb: refused 26 Flaw 4\n",
+    ),
+    (
+        ProgramFault::Load(LoadTraceFault::TraceStep {
+            step: 65_536,
+            cause: Refusal::TooLong,
+        }),
+        "lcrqdb: refused 28 TraceStep 65536 cause 9 TooLong\n",
+    ),
+    (
+        ProgramFault::Load(LoadTraceFault::TraceMark {
+            mark: 2,
+            step: 1,
+            cause: Refusal::Idle,
+        }),
+        "lcrqdb: refused 32 TraceMark 2 1 cause 3 Idle\n",
+    ),
+    (
+        ProgramFault::Trace(WriteTraceFault::NoMemory),
+        "lcrqdb: refused 20 NoMemory\n",
+    ),
+    (
+        ProgramFault::Trace(WriteTraceFault::Write),
+        "lcrqdb: refused 25 Write\n",
+    ),
+    (
+        ProgramFault::View(ViewFault::NoMemory),
+        "lcrqdb: refused 20 NoMemory\n",
+    ),
+    (
+        ProgramFault::View(ViewFault::Write),
+        "lcrqdb: refused 25 Write\n",
+    ),
+    (
+        ProgramFault::View(ViewFault::Busy(Busy { next: 3, served: 2 })),
+        "lcrqdb: refused 30 Busy next 3 served 2\n",
+    ),
+];
+
+#[test]
+fn a_fault_has_status_1_and_its_line_and_a_run_that_came_to_its_end_0_and_none(rt: HostRuntime) {
+    for (fault, line) in FAULTS {
+        ends_with(&rt, rt.alloc(), Err(*fault), ExitCode::FAILURE, *line);
     }
-}
-
-#[test]
-fn each_fault_has_status_1_and_its_line(rt: HostRuntime) {
-    faults_are(
-        &rt,
-        rt.alloc(),
-        &[
-            (ProgramFault::NoMemory, "lcrqdb: refused 20 NoMemory\n"),
-            (ProgramFault::Read, "lcrqdb: refused 24 Read\n"),
-            (
-                ProgramFault::Script(ScriptFault::Read),
-                "lcrqdb: refused 24 Read\n",
-            ),
-            (
-                ProgramFault::Script(ScriptFault::Write),
-                "lcrqdb: refused 25 Write\n",
-            ),
-            (
-                ProgramFault::Load(LoadTraceFault::NoMemory),
-                "lcrqdb: refused 20 NoMemory\n",
-            ),
-            (
-                ProgramFault::Load(LoadTraceFault::BadTrace),
-                "lcrqdb: refused 27 BadTrace\n",
-            ),
-            (
-                ProgramFault::Load(LoadTraceFault::Flawed(Flaw::Counters)),
-                "lcrqdb: refused 26 Flaw 4\n",
-            ),
-            (
-                ProgramFault::Load(LoadTraceFault::TraceStep {
-                    step: 65_536,
-                    cause: Refusal::TooLong,
-                }),
-                "lcrqdb: refused 28 TraceStep 65536 cause 9 TooLong\n",
-            ),
-            (
-                ProgramFault::Load(LoadTraceFault::TraceMark {
-                    mark: 2,
-                    step: 1,
-                    cause: Refusal::Idle,
-                }),
-                "lcrqdb: refused 32 TraceMark 2 1 cause 3 Idle\n",
-            ),
-            (
-                ProgramFault::Trace(WriteTraceFault::NoMemory),
-                "lcrqdb: refused 20 NoMemory\n",
-            ),
-            (
-                ProgramFault::Trace(WriteTraceFault::Write),
-                "lcrqdb: refused 25 Write\n",
-            ),
-            (
-                ProgramFault::View(ViewFault::NoMemory),
-                "lcrqdb: refused 20 NoMemory\n",
-            ),
-            (
-                ProgramFault::View(ViewFault::Write),
-                "lcrqdb: refused 25 Write\n",
-            ),
-            (
-                ProgramFault::View(ViewFault::Busy(Busy { next: 3, served: 2 })),
-                "lcrqdb: refused 30 Busy next 3 served 2\n",
-            ),
-        ],
-    );
-}
-
-#[test]
-fn a_run_that_came_to_its_end_has_status_0_and_no_line(rt: HostRuntime) {
-    let mut errors = Vec::new(rt.alloc());
-    let status = show_program_fault(&Ok(7), &mut WriteSink::new(&mut errors));
-    assert_eq!(rt; status, ExitCode::SUCCESS);
-    assert!(rt; errors.is_empty());
+    ends_with(&rt, rt.alloc(), Ok(7), ExitCode::SUCCESS, "");
 }
 
 #[test]
 fn a_stream_that_fails_leaves_the_status(rt: HostRuntime) {
     let fault = ProgramFault::Script(ScriptFault::Write);
     let status = show_program_fault(&Err(fault), &mut WriteSink::new(BrokenWriter));
-    assert_eq!(rt; status, ExitCode::FAILURE);
+    assert!(&rt; status == ExitCode::FAILURE);
 }

@@ -2,145 +2,145 @@
 
 use rd_command_line::{OptionsFault, not_utf8_fault, run_command_line};
 use rd_script::{ReadSource, WriteSink};
-use std::alloc::Global;
+use std::alloc::{AllocError, Global};
 use std::fs::Files;
-use std::process::ExitCode;
+use std::process::{Abort, ExitCode};
 use std::sync::Wait;
-use std::test::Fail;
 use std::thread::Threads;
 use test_kit::BrokenWriter;
 
-/// What an end leaves.
-#[derive(Drop)]
-struct Left {
-    /// The status that it ends with.
-    status: ExitCode,
-    /// What it writes to standard output.
-    output: Vec<u8>,
-    /// What it writes to standard error.
-    errors: Vec<u8>,
+/// Command lines that give no options, with how many names of missing files come after their words,
+/// the status that they end with, and what they write to standard output and to standard error: this
+/// text, or one that begins so if it ends with `..`.
+const ENDS: &[(&[&str], usize, u8, &str, &str)] = &[
+    // Help goes to standard output.
+    (
+        &["lcrqdb", "--help"],
+        0,
+        0,
+        "A causal reversible debugger for LCRQ\n..",
+        "",
+    ),
+    (
+        &["lcrqdb", "run", "-h"],
+        0,
+        0,
+        "Does the lines of a script..",
+        "",
+    ),
+    (&["lcrqdb", "--version"], 0, 0, "lcrqdb 0.1.0\n..", ""),
+    // A mistake goes to standard error.
+    (&["lcrqdb"], 0, 2, "", "error: .."),
+    (&["lcrqdb", "walk"], 0, 2, "", "error: .."),
+    (&["lcrqdb", "run"], 0, 2, "", "error: .."),
+    (
+        &["lcrqdb", "run", "--ring", "3", "a"],
+        0,
+        2,
+        "",
+        "error: ..",
+    ),
+    (&["lcrqdb", "view"], 0, 2, "", "error: .."),
+    (
+        &["lcrqdb", "view", "--actors", "17", "a"],
+        0,
+        2,
+        "",
+        "error: ..",
+    ),
+    // A view of missing files leaves the output.
+    (&["lcrqdb", "view"], 1, 1, "", "lcrqdb: refused 24 Read\n"),
+    (&["lcrqdb", "view"], 2, 1, "", "lcrqdb: refused 24 Read\n"),
+    (&["lcrqdb", "view"], 64, 1, "", "lcrqdb: refused 24 Read\n"),
+    (&["lcrqdb", "view"], 65, 2, "", "lcrqdb: 1 to 64 files\n"),
+];
+
+/// Whether a text is this one, or begins so if this one ends with `..`.
+fn is_said(text: &[u8], wanted: &str) -> bool {
+    match wanted.strip_suffix("..") {
+        Some(beginning) => text.starts_with(beginning.as_bytes()),
+        None => text == wanted.as_bytes(),
+    }
 }
 
-/// What is left after these words, with nothing on standard input.
-fn left_after<R: Files + Threads + Wait + Sync>(
+/// Ends with nothing on standard input, and compares the status, and what is written to standard
+/// output and to standard error.
+fn ends_with<R: Files + Threads + Wait + Abort + Sync>(
     rt: &R,
     alloc: Global,
-    words: Result<&[&str], OptionsFault>,
-) -> Result<Left, Fail> {
-    let words = match words {
-        Ok(words) => Ok(Vec::from_slice(alloc, words)?),
-        Err(fault) => Err(fault),
-    };
-    let mut output = Vec::new(alloc);
-    let mut errors = Vec::new(alloc);
-    let status = run_command_line(
+    words: Result<Vec<&str>, OptionsFault>,
+    status: u8,
+    (output, errors): (&str, &str),
+) {
+    let mut written = Vec::new(alloc);
+    let mut told = Vec::new(alloc);
+    let ended = run_command_line(
         rt,
         alloc,
         words,
         &mut ReadSource::new(b"".as_slice()),
-        &mut WriteSink::new(&mut output),
-        &mut WriteSink::new(&mut errors),
+        &mut WriteSink::new(&mut written),
+        &mut WriteSink::new(&mut told),
     );
-    Ok(Left {
-        status,
-        output,
-        errors,
-    })
+    let said = is_said(written.as_slice(), output) && is_said(told.as_slice(), errors);
+    assert!(rt; ended == ExitCode::from(status) && said, "{output}{errors}");
 }
 
-#[test]
-fn help_goes_to_standard_output_with_status_0(rt: HostRuntime) -> Result<(), Fail> {
-    let rows: [(&[&str], &str); 3] = [
-        (
-            &["lcrqdb", "--help"],
-            "A causal reversible debugger for LCRQ\n",
-        ),
-        (&["lcrqdb", "run", "-h"], "Does the lines of a script"),
-        (&["lcrqdb", "--version"], "lcrqdb 0.1.0\n"),
-    ];
-    for (words, beginning) in rows {
-        let left = left_after(&rt, rt.alloc(), Ok(words))?;
-        assert_eq!(rt; left.status, ExitCode::SUCCESS, "{words:?}");
-        assert!(rt; left.output.starts_with(beginning.as_bytes()), "{words:?}");
-        assert!(rt; left.errors.is_empty(), "{words:?}");
+/// Words and as many names of missing files after them.
+fn with_missing_files(
+    alloc: Global,
+    words: &[&'static str],
+    files: usize,
+) -> Result<Vec<&'static str>, AllocError> {
+    let mut all = Vec::from_slice(alloc, words)?;
+    for _ in 0..files {
+        all.push("missing")?;
     }
-    Ok(())
+    Ok(all)
 }
 
 #[test]
-fn a_mistake_goes_to_standard_error_with_status_2(rt: HostRuntime) -> Result<(), Fail> {
-    let rows: [&[&str]; 6] = [
-        &["lcrqdb"],
-        &["lcrqdb", "walk"],
-        &["lcrqdb", "run"],
-        &["lcrqdb", "run", "--ring", "3", "a"],
-        &["lcrqdb", "view"],
-        &["lcrqdb", "view", "--actors", "17", "a"],
-    ];
-    for words in rows {
-        let left = left_after(&rt, rt.alloc(), Ok(words))?;
-        assert_eq!(rt; left.status, ExitCode::from(2), "{words:?}");
-        assert!(rt; left.output.is_empty(), "{words:?}");
-        assert!(rt; left.errors.starts_with(b"error: "), "{words:?}");
+fn a_command_line_that_gives_no_options_has_its_status_and_its_text(rt: HostRuntime) {
+    for (words, files, status, output, errors) in ENDS {
+        let words = with_missing_files(rt.alloc(), *words, *files).expect(&rt, "out of memory");
+        ends_with(&rt, rt.alloc(), Ok(words), *status, (*output, *errors));
     }
-    Ok(())
 }
 
 #[test]
-fn a_word_that_is_no_text_is_a_mistake(rt: HostRuntime) -> Result<(), Fail> {
-    let left = left_after(&rt, rt.alloc(), Err(not_utf8_fault(rt.alloc())))?;
-    let text = "error: invalid UTF-8 was detected in one or more arguments\n";
-    assert_eq!(rt; left.status, ExitCode::from(2));
-    assert!(rt; left.output.is_empty());
-    assert!(rt; left.errors.starts_with(text.as_bytes()));
-    Ok(())
-}
-
-#[test]
-fn a_command_line_that_is_refused_memory_ends_with_status_1(rt: HostRuntime) -> Result<(), Fail> {
-    let left = left_after(&rt, rt.alloc(), Err(OptionsFault::NoMemory))?;
-    assert_eq!(rt; left.status, ExitCode::FAILURE);
-    assert_eq!(rt;
-        left.errors.as_slice(),
-        "lcrqdb: refused 20 NoMemory\n".as_bytes()
+fn a_word_that_is_no_text_is_a_mistake_and_refused_memory_has_status_1(rt: HostRuntime) {
+    let fault = not_utf8_fault(rt.alloc());
+    let text = "error: invalid UTF-8 was detected in one or more arguments\n..";
+    ends_with(&rt, rt.alloc(), Err(fault), 2, ("", text));
+    let refused = "lcrqdb: refused 20 NoMemory\n";
+    ends_with(
+        &rt,
+        rt.alloc(),
+        Err(OptionsFault::NoMemory),
+        1,
+        ("", refused),
     );
-    Ok(())
+}
+
+/// The status with which words end if the streams fail.
+fn status_with_broken_streams<R: Files + Threads + Wait + Abort + Sync>(
+    rt: &R,
+    alloc: Global,
+    words: &[&str],
+) -> ExitCode {
+    run_command_line(
+        rt,
+        alloc,
+        Ok(Vec::from_slice(alloc, words).expect(rt, "out of memory")),
+        &mut ReadSource::new(b"".as_slice()),
+        &mut WriteSink::new(BrokenWriter),
+        &mut WriteSink::new(BrokenWriter),
+    )
 }
 
 #[test]
-fn a_view_of_missing_files_leaves_the_output(rt: HostRuntime) -> Result<(), Fail> {
-    let rows: [(usize, u8, &str); 4] = [
-        (1, 1, "lcrqdb: refused 24 Read\n"),
-        (2, 1, "lcrqdb: refused 24 Read\n"),
-        (64, 1, "lcrqdb: refused 24 Read\n"),
-        (65, 2, "lcrqdb: 1 to 64 files\n"),
-    ];
-    for (files, status, errors) in rows {
-        let mut words = Vec::from_slice(rt.alloc(), &["lcrqdb", "view"])?;
-        for _ in 0..files {
-            words.push("missing")?;
-        }
-        let left = left_after(&rt, rt.alloc(), Ok(words.as_slice()))?;
-        assert_eq!(rt; left.status, ExitCode::from(status), "{files}");
-        assert!(rt; left.output.is_empty(), "{files}");
-        assert_eq!(rt; left.errors.as_slice(), errors.as_bytes(), "{files}");
-    }
-    Ok(())
-}
-
-#[test]
-fn a_stream_that_fails_leaves_the_status(rt: HostRuntime) -> Result<(), Fail> {
-    for (words, status) in [(["lcrqdb", "--help"], 0), (["lcrqdb", "walk"], 2)] {
-        let words = Vec::from_slice(rt.alloc(), &words)?;
-        let left = run_command_line(
-            &rt,
-            rt.alloc(),
-            Ok(words),
-            &mut ReadSource::new(b"".as_slice()),
-            &mut WriteSink::new(BrokenWriter),
-            &mut WriteSink::new(BrokenWriter),
-        );
-        assert_eq!(rt; left, ExitCode::from(status));
-    }
-    Ok(())
+fn a_stream_that_fails_leaves_the_status(rt: HostRuntime) {
+    let shown = status_with_broken_streams(&rt, rt.alloc(), &["lcrqdb", "--help"]);
+    let refused = status_with_broken_streams(&rt, rt.alloc(), &["lcrqdb", "walk"]);
+    assert!(&rt; shown == ExitCode::from(0) && refused == ExitCode::from(2));
 }
