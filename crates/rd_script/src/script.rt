@@ -2,14 +2,12 @@
 
 ghost use Rattle.std.specs.Prelude.{◌≡◌, ℕ, List, Result, true, false, OnOk, OnErr, IfErr};
 ghost use Rattle.std.specs.Result.{ForErr};
-ghost use Rattle.std.specs.Io.KnownBytes.{Appends};
 ghost use Rattle.rd_cell.specs.declared.refusal.Refusal.{Refusal};
 ghost use Rattle.rd_journal.specs.Sessions.{journal, MayRefuse};
 ghost use Rattle.rd_marks.specs.declared.commands.Command.{Command as SomeCommand};
 ghost use Rattle.rd_marks.specs.declared.replies.Reply.{Reply};
 ghost use Rattle.rd_marks.specs.Book.{book_state, session_of, MayRefuseIfGoto};
 ghost use Rattle.rd_marks.specs.Commands.{IsEventAnswer, IsObeyed};
-ghost use Rattle.rd_script.specs.Device.{TakesBeginning};
 ghost use Rattle.rd_script.specs.Streams.{devices};
 ghost use Rattle.rd_script.specs.Lines.{Holds};
 ghost use Rattle.rd_script.specs.declared.faults.LineFault.{LineFault};
@@ -18,12 +16,12 @@ ghost use Rattle.rd_script.specs.Replies.{LineAnswer as SomeAnswer, answer_text}
 ghost use Rattle.rd_script.specs.Answers.{AnswersSaid, line_answer};
 ghost use Rattle.rd_script.specs.Script.{WritesAnswer, RunsScript};
 
-use super::answers::{AnyRefusal, LineAnswer};
+use super::answers::AnyRefusal;
 use super::devices::sinks::{Sink, WriteFault, write_all};
 use super::devices::sources::Source;
 use super::faults::ScriptFault;
-use super::reading::lines::{Line, Reading, next_line};
-use super::writing::lines::{set_answer, set_event_reply, set_refusal, set_reply};
+use super::reading::lines::{Line, Reading};
+use super::writing::lines::{set_event_reply, set_refusal, set_reply};
 use super::writing::texts::Text;
 use rd_marks::{Book, Command};
 use rd_step::Event;
@@ -56,7 +54,7 @@ pub fn run<S: Source, K: Sink, const R: usize>(
     let mut line = Line::new();
     let mut text = Text::new();
     for done in 0..u64::MAX {
-        match next_line(reader, &mut line)? {
+        match line.read_next(reader)? {
             Reading::End => return Ok(done),
             Reading::Last => {
                 do_line(book, &line, &mut text, writer)?;
@@ -138,24 +136,4 @@ fn answer_command<const R: usize>(book: &mut Book<R>, command: Command, text: &m
         Err(refusal) => set_refusal(text, &AnyRefusal::Refused(refusal)),
         Ok(reply) => set_reply(text, &reply),
     }
-}
-
-/// Writes the line of an answer, in as few calls as the writer needs. The writer must not have
-/// failed before.
-///
-/// # Errors
-///
-/// `WriteFault` if the writer failed or took nothing; it has then taken a beginning of the line.
-pub fn write_answer<K: Sink>(writer: &mut K, answer: &LineAnswer) -> Result<(), WriteFault>
-    requires { K.has_failed writer.old ≡ false }
-    ensures ok { OnOk result (Appends (K.contents writer.old) (K.contents writer.new)
-        (answer_text answer.now)) }
-    ensures err { OnErr result (TakesBeginning (K.contents writer.old) (K.contents writer.new)
-        (answer_text answer.now)) }
-    ensures works { OnOk result (K.has_failed writer.new ≡ false) }
-    ensures fails { OnErr result (K.has_failed writer.new ≡ true) }
-{
-    let mut text = Text::new();
-    set_answer(&mut text, answer);
-    write_all(writer, text.as_slice())
 }

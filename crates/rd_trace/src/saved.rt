@@ -7,11 +7,10 @@ ghost use Rattle.rd_step.specs.Prelude.{MOST_CELLS};
 ghost use Rattle.rd_journal.specs.Sessions.{state};
 ghost use Rattle.rd_marks.specs.Book.{book_state};
 ghost use Rattle.rd_trace.specs.Numbers.{member_count, number_at};
-ghost use Rattle.rd_trace.specs.Starts.{IsStartValue};
 ghost use Rattle.rd_trace.specs.Spelled.{Reads, Gives};
 ghost use Rattle.rd_trace.specs.Events.{event_of, event_data};
 ghost use Rattle.rd_trace.specs.Saved.{saved_trace, IsVersion1, IsVersion2, IsEitherVersion};
-ghost use Rattle.rd_trace.specs.Texts.{AreAppended, IsStartAppended};
+ghost use Rattle.rd_trace.specs.Texts.{AreAppended};
 ghost use Rattle.rd_trace.specs.Writing.{IsTextOf};
 
 use super::bookmarks::{SavedMark, marks_in, put_marks};
@@ -19,7 +18,7 @@ use super::events::put_next_event;
 use super::faults::LoadTraceFault;
 use super::members::{items_at, member_count, number_at};
 use super::spelled::list_in;
-use super::starts::{Start, actor_count_at, start_in, start_json};
+use super::starts::{Start, actor_count_at, put_start, start_in};
 use super::texts::put_number;
 use rd_journal::Session;
 use rd_marks::Book;
@@ -155,34 +154,6 @@ pub fn trace_text<const R: usize>(alloc: Global, book: &Book<R>) -> Result<Strin
     put_undone_events(&mut text, session)?;
     text.push_str("],\"version\":2}\n")?;
     Ok(text)
-}
-
-/// Returns the JSON value of the start of a session. Fails only if memory is refused.
-fn session_start_json<const R: usize>(
-    alloc: Global,
-    session: &Session<R>,
-) -> Result<Value, AllocError>
-    ensures { IfOk result (λ value. IsStartValue (state session.now).start (view value)) }
-{
-    let Ok(world) = session.start_world(alloc) else {
-        return Err(AllocError);
-    };
-    start_json(alloc, &world)
-}
-
-/// Appends the text of the start of a session. Fails only if memory is refused; the text is then
-/// unchanged.
-fn put_start<const R: usize>(
-    alloc: Global,
-    text: &mut String,
-    session: &Session<R>,
-) -> Result<(), AllocError>
-    ensures { OnOk result (IsStartAppended (state session.now).start (string_bytes text.old)
-        (string_bytes text.new)) }
-{
-    let start = session_start_json(alloc, session)?;
-    let written = start.to_string(alloc)?;
-    text.push_str(written.as_str())
 }
 
 /// Appends the texts of the live events of a session, in order, with commas between them. Fails

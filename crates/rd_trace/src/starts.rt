@@ -1,12 +1,14 @@
 //! The start of a session as JSON: the number of actors of a fresh world, or the parts of any other
 //! world.
 
-ghost use Rattle.std.specs.Prelude.{◌≡◌, ◌≤◌, ℕ, Some, IfOk, OnOk, IfSome, IfNone};
+ghost use Rattle.std.specs.Prelude.{◌≡◌, ◌≤◌, ℕ, Some, IfOk, OnOk, IfSome, IfNone, string_bytes};
 ghost use Rattle.serde_json.specs.View.{view, items_view};
 ghost use Rattle.rd_step.specs.Prelude.{MOST_CELLS, model};
+ghost use Rattle.rd_journal.specs.Sessions.{state};
 ghost use Rattle.rd_trace.specs.Numbers.{member_count};
 ghost use Rattle.rd_trace.specs.Spelled.{Reads, itself};
 ghost use Rattle.rd_trace.specs.Starts.{HasActorCount, SpellsParts, SpellsStart, IsStartValue, fresh_data, parts_object, parts_data};
+ghost use Rattle.rd_trace.specs.Texts.{IsStartAppended};
 
 use super::arrays::{array_parts_in, array_parts_json};
 use super::faults::LoadTraceFault;
@@ -14,6 +16,7 @@ use super::members::{items_at, member_count, number_at};
 use super::names::{segment_name_in, segment_name_json};
 use super::spelled::{list_in, list_json};
 use rd_cell::limits::MOST_ACTORS;
+use rd_journal::Session;
 use rd_step::{Parts, World};
 use serde_json::{Value, json};
 use std::alloc::{AllocError, Global};
@@ -102,9 +105,37 @@ fn parts_in<const R: usize>(alloc: Global, value: &Value) -> Result<Parts<R>, Lo
     })
 }
 
+/// Appends the text of the start of a session. Fails only if memory is refused; the text is then
+/// unchanged.
+pub fn put_start<const R: usize>(
+    alloc: Global,
+    text: &mut String,
+    session: &Session<R>,
+) -> Result<(), AllocError>
+    ensures { OnOk result (IsStartAppended (state session.now).start (string_bytes text.old)
+        (string_bytes text.new)) }
+{
+    let start = session_start_json(alloc, session)?;
+    let written = start.to_string(alloc)?;
+    text.push_str(written.as_str())
+}
+
+/// Returns the JSON value of the start of a session. Fails only if memory is refused.
+fn session_start_json<const R: usize>(
+    alloc: Global,
+    session: &Session<R>,
+) -> Result<Value, AllocError>
+    ensures { IfOk result (λ value. IsStartValue (state session.now).start (view value)) }
+{
+    let Ok(world) = session.start_world(alloc) else {
+        return Err(AllocError);
+    };
+    start_json(alloc, &world)
+}
+
 /// Returns the JSON value of a session's start in this world: an object with the number of actors
 /// if the world is fresh, else the object of its parts. Fails only if memory is refused.
-pub fn start_json<const R: usize>(alloc: Global, world: &World<R>) -> Result<Value, AllocError>
+fn start_json<const R: usize>(alloc: Global, world: &World<R>) -> Result<Value, AllocError>
     ensures { IfOk result (λ value. IsStartValue (model world.now) (view value)) }
 {
     if world.is_fresh() {

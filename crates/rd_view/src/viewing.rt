@@ -16,7 +16,7 @@ use super::faults::ViewFault;
 use super::reports::text_of_view;
 use rd_desk::{Answer, Desk, DeskPass, History, ask_viewers};
 use rd_marks::{Book, Command};
-use rd_script::{ParsedLine, Sink, lines, write_all};
+use rd_script::{ParsedLine, Sink, commands_in, lines, write_all};
 use std::alloc::{AllocError, Global};
 use std::sync::Wait;
 use std::thread::Threads;
@@ -118,19 +118,6 @@ fn passes_with_commands<const N: usize>(
         work.push((pass, commands))?;
     }
     Ok(work)
-}
-
-/// Returns the commands among what lines spell, in their order. Fails only if memory is refused.
-fn commands_in(alloc: Global, said: &[ParsedLine]) -> Result<Vec<Command>, AllocError>
-    ensures { IfOk result (λ commands. commands.items ≡ commands_of said.now) }
-{
-    let mut commands = Vec::new(alloc);
-    for line in said {
-        if let Ok(command) = line {
-            commands.push(*command)?;
-        }
-    }
-    Ok(commands)
 }
 
 /// Separates the viewers' passes from their answers, and returns both in order. Fails only if

@@ -1,16 +1,14 @@
 //! The words after a keyword, read as the arguments that its command needs.
 
 ghost use Rattle.std.specs.Prelude.{◌≡◌, ◌≢◌, ℕ, Bool, true, ◌^◌, ◌<◌, [], ◌∷◌, map, IfSome, IfNone, IfOk, IfErr};
-ghost use Rattle.std.specs.Char.{is_ascii_graphic};
 ghost use Rattle.std.specs.Fmt.{decimal};
-ghost use Rattle.std.specs.List.{list_all};
 ghost use Rattle.rd_marks.specs.NameBytes.{is_mark_name};
 ghost use Rattle.rd_marks.specs.Names.{bytes_of};
 ghost use Rattle.rd_script.specs.Texts.{yes_or_no};
-ghost use Rattle.rd_script.specs.Spelling.{is_word};
 ghost use Rattle.rd_script.specs.Reading.{IsFaultOfNames, ReadsName};
 
 use super::numbers::{u8_in, u64_in};
+use super::words::is_word;
 use crate::faults::LineFault;
 use rd_marks::MarkName;
 
@@ -136,25 +134,4 @@ fn name_in(word: &[u8]) -> Result<MarkName, LineFault>
         return Err(LineFault::BadName);
     };
     Ok(name)
-}
-
-/// Returns whether these bytes are a word: at least one, each from 33 to 126.
-fn is_word(text: &[u8]) -> bool
-    ensures { result ≡ is_word text.now }
-{
-    !text.is_empty() && are_graphic(text)
-}
-
-/// Returns whether each of these bytes is from 33 to 126.
-fn are_graphic(text: &[u8]) -> bool
-    ensures { result ≡ list_all is_ascii_graphic text.now }
-{
-    text.iter().all(|byte| is_graphic(*byte))
-}
-
-/// Returns whether the byte is from 33 to 126.
-fn is_graphic(byte: u8) -> bool
-    ensures { result ≡ is_ascii_graphic byte }
-{
-    byte.is_ascii_graphic()
 }

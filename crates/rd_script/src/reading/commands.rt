@@ -8,7 +8,7 @@ ghost use Rattle.std.specs.Result.{IsOkAnd};
 ghost use Rattle.rd_marks.specs.declared.commands.Command.{Command as SomeCommand};
 ghost use Rattle.rd_script.specs.Spelling.{spelling, IsInRange, IsSameCommand, Says, most_line_bytes};
 
-use super::keywords::{Keyword, command_with_keyword};
+use super::keywords::Keyword;
 use super::words::parts_of;
 use crate::faults::LineFault;
 use rd_marks::Command;
@@ -40,5 +40,5 @@ pub fn command_in(line: &[u8]) -> Result<Command, LineFault>
     let Some(keyword) = Keyword::of(first) else {
         return Err(LineFault::BadLine);
     };
-    command_with_keyword(keyword, others)
+    keyword.command(others)
 }

@@ -155,63 +155,63 @@ impl Keyword {
             Keyword::Len => b"len",
         }
     }
-}
 
-/// Returns the command that a keyword and the words after it spell. Fails with `BadLine` or
-/// `BadName`, as `command_in` does.
-#[tactic(auto, using(crate::proofs::NameReadLemmas::none_named))]
-pub fn command_with_keyword(keyword: Keyword, words: &[&[u8]]) -> Result<Command, LineFault>
-    ensures { ReadsCommand keyword (map (λ word. word.now) words.now) result }
-{
-    match keyword {
-        Keyword::Mark => Ok(Command::Mark(only_name(words)?)),
-        Keyword::Drop => Ok(Command::DropMark(only_name(words)?)),
-        Keyword::Goto => Ok(Command::GotoMark(only_name(words)?)),
-        Keyword::Same => {
-            let (one, other) = two_names(words)?;
-            Ok(Command::Same(one, other))
+    /// Returns the command that the keyword and the words after it spell. Fails with `BadLine` or
+    /// `BadName`, as `command_in` does.
+    #[tactic(auto, using(crate::proofs::NameReadLemmas::none_named))]
+    pub fn command(self, words: &[&[u8]]) -> Result<Command, LineFault>
+        ensures { ReadsCommand self (map (λ word. word.now) words.now) result }
+    {
+        match self {
+            Keyword::Mark => Ok(Command::Mark(only_name(words)?)),
+            Keyword::Drop => Ok(Command::DropMark(only_name(words)?)),
+            Keyword::Goto => Ok(Command::GotoMark(only_name(words)?)),
+            Keyword::Same => {
+                let (one, other) = two_names(words)?;
+                Ok(Command::Same(one, other))
+            }
+            _ => self.command_without_name(words).ok_or(LineFault::BadLine),
         }
-        _ => command_without_name(keyword, words).ok_or(LineFault::BadLine),
     }
-}
 
-/// Returns the command that a keyword and the words after it spell, if names of bookmarks don't
-/// follow this keyword. `None` if they do, or if the words spell no command.
-fn command_without_name(keyword: Keyword, words: &[&[u8]]) -> Option<Command>
-    ensures { ReadsNameless keyword (map (λ word. word.now) words.now) result }
-{
-    Some(match keyword {
-        Keyword::Go => Command::Go(only_u8(words)?),
-        Keyword::Enq => {
-            let (actor, value) = actor_and_value(words)?;
-            Command::Enq(actor, value)
-        }
-        Keyword::Deq => Command::Deq(only_u8(words)?),
-        Keyword::ArrayEnq => {
-            let (actor, value) = actor_and_value(words)?;
-            Command::ArrayEnq(actor, value)
-        }
-        Keyword::ArrayDeq => Command::ArrayDeq(only_u8(words)?),
-        Keyword::Starve => {
-            let (actor, choice) = actor_and_choice(words)?;
-            Command::Starve(actor, choice)
-        }
-        Keyword::Undo if words.is_empty() => Command::Undo,
-        Keyword::Undo => Command::UndoAt(only_u64(words)?),
-        Keyword::Roll => Command::Roll(only_u64(words)?),
-        Keyword::Back => Command::Back(only_u64(words)?),
-        Keyword::Redo => without_arguments(words, Command::Redo)?,
-        Keyword::Forward => Command::Forward(only_u64(words)?),
-        Keyword::Marks => without_arguments(words, Command::Marks)?,
-        Keyword::MarkAt => Command::MarkAt(only_u64(words)?),
-        Keyword::Origin => Command::Origin(only_u64(words)?),
-        Keyword::Writer => Command::Writer(place_in(words)?),
-        Keyword::Show => Command::Show(place_in(words)?),
-        Keyword::Actor => Command::Actor(only_u8(words)?),
-        Keyword::Step => Command::Step(only_u64(words)?),
-        Keyword::Len => without_arguments(words, Command::Len)?,
-        Keyword::Mark | Keyword::Drop | Keyword::Goto | Keyword::Same => return None,
-    })
+    /// Returns the command that the keyword and the words after it spell, if names of bookmarks
+    /// don't follow it. `None` if they do, or if the words spell no command.
+    fn command_without_name(self, words: &[&[u8]]) -> Option<Command>
+        ensures { ReadsNameless self (map (λ word. word.now) words.now) result }
+    {
+        Some(match self {
+            Keyword::Go => Command::Go(only_u8(words)?),
+            Keyword::Enq => {
+                let (actor, value) = actor_and_value(words)?;
+                Command::Enq(actor, value)
+            }
+            Keyword::Deq => Command::Deq(only_u8(words)?),
+            Keyword::ArrayEnq => {
+                let (actor, value) = actor_and_value(words)?;
+                Command::ArrayEnq(actor, value)
+            }
+            Keyword::ArrayDeq => Command::ArrayDeq(only_u8(words)?),
+            Keyword::Starve => {
+                let (actor, choice) = actor_and_choice(words)?;
+                Command::Starve(actor, choice)
+            }
+            Keyword::Undo if words.is_empty() => Command::Undo,
+            Keyword::Undo => Command::UndoAt(only_u64(words)?),
+            Keyword::Roll => Command::Roll(only_u64(words)?),
+            Keyword::Back => Command::Back(only_u64(words)?),
+            Keyword::Redo => without_arguments(words, Command::Redo)?,
+            Keyword::Forward => Command::Forward(only_u64(words)?),
+            Keyword::Marks => without_arguments(words, Command::Marks)?,
+            Keyword::MarkAt => Command::MarkAt(only_u64(words)?),
+            Keyword::Origin => Command::Origin(only_u64(words)?),
+            Keyword::Writer => Command::Writer(place_in(words)?),
+            Keyword::Show => Command::Show(place_in(words)?),
+            Keyword::Actor => Command::Actor(only_u8(words)?),
+            Keyword::Step => Command::Step(only_u64(words)?),
+            Keyword::Len => without_arguments(words, Command::Len)?,
+            Keyword::Mark | Keyword::Drop | Keyword::Goto | Keyword::Same => return None,
+        })
+    }
 }
 
 /// Returns this command, or `None` if there are words after its keyword.

@@ -33,30 +33,6 @@ pub enum Reading {
     End,
 }
 
-/// Replaces the line in the buffer by the next one of the source, and returns how that ended. The
-/// buffer is empty if there is no line. The source must not have failed before.
-///
-/// # Errors
-///
-/// `ReadFault` if the source failed, or gave 2^64 - 1 bytes without a line feed or the end.
-pub fn next_line<S: Source>(reader: &mut S, line: &mut Line) -> Result<Reading, ReadFault>
-    requires { S.has_failed reader.old ≡ false }
-    ensures reads { ReadsNext (S.bytes reader.old) (S.bytes reader.new)
-        (S.has_failed reader.new) line.new result }
-    ensures works { OnOk result (S.has_failed reader.new ≡ false) }
-{
-    line.clear();
-    for length in 0..u64::MAX {
-        match reader.next_byte()? {
-            None if length == 0 => return Ok(Reading::End),
-            None => return Ok(Reading::Last),
-            Some(b'\n') => return Ok(Reading::Ended),
-            Some(byte) => line.push(byte),
-        }
-    }
-    Err(ReadFault)
-}
-
 impl Line {
     /// Returns an empty line.
     pub fn new() -> Self
@@ -66,6 +42,30 @@ impl Line {
             kept: ArrayVec::new(),
             is_too_long: false,
         }
+    }
+
+    /// Replaces the line in the buffer by the next one of the source, and returns how that ended. The
+    /// buffer is empty if there is no line. The source must not have failed before.
+    ///
+    /// # Errors
+    ///
+    /// `ReadFault` if the source failed, or gave 2^64 - 1 bytes without a line feed or the end.
+    pub fn read_next<S: Source>(&mut self, reader: &mut S) -> Result<Reading, ReadFault>
+        requires { S.has_failed reader.old ≡ false }
+        ensures reads { ReadsNext (S.bytes reader.old) (S.bytes reader.new)
+            (S.has_failed reader.new) self.new result }
+        ensures works { OnOk result (S.has_failed reader.new ≡ false) }
+    {
+        self.clear();
+        for length in 0..u64::MAX {
+            match reader.next_byte()? {
+                None if length == 0 => return Ok(Reading::End),
+                None => return Ok(Reading::Last),
+                Some(b'\n') => return Ok(Reading::Ended),
+                Some(byte) => self.push(byte),
+            }
+        }
+        Err(ReadFault)
     }
 
     /// Makes the line empty.

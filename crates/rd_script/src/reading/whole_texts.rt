@@ -2,6 +2,7 @@
 
 ghost use Rattle.std.specs.Prelude.{◌≡◌, ◌≢◌, ◌==◌, [], IfOk, IfErr, IsOk};
 ghost use Rattle.std.specs.List.{AllZip, slice_split};
+ghost use Rattle.rd_script.specs.Answers.{commands_of};
 ghost use Rattle.rd_script.specs.Lines.{lines_of};
 ghost use Rattle.rd_script.specs.Spelling.{Says};
 
@@ -9,7 +10,7 @@ use super::commands::command_in;
 use crate::faults::LineFault;
 use rd_cell::Refusal;
 use rd_marks::Command;
-use std::alloc::Global;
+use std::alloc::{AllocError, Global};
 
 /// What a line of a script spells: a command, or the line's fault.
 pub type ParsedLine = Result<Command, LineFault>;
@@ -35,6 +36,19 @@ pub fn lines(alloc: Global, text: &[u8]) -> Result<Vec<ParsedLine>, Refusal>
         }
     }
     Ok(said)
+}
+
+/// Returns the commands among what lines spell, in their order. Fails only if memory is refused.
+pub fn commands_in(alloc: Global, said: &[ParsedLine]) -> Result<Vec<Command>, AllocError>
+    ensures { IfOk result (λ commands. commands.items ≡ commands_of said.now) }
+{
+    let mut commands = Vec::new(alloc);
+    for line in said {
+        if let Ok(command) = line {
+            commands.push(*command)?;
+        }
+    }
+    Ok(commands)
 }
 
 /// Returns a text, which must not be empty, without the line feed at its end, if it has one there.

@@ -5,7 +5,9 @@
 //! extra space makes an empty part, which spells nothing. No command has more than four words.
 
 ghost use Rattle.std.specs.Prelude.{◌≡◌, ◌==◌, ◌<◌, length, map, IfSome, IfNone};
-ghost use Rattle.std.specs.List.{slice_split};
+ghost use Rattle.std.specs.Char.{is_ascii_graphic};
+ghost use Rattle.std.specs.List.{list_all, slice_split};
+ghost use Rattle.rd_script.specs.Spelling.{is_word};
 
 use arrayvec::ArrayVec;
 
@@ -30,4 +32,25 @@ pub fn parts_of(text: &[u8], separator: u8) -> Option<TextParts<'_>>
         }
     }
     Some(parts)
+}
+
+/// Returns whether these bytes are a word: at least one, each from 33 to 126.
+pub fn is_word(text: &[u8]) -> bool
+    ensures { result ≡ is_word text.now }
+{
+    !text.is_empty() && are_graphic(text)
+}
+
+/// Returns whether each of these bytes is from 33 to 126.
+fn are_graphic(text: &[u8]) -> bool
+    ensures { result ≡ list_all is_ascii_graphic text.now }
+{
+    text.iter().all(|byte| is_graphic(*byte))
+}
+
+/// Returns whether the byte is from 33 to 126.
+fn is_graphic(byte: u8) -> bool
+    ensures { result ≡ is_ascii_graphic byte }
+{
+    byte.is_ascii_graphic()
 }

@@ -2,16 +2,72 @@
 
 ghost use Rattle.std.specs.Prelude.{◌≡◌, ◌≤◌, length};
 ghost use Rattle.rd_script.specs.Puts.{PutsUpTo};
-ghost use Rattle.rd_script.specs.Refusals.{refusal_name, refusal_words, fault_name, stop_name};
+ghost use Rattle.rd_script.specs.Refusals.{refusal_name, refusal_words, fault_name, stop_name, trace_step_words, trace_mark_words, busy_words, any_refusal_words};
 
-use super::numbers::put_spaced_number;
+use super::numbers::{put_spaced_number, put_words_and_number};
 use super::texts::{Text, put};
+use crate::answers::AnyRefusal;
 use crate::faults::{LineFault, ScriptFault};
 use rd_cell::Refusal;
 
+/// Appends to the text the number, the name and the data of any refusal or fault.
+pub fn put_any_refusal(text: &mut Text, refusal: &AnyRefusal)
+    ensures { PutsUpTo 100 text.old.items text.new.items (any_refusal_words refusal.now) }
+{
+    match *refusal {
+        AnyRefusal::Refused(refusal) => put_refusal(text, refusal),
+        AnyRefusal::Unread(fault) => put(text, fault_name(fault)),
+        AnyRefusal::Stopped(fault) => put(text, stop_name(fault)),
+        AnyRefusal::Flawed(flaw) => put_words_and_number(
+            text,
+            b"26 Flaw",
+            u64::from(flaw.number()),
+        ),
+        AnyRefusal::HistoryFull => put(text, b"21 HistoryFull"),
+        AnyRefusal::BadTrace => put(text, b"27 BadTrace"),
+        AnyRefusal::TraceStep { step, cause } => put_trace_step(text, step, cause),
+        AnyRefusal::TicketsEnded => put(text, b"29 TicketsEnded"),
+        AnyRefusal::Busy { next, served } => {
+            put(text, b"30 Busy");
+            put_busy(text, next, served);
+        }
+        AnyRefusal::NotRecorded => put(text, b"31 NotRecorded"),
+        AnyRefusal::TraceMark { mark, step, cause } => put_trace_mark(text, mark, step, cause),
+    }
+}
+
+/// Appends to the text the refusal of an event of a trace: the event's number, and the cause.
+fn put_trace_step(text: &mut Text, step: u64, cause: Refusal)
+    ensures { PutsUpTo 78 text.old.items text.new.items (trace_step_words step cause) }
+{
+    put_words_and_number(text, b"28 TraceStep", step);
+    put(text, b" cause ");
+    put_refusal(text, cause);
+}
+
+/// Appends to the text the refusal of an event of a trace's bookmark: the numbers of the bookmark
+/// and of the event in it, and the cause.
+fn put_trace_mark(text: &mut Text, mark: u64, step: u64, cause: Refusal)
+    ensures { PutsUpTo 99 text.old.items text.new.items (trace_mark_words mark step cause) }
+{
+    put_words_and_number(text, b"32 TraceMark", mark);
+    put_spaced_number(text, step);
+    put(text, b" cause ");
+    put_refusal(text, cause);
+}
+
+/// Appends to the text the tickets of a busy lock: the one to be drawn next, and the one that is
+/// served.
+fn put_busy(text: &mut Text, next: u64, served: u64)
+    ensures { PutsUpTo 54 text.old.items text.new.items (busy_words next served) }
+{
+    put_words_and_number(text, b" next", next);
+    put_words_and_number(text, b" served", served);
+}
+
 /// Appends to the text the number and the name of a refusal, and after them its data, if it has
 /// any: the number of live steps, or a step's number.
-pub fn put_refusal(text: &mut Text, refusal: Refusal)
+fn put_refusal(text: &mut Text, refusal: Refusal)
     ensures { PutsUpTo 38 text.old.items text.new.items (refusal_words refusal) }
 {
     put(text, refusal_name(refusal));
@@ -24,7 +80,7 @@ pub fn put_refusal(text: &mut Text, refusal: Refusal)
 }
 
 /// Returns the number and the name of the fault of a line.
-pub fn fault_name(fault: LineFault) -> &'static [u8]
+fn fault_name(fault: LineFault) -> &'static [u8]
     ensures name { result.now ≡ fault_name fault }
     ensures len { length result.now ≤ 17 }
 {
@@ -36,7 +92,7 @@ pub fn fault_name(fault: LineFault) -> &'static [u8]
 }
 
 /// Returns the number and the name of the fault that stopped a run.
-pub fn stop_name(fault: ScriptFault) -> &'static [u8]
+fn stop_name(fault: ScriptFault) -> &'static [u8]
     ensures name { result.now ≡ stop_name fault }
     ensures len { length result.now ≤ 17 }
 {

@@ -1,6 +1,6 @@
 use Rattle.rd_script.proofs.Prelude.{common_steps, arith}
 use Rattle.rd_script.proofs.LineLemmas.{goes_on, is_last}
-use Rattle.rd_script.proofs.reading.lines.next_line.Goals as goal
+use Rattle.rd_script.proofs.reading.lines.Line.read_next.Goals as goal
 
 pub returns-in-Some-eq10-clause-reads : goal.returns-in-Some-eq10-clause-reads
 returns-in-Some-eq10-clause-reads g c = grind (arith, common_steps)

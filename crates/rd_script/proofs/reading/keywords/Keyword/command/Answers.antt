@@ -1,6 +1,6 @@
 use Rattle.std.proofs.Common.{arith}
 use Rattle.rd_script.proofs.NameReadLemmas.{names_refused}
-use Rattle.rd_script.proofs.reading.keywords.command_with_keyword.Goals as goal
+use Rattle.rd_script.proofs.reading.keywords.Keyword.command.Goals as goal
 
 pub returns-in_err-only_name-in-Mark : goal.returns-in_err-only_name-in-Mark
 returns-in_err-only_name-in-Mark c = grind (arith, names_refused)

@@ -1,7 +1,7 @@
 use Rattle.rd_trace.proofs.Prelude.{string_bytes, ap, ◌∙◌, ◌++◌, view, state}
 use Rattle.rd_trace.proofs.TextLemmas.{last_appended}
 use Rattle.rd_trace.proofs.WriteLemmas.{start_appended}
-use Rattle.rd_trace.proofs.saved.put_start.Goals as goal
+use Rattle.rd_trace.proofs.starts.put_start.Goals as goal
 
 pub returns : goal.returns
 returns g c =

@@ -1,6 +1,6 @@
 use Rattle.rd_script.proofs.Prelude.{◌≡◌, ◌≢◌, ℕ, ◌<◌, Bool, List, [], ◌∷◌, arith, decimal, Command, yes_or_no, keyword_of, arguments_of, argument_words, IsInRange}
 use Rattle.rd_script.specs.declared.reading.keywords.Keyword.TheVariants as keyword
-use Rattle.rd_script.proofs.reading.keywords.command_without_name.Goals as goal
+use Rattle.rd_script.proofs.reading.keywords.Keyword.command_without_name.Goals as goal
 
 -- words that are no actor and its choice are those of no command of this keyword
 no_starve : (words : List (List ℕ)) → ((actor : ℕ) (choice : Bool) → actor < 256 → words ≢ decimal actor ∷ yes_or_no choice ∷ [])
