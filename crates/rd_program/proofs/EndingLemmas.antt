@@ -3,7 +3,7 @@ use Rattle.std.proofs.Common.{◌≡◌, ◌∙◌, true, false, ℕ, List, ◌+
 use Rattle.std.specs.Prelude.{OnOk, OnErr}
 use Rattle.std.specs.Io.KnownBytes.{Appends}
 use Rattle.std.proofs.KnownBytes.{Appends-trans}
-use Rattle.rd_script.specs.declared.devices.sinks.WriteFault.{WriteFault}
+use Rattle.rd_script.specs.declared.faults.ScriptFault.{ScriptFault}
 use Rattle.rd_script.specs.Device.{TakesBeginning}
 use Rattle.rd_script.specs.Streams.{Stream}
 use Rattle.rd_program.specs.Endings.{TakesUnlessFailed}
@@ -18,7 +18,7 @@ takes_front s front back fails took = rw fails (record {
 
 -- a stream that took the first part of a text, and then the second or, if it failed, a beginning of
 -- the second, took the text as `TakesUnlessFailed` says
-pub takes_both : (s : Stream) (mid : Option (List ℕ)) (front back : List ℕ) (r : Result (Unit {0}) WriteFault) → Appends s.before mid front
+pub takes_both : (s : Stream) (mid : Option (List ℕ)) (front back : List ℕ) (r : Result (Unit {0}) ScriptFault) → Appends s.before mid front
     → OnOk r (Appends mid s.after back) → OnErr r (TakesBeginning mid s.after back) → OnOk r (s.failed ≡ false) → OnErr r (s.failed ≡ true) → TakesUnlessFailed s (front ++ back)
 takes_both s mid front back (Ok _) first ok err works fails = rw works (Appends-trans s.before mid s.after front back first ok)
 takes_both s mid front back (Err _) first ok err works fails = rw fails (record {

@@ -1,12 +1,12 @@
 //! How the program ends: its exit status, and what it then writes to standard error.
 
-ghost use Rattle.std.specs.Prelude.{◌≡◌, false};
+ghost use Rattle.std.specs.Prelude.{◌≡◌, false, IfErr};
 ghost use Rattle.std.specs.Process.{exit_status};
 ghost use Rattle.rd_script.specs.Streams.{sink_stream};
 ghost use Rattle.rd_program.specs.Endings.{EndsAs, TakesUnlessFailed, error_line};
 
 use super::faults::ProgramFault;
-use rd_script::{AnyRefusal, Sink, Text, WriteFault, set_answer, write_all};
+use rd_script::{AnyRefusal, ScriptFault, Sink, Text, set_answer, write_all};
 use std::process::ExitCode;
 
 /// Writes the line of the fault, if there is one, to standard error, and returns the exit status:
@@ -25,11 +25,13 @@ pub fn show_program_fault<E: Sink>(outcome: &Result<u64, ProgramFault>, errors: 
     }
 }
 
-/// Writes the program's name and the line of a refusal to a stream that has not failed. Fails if
-/// the stream fails; it has then taken a beginning of this text.
-fn write_error_line<K: Sink>(stream: &mut K, refusal: AnyRefusal) -> Result<(), WriteFault>
+/// Writes the program's name and the line of a refusal to a stream that has not failed. Fails with
+/// `Write` if the stream fails; it has then taken a beginning of this text.
+fn write_error_line<K: Sink>(stream: &mut K, refusal: AnyRefusal) -> Result<(), ScriptFault>
     requires { K.has_failed stream.old ≡ false }
-    ensures { TakesUnlessFailed (sink_stream K.Sink stream.old stream.new) (error_line refusal) }
+    ensures line { TakesUnlessFailed (sink_stream K.Sink stream.old stream.new)
+        (error_line refusal) }
+    ensures fault { IfErr result (λ fault. fault ≡ ScriptFault.Write) }
 {
     let mut text = Text::new();
     set_answer(&mut text, &Err(refusal));

@@ -15,17 +15,19 @@ pub use Rattle.rd_marks.specs.declared.commands.Command.{Command}
 pub use Rattle.rd_marks.specs.declared.replies.Reply.{Reply}
 pub use Rattle.rd_script.specs.Answers.{AnswersSaid, AreObeyedLines, commands_of, line_answer, line_answers, report_of}
 pub use Rattle.rd_script.specs.Contents.{segment_name_words}
-pub use Rattle.rd_script.specs.Device.{GivesByte, TakesBeginning}
+pub use Rattle.rd_script.specs.Device.{GivesByte}
 pub use Rattle.rd_script.specs.Grammar.{AreArgumentsInRange, Argument, Byte, Choice, IsArgumentInRange, IsSegmentInRange, Kind, Long, Name, Segment, argument_words, arguments_of, keyword_of, keyword_text, kind_of, kind_text, names_after, place_arguments, word_of}
-pub use Rattle.rd_script.specs.Lines.{Holds, IsOneLine, ParsedLine, ReadsLast, ReadsPart, ended_lines_of, lines_of}
+pub use Rattle.rd_script.specs.Lines.{Holds, IsOneLine, ParsedLine, ReadsLast, ReadsNext, ended_lines_of, lines_of}
 pub use Rattle.rd_script.specs.Reading.{IsFaultOfNames, ReadsCommand}
 pub use Rattle.rd_script.specs.Replies.{LineAnswer, answer_text}
-pub use Rattle.rd_script.specs.Script.{RanToEnd, RunsScript, StoppedAtRead, StoppedAtWrite}
+pub use Rattle.rd_script.specs.Script.{RanToEnd, RunsScript, StoppedAtRead, WritesAnswer}
 pub use Rattle.rd_script.specs.Spelling.{IsSameCommand, IsInRange, IsMisnamed, AreMisnamed, Says, is_word, most_line_bytes, spelling}
 pub use Rattle.rd_script.specs.Streams.{Devices, devices}
 pub use Rattle.rd_script.specs.Texts.{yes_or_no}
 pub use Rattle.rd_script.specs.declared.answers.AnyRefusal.TheVariants.{Unread}
 pub use Rattle.rd_script.specs.declared.faults.LineFault.{LineFault}
+pub use Rattle.rd_script.specs.declared.faults.ScriptFault.{ScriptFault}
+pub use Rattle.rd_script.specs.declared.faults.ScriptFault.TheVariants.{Read, Write}
 pub use Rattle.rd_script.specs.declared.reading.keywords.Keyword.{Keyword}
 pub use Rattle.rd_script.specs.declared.reading.lines.Line.{Line}
 pub use Rattle.rd_script.specs.declared.reading.places.PlaceKind.{PlaceKind}

@@ -1,5 +1,5 @@
 -- A script that runs: the bytes that were given so far, their lines and their report.
-use Rattle.rd_script.proofs.Prelude.{◌≡◌, ◌≢◌, ◌⊎◌, ℕ, suc, map, ◌+◌, ◌-◌, ◌^◌, ◌≤◌, Bool, true, false, List, [], ◌∷◌, ◌++◌, length, Option, refl, sym, ◌∙◌, ap, arith, inl, inr, append_assoc, length-append, Result, Ok, Err, flat_map-append, length-map, session_of, one_more_obeyed, Unread, map-append, book_state, Command, LineFault, ParsedLine, Says, ne_eqb, append-nil, nil_from_length, Consumes, Appends, IsAtEnd, TakesBeginning, onto_first, lines_of, ended_lines_of, IsOneLine, ReadsPart, AnswersSaid, AreObeyedLines, commands_of, line_answer, line_answers, report_of, Devices, Refusal, journal, AreObeyed, Book, Reply, BookState, LineAnswer, answer_text, RanToEnd, StoppedAtRead, StoppedAtWrite, Consumes-nil, Consumes-trans, Appends-nil, Appends-trans}
+use Rattle.rd_script.proofs.Prelude.{◌≡◌, ◌≢◌, ◌⊎◌, ℕ, suc, map, ◌+◌, ◌-◌, ◌^◌, ◌≤◌, Bool, true, false, List, [], ◌∷◌, ◌++◌, length, Option, refl, sym, ◌∙◌, ap, arith, inl, inr, append_assoc, length-append, Result, Ok, Err, flat_map-append, length-map, session_of, one_more_obeyed, Unread, map-append, book_state, Command, LineFault, ParsedLine, Says, ne_eqb, append-nil, nil_from_length, Consumes, Appends, IsAtEnd, onto_first, lines_of, ended_lines_of, IsOneLine, ReadsNext, ScriptFault, Read, Write, AnswersSaid, AreObeyedLines, commands_of, line_answer, line_answers, report_of, Devices, Refusal, journal, AreObeyed, Book, Reply, BookState, LineAnswer, answer_text, Line, RanToEnd, RunsScript, StoppedAtRead, WritesAnswer, Consumes-nil, Consumes-trans, Appends-nil, Appends-trans}
 use Rattle.std.proofs.lemmas.Slice.Zip.{all_zipped_more}
 use Rattle.rd_marks.specs.Headline.{Headline}
 use Rattle.rd_marks.proofs.Headlines.{book_runs}
@@ -159,8 +159,10 @@ module _ {R : ℕ} (before : BookState) (book : Book R) (d : Devices) (n : ℕ) 
     wrote = g.wrote;
   }
 
-  pub stopped_at_read : (in_new : Option (List ℕ)) (in_failed' : Bool) → ReadsPart d.input.after in_new in_failed' → StoppedAtRead before (book_state book) (journal (session_of book)) (now_at in_new in_failed' d.output.after d.output.failed)
-  stopped_at_read in_new in_failed' part =
+  pub stopped_at_read : (in_new : Option (List ℕ)) (in_failed' : Bool) (line : Line) (fault : ScriptFault) → ReadsNext d.input.after in_new in_failed' line (Err fault)
+      → RunsScript before (book_state book) (journal (session_of book)) (now_at in_new in_failed' d.output.after d.output.failed) (Err fault)
+  stopped_at_read in_new in_failed' line Write none = absurd none
+  stopped_at_read in_new in_failed' line Read part =
       stopped_in_line in_new in_failed' part.text part.is_one part.took (elim part.cause [ inl failed ↦ inl failed | inr many ↦ inr (omega (arith, many, length-append g.given part.text)) ])
 
   -- 2^64 - 1 lines were read without an end, so the run stopped
@@ -209,10 +211,11 @@ module _ {R : ℕ} (before : BookState) (book : Book R) (d : Devices) (n : ℕ) 
 
     -- the sink failed at the answer to the line, so the run stopped. A line feed ended the line, or
     -- the end of the source
-    pub stopped_at_write : (ending : List ℕ) (in_new out_new : Option (List ℕ)) (in_failed' out_failed' : Bool) → Consumes d.input.after in_new (line ++ ending) → lines_of (g.given ++ (line ++ ending)) ≡ lines_of g.given ++ line ∷ []
-        → (ended_lines_of (g.given ++ (line ++ ending)) ≡ lines_of (g.given ++ (line ++ ending))) ⊎ IsAtEnd in_new → TakesBeginning d.output.after out_new (answer_text answer) → in_failed' ≡ false → out_failed' ≡ true
-        → StoppedAtWrite before (book_state after) (journal (session_of after)) (now_at in_new in_failed' out_new out_failed')
-    stopped_at_write ending in_new out_new in_failed' out_failed' took all whole wrote in_works fails = record {
+    pub stopped_at_write : (fault : ScriptFault) (ending : List ℕ) (in_new out_new : Option (List ℕ)) (in_failed' out_failed' : Bool) → Consumes d.input.after in_new (line ++ ending) → lines_of (g.given ++ (line ++ ending)) ≡ lines_of g.given ++ line ∷ []
+        → (ended_lines_of (g.given ++ (line ++ ending)) ≡ lines_of (g.given ++ (line ++ ending))) ⊎ IsAtEnd in_new → WritesAnswer d.output.after out_new answer (Err fault) → in_failed' ≡ false → out_failed' ≡ true
+        → RunsScript before (book_state after) (journal (session_of after)) (now_at in_new in_failed' out_new out_failed') (Err fault)
+    stopped_at_write Read ending in_new out_new in_failed' out_failed' took all whole none in_works fails = absurd none
+    stopped_at_write Write ending in_new out_new in_failed' out_failed' took all whole wrote in_works fails = record {
       in_works = in_works;
       out_failed = fails;
       given = g.given ++ (line ++ ending);

@@ -4,10 +4,11 @@ use Rattle.std.specs.List.{AllByRecursion, onto_first}
 use Rattle.std.specs.Io.KnownBytes.{Consumes, IsAtEnd}
 use Rattle.rd_marks.specs.declared.commands.Command.{Command}
 use Rattle.rd_script.specs.declared.faults.LineFault.{LineFault}
+use Rattle.rd_script.specs.declared.faults.ScriptFault.{ScriptFault}
+use Rattle.rd_script.specs.declared.faults.ScriptFault.TheVariants.{Read, Write}
 use Rattle.rd_script.specs.declared.reading.lines.Line.{Line}
 use Rattle.rd_script.specs.declared.reading.lines.Reading.{Reading}
 use Rattle.rd_script.specs.declared.reading.lines.Reading.TheVariants.{Ended, Last, End}
-use Rattle.rd_script.specs.declared.devices.sources.ReadFault.{ReadFault}
 use Rattle.rd_script.specs.Spelling.{most_line_bytes}
 
 -- what a line spells: a command, or the line's fault
@@ -64,9 +65,10 @@ pub record ReadsPart (old new : Option (List ℕ)) (failed : Bool) : Type 0 wher
   pub cause : (failed ≡ true) ⊎ (2 ^ 64 ≤ length text + 1)
 
 -- what the reading of the next line did, by its result: `Ended` by a line feed, the `Last` line
--- without one, the `End` of the text, or a fault
-abbrev pub ReadsNext : Option (List ℕ) → Option (List ℕ) → Bool → Line → Result Reading ReadFault → Type 0
+-- without one, the `End` of the text, or the fault of a source
+abbrev pub ReadsNext : Option (List ℕ) → Option (List ℕ) → Bool → Line → Result Reading ScriptFault → Type 0
 ReadsNext old new failed line (Ok Ended) = ReadsLine old new line (10 ∷ [])
 ReadsNext old new failed line (Ok Last) = ReadsLast old new line
 ReadsNext old new failed line (Ok End) = Consumes old new [] × IsAtEnd new
-ReadsNext old new failed line (Err _) = ReadsPart old new failed
+ReadsNext old new failed line (Err Read) = ReadsPart old new failed
+ReadsNext old new failed line (Err Write) = ⊥

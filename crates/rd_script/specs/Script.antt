@@ -4,7 +4,6 @@ use Rattle.std.specs.Prelude.{◌≡◌, ℕ, ◌+◌, ◌^◌, ◌≤◌, ◌�
 use Rattle.std.specs.Io.KnownBytes.{Consumes, Appends, IsAtEnd}
 use Rattle.rd_journal.specs.Journal.{Journal}
 use Rattle.rd_marks.specs.BookState.{BookState}
-use Rattle.rd_script.specs.declared.devices.sinks.WriteFault.{WriteFault}
 use Rattle.rd_script.specs.declared.faults.ScriptFault.{ScriptFault}
 use Rattle.rd_script.specs.declared.faults.ScriptFault.TheVariants.{Read, Write}
 use Rattle.rd_script.specs.Device.{TakesBeginning}
@@ -14,9 +13,10 @@ use Rattle.rd_script.specs.Answers.{AreObeyedLines, report_of}
 use Rattle.rd_script.specs.Replies.{LineAnswer, answer_text}
 
 -- the line of an answer was written, or a beginning of it if the sink failed
-abbrev pub WritesAnswer : Option (List ℕ) → Option (List ℕ) → LineAnswer → Result (Unit {0}) WriteFault → Type 0
+abbrev pub WritesAnswer : Option (List ℕ) → Option (List ℕ) → LineAnswer → Result (Unit {0}) ScriptFault → Type 0
 WritesAnswer old new answer (Ok _) = Appends old new (answer_text answer)
-WritesAnswer old new answer (Err _) = TakesBeginning old new (answer_text answer)
+WritesAnswer old new answer (Err Write) = TakesBeginning old new (answer_text answer)
+WritesAnswer old new answer (Err Read) = ⊥
 
 -- the run came to the end. The source gave `given`, which has n lines, and is at its end. The book
 -- did all lines, their report was written, and neither device has failed

@@ -3,7 +3,8 @@
 //! A source gives one byte or the end, and a sink takes one or more bytes of a slice. Each has, for
 //! contracts alone, its bytes, if they are known, and whether it has failed. One that has failed
 //! must not be called again. A call that a signal interrupts is made again and is no fault, for a
-//! reader as for a writer; any other error is one.
+//! reader as for a writer, unless 2^64 - 1 interruptions come one after another. Any other error is
+//! a fault.
 
 mod portions;
 pub mod sinks;

@@ -1,10 +1,5 @@
 //! What a script meets besides refusals: lines that spell no command, and devices that fail.
 
-ghost use Rattle.std.specs.Prelude.{◌≡◌};
-
-use super::devices::sinks::WriteFault;
-use super::devices::sources::ReadFault;
-
 /// Why a line spells no command.
 #[derive(Clone, Copy, Debug, PartialEq, Eq)]
 pub enum LineFault {
@@ -16,33 +11,11 @@ pub enum LineFault {
     BadName,
 }
 
-/// Why a run over a script stopped.
+/// Why a run over a script stopped. A source fails only with `Read`, and a sink only with `Write`.
 #[derive(Clone, Copy, Debug, PartialEq, Eq)]
 pub enum ScriptFault {
     /// 24: the script could not be read.
     Read,
     /// 25: an answer could not be written.
     Write,
-}
-
-impl From<ReadFault> for ScriptFault {
-    ghost use Rattle.rd_script.specs.declared.faults.ScriptFault.TheVariants.{Read};
-
-    ghost from_gives = { λ _ fault. fault ≡ Read };
-
-    /// Returns `Read`, the fault for a source that failed.
-    fn from(_fault: ReadFault) -> ScriptFault {
-        ScriptFault::Read
-    }
-}
-
-impl From<WriteFault> for ScriptFault {
-    ghost use Rattle.rd_script.specs.declared.faults.ScriptFault.TheVariants.{Write};
-
-    ghost from_gives = { λ _ fault. fault ≡ Write };
-
-    /// Returns `Write`, the fault for a sink that failed.
-    fn from(_fault: WriteFault) -> ScriptFault {
-        ScriptFault::Write
-    }
 }

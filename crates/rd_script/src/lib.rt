@@ -20,8 +20,8 @@ mod writing;
 
 pub use answers::{AnyRefusal, LineAnswer};
 pub use any_book::AnyBook;
-pub use devices::sinks::{Sink, WriteFault, WriteSink, write_all};
-pub use devices::sources::{ReadFault, ReadSource, Source};
+pub use devices::sinks::{Sink, WriteSink, write_all};
+pub use devices::sources::{ReadSource, Source};
 pub use faults::{LineFault, ScriptFault};
 pub use reading::commands::command_in;
 pub use reading::keywords::FORMS;

@@ -17,7 +17,7 @@ ghost use Rattle.rd_script.specs.Answers.{AnswersSaid, line_answer};
 ghost use Rattle.rd_script.specs.Script.{WritesAnswer, RunsScript};
 
 use super::answers::AnyRefusal;
-use super::devices::sinks::{Sink, WriteFault, write_all};
+use super::devices::sinks::{Sink, write_all};
 use super::devices::sources::Source;
 use super::faults::ScriptFault;
 use super::reading::lines::{Line, Reading};
@@ -66,15 +66,15 @@ pub fn run<S: Source, K: Sink, const R: usize>(
     Err(ScriptFault::Read)
 }
 
-/// Obeys a line and writes its answer, whose line is made in the buffer `text`. Fails if the writer
-/// fails or takes nothing; the line was then obeyed, and the writer has taken a beginning of the
-/// answer's line. The writer must not have failed before.
+/// Obeys a line and writes its answer, whose line is made in the buffer `text`. Fails with `Write`
+/// if the writer fails or takes nothing; the line was then obeyed, and the writer has taken a
+/// beginning of the answer's line. The writer must not have failed before.
 fn do_line<K: Sink, const R: usize>(
     book: &mut Book<R>,
     line: &Line,
     text: &mut Text,
     writer: &mut K,
-) -> Result<(), WriteFault>
+) -> Result<(), ScriptFault>
     requires { K.has_failed writer.old ≡ false }
     ensures does { (text : List ℕ) → Holds line.now text
         → (said : Result SomeCommand LineFault) × (answer : SomeAnswer) × Says text said

@@ -1,5 +1,6 @@
-//! The lines of answers. Each function appends words to a text of fixed capacity, and its contract
-//! states which words they are and how many bytes they have at most.
+//! The lines of answers. The contract of a function that appends words to a text of fixed capacity
+//! (`put_..`) states which words they are, and mostly how many bytes they have at most. A function
+//! that replaces the text (`set_..`) always has room.
 
 mod actors;
 mod contents;

@@ -1,10 +1,9 @@
 //! Why a view was not written whole.
 
 ghost use Rattle.std.specs.Prelude.{◌≡◌};
-ghost use Rattle.rd_view.specs.declared.faults.ViewFault.TheVariants.{NoMemory, Write};
+ghost use Rattle.rd_view.specs.declared.faults.ViewFault.TheVariants.{NoMemory};
 
 use rd_desk::Busy;
-use rd_script::WriteFault;
 use std::alloc::AllocError;
 
 /// Why a view was not written whole.
@@ -25,14 +24,5 @@ impl From<AllocError> for ViewFault {
     /// Returns `NoMemory`, the fault for refused memory.
     fn from(_: AllocError) -> ViewFault {
         ViewFault::NoMemory
-    }
-}
-
-impl From<WriteFault> for ViewFault {
-    ghost from_gives = { λ error fault. fault ≡ Write };
-
-    /// Returns `Write`, the fault for a sink that failed.
-    fn from(_: WriteFault) -> ViewFault {
-        ViewFault::Write
     }
 }

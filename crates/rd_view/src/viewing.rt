@@ -50,8 +50,10 @@ pub fn view_scripts<R: Threads + Wait + Sync, K: Sink, const N: usize>(
     let said = parse_scripts(alloc, scripts)?;
     let (answered, history) = run_over_desk(rt, alloc, said.as_slice(), book)?;
     let text = text_of_view(alloc, said.as_slice(), answered.as_slice(), history.len())?;
-    write_all(writer, text.as_slice())?;
-    Ok(history)
+    match write_all(writer, text.as_slice()) {
+        Ok(()) => Ok(history),
+        Err(_) => Err(ViewFault::Write),
+    }
 }
 
 /// Returns for each script what its lines spell, commands and faults, in order. Fails only if

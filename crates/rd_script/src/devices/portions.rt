@@ -6,7 +6,7 @@ ghost use Rattle.std.specs.Io.KnownBytes.{Keeps, Consumes, IsAtEnd};
 ghost use Rattle.rd_script.specs.Device.{GivesByte};
 ghost use Rattle.rd_script.specs.declared.devices.portions.TheConstants.{MOST_PORTION_BYTES};
 
-use super::sources::ReadFault;
+use crate::faults::ScriptFault;
 use std::io::{self, ErrorKind, Read};
 
 /// How many bytes a reader is asked for at once.
@@ -59,13 +59,14 @@ impl Portion {
     }
 
     /// Replaces the portion's bytes by the next ones of the reader, none only at the reader's end.
-    /// Fails if the reader fails; the portion then has no byte.
-    pub fn fill<R: Read>(&mut self, reader: &mut R) -> Result<(), ReadFault>
+    /// Fails with `Read` if the reader fails; the portion then has no byte.
+    pub fn fill<R: Read>(&mut self, reader: &mut R) -> Result<(), ScriptFault>
         ensures ok { OnOk result (Consumes (R.remaining reader.old) (R.remaining reader.new)
             (pending_bytes self.new)) }
         ensures end { OnOk result (pending_bytes self.new ≡ [] → IsAtEnd (R.remaining reader.new)) }
         ensures err { OnErr result (Keeps (R.remaining reader.old) (R.remaining reader.new)) }
         ensures none { OnErr result (pending_bytes self.new ≡ []) }
+        ensures fault { IfErr result (λ fault. fault ≡ ScriptFault.Read) }
     {
         self.given = 0;
         self.filled = 0;
@@ -74,14 +75,15 @@ impl Portion {
                 self.filled = count;
                 Ok(())
             }
-            Err(_) => Err(ReadFault),
+            Err(_) => Err(ScriptFault::Read),
         }
     }
 }
 
 /// Reads the next bytes of a reader into a slice, which must not be empty, and returns how many
 /// they are: none only at the reader's end. Fails if the reader fails, and has then read nothing. A
-/// read that a signal interrupts is made again, up to 2^64 - 1 times, and is no fault.
+/// read that a signal interrupts is made again, and is no fault; after 2^64 - 1 interruptions the
+/// call fails, though the reader did not.
 fn read_some<R: Read>(reader: &mut R, bytes: &mut [u8]) -> io::Result<usize>
     requires room { 0 < length bytes.old }
     ensures len { length bytes.new ≡ length bytes.old }

@@ -5,11 +5,8 @@ ghost use Rattle.std.specs.IoError.{error_kind};
 ghost use Rattle.std.specs.Io.KnownBytes.{Keeps, Appends};
 ghost use Rattle.rd_script.specs.Device.{TakesBeginning};
 
+use crate::faults::ScriptFault;
 use std::io::{self, ErrorKind, Write};
-
-/// A sink failed, or took nothing.
-#[derive(Clone, Copy, Debug, PartialEq, Eq)]
-pub struct WriteFault;
 
 /// Takes bytes, one or more of a slice at a time.
 pub trait Sink {
@@ -20,25 +17,27 @@ pub trait Sink {
     ghost has_failed: { Self → Bool };
 
     /// Takes the first bytes of a slice, which must not be empty, and returns how many: at least
-    /// one. Fails if it can take none, and must not be called again after that.
-    fn take_some(&mut self, given: &[u8]) -> Result<usize, WriteFault>
+    /// one. Fails with `Write` if it can take none, and must not be called again after that.
+    fn take_some(&mut self, given: &[u8]) -> Result<usize, ScriptFault>
         requires working { has_failed self.old ≡ false }
         requires some { 0 < length given.now }
         ensures count { IfOk result (λ n. (0 < n) × (n ≤ length given.now)) }
         ensures takes { IfOk result (λ n. Appends (contents self.old) (contents self.new)
             (take n given.now)) }
         ensures keeps { OnErr result (Keeps (contents self.old) (contents self.new)) }
+        ensures fault { IfErr result (λ fault. fault ≡ ScriptFault.Write) }
         ensures works { OnOk result (has_failed self.new ≡ false) }
         ensures fails { OnErr result (has_failed self.new ≡ true) };
 }
 
 /// Writes the whole of a text to a sink that has not failed, in as few calls as the sink needs.
-/// Fails if the sink fails; it has then taken a beginning of the text.
-pub fn write_all<K: Sink>(writer: &mut K, text: &[u8]) -> Result<(), WriteFault>
+/// Fails with `Write` if the sink fails; it has then taken a beginning of the text.
+pub fn write_all<K: Sink>(writer: &mut K, text: &[u8]) -> Result<(), ScriptFault>
     requires { K.has_failed writer.old ≡ false }
     ensures ok { OnOk result (Appends (K.contents writer.old) (K.contents writer.new) text.now) }
     ensures err { OnErr result (TakesBeginning (K.contents writer.old)
         (K.contents writer.new) text.now) }
+    ensures fault { IfErr result (λ fault. fault ≡ ScriptFault.Write) }
     ensures works { OnOk result (K.has_failed writer.new ≡ false) }
     ensures fails { OnErr result (K.has_failed writer.new ≡ true) }
 {
@@ -76,21 +75,22 @@ impl<W: Write> Sink for WriteSink<W> {
 
     ghost has_failed = { λ s. s.failed };
 
-    /// Writes the first bytes of a slice to the writer, and returns how many. Fails if the writer
-    /// fails or takes none.
-    fn take_some(&mut self, given: &[u8]) -> Result<usize, WriteFault> {
+    /// Writes the first bytes of a slice to the writer, and returns how many. Fails with `Write` if
+    /// the writer fails or takes none.
+    fn take_some(&mut self, given: &[u8]) -> Result<usize, ScriptFault> {
         let taken = write_some(&mut self.inner, given);
         self.failed = taken.is_err();
         match taken {
             Ok(count) => Ok(count),
-            Err(_) => Err(WriteFault),
+            Err(_) => Err(ScriptFault::Write),
         }
     }
 }
 
 /// Offers the writer some bytes, at least one, and returns how many of the first ones it took.
 /// Fails if the writer fails or takes none; it has then taken nothing. A write that a signal
-/// interrupts is made again, up to 2^64 - 1 times, and is no fault.
+/// interrupts is made again, and is no fault; after 2^64 - 1 interruptions the call fails, though
+/// the writer did not.
 fn write_some<W: Write>(writer: &mut W, given: &[u8]) -> io::Result<usize>
     requires some { 0 < length given.now }
     ensures count { IfOk result (λ n. (0 < n) × (n ≤ length given.now)) }

@@ -1,16 +1,13 @@
 //! Sources: what gives a script's bytes.
 
-ghost use Rattle.std.specs.Prelude.{◌≡◌, ℕ, Bool, true, false, List, Option, IfOk, OnOk, OnErr};
+ghost use Rattle.std.specs.Prelude.{◌≡◌, ℕ, Bool, true, false, List, Option, IfOk, IfErr, OnOk, OnErr};
 ghost use Rattle.std.specs.Io.KnownBytes.{Keeps, prepend_known};
 ghost use Rattle.rd_script.specs.Device.{GivesByte};
 ghost use Rattle.rd_script.specs.Portions.{pending_bytes};
 
 use super::portions::Portion;
+use crate::faults::ScriptFault;
 use std::io::Read;
-
-/// A source failed.
-#[derive(Clone, Copy, Debug, PartialEq, Eq)]
-pub struct ReadFault;
 
 /// Gives bytes, one at a time.
 pub trait Source {
@@ -20,12 +17,13 @@ pub trait Source {
     // Whether a call failed.
     ghost has_failed: { Self → Bool };
 
-    /// Gives the next byte, or none at the end. Fails if the source fails, and must not be called
-    /// again after that.
-    fn next_byte(&mut self) -> Result<Option<u8>, ReadFault>
+    /// Gives the next byte, or none at the end. Fails with `Read` if the source fails, and must not
+    /// be called again after that.
+    fn next_byte(&mut self) -> Result<Option<u8>, ScriptFault>
         requires { has_failed self.old ≡ false }
         ensures gives { IfOk result (GivesByte (bytes self.old) (bytes self.new)) }
         ensures keeps { OnErr result (Keeps (bytes self.old) (bytes self.new)) }
+        ensures fault { IfErr result (λ fault. fault ≡ ScriptFault.Read) }
         ensures works { OnOk result (has_failed self.new ≡ false) }
         ensures fails { OnErr result (has_failed self.new ≡ true) };
 }
@@ -61,8 +59,8 @@ impl<R: Read> Source for ReadSource<R> {
     ghost has_failed = { λ s. s.failed };
 
     /// Gives the reader's next byte, or none at its end. Reads from the reader only if no byte is
-    /// left of the portion. Fails if the reader fails.
-    fn next_byte(&mut self) -> Result<Option<u8>, ReadFault> {
+    /// left of the portion. Fails with `Read` if the reader fails.
+    fn next_byte(&mut self) -> Result<Option<u8>, ScriptFault> {
         if self.portion.is_empty() {
             let filled = self.portion.fill(&mut self.inner);
             self.failed = filled.is_err();

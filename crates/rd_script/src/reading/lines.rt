@@ -8,8 +8,8 @@ ghost use Rattle.rd_script.specs.Spelling.{Says};
 ghost use Rattle.rd_script.specs.Lines.{ReadsNext, Holds};
 
 use super::commands::{MOST_LINE_BYTES, command_in};
-use crate::devices::sources::{ReadFault, Source};
-use crate::faults::LineFault;
+use crate::devices::sources::Source;
+use crate::faults::{LineFault, ScriptFault};
 use arrayvec::ArrayVec;
 use rd_marks::Command;
 
@@ -44,13 +44,13 @@ impl Line {
         }
     }
 
-    /// Replaces the line in the buffer by the next one of the source, and returns how that ended. The
-    /// buffer is empty if there is no line. The source must not have failed before.
+    /// Replaces the line by the next one of the source, and returns how that ended. The line is
+    /// empty if there is no next one. The source must not have failed before.
     ///
     /// # Errors
     ///
-    /// `ReadFault` if the source failed, or gave 2^64 - 1 bytes without a line feed or the end.
-    pub fn read_next<S: Source>(&mut self, reader: &mut S) -> Result<Reading, ReadFault>
+    /// `Read` if the source failed, or gave 2^64 - 1 bytes without a line feed or the end.
+    pub fn read_next<S: Source>(&mut self, reader: &mut S) -> Result<Reading, ScriptFault>
         requires { S.has_failed reader.old ≡ false }
         ensures reads { ReadsNext (S.bytes reader.old) (S.bytes reader.new)
             (S.has_failed reader.new) self.new result }
@@ -65,7 +65,7 @@ impl Line {
                 Some(byte) => self.push(byte),
             }
         }
-        Err(ReadFault)
+        Err(ScriptFault::Read)
     }
 
     /// Makes the line empty.

@@ -4,7 +4,7 @@
 //! is a function for each part of an answer, because copying a whole `LineAnswer` or `Reply`, which
 //! has room for a step's entry, takes time.
 
-ghost use Rattle.std.specs.Prelude.{◌≡◌, [], ◌∷◌, Ok, Err, OnOk, OnErr, false, true};
+ghost use Rattle.std.specs.Prelude.{◌≡◌, [], ◌∷◌, Ok, Err, IfErr, OnOk, OnErr, false, true};
 ghost use Rattle.std.specs.Io.KnownBytes.{Appends};
 ghost use Rattle.rd_marks.specs.Events.{as_reply};
 ghost use Rattle.rd_script.specs.Device.{TakesBeginning};
@@ -15,7 +15,8 @@ use super::refusals::put_any_refusal;
 use super::replies::{put_event_reply, put_reply};
 use super::texts::{Text, put};
 use crate::answers::{AnyRefusal, LineAnswer};
-use crate::devices::sinks::{Sink, WriteFault, write_all};
+use crate::devices::sinks::{Sink, write_all};
+use crate::faults::ScriptFault;
 use rd_marks::{EventReply, Reply};
 
 /// Replaces the text by the line of an answer, with its line feed.
@@ -33,13 +34,14 @@ pub fn set_answer(text: &mut Text, answer: &LineAnswer)
 ///
 /// # Errors
 ///
-/// `WriteFault` if the writer failed or took nothing; it has then taken a beginning of the line.
-pub fn write_answer<K: Sink>(writer: &mut K, answer: &LineAnswer) -> Result<(), WriteFault>
+/// `Write` if the writer failed or took nothing; it has then taken a beginning of the line.
+pub fn write_answer<K: Sink>(writer: &mut K, answer: &LineAnswer) -> Result<(), ScriptFault>
     requires { K.has_failed writer.old ≡ false }
     ensures ok { OnOk result (Appends (K.contents writer.old) (K.contents writer.new)
         (answer_text answer.now)) }
     ensures err { OnErr result (TakesBeginning (K.contents writer.old) (K.contents writer.new)
         (answer_text answer.now)) }
+    ensures fault { IfErr result (λ fault. fault ≡ ScriptFault.Write) }
     ensures works { OnOk result (K.has_failed writer.new ≡ false) }
     ensures fails { OnErr result (K.has_failed writer.new ≡ true) }
 {

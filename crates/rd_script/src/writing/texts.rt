@@ -10,8 +10,7 @@ pub const MOST_TEXT_BYTES: usize = 512;
 /// A text of up to 512 bytes.
 pub type Text = ArrayVec<u8, MOST_TEXT_BYTES>;
 
-/// Appends words to the text. There must be room for all of them; otherwise the text stays as it
-/// is.
+/// Appends words to the text if there is room for all of them; if not, the text stays as it is.
 pub fn put(text: &mut Text, words: &[u8])
     ensures { Puts text.old.items text.new.items words.now }
 {

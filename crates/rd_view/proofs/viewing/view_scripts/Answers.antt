@@ -1,6 +1,5 @@
 use Rattle.rd_view.proofs.Prelude.{◌≡◌, ◌∙◌, arith, refl, sym, subst, ap, length, AllZip-long, IsViewed, ViewOf, ViewsScripts, book_state, entries, view_text, viewers_text}
 use Rattle.rd_script.proofs.ResultLemmas.{passed_up}
-use Rattle.rd_view.specs.declared.faults.ViewFault.TheVariants as fault
 use Rattle.rd_view.proofs.ViewEnds.{AreAnswered-long, ViewsScripts-unwritten}
 use Rattle.rd_view.proofs.viewing.view_scripts.Given.{Over}
 use Rattle.rd_view.proofs.viewing.view_scripts.Goals.{After-as_slice-4}
@@ -33,11 +32,8 @@ handed g c = (
   c.as_slice-4.ensures.value ∙ (c.in_ok-text.ensures ∙ (λ i. viewers_text 1 (c.as_slice-2.ensures.value i) (c.as_slice-3.ensures.value i) (c.len.ensures i))),
 )
 
-pub returns-in_err-write_all : goal.returns-in_err-write_all
-returns-in_err-write_all g c =
-    let is = handed g (goal.at.returns-in_err-write_all g c).After-as_slice-4 in record {
-      views = passed_up (ViewsScripts _ _ _) fault.Write c.from_residual-in_err-write_all.result c.from_residual-in_err-write_all.ensures.1 (entries c.in_ok-answered.history, is.0, rw is.1 at c.in_err-write_all.ensures.err, c.in_err-write_all.ensures.fails);
-    }
-
 pub returns : goal.returns
-returns g c = let is = handed g (goal.at.returns g c).After-as_slice-4 in record { views = (is.0, rw is.1 at c.in_ok-write_all.ensures.ok, c.in_ok-write_all.ensures.works) }
+returns g c = let is = handed g (goal.at.returns g c).After-as_slice-4 in record { views = (entries c.in_ok-answered.history, is.0, rw is.1 at c.in-Err.ensures.err, c.in-Err.ensures.fails) }
+
+pub returns-in-Ok : goal.returns-in-Ok
+returns-in-Ok g c = let is = handed g (goal.at.returns-in-Ok g c).After-as_slice-4 in record { views = (is.0, rw is.1 at c.in-Ok.ensures.ok, c.in-Ok.ensures.works) }
