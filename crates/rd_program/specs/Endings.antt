@@ -8,27 +8,21 @@ use Rattle.rd_script.specs.declared.faults.ScriptFault.TheVariants as script
 use Rattle.rd_script.specs.Device.{TakesBeginning}
 use Rattle.rd_script.specs.Streams.{GetsNothing, Stream}
 use Rattle.rd_script.specs.Replies.{answer_text}
-use Rattle.rd_trace.specs.declared.faults.LoadTraceFault.{LoadTraceFault}
-use Rattle.rd_trace.specs.declared.faults.LoadTraceFault.TheVariants as load
-use Rattle.rd_trace.specs.declared.faults.WriteTraceFault.{WriteTraceFault}
-use Rattle.rd_trace.specs.declared.faults.WriteTraceFault.TheVariants as trace
+use Rattle.rd_trace.specs.declared.faults.TraceFault.{TraceFault}
+use Rattle.rd_trace.specs.declared.faults.TraceFault.TheVariants as trace
 use Rattle.rd_view.specs.declared.faults.ViewFault.{ViewFault}
 use Rattle.rd_view.specs.declared.faults.ViewFault.TheVariants as view
 use Rattle.rd_program.specs.declared.faults.ProgramFault.{ProgramFault}
-use Rattle.rd_program.specs.declared.faults.ProgramFault.TheVariants.{NoMemory, Read, Script, Load, Trace, View}
+use Rattle.rd_program.specs.declared.faults.ProgramFault.TheVariants.{NoMemory, Read, Script, Trace, View}
 
--- the refusal that the program shows for a trace that was not loaded
-abbrev pub load_refusal : LoadTraceFault → AnyRefusal
-load_refusal load.NoMemory = refused.Refused refusal.NoMemory
-load_refusal load.BadTrace = refused.BadTrace
-load_refusal (load.Flawed flaw) = refused.Flawed flaw
-load_refusal (load.TraceMark mark step cause) = refused.TraceMark mark step cause
-load_refusal (load.TraceStep step cause) = refused.TraceStep step cause
-
--- the refusal that the program shows for a trace that was not written whole
-abbrev pub write_trace_refusal : WriteTraceFault → AnyRefusal
-write_trace_refusal trace.NoMemory = refused.Refused refusal.NoMemory
-write_trace_refusal trace.Write = refused.Stopped script.Write
+-- the refusal that the program shows for a trace that was not loaded, or not written whole
+abbrev pub trace_refusal : TraceFault → AnyRefusal
+trace_refusal trace.NoMemory = refused.Refused refusal.NoMemory
+trace_refusal trace.Write = refused.Stopped script.Write
+trace_refusal (trace.Flawed flaw) = refused.Flawed flaw
+trace_refusal trace.BadTrace = refused.BadTrace
+trace_refusal (trace.TraceStep step cause) = refused.TraceStep step cause
+trace_refusal (trace.TraceMark mark step cause) = refused.TraceMark mark step cause
 
 -- the refusal that the program shows for a view that was not written whole
 abbrev pub view_refusal : ViewFault → AnyRefusal
@@ -41,8 +35,7 @@ abbrev pub refusal_of : ProgramFault → AnyRefusal
 refusal_of NoMemory = refused.Refused refusal.NoMemory
 refusal_of Read = refused.Stopped script.Read
 refusal_of (Script fault) = refused.Stopped fault
-refusal_of (Load fault) = load_refusal fault
-refusal_of (Trace fault) = write_trace_refusal fault
+refusal_of (Trace fault) = trace_refusal fault
 refusal_of (View fault) = view_refusal fault
 
 -- the line on standard error for a refusal: the program's name, and then the refusal

@@ -5,14 +5,13 @@ use Rattle.rd_journal.specs.Journal.{Journal}
 use Rattle.rd_marks.specs.BookState.{BookState}
 use Rattle.rd_script.specs.Streams.{Devices, GetsNothing, IsUnused, Stream}
 use Rattle.rd_script.specs.Script.{RanToEnd, RunsScript}
-use Rattle.rd_trace.specs.declared.faults.LoadTraceFault.{LoadTraceFault}
-use Rattle.rd_trace.specs.declared.faults.WriteTraceFault.{WriteTraceFault}
+use Rattle.rd_trace.specs.declared.faults.TraceFault.{TraceFault}
 use Rattle.rd_script.specs.declared.any_book.AnyBook.{AnyBook}
 use Rattle.rd_trace.specs.Writing.{WritesTrace}
 use Rattle.rd_script.specs.AnyBook.{any_state}
 use Rattle.rd_trace.specs.Loading.{LoadsTrace}
 use Rattle.rd_program.specs.declared.faults.ProgramFault.{ProgramFault}
-use Rattle.rd_program.specs.declared.faults.ProgramFault.TheVariants.{NoMemory, Read, Script, Load, Trace}
+use Rattle.rd_program.specs.declared.faults.ProgramFault.TheVariants.{NoMemory, Read, Script, Trace}
 
 -- the fault of a file that was not read whole: `NoMemory` if memory was refused, or `Read` if the
 -- file could not be opened or its reader failed
@@ -25,13 +24,13 @@ AreUnused d = IsUnused d.input × IsUnused d.output
 
 -- if the trace of a book in this state was asked for, it was written as `WritesTrace` says for the
 -- result; else the result is `Ok`, and the output got nothing
-abbrev pub WritesTraceIfAsked : Bool → BookState → Stream → Result (Unit {0}) WriteTraceFault → Type 0
+abbrev pub WritesTraceIfAsked : Bool → BookState → Stream → Result (Unit {0}) TraceFault → Type 0
 WritesTraceIfAsked true b output result = WritesTrace b output result
 WritesTraceIfAsked false b output result = (result ≡ Ok tt) × GetsNothing false output
 
 -- a script of n lines ran to its end over a book in this state, and its report was written; then,
 -- if the trace was asked for, writing it had the result `written`
-pub record RanToTrace (before : BookState) (traced : Bool) (d : Devices) (n : ℕ) (written : Result (Unit {0}) WriteTraceFault) : Type 0 where
+pub record RanToTrace (before : BookState) (traced : Bool) (d : Devices) (n : ℕ) (written : Result (Unit {0}) TraceFault) : Type 0 where
   -- the state that the script left, and the journal that the book then keeps
   pub after : BookState
   pub kept : Journal
@@ -58,5 +57,5 @@ PlaysScript before traced d result = ((result ≡ Err NoMemory) × AreUnused d) 
 -- was loaded as a book, and a script was run over this book
 abbrev pub ResumesTrace : List ℕ → Bool → Devices → Result ℕ ProgramFault → Type 0
 ResumesTrace text traced d result =
-    ((fault : LoadTraceFault) × (result ≡ Err (Load fault)) × AreUnused d × LoadsTrace text (Err fault))
+    ((fault : TraceFault) × (result ≡ Err (Trace fault)) × AreUnused d × LoadsTrace text (Err fault))
     ⊎ ((book : AnyBook) × LoadsTrace text (Ok book) × PlaysOver (any_state book) traced d result)

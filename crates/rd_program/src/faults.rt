@@ -2,19 +2,19 @@
 //! shows.
 
 ghost use Rattle.std.specs.Prelude.{◌≡◌};
-ghost use Rattle.rd_program.specs.declared.faults.ProgramFault.TheVariants.{Script, Load, Trace, View};
-ghost use Rattle.rd_program.specs.Endings.{refusal_of, load_refusal, write_trace_refusal, view_refusal};
+ghost use Rattle.rd_program.specs.declared.faults.ProgramFault.TheVariants.{Script, Trace, View};
+ghost use Rattle.rd_program.specs.Endings.{refusal_of, trace_refusal, view_refusal};
 
 use rd_cell::Refusal;
 use rd_script::{AnyRefusal, ScriptFault};
-use rd_trace::{LoadTraceFault, WriteTraceFault};
+use rd_trace::TraceFault;
 use rd_view::ViewFault;
 use thiserror::Error;
 
 /// Why the program ends without having done all that it was asked.
 #[derive(Clone, Copy, Debug, Error)]
 pub enum ProgramFault {
-    /// Memory for a world, a text or the command line was refused.
+    /// Memory for the world of `play`, a text or the command line was refused.
     #[error("memory was refused")]
     NoMemory,
     /// A file can't be opened or read.
@@ -23,12 +23,9 @@ pub enum ProgramFault {
     /// The run of a script stopped: the script could not be read, or an answer not written.
     #[error("the script stopped: {0:?}")]
     Script(ScriptFault),
-    /// A trace was not loaded.
-    #[error("the trace was not loaded: {0:?}")]
-    Load(LoadTraceFault),
-    /// The trace of a run was not written whole.
-    #[error("the trace was not written: {0:?}")]
-    Trace(WriteTraceFault),
+    /// A trace was not loaded, or not written whole.
+    #[error("the trace was not loaded or written: {0:?}")]
+    Trace(TraceFault),
     /// A view was not written whole.
     #[error("the view was not written: {0:?}")]
     View(ViewFault),
@@ -43,35 +40,23 @@ impl ProgramFault {
             ProgramFault::NoMemory => AnyRefusal::Refused(Refusal::NoMemory),
             ProgramFault::Read => AnyRefusal::Stopped(ScriptFault::Read),
             ProgramFault::Script(fault) => AnyRefusal::Stopped(fault),
-            ProgramFault::Load(fault) => load_refusal(fault),
-            ProgramFault::Trace(fault) => write_trace_refusal(fault),
+            ProgramFault::Trace(fault) => trace_refusal(fault),
             ProgramFault::View(fault) => view_refusal(fault),
         }
     }
 }
 
-/// Returns the refusal that the program shows for a trace that was not loaded.
-fn load_refusal(fault: LoadTraceFault) -> AnyRefusal
-    ensures { result ≡ load_refusal fault }
+/// Returns the refusal that the program shows for a trace that was not loaded, or not written whole.
+fn trace_refusal(fault: TraceFault) -> AnyRefusal
+    ensures { result ≡ trace_refusal fault }
 {
     match fault {
-        LoadTraceFault::NoMemory => AnyRefusal::Refused(Refusal::NoMemory),
-        LoadTraceFault::BadTrace => AnyRefusal::BadTrace,
-        LoadTraceFault::Flawed(flaw) => AnyRefusal::Flawed(flaw),
-        LoadTraceFault::TraceMark { mark, step, cause } => {
-            AnyRefusal::TraceMark { mark, step, cause }
-        }
-        LoadTraceFault::TraceStep { step, cause } => AnyRefusal::TraceStep { step, cause },
-    }
-}
-
-/// Returns the refusal that the program shows for a trace that was not written whole.
-fn write_trace_refusal(fault: WriteTraceFault) -> AnyRefusal
-    ensures { result ≡ write_trace_refusal fault }
-{
-    match fault {
-        WriteTraceFault::NoMemory => AnyRefusal::Refused(Refusal::NoMemory),
-        WriteTraceFault::Write => AnyRefusal::Stopped(ScriptFault::Write),
+        TraceFault::NoMemory => AnyRefusal::Refused(Refusal::NoMemory),
+        TraceFault::Write => AnyRefusal::Stopped(ScriptFault::Write),
+        TraceFault::Flawed(flaw) => AnyRefusal::Flawed(flaw),
+        TraceFault::BadTrace => AnyRefusal::BadTrace,
+        TraceFault::TraceStep { step, cause } => AnyRefusal::TraceStep { step, cause },
+        TraceFault::TraceMark { mark, step, cause } => AnyRefusal::TraceMark { mark, step, cause },
     }
 }
 
@@ -98,20 +83,11 @@ impl From<ScriptFault> for ProgramFault {
     }
 }
 
-impl From<LoadTraceFault> for ProgramFault {
-    ghost from_gives = { λ fault e. e ≡ Load fault };
-
-    /// Returns `Load`, with the reason why the trace was not loaded.
-    fn from(fault: LoadTraceFault) -> ProgramFault {
-        ProgramFault::Load(fault)
-    }
-}
-
-impl From<WriteTraceFault> for ProgramFault {
+impl From<TraceFault> for ProgramFault {
     ghost from_gives = { λ fault e. e ≡ Trace fault };
 
-    /// Returns `Trace`, with the reason why the trace was not written whole.
-    fn from(fault: WriteTraceFault) -> ProgramFault {
+    /// Returns `Trace`, with the reason why the trace was not loaded or not written whole.
+    fn from(fault: TraceFault) -> ProgramFault {
         ProgramFault::Trace(fault)
     }
 }

@@ -1,6 +1,6 @@
 //! What `run` and `load` do over the devices that they are given: they run a script over a fresh
 //! world or over the book of a trace, and write the session's trace after the report if it is asked
-//! for.
+//! for. `read_whole_text` reads a trace for `resume`, or a script for `view`.
 
 ghost use Rattle.std.specs.Prelude.{◌≡◌, ℕ, false, IfOk, IfErr, IfSome};
 ghost use Rattle.rd_script.specs.Streams.{devices, sink_stream};
@@ -11,7 +11,7 @@ ghost use Rattle.rd_program.specs.Program.{IsReadOrNoMemory, PlaysOver, PlaysScr
 use super::faults::ProgramFault;
 use super::setups::Setup;
 use rd_script::{AnyBook, Sink, Source};
-use rd_trace::{WriteTraceFault, load_trace, write_any_trace};
+use rd_trace::{TraceFault, load_trace, write_any_trace};
 use std::alloc::Global;
 use std::io::{ErrorKind, Read};
 
@@ -70,7 +70,7 @@ fn write_trace_if_asked<K: Sink>(
     writer: &mut K,
     book: &AnyBook,
     trace: bool,
-) -> Result<(), WriteTraceFault>
+) -> Result<(), TraceFault>
     requires { K.has_failed writer.old ≡ false }
     ensures { WritesTraceIfAsked trace (any_state book.now)
         (sink_stream K.Sink writer.old writer.new) result }
@@ -87,7 +87,7 @@ fn write_trace_if_asked<K: Sink>(
 ///
 /// # Errors
 ///
-/// `Load` if the text was not loaded; neither device was then used. `Script` and `Trace` as in
+/// `Trace` if the text was not loaded; neither device was then used. `Script` and `Trace` as in
 /// `play`.
 pub fn resume<S: Source, K: Sink>(
     alloc: Global,

@@ -45,6 +45,6 @@ pub use Rattle.rd_trace.specs.Texts.{AreAppended, IsMarkAppended, IsReadBack, Is
 pub use Rattle.rd_trace.specs.Traces.{IsTraceRing, first_refused, session_at}
 pub use Rattle.rd_trace.specs.Writing.{IsTextOf}
 pub use Rattle.rd_trace.specs.declared.bookmarks.SavedMark.{SavedMark}
-pub use Rattle.rd_trace.specs.declared.faults.LoadTraceFault.{LoadTraceFault}
-pub use Rattle.rd_trace.specs.declared.faults.LoadTraceFault.TheVariants.{BadTrace, Flawed, NoMemory, TraceMark, TraceStep}
+pub use Rattle.rd_trace.specs.declared.faults.TraceFault.{TraceFault}
+pub use Rattle.rd_trace.specs.declared.faults.TraceFault.TheVariants.{BadTrace, Flawed, NoMemory, TraceMark, TraceStep}
 pub use Rattle.rd_trace.specs.declared.starts.Start.{Start}

@@ -1,5 +1,5 @@
 -- Replaying events: which ones happen, and which one is refused.
-use Rattle.rd_trace.proofs.Prelude.{common_steps, AllByRecursion, cond-false, IsDistinct-head, IsDistinct-tail, take-append_seam, drop-append_seam, append-nil, length-map, map-append, map_push, take_all, take-append-drop, length-take-le, World, Refusal, Stepped, Ran, run, MOST_STEPS, result_map, Event, State, step_after, with_event, apply, back, MarkName, MOST_MARKS, bytes_of, mark_name_eq, Mark, BookState, events_by_name, mark, CanRun, MarksCanRun, HaveDifferentNames, SavedMark, LoadTraceFault, Flawed, TraceMark, TraceStep, saved_mark, start_world, start_flaw, Trace, loaded_state, session_at, first_refused, first_mark_fault, trace_fault, Replays, RefusesOne, GoesTo, MakesWorld, SetsMarks, le-ltb, ◌≡◌, ◌⊎◌, inl, inr, ℕ, suc, ◌+◌, ◌-◌, ◌<◌, ◌≤◌, if◌then◌else◌, Bool, false, List, [], ◌∷◌, ◌++◌, length, take, drop, get_or, map, Some, None, is_some, Option, option_map, Result, Ok, Err, IsOk, refl, sym, ap, ap₂, ◌∙◌, subst, arith, append_assoc, length-append, ne_eqb, option_or, result_err, at_events, with_marks, with_session, NoMemory, Reply, IsEventAnswer}
+use Rattle.rd_trace.proofs.Prelude.{common_steps, AllByRecursion, cond-false, IsDistinct-head, IsDistinct-tail, take-append_seam, drop-append_seam, append-nil, length-map, map-append, map_push, take_all, take-append-drop, length-take-le, World, Refusal, Stepped, Ran, run, MOST_STEPS, result_map, Event, State, step_after, with_event, apply, back, MarkName, MOST_MARKS, bytes_of, mark_name_eq, Mark, BookState, events_by_name, mark, CanRun, MarksCanRun, HaveDifferentNames, SavedMark, TraceFault, Flawed, TraceMark, TraceStep, saved_mark, start_world, start_flaw, Trace, loaded_state, session_at, first_refused, first_mark_fault, trace_fault, Replays, RefusesOne, GoesTo, MakesWorld, SetsMarks, le-ltb, ◌≡◌, ◌⊎◌, inl, inr, ℕ, suc, ◌+◌, ◌-◌, ◌<◌, ◌≤◌, if◌then◌else◌, Bool, false, List, [], ◌∷◌, ◌++◌, length, take, drop, get_or, map, Some, None, is_some, Option, option_map, Result, Ok, Err, IsOk, refl, sym, ap, ap₂, ◌∙◌, subst, arith, append_assoc, length-append, ne_eqb, option_or, result_err, at_events, with_marks, with_session, NoMemory, Reply, IsEventAnswer}
 use Rattle.std.proofs.lemmas.Cmp.{nat_list_eq_equiv}
 use Rattle.rd_step.proofs.Equivalence.{ran_through}
 use Rattle.rd_marks.proofs.MarkLemmas.{mark_goes}
@@ -108,15 +108,15 @@ back_left n k s t h goes = grind (arith, le-ltb, cond-false)
 -- Making just these events live
 
 -- the result of making just these events live doesn't depend on which events were live before
-goes_from : (old new : BookState) (es fs : List Event) (r : Result (Unit {0}) LoadTraceFault) → GoesTo (at_events old fs) es new r → GoesTo old es new r
+goes_from : (old new : BookState) (es fs : List Event) (r : Result (Unit {0}) TraceFault) → GoesTo (at_events old fs) es new r → GoesTo old es new r
 goes_from old new es fs (Ok done) h = h
 goes_from old new es fs (Err fault) h = h
 
-pub from_old : (old mid new : BookState) (es fs : List Event) (r : Result (Unit {0}) LoadTraceFault) → mid ≡ at_events old es → GoesTo mid (mid.session.live ++ fs) new r → GoesTo old (es ++ fs) new r
+pub from_old : (old mid new : BookState) (es fs : List Event) (r : Result (Unit {0}) TraceFault) → mid ≡ at_events old es → GoesTo mid (mid.session.live ++ fs) new r → GoesTo old (es ++ fs) new r
 from_old old mid new es fs r at h = goes_from old new (es ++ fs) es r (subst (λ (b : BookState). GoesTo b (b.session.live ++ fs) new r) at h)
 
 -- if just the first k events of a list are live, making the others happen makes just this list live
-pub goes_to : (old mid new : BookState) (es rest : List Event) (k : ℕ) (r : Result (Unit {0}) LoadTraceFault) → mid ≡ at_events old (take k old.session.live)
+pub goes_to : (old mid new : BookState) (es rest : List Event) (k : ℕ) (r : Result (Unit {0}) TraceFault) → mid ≡ at_events old (take k old.session.live)
     → take k old.session.live ≡ take k es → rest ≡ drop k es → GoesTo mid (mid.session.live ++ rest) new r → GoesTo old es new r
 goes_to old mid new es rest k r at shared behind h =
     subst (λ (fs : List Event). GoesTo old fs new r) (ap₂ (λ (fs gs : List Event). fs ++ gs) shared behind ∙ take-append-drop k es) (from_old old mid new (take k old.session.live) rest r at h)
@@ -129,7 +129,7 @@ MakesLive old live undone new =
     (new ≡ with_session old (record { start = old.session.start; live = live; undone = undone }))
     × (first_refused old.session.start [] (live ++ undone) ≡ None)
 
-pub live_refused : (w : World) (es fs : List Event) (fault : LoadTraceFault) → RefusesOne w es fault → RefusesOne w (es ++ fs) fault
+pub live_refused : (w : World) (es fs : List Event) (fault : TraceFault) → RefusesOne w es fault → RefusesOne w (es ++ fs) fault
 live_refused w es fs fault (inl memory) = inl memory
 live_refused w es fs fault (inr h) = inr (h.0, h.1, first_refused-append w [] es fs ∙ ap (λ (o : Option (ℕ × Refusal)). option_or o (first_refused w es fs)) h.2, h.3)
 
@@ -147,7 +147,7 @@ made_live old mid now new es fs at h goes marks = grind (arith, from_old, back_t
 -- Bookmarks
 
 -- the fault of an event of the bookmark of this number, from the event's own fault
-abbrev pub mark_fault : ℕ → LoadTraceFault → LoadTraceFault
+abbrev pub mark_fault : ℕ → TraceFault → TraceFault
 mark_fault mark (TraceStep step cause) = TraceMark mark step cause
 mark_fault mark fault = fault
 
@@ -218,7 +218,7 @@ module _ (old now : BookState) (ms : List SavedMark) (i : ℕ) (m : SavedMark) (
 
   -- the fault of making the next bookmark's events live, with its number, is a result of setting
   -- all bookmarks
-  pub mark_refused : (new : BookState) (its : LoadTraceFault) → RefusesOne now.session.start m.events.items its → SetsMarks old (map saved_mark ms) new (Err (mark_fault (i + 1) its))
+  pub mark_refused : (new : BookState) (its : TraceFault) → RefusesOne now.session.start m.events.items its → SetsMarks old (map saved_mark ms) new (Err (mark_fault (i + 1) its))
   mark_refused new its (inl memory) = inl (ap (mark_fault (i + 1)) memory)
   mark_refused new its (inr h) =
       inr
@@ -232,13 +232,13 @@ all_set old new ms i all k = grind (arith, take_all)
 -- Whole traces
 
 -- the fault of making the world of its start is a result of replaying a trace
-pub no_world : {R : ℕ} (t : Trace R) {B : Type 0} (IsBook : B → Type 0) (fault : LoadTraceFault) → MakesWorld t.start (Err fault) → Replays IsBook t (Err fault)
+pub no_world : {R : ℕ} (t : Trace R) {B : Type 0} (IsBook : B → Type 0) (fault : TraceFault) → MakesWorld t.start (Err fault) → Replays IsBook t (Err fault)
 no_world t IsBook fault h = grind arith
 
 module _ {R : ℕ} (t : Trace R) (flawless : start_flaw t.start ≡ None) where
   -- the fault of a trace whose start has no flaw: the first refused event of its bookmarks, else of
   -- its live and undone events
-  fault_of : (o : Option LoadTraceFault) (p : Option (ℕ × Refusal)) → first_mark_fault (start_world t.start) 0 t.marks ≡ o → first_refused (start_world t.start) [] (t.live ++ t.undone) ≡ p
+  fault_of : (o : Option TraceFault) (p : Option (ℕ × Refusal)) → first_mark_fault (start_world t.start) 0 t.marks ≡ o → first_refused (start_world t.start) [] (t.live ++ t.undone) ≡ p
       → trace_fault t ≡ option_or o (option_map (λ (r : ℕ × Refusal). TraceStep r.0 r.1) p)
   fault_of o p marks steps = λ i. option_or (option_map Flawed (flawless i)) (option_or (marks i) (option_map (λ (r : ℕ × Refusal). TraceStep r.0 r.1) (steps i)))
 
@@ -248,7 +248,7 @@ module _ {R : ℕ} (t : Trace R) (flawless : start_flaw t.start ≡ None) where
 
   module _ (old : BookState) (start : old.session.start ≡ start_world t.start) where
     -- the fault of setting the bookmarks is a result of replaying the trace
-    pub no_marks : {B : Type 0} (IsBook : B → Type 0) (new : BookState) (fault : LoadTraceFault) → SetsMarks old t.marks new (Err fault) → Replays IsBook t (Err fault)
+    pub no_marks : {B : Type 0} (IsBook : B → Type 0) (new : BookState) (fault : TraceFault) → SetsMarks old t.marks new (Err fault) → Replays IsBook t (Err fault)
     no_marks IsBook new fault h = grind (arith, fault_of)
 
     module _ (now : BookState) (set : SetsMarks old t.marks now (Ok tt)) where
@@ -256,7 +256,7 @@ module _ {R : ℕ} (t : Trace R) (flawless : start_flaw t.start ≡ None) where
       by_steps p h = grind (arith, fault_of)
 
       -- the fault of making its live and undone events happen is a result of replaying the trace
-      pub no_steps : {B : Type 0} (IsBook : B → Type 0) (fault : LoadTraceFault) → RefusesOne now.session.start (t.live ++ t.undone) fault → Replays IsBook t (Err fault)
+      pub no_steps : {B : Type 0} (IsBook : B → Type 0) (fault : TraceFault) → RefusesOne now.session.start (t.live ++ t.undone) fault → Replays IsBook t (Err fault)
       no_steps IsBook fault h = grind (arith, by_steps)
 
       -- if all its events happened, the trace has no fault, and the book is the trace's

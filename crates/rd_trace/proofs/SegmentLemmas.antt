@@ -1,6 +1,6 @@
 -- Segments as JSON values: which cells are read, and the values as which segments are written spell
 -- them.
-use Rattle.rd_trace.proofs.Prelude.{◌≡◌, refl, ℕ, ◌+◌, ◌<◌, ◌≤◌, List, [], ◌∷◌, length, take, set, get_or, Some, None, option_map, ap, arith, add-one, take-suc-set, length-set, take_all, view, items_view, Cell, SegmentParts, Gives, SpellEach, items_by, next_of, next_data, cell_of_items, cell_of, cell_data, SpellsSegment, segment_data, Value, Data, Items, as_array, Option, Result, Ok, Err, Vec, Global, LoadTraceFault, NoMemory, BadTrace, Reads, elements, itself, SpellEachOf, SpellsSegmentList, subst, sym}
+use Rattle.rd_trace.proofs.Prelude.{◌≡◌, refl, ℕ, ◌+◌, ◌<◌, ◌≤◌, List, [], ◌∷◌, length, take, set, get_or, Some, None, option_map, ap, arith, add-one, take-suc-set, length-set, take_all, view, items_view, Cell, SegmentParts, Gives, SpellEach, items_by, next_of, next_data, cell_of_items, cell_of, cell_data, SpellsSegment, segment_data, Value, Data, Items, as_array, Option, Result, Ok, Err, Vec, Global, TraceFault, NoMemory, BadTrace, Reads, elements, itself, SpellEachOf, SpellsSegmentList, subst, sym}
 use Rattle.rd_trace.proofs.SpellLemmas.{spell_each-more}
 use Rattle.rd_trace.proofs.ActorLemmas.{val_spelled}
 
@@ -23,7 +23,7 @@ module _ (n : ℕ) (vs : List Value) (cells : List Cell) (i : ℕ) (h : AreRead 
   all_cells past count = grind (arith, take_all)
 
 -- the result of reading a list of segments is the result of reading the JSON value that has it
-pub segments_read : {R : ℕ} (d : Data) (o : Option Items) → o ≡ as_array d → (r : Result (Vec (SegmentParts R) Global) LoadTraceFault) → Reads elements (SpellEachOf SpellsSegment o) r → Reads itself (SpellsSegmentList d) r
+pub segments_read : {R : ℕ} (d : Data) (o : Option Items) → o ≡ as_array d → (r : Result (Vec (SegmentParts R) Global) TraceFault) → Reads elements (SpellEachOf SpellsSegment o) r → Reads itself (SpellsSegmentList d) r
 segments_read d o is (Ok v) h = subst (λ p. SpellEachOf SpellsSegment p v.items) is h
 segments_read d o is (Err NoMemory) h = tt
 segments_read d o is (Err BadTrace) h = λ v k. h v.items (subst (λ p. SpellEachOf SpellsSegment p v.items) (sym is) k)

@@ -1,5 +1,5 @@
 -- Reading a value by reading a part of it; and lists of values: what they spell, and their lengths.
-use Rattle.rd_trace.proofs.Prelude.{◌≡◌, ℕ, suc, ◌+◌, ◌<◌, List, [], ◌∷◌, ◌++◌, length, take, drop, get_or, slice_get, Option, Some, IfSome, IfNone, ok_or, Result, Err, refl, sym, ap, ap₂, ◌∙◌, subst, map, map-id, arith, IsErrAnd, same_Some, take_more, drop_more, take-append-drop, Data, Items, no_items, item, view, items_view, Reads, itself, Gives, SpellEach, items_by, AreSpelled, LoadTraceFault, BadTrace, get_or_from_slice_get, slice_get-get_or, slice_get_within, Value}
+use Rattle.rd_trace.proofs.Prelude.{◌≡◌, ℕ, suc, ◌+◌, ◌<◌, List, [], ◌∷◌, ◌++◌, length, take, drop, get_or, slice_get, Option, Some, IfSome, IfNone, ok_or, Result, Err, refl, sym, ap, ap₂, ◌∙◌, subst, map, map-id, arith, IsErrAnd, same_Some, take_more, drop_more, take-append-drop, Data, Items, no_items, item, view, items_view, Reads, itself, Gives, SpellEach, items_by, AreSpelled, TraceFault, BadTrace, get_or_from_slice_get, slice_get-get_or, slice_get_within, Value}
 
 -- ---- faults
 
@@ -11,11 +11,11 @@ passed_up P r x is k = grind arith
 -- result of reading the whole
 module _ {V W X Y : Type 0} (part : V → X) (whole : W → Y) (IsPart : X → Type 0) (IsWhole : Y → Type 0) (has : (y : Y) → IsWhole y → (x : X) × IsPart x) where
   -- the fault of the part, passed up, is a result of reading the whole
-  pub part_passed_up : (fault : LoadTraceFault) (r : Result W LoadTraceFault) → IsErrAnd r (λ e. e ≡ fault) → Reads part IsPart (Err fault) → Reads whole IsWhole r
+  pub part_passed_up : (fault : TraceFault) (r : Result W TraceFault) → IsErrAnd r (λ e. e ≡ fault) → Reads part IsPart (Err fault) → Reads whole IsWhole r
   part_passed_up fault r is h = grind arith
 
 -- a result that is an option's value, or `BadTrace` if the option is none
-pub read_or_bad : {X : Type 0} (o : Option X) (r : Result X LoadTraceFault) → r ≡ ok_or o BadTrace → (P : X → Type 0) → IfSome o P → IfNone o ((x : X) → P x → ⊥) → Reads itself P r
+pub read_or_bad : {X : Type 0} (o : Option X) (r : Result X TraceFault) → r ≡ ok_or o BadTrace → (P : X → Type 0) → IfSome o P → IfNone o ((x : X) → P x → ⊥) → Reads itself P r
 read_or_bad o r is P some none = grind arith
 
 -- ---- lists of values

@@ -5,15 +5,15 @@ use Rattle.rd_step.specs.Prelude.{World}
 use Rattle.rd_marks.specs.BookState.{Mark, BookState}
 use Rattle.rd_script.specs.AnyBook.{any_state, IsBookIn}
 use Rattle.rd_script.specs.declared.any_book.AnyBook.{AnyBook}
-use Rattle.rd_trace.specs.declared.faults.LoadTraceFault.{LoadTraceFault}
-use Rattle.rd_trace.specs.declared.faults.LoadTraceFault.TheVariants.{NoMemory, BadTrace, Flawed, TraceMark, TraceStep}
+use Rattle.rd_trace.specs.declared.faults.TraceFault.{TraceFault}
+use Rattle.rd_trace.specs.declared.faults.TraceFault.TheVariants.{NoMemory, BadTrace, Flawed, TraceMark, TraceStep}
 use Rattle.rd_trace.specs.Starts.{start_world, start_flaw}
 use Rattle.rd_trace.specs.Saved.{Trace, IsTraceText, loaded_state, IsSameBook}
 use Rattle.rd_trace.specs.Traces.{first_refused}
 
 -- the fault of loading for the first of these bookmarks with a refused event, at the first such
 -- event; none if no event is refused. The bookmarks are numbered from n + 1
-abbrev pub first_mark_fault : World → ℕ → List Mark → Option LoadTraceFault
+abbrev pub first_mark_fault : World → ℕ → List Mark → Option TraceFault
 first_mark_fault start n [] = None
 first_mark_fault start n (m ∷ ms) =
     option_or (option_map (λ refused. TraceMark (n + 1) refused.0 refused.1) (first_refused start [] m.events)) (first_mark_fault start (n + 1) ms)
@@ -21,7 +21,7 @@ first_mark_fault start n (m ∷ ms) =
 -- the fault of a trace that has no book, else none. In this order: the first flaw of its start; the
 -- first refused event of the first bookmark that has one; the first refused event of its live
 -- events and the undone ones after them
-abbrev pub trace_fault : {R : ℕ} → Trace R → Option LoadTraceFault
+abbrev pub trace_fault : {R : ℕ} → Trace R → Option TraceFault
 trace_fault t =
     option_or (option_map Flawed (start_flaw t.start))
     (option_or (first_mark_fault (start_world t.start) 0 t.marks)
@@ -29,20 +29,20 @@ trace_fault t =
 
 -- the result of replaying a trace: its book, if it has no fault; its fault; or `NoMemory`, only if
 -- its start has no flaw
-abbrev pub Replays : {R : ℕ} {B : Type 0} → (B → Type 0) → Trace R → Result B LoadTraceFault → Type 0
+abbrev pub Replays : {R : ℕ} {B : Type 0} → (B → Type 0) → Trace R → Result B TraceFault → Type 0
 Replays IsBook t (Ok book) = (trace_fault t ≡ None) × IsBook book
 Replays IsBook t (Err fault) =
     ((fault ≡ NoMemory) × (start_flaw t.start ≡ None)) ⊎ (trace_fault t ≡ Some fault)
 
 -- the result of loading a text: the result of replaying a trace that it is; `BadTrace` if it is
 -- none; or `NoMemory`, only if the text is not empty
-abbrev pub LoadsTrace : List ℕ → Result AnyBook LoadTraceFault → Type 0
+abbrev pub LoadsTrace : List ℕ → Result AnyBook TraceFault → Type 0
 LoadsTrace text (Err NoMemory) = 0 < length text
 LoadsTrace text (Err BadTrace) = (R : ℕ) (t : Trace R) → IsTraceText text t → ⊥
 LoadsTrace text result = (R : ℕ) × (t : Trace R) × IsTraceText text t × Replays (IsBookIn (loaded_state t)) t result
 
 -- two results of loading are the same: the same book, or the same fault
-abbrev pub IsSameAnswer : Result AnyBook LoadTraceFault → Result AnyBook LoadTraceFault → Type 0
+abbrev pub IsSameAnswer : Result AnyBook TraceFault → Result AnyBook TraceFault → Type 0
 IsSameAnswer (Ok one) (Ok other) = IsSameBook (any_state one) (any_state other)
 IsSameAnswer (Ok book) (Err fault) = ⊥
 IsSameAnswer (Err fault) (Ok book) = ⊥
@@ -55,6 +55,6 @@ IsLoadable b text = (t : Trace b.session.start.ring) × IsTraceText text t × (t
 
 -- the result of loading a text as which a book in this state was written: the same book, or
 -- `NoMemory`
-abbrev pub LoadsAgain : BookState → Result AnyBook LoadTraceFault → Type 0
+abbrev pub LoadsAgain : BookState → Result AnyBook TraceFault → Type 0
 LoadsAgain b (Ok book) = IsSameBook (any_state book) b
 LoadsAgain b (Err fault) = fault ≡ NoMemory

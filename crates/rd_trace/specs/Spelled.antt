@@ -6,12 +6,12 @@ use Rattle.serde_json.specs.Data.{Data, Items, no_items, item}
 use Rattle.serde_json.specs.View.{items_view}
 use Rattle.serde_json.specs.declared.value.Value.{Value}
 use Rattle.rd_trace.specs.Numbers.{items_at}
-use Rattle.rd_trace.specs.declared.faults.LoadTraceFault.{LoadTraceFault}
-use Rattle.rd_trace.specs.declared.faults.LoadTraceFault.TheVariants.{NoMemory, BadTrace}
+use Rattle.rd_trace.specs.declared.faults.TraceFault.{TraceFault}
+use Rattle.rd_trace.specs.declared.faults.TraceFault.TheVariants.{NoMemory, BadTrace}
 
 -- the result of reading a JSON value: a thing, where the value spells what is `seen` of it; or
 -- `NoMemory`; or `BadTrace`, if the value spells no such thing
-abbrev pub Reads : {V X : Type 0} → (V → X) → (X → Type 0) → Result V LoadTraceFault → Type 0
+abbrev pub Reads : {V X : Type 0} → (V → X) → (X → Type 0) → Result V TraceFault → Type 0
 Reads seen IsSpelled (Ok v) = IsSpelled (seen v)
 Reads seen IsSpelled (Err NoMemory) = Unit {0}
 Reads {V} {X} seen IsSpelled (Err BadTrace) = (x : X) → IsSpelled x → ⊥

@@ -13,7 +13,7 @@ ghost use Rattle.rd_trace.specs.Bookmarks.{SpellMarks, SpellsMark, saved_mark, s
 ghost use Rattle.rd_trace.specs.Texts.{AreAppended, IsMarkAppended};
 
 use super::events::put_events;
-use super::faults::LoadTraceFault;
+use super::faults::TraceFault;
 use super::members::{items_at, member_count};
 use super::spelled::list_in;
 use super::texts::comma_after;
@@ -45,18 +45,18 @@ pub struct SavedMark {
 ///
 /// `BadTrace` if a value spells no bookmark, if two bookmarks have one name, or if there are more
 /// than 64; `NoMemory` if memory was refused.
-pub fn marks_in(alloc: Global, list: &Vec<Value>) -> Result<Vec<SavedMark>, LoadTraceFault>
+pub fn marks_in(alloc: Global, list: &Vec<Value>) -> Result<Vec<SavedMark>, TraceFault>
     ensures { Reads saved_marks (SpellMarks (items_view list.now.items)) result }
 {
     let count = list.len();
     if count > MOST_MARKS {
-        return Err(LoadTraceFault::BadTrace);
+        return Err(TraceFault::BadTrace);
     }
     let mut marks = Vec::with_capacity(alloc, count)?;
     for value in list {
         let mark = mark_in(alloc, value)?;
         if is_taken(&marks, mark.name) {
-            return Err(LoadTraceFault::BadTrace);
+            return Err(TraceFault::BadTrace);
         }
         marks.push_reserved(mark);
     }
@@ -72,17 +72,17 @@ fn is_taken(marks: &[SavedMark], name: MarkName) -> bool
 
 /// Returns the bookmark that a JSON value spells. Fails with `BadTrace` if it spells none, and with
 /// `NoMemory` if memory is refused.
-fn mark_in(alloc: Global, value: &Value) -> Result<SavedMark, LoadTraceFault>
+fn mark_in(alloc: Global, value: &Value) -> Result<SavedMark, TraceFault>
     ensures { Reads saved_mark (SpellsMark (view value.now)) result }
 {
     if member_count(value) != Some(MEMBERS) {
-        return Err(LoadTraceFault::BadTrace);
+        return Err(TraceFault::BadTrace);
     }
     let Some(text) = value.get(NAME).and_then(Value::as_str) else {
-        return Err(LoadTraceFault::BadTrace);
+        return Err(TraceFault::BadTrace);
     };
     let Ok(name) = MarkName::new(text.as_bytes()) else {
-        return Err(LoadTraceFault::BadTrace);
+        return Err(TraceFault::BadTrace);
     };
     Ok(SavedMark {
         name,

@@ -6,11 +6,14 @@ use rd_cell::Refusal;
 use rd_step::Flaw;
 use std::alloc::AllocError;
 
-/// Why a text gives no book. The numbers are those of the refusals in a report.
+/// Why a text gives no book, or why a trace isn't written whole. The numbers are those of the
+/// refusals in a report. Loading never answers `Write`; writing answers only `NoMemory` and `Write`.
 #[derive(Clone, Copy, Debug, PartialEq, Eq)]
-pub enum LoadTraceFault {
-    /// 20: memory was refused.
+pub enum TraceFault {
+    /// 20: memory was refused. Nothing was written.
     NoMemory,
+    /// 25: the sink failed. It took a beginning of the text.
+    Write,
     /// 26: the text is a trace, but its start is no well-formed world; with the first condition
     /// that fails.
     Flawed(Flaw),
@@ -36,22 +39,13 @@ pub enum LoadTraceFault {
     },
 }
 
-/// Why a trace isn't written whole. The numbers are those of the refusals in a report.
-#[derive(Clone, Copy, Debug, PartialEq, Eq)]
-pub enum WriteTraceFault {
-    /// 20: memory was refused. Nothing was written.
-    NoMemory,
-    /// 25: the sink failed. It took a beginning of the text.
-    Write,
-}
-
-impl From<AllocError> for LoadTraceFault {
-    ghost use Rattle.rd_trace.specs.declared.faults.LoadTraceFault.TheVariants.{NoMemory};
+impl From<AllocError> for TraceFault {
+    ghost use Rattle.rd_trace.specs.declared.faults.TraceFault.TheVariants.{NoMemory};
 
     ghost from_gives = { λ _ fault. fault ≡ NoMemory };
 
     /// Returns `NoMemory`, the fault for refused memory.
-    fn from(_error: AllocError) -> LoadTraceFault {
-        LoadTraceFault::NoMemory
+    fn from(_error: AllocError) -> TraceFault {
+        TraceFault::NoMemory
     }
 }

@@ -2,8 +2,8 @@
 
 ghost use Rattle.std.specs.Prelude.{◌≡◌, ◌≢◌, ℕ, List, Result, Err};
 ghost use Rattle.rd_script.specs.declared.any_book.AnyBook.{AnyBook};
-ghost use Rattle.rd_trace.specs.declared.faults.LoadTraceFault.{LoadTraceFault};
-ghost use Rattle.rd_trace.specs.declared.faults.LoadTraceFault.TheVariants.{NoMemory};
+ghost use Rattle.rd_trace.specs.declared.faults.TraceFault.{TraceFault};
+ghost use Rattle.rd_trace.specs.declared.faults.TraceFault.TheVariants.{NoMemory};
 ghost use Rattle.rd_trace.specs.Starts.{start_flaw};
 ghost use Rattle.rd_trace.specs.Saved.{Trace, IsTraceText, loaded_state, IsSameBook};
 ghost use Rattle.rd_trace.specs.Loading.{LoadsTrace, IsSameAnswer};
@@ -20,7 +20,7 @@ pub fn a_text_is_one_trace_at_most()
 /// Loading a text has one result, unless memory is refused: the same book, or the same fault with
 /// its flaw, its numbers and its cause.
 pub fn a_text_has_one_answer()
-    ensures { (text : List ℕ) (one other : Result AnyBook LoadTraceFault) → LoadsTrace text one
+    ensures { (text : List ℕ) (one other : Result AnyBook TraceFault) → LoadsTrace text one
         → LoadsTrace text other
         → one ≢ Err NoMemory → other ≢ Err NoMemory → IsSameAnswer one other }
 {}

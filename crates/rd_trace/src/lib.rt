@@ -25,7 +25,7 @@ mod starts;
 mod texts;
 mod write;
 
-pub use faults::{LoadTraceFault, WriteTraceFault};
+pub use faults::TraceFault;
 pub use load::load_trace;
 pub use rd_script::AnyBook;
 pub use write::{write_any_trace, write_trace};

@@ -11,7 +11,7 @@ ghost use Rattle.rd_trace.specs.Loading.{LoadsTrace, LoadsAgain};
 ghost use Rattle.rd_trace.specs.Steps.{LoadsValue};
 ghost use Rattle.rd_trace.specs.Writing.{IsTextOf};
 
-use super::faults::LoadTraceFault;
+use super::faults::TraceFault;
 use super::members::number_at;
 use super::replay::{go_to, set_marks, step_all, world_of};
 use super::saved::{SavedSession, session_in};
@@ -35,21 +35,21 @@ use std::alloc::Global;
 ///
 /// The undone events are numbered after the live ones. The event after the `MOST_STEPS`-th of a
 /// list is refused with the cause `TooLong`.
-pub fn load_trace(alloc: Global, text: &[u8]) -> Result<AnyBook, LoadTraceFault>
+pub fn load_trace(alloc: Global, text: &[u8]) -> Result<AnyBook, TraceFault>
     ensures loads { LoadsTrace text.now result }
     ensures again { (b : BookState) → IsTraceRing b.session.start.ring → IsTextOf b text.now
         → LoadsAgain b result }
 {
     let value = match Value::from_slice(alloc, text) {
         Ok(value) => value,
-        Err(error) if error.is_memory() => return Err(LoadTraceFault::NoMemory),
-        Err(_) => return Err(LoadTraceFault::BadTrace),
+        Err(error) if error.is_memory() => return Err(TraceFault::NoMemory),
+        Err(_) => return Err(TraceFault::BadTrace),
     };
     match number_at(&value, "ring") {
         Some(2) => book_of(alloc, value).map(AnyBook::Two),
         Some(4) => book_of(alloc, value).map(AnyBook::Four),
         Some(8) => book_of(alloc, value).map(AnyBook::Eight),
-        _ => Err(LoadTraceFault::BadTrace),
+        _ => Err(TraceFault::BadTrace),
     }
 }
 
@@ -59,7 +59,7 @@ pub fn load_trace(alloc: Global, text: &[u8]) -> Result<AnyBook, LoadTraceFault>
 /// # Errors
 ///
 /// Those of `load_trace`.
-fn book_of<const R: usize>(alloc: Global, value: Value) -> Result<Book<R>, LoadTraceFault>
+fn book_of<const R: usize>(alloc: Global, value: Value) -> Result<Book<R>, TraceFault>
     requires positive { 1 ≤ R }
     requires small { R ≤ MOST_CELLS }
     requires ring { number_at (codes "ring") (view value) ≡ Some R }

@@ -11,7 +11,7 @@ ghost use Rattle.rd_trace.specs.Bookmarks.{saved_mark};
 ghost use Rattle.rd_trace.specs.Steps.{MakesWorld, GoesTo, SetsMarks};
 
 use super::bookmarks::SavedMark;
-use super::faults::LoadTraceFault;
+use super::faults::TraceFault;
 use super::starts::Start;
 use rd_cell::Refusal;
 use rd_marks::Book;
@@ -21,7 +21,7 @@ use std::alloc::Global;
 /// Returns the world of a start. `R` must be from 1 to 64, and a fresh start must have 1 to 16
 /// actors. Fails with `Flawed` and the first condition that fails if the start makes no well-formed
 /// world, and with `NoMemory` if memory is refused.
-pub fn world_of<const R: usize>(alloc: Global, start: Start<R>) -> Result<World<R>, LoadTraceFault>
+pub fn world_of<const R: usize>(alloc: Global, start: Start<R>) -> Result<World<R>, TraceFault>
     requires positive { 1 ≤ R }
     requires small { R ≤ MOST_CELLS }
     requires counted { HasActorsInRange start }
@@ -29,12 +29,12 @@ pub fn world_of<const R: usize>(alloc: Global, start: Start<R>) -> Result<World<
 {
     match start {
         Start::Fresh(actors) => match World::fresh(alloc, actors) {
-            Err(_) => Err(LoadTraceFault::NoMemory),
+            Err(_) => Err(TraceFault::NoMemory),
             Ok(world) => Ok(world),
         },
         Start::Parts(parts) => match World::assemble(alloc, parts) {
-            Err(Unassembled::Flaw(flaw)) => Err(LoadTraceFault::Flawed(flaw)),
-            Err(Unassembled::NoMemory) => Err(LoadTraceFault::NoMemory),
+            Err(Unassembled::Flaw(flaw)) => Err(TraceFault::Flawed(flaw)),
+            Err(Unassembled::NoMemory) => Err(TraceFault::NoMemory),
             Ok(world) => Ok(world),
         },
     }
@@ -44,10 +44,7 @@ pub fn world_of<const R: usize>(alloc: Global, start: Start<R>) -> Result<World<
 /// live. There must be at most 64 bookmarks, with different names. Fails with `TraceMark` at the
 /// first event that is refused, and with `NoMemory` if memory is refused; some bookmarks may then
 /// be set.
-pub fn set_marks<const R: usize>(
-    book: &mut Book<R>,
-    marks: &[SavedMark],
-) -> Result<(), LoadTraceFault>
+pub fn set_marks<const R: usize>(book: &mut Book<R>, marks: &[SavedMark]) -> Result<(), TraceFault>
     requires names { HaveDifferentNames (map saved_mark marks.now) }
     requires few { length marks.now ≤ MOST_MARKS }
     requires none { (book_state book.old).marks ≡ [] }
@@ -56,15 +53,15 @@ pub fn set_marks<const R: usize>(
 {
     for i in 0..marks.len() {
         if let Err(fault) = go_to(book, &marks[i].events) {
-            let LoadTraceFault::TraceStep { step, cause } = fault else {
+            let TraceFault::TraceStep { step, cause } = fault else {
                 return Err(fault);
             };
             let mark = i as u64 + 1;
-            return Err(LoadTraceFault::TraceMark { mark, step, cause });
+            return Err(TraceFault::TraceMark { mark, step, cause });
         }
         if let Err(refusal) = book.mark(marks[i].name) {
             match refusal {
-                Refusal::NoMemory => return Err(LoadTraceFault::NoMemory),
+                Refusal::NoMemory => return Err(TraceFault::NoMemory),
                 _ => unreachable!(),
             }
         }
@@ -75,7 +72,7 @@ pub fn set_marks<const R: usize>(
 /// Makes just these events live, with nothing undone; the bookmarks stay. It undoes live events
 /// only from the first one in which the two lists differ. Fails with `TraceStep` at the first event
 /// that is refused, and with `NoMemory` if memory is refused. The events before it are then live.
-pub fn go_to<const R: usize>(book: &mut Book<R>, events: &[Event]) -> Result<(), LoadTraceFault>
+pub fn go_to<const R: usize>(book: &mut Book<R>, events: &[Event]) -> Result<(), TraceFault>
     ensures { GoesTo (book_state book.old) events.now (book_state book.new) result }
 {
     let kept = common_beginning_len(&book.session().live(), &events);
@@ -86,7 +83,7 @@ pub fn go_to<const R: usize>(book: &mut Book<R>, events: &[Event]) -> Result<(),
 /// Makes events happen after the live ones, in order, in a book with nothing undone. Fails with
 /// `TraceStep` at the first one that is refused, which is numbered after the live events, and with
 /// `NoMemory` if memory is refused.
-pub fn step_all<const R: usize>(book: &mut Book<R>, events: &[Event]) -> Result<(), LoadTraceFault>
+pub fn step_all<const R: usize>(book: &mut Book<R>, events: &[Event]) -> Result<(), TraceFault>
     requires through { CanRun (book_state book.old).session.start
         (book_state book.old).session.live }
     requires none { (book_state book.old).session.undone ≡ [] }
@@ -97,10 +94,10 @@ pub fn step_all<const R: usize>(book: &mut Book<R>, events: &[Event]) -> Result<
     for event in events {
         if let Err(cause) = book.apply(*event) {
             if let Refusal::NoMemory = cause {
-                return Err(LoadTraceFault::NoMemory);
+                return Err(TraceFault::NoMemory);
             }
             let step = book.session().len() + 1;
-            return Err(LoadTraceFault::TraceStep { step, cause });
+            return Err(TraceFault::TraceStep { step, cause });
         }
     }
     Ok(())

@@ -15,7 +15,7 @@ ghost use Rattle.rd_trace.specs.Writing.{IsTextOf};
 
 use super::bookmarks::{SavedMark, marks_in, put_marks};
 use super::events::put_next_event;
-use super::faults::LoadTraceFault;
+use super::faults::TraceFault;
 use super::members::{items_at, member_count, number_at};
 use super::spelled::list_in;
 use super::starts::{Start, actor_count_at, put_start, start_in};
@@ -71,7 +71,7 @@ pub struct SavedSession<const R: usize> {
 pub fn session_in<const R: usize>(
     alloc: Global,
     value: &Value,
-) -> Result<SavedSession<R>, LoadTraceFault>
+) -> Result<SavedSession<R>, TraceFault>
     requires small { R ≤ MOST_CELLS }
     requires ring { number_at (codes "ring") (view value.now) ≡ Some R }
     ensures { Reads saved_trace (IsEitherVersion (view value.now)) result }
@@ -79,7 +79,7 @@ pub fn session_in<const R: usize>(
     match (number_at(value, VERSION), member_count(value)) {
         (Some(1), Some(VERSION_1_MEMBERS)) => version_1_session_in(alloc, value),
         (Some(WRITTEN_VERSION), Some(VERSION_2_MEMBERS)) => version_2_session_in(alloc, value),
-        _ => Err(LoadTraceFault::BadTrace),
+        _ => Err(TraceFault::BadTrace),
     }
 }
 
@@ -89,7 +89,7 @@ pub fn session_in<const R: usize>(
 fn version_1_session_in<const R: usize>(
     alloc: Global,
     value: &Value,
-) -> Result<SavedSession<R>, LoadTraceFault>
+) -> Result<SavedSession<R>, TraceFault>
     requires small { R ≤ MOST_CELLS }
     requires members { member_count (view value.now) ≡ Some 4 }
     requires version { number_at (codes "version") (view value.now) ≡ Some 1 }
@@ -97,7 +97,7 @@ fn version_1_session_in<const R: usize>(
     ensures { Reads saved_trace (IsVersion1 (view value.now)) result }
 {
     let Some(actors) = actor_count_at(value, ACTORS) else {
-        return Err(LoadTraceFault::BadTrace);
+        return Err(TraceFault::BadTrace);
     };
     Ok(SavedSession {
         start: Start::Fresh(actors),
@@ -112,7 +112,7 @@ fn version_1_session_in<const R: usize>(
 fn version_2_session_in<const R: usize>(
     alloc: Global,
     value: &Value,
-) -> Result<SavedSession<R>, LoadTraceFault>
+) -> Result<SavedSession<R>, TraceFault>
     requires small { R ≤ MOST_CELLS }
     requires members { member_count (view value.now) ≡ Some 6 }
     requires version { number_at (codes "version") (view value.now) ≡ Some 2 }
@@ -120,10 +120,10 @@ fn version_2_session_in<const R: usize>(
     ensures { Reads saved_trace (IsVersion2 (view value.now)) result }
 {
     let Some(start) = value.get(START) else {
-        return Err(LoadTraceFault::BadTrace);
+        return Err(TraceFault::BadTrace);
     };
     let Some(marks) = items_at(value, MARKS) else {
-        return Err(LoadTraceFault::BadTrace);
+        return Err(TraceFault::BadTrace);
     };
     Ok(SavedSession {
         start: start_in(alloc, start)?,

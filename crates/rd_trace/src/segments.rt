@@ -10,7 +10,7 @@ ghost use Rattle.rd_trace.specs.Spelled.{Gives, SpellEach};
 ghost use Rattle.rd_trace.specs.Segments.{cell_of, cell_data, SpellsSegment, SpellsSegmentList, segment_data, segment_list_data};
 
 use super::actors::val_in;
-use super::faults::LoadTraceFault;
+use super::faults::TraceFault;
 use super::members::{items_at, member_count, number_at};
 use super::names::{next_json, segment_name_in};
 use super::spelled::{Plain, Spelled, Written, list_in, list_json};
@@ -39,7 +39,7 @@ impl<const R: usize> Spelled for Vec<SegmentParts<R>> {
 
     /// Returns the list of segments that a JSON value spells. Fails with `BadTrace` if it spells
     /// none, and with `NoMemory` if memory is refused.
-    fn from_value(alloc: Global, value: &Value) -> Result<Vec<SegmentParts<R>>, LoadTraceFault> {
+    fn from_value(alloc: Global, value: &Value) -> Result<Vec<SegmentParts<R>>, TraceFault> {
         list_in(alloc, value.as_array())
     }
 }

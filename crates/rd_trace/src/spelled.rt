@@ -6,7 +6,7 @@ ghost use Rattle.serde_json.specs.Data.{Data};
 ghost use Rattle.serde_json.specs.View.{view, items_view};
 ghost use Rattle.rd_trace.specs.Spelled.{Reads, itself, elements, SpellEachOf, AreSpelled};
 
-use super::faults::LoadTraceFault;
+use super::faults::TraceFault;
 use serde_json::Value;
 use std::alloc::{AllocError, Global};
 
@@ -23,7 +23,7 @@ pub trait Spelled: Sized + Drop {
     /// # Errors
     ///
     /// `BadTrace` if it spells none; `NoMemory` if memory was refused.
-    fn from_value(alloc: Global, value: &Value) -> Result<Self, LoadTraceFault>
+    fn from_value(alloc: Global, value: &Value) -> Result<Self, TraceFault>
         requires { fits }
         ensures { Reads itself (spells (view value.now)) result };
 }
@@ -50,8 +50,8 @@ impl<T: Plain> Spelled for T {
 
     /// Returns the thing that a JSON value spells. Fails only if it spells none, with `BadTrace`.
     #[tactic(auto, using(crate::proofs::SpellLemmas::read_or_bad))]
-    fn from_value(_alloc: Global, value: &Value) -> Result<T, LoadTraceFault> {
-        T::in_value(value).ok_or(LoadTraceFault::BadTrace)
+    fn from_value(_alloc: Global, value: &Value) -> Result<T, TraceFault> {
+        T::in_value(value).ok_or(TraceFault::BadTrace)
     }
 }
 
@@ -71,16 +71,13 @@ pub trait Written: Spelled {
 /// # Errors
 ///
 /// `BadTrace` if there is no list, or if a value spells none; `NoMemory` if memory was refused.
-pub fn list_in<T: Spelled>(
-    alloc: Global,
-    list: Option<&Vec<Value>>,
-) -> Result<Vec<T>, LoadTraceFault>
+pub fn list_in<T: Spelled>(alloc: Global, list: Option<&Vec<Value>>) -> Result<Vec<T>, TraceFault>
     requires { T.fits }
     ensures { Reads elements (SpellEachOf T.spells
         (option_map (λ values. items_view values.now.items) list.entry)) result }
 {
     let Some(list) = list else {
-        return Err(LoadTraceFault::BadTrace);
+        return Err(TraceFault::BadTrace);
     };
     let mut things = Vec::with_capacity(alloc, list.len())?;
     for value in list {

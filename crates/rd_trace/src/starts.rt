@@ -11,7 +11,7 @@ ghost use Rattle.rd_trace.specs.Starts.{HasActorCount, SpellsParts, SpellsStart,
 ghost use Rattle.rd_trace.specs.Texts.{IsStartAppended};
 
 use super::arrays::{array_parts_in, array_parts_json};
-use super::faults::LoadTraceFault;
+use super::faults::TraceFault;
 use super::members::{items_at, member_count, number_at};
 use super::names::{segment_name_in, segment_name_json};
 use super::spelled::{list_in, list_json};
@@ -53,17 +53,17 @@ pub enum Start<const R: usize> {
 /// # Errors
 ///
 /// `BadTrace` if it spells none; `NoMemory` if memory was refused.
-pub fn start_in<const R: usize>(alloc: Global, value: &Value) -> Result<Start<R>, LoadTraceFault>
+pub fn start_in<const R: usize>(alloc: Global, value: &Value) -> Result<Start<R>, TraceFault>
     requires { R ≤ MOST_CELLS }
     ensures { Reads itself (SpellsStart (view value.now)) result }
 {
     match member_count(value) {
         Some(FRESH_MEMBERS) => match actor_count_at(value, FRESH) {
-            None => Err(LoadTraceFault::BadTrace),
+            None => Err(TraceFault::BadTrace),
             Some(actors) => Ok(Start::Fresh(actors)),
         },
         Some(PARTS_MEMBERS) => Ok(Start::Parts(parts_in(alloc, value)?)),
-        _ => Err(LoadTraceFault::BadTrace),
+        _ => Err(TraceFault::BadTrace),
     }
 }
 
@@ -82,19 +82,19 @@ pub fn actor_count_at(value: &Value, key: &str) -> Option<u8>
 
 /// Returns the parts that a JSON object of five members spells. `R` must be at most 64. Fails with
 /// `BadTrace` if it spells none, and with `NoMemory` if memory is refused.
-fn parts_in<const R: usize>(alloc: Global, value: &Value) -> Result<Parts<R>, LoadTraceFault>
+fn parts_in<const R: usize>(alloc: Global, value: &Value) -> Result<Parts<R>, TraceFault>
     requires small { R ≤ MOST_CELLS }
     requires members { member_count (view value.now) ≡ Some 5 }
     ensures { Reads itself (SpellsParts (view value.now)) result }
 {
     let Some(qhead) = value.get(QHEAD).and_then(segment_name_in) else {
-        return Err(LoadTraceFault::BadTrace);
+        return Err(TraceFault::BadTrace);
     };
     let Some(qtail) = value.get(QTAIL).and_then(segment_name_in) else {
-        return Err(LoadTraceFault::BadTrace);
+        return Err(TraceFault::BadTrace);
     };
     let Some(array) = value.get(ARRAY).and_then(array_parts_in) else {
-        return Err(LoadTraceFault::BadTrace);
+        return Err(TraceFault::BadTrace);
     };
     Ok(Parts {
         actors: list_in(alloc, items_at(value, ACTORS))?,

@@ -6,7 +6,7 @@ ghost use Rattle.rd_script.specs.AnyBook.{any_state};
 ghost use Rattle.rd_script.specs.Streams.{sink_stream};
 ghost use Rattle.rd_trace.specs.Writing.{WritesTrace};
 
-use super::faults::WriteTraceFault;
+use super::faults::TraceFault;
 use super::saved::trace_text;
 use rd_marks::Book;
 use rd_script::{AnyBook, Sink, write_all};
@@ -26,17 +26,17 @@ pub fn write_trace<K: Sink, const R: usize>(
     alloc: Global,
     writer: &mut K,
     book: &Book<R>,
-) -> Result<(), WriteTraceFault>
+) -> Result<(), TraceFault>
     requires { K.has_failed writer.old ≡ false }
     ensures writes { WritesTrace (book_state book.now)
         (sink_stream K.Sink writer.old writer.new) result }
 {
     let Ok(text) = trace_text(alloc, book) else {
-        return Err(WriteTraceFault::NoMemory);
+        return Err(TraceFault::NoMemory);
     };
     match write_all(writer, text.as_str().as_bytes()) {
         Ok(()) => Ok(()),
-        Err(_) => Err(WriteTraceFault::Write),
+        Err(_) => Err(TraceFault::Write),
     }
 }
 
@@ -50,7 +50,7 @@ pub fn write_any_trace<K: Sink>(
     alloc: Global,
     writer: &mut K,
     book: &AnyBook,
-) -> Result<(), WriteTraceFault>
+) -> Result<(), TraceFault>
     requires { K.has_failed writer.old ≡ false }
     ensures writes { WritesTrace (any_state book.now)
         (sink_stream K.Sink writer.old writer.new) result }

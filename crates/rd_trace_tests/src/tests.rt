@@ -17,7 +17,7 @@ use rd_journal::Session;
 use rd_marks::Book;
 use rd_script::{ReadSource, WriteSink, run};
 use rd_step::World;
-use rd_trace::{AnyBook, LoadTraceFault, load_trace, write_trace};
+use rd_trace::{AnyBook, TraceFault, load_trace, write_trace};
 use std::alloc::Global;
 use std::process::Abort;
 
@@ -76,7 +76,7 @@ fn is_written<const R: usize>(rt: &impl Abort, alloc: Global, lines: Lines, text
 }
 
 /// Compares why the bytes that are shown so are not loaded.
-fn fault_is(rt: &impl Abort, alloc: Global, bytes: &[u8], fault: LoadTraceFault, shown: &str) {
+fn fault_is(rt: &impl Abort, alloc: Global, bytes: &[u8], fault: TraceFault, shown: &str) {
     assert!(rt;
         load_trace(alloc, bytes).err() == Some(fault),
         "trace {shown}"
@@ -84,7 +84,7 @@ fn fault_is(rt: &impl Abort, alloc: Global, bytes: &[u8], fault: LoadTraceFault,
 }
 
 /// Compares why each text isn't loaded.
-fn faults_are(rt: &impl Abort, alloc: Global, rows: &[(&str, LoadTraceFault)]) {
+fn faults_are(rt: &impl Abort, alloc: Global, rows: &[(&str, TraceFault)]) {
     for (text, fault) in rows {
         fault_is(rt, alloc, text.as_bytes(), *fault, *text);
     }
@@ -93,7 +93,7 @@ fn faults_are(rt: &impl Abort, alloc: Global, rows: &[(&str, LoadTraceFault)]) {
 /// Each text is no trace.
 fn are_bad(rt: &impl Abort, alloc: Global, texts: &[&str]) {
     for text in texts {
-        fault_is(rt, alloc, text.as_bytes(), LoadTraceFault::BadTrace, *text);
+        fault_is(rt, alloc, text.as_bytes(), TraceFault::BadTrace, *text);
     }
 }
 

@@ -5,7 +5,7 @@ use rd_desk::Busy;
 use rd_program::{ProgramFault, show_program_fault};
 use rd_script::{ScriptFault, WriteSink};
 use rd_step::Flaw;
-use rd_trace::{LoadTraceFault, WriteTraceFault};
+use rd_trace::TraceFault;
 use rd_view::ViewFault;
 use std::alloc::Global;
 use std::process::{Abort, ExitCode};
@@ -38,26 +38,26 @@ const FAULTS: &[(ProgramFault, &str)] = &[
         "lcrqdb: refused 25 Write\n",
     ),
     (
-        ProgramFault::Load(LoadTraceFault::NoMemory),
+        ProgramFault::Trace(TraceFault::NoMemory),
         "lcrqdb: refused 20 NoMemory\n",
     ),
     (
-        ProgramFault::Load(LoadTraceFault::BadTrace),
+        ProgramFault::Trace(TraceFault::BadTrace),
         "lcrqdb: refused 27 BadTrace\n",
     ),
     (
-        ProgramFault::Load(LoadTraceFault::Flawed(Flaw::Counters)),
+        ProgramFault::Trace(TraceFault::Flawed(Flaw::Counters)),
         "lcrqdb: refused 26 Flaw 4\n",
     ),
     (
-        ProgramFault::Load(LoadTraceFault::TraceStep {
+        ProgramFault::Trace(TraceFault::TraceStep {
             step: 65_536,
             cause: Refusal::TooLong,
         }),
         "lcrqdb: refused 28 TraceStep 65536 cause 9 TooLong\n",
     ),
     (
-        ProgramFault::Load(LoadTraceFault::TraceMark {
+        ProgramFault::Trace(TraceFault::TraceMark {
             mark: 2,
             step: 1,
             cause: Refusal::Idle,
@@ -65,11 +65,7 @@ const FAULTS: &[(ProgramFault, &str)] = &[
         "lcrqdb: refused 32 TraceMark 2 1 cause 3 Idle\n",
     ),
     (
-        ProgramFault::Trace(WriteTraceFault::NoMemory),
-        "lcrqdb: refused 20 NoMemory\n",
-    ),
-    (
-        ProgramFault::Trace(WriteTraceFault::Write),
+        ProgramFault::Trace(TraceFault::Write),
         "lcrqdb: refused 25 Write\n",
     ),
     (

@@ -3,7 +3,7 @@
 
 use rd_program::{ProgramFault, read_whole_text, resume};
 use rd_script::{ReadSource, WriteSink};
-use rd_trace::WriteTraceFault;
+use rd_trace::TraceFault;
 use std::alloc::Global;
 use std::io;
 use std::process::Abort;
@@ -108,7 +108,7 @@ fn is_cut_after_report(rt: &impl Abort, alloc: Global, row: &Saving) {
         &mut WriteSink::new(LimitedWriter::with_limit(&mut written, limit)),
         true,
     );
-    let failed = matches!(lines, Err(ProgramFault::Trace(WriteTraceFault::Write)));
+    let failed = matches!(lines, Err(ProgramFault::Trace(TraceFault::Write)));
     let begun = written.starts_with(row.report.as_bytes());
     assert!(rt; failed && begun && written.ends_with(b"{\"e"));
 }
@@ -146,24 +146,24 @@ const LOADS: &[(&str, &str, &str, &str)] = &[
     ),
     // A text that is no trace, and a trace with a refused event, with a refused event of a
     // bookmark, or with a flawed start, run no script.
-    (NO_TRACE, "len\n", "", "Err(Load(BadTrace))"),
+    (NO_TRACE, "len\n", "", "Err(Trace(BadTrace))"),
     (
         "{\"actors\":4,\"events\":[[\"enq\",1,7],[\"go\",1],[\"starve\",1,true]],\"ring\":4,\"version\":1}",
         "len\n",
         "",
-        "Err(Load(TraceStep { step: 3, cause: NoChoice }))",
+        "Err(Trace(TraceStep { step: 3, cause: NoChoice }))",
     ),
     (
         "{\"events\":[],\"marks\":[{\"events\":[[\"go\",1]],\"name\":\"a\"}],\"ring\":2,\"start\":{\"fresh\":1},\"undone\":[],\"version\":2}\n",
         "len\n",
         "",
-        "Err(Load(TraceMark { mark: 1, step: 1, cause: Idle }))",
+        "Err(Trace(TraceMark { mark: 1, step: 1, cause: Idle }))",
     ),
     (
         "{\"events\":[],\"marks\":[],\"ring\":2,\"start\":{\"actors\":[],\"array\":{\"cells\":[],\"head\":0,\"tail\":0},\"qhead\":[0,0],\"qtail\":[0,0],\"segments\":[]},\"undone\":[],\"version\":2}\n",
         "len\n",
         "",
-        "Err(Load(Flawed(Makers)))",
+        "Err(Trace(Flawed(Makers)))",
     ),
 ];
 
@@ -176,7 +176,7 @@ fn a_script_goes_on_with_the_run_of_a_trace_and_is_not_run_if_there_is_none(rt: 
         comes_to(&rt, rt.alloc(), (*trace, *script, false), *report, *ended);
     }
     let traced = (NO_TRACE, "len\n", true);
-    comes_to(&rt, rt.alloc(), traced, "", "Err(Load(BadTrace))");
+    comes_to(&rt, rt.alloc(), traced, "", "Err(Trace(BadTrace))");
 }
 
 /// Fails at each read, by an error of this kind.

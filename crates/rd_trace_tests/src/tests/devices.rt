@@ -3,7 +3,7 @@
 use super::played;
 use rd_marks::Book;
 use rd_script::WriteSink;
-use rd_trace::{WriteTraceFault, write_trace};
+use rd_trace::{TraceFault, write_trace};
 use std::alloc::Global;
 use std::process::Abort;
 use test_kit::{End, Limit, LimitedWriter};
@@ -13,10 +13,10 @@ const TRACE: &[u8] =
     b"{\"events\":[[\"deq\",1]],\"marks\":[],\"ring\":2,\"start\":{\"fresh\":4},\"undone\":[],\"version\":2}\n";
 
 /// How many good writes of how many bytes a writer takes, the answer, and how many bytes are taken.
-const WRITES: &[(usize, usize, Result<(), WriteTraceFault>, usize)] = &[
-    (0, 100, Err(WriteTraceFault::Write), 0),
-    (3, 2, Err(WriteTraceFault::Write), 6),
-    (5, 0, Err(WriteTraceFault::Write), 0),
+const WRITES: &[(usize, usize, Result<(), TraceFault>, usize)] = &[
+    (0, 100, Err(TraceFault::Write), 0),
+    (3, 2, Err(TraceFault::Write), 6),
+    (5, 0, Err(TraceFault::Write), 0),
     (1, 100, Ok(()), 87),
     (87, 1, Ok(()), 87),
 ];
@@ -28,7 +28,7 @@ fn write_is(
     alloc: Global,
     book: &Book<2>,
     (calls, most): (usize, usize),
-    answer: Result<(), WriteTraceFault>,
+    answer: Result<(), TraceFault>,
     len: usize,
 ) {
     let mut taken = Vec::new(alloc);

@@ -1,6 +1,6 @@
 //! Traces as long as may be, and longer.
 
-use super::{AnyBook, LoadTraceFault, fault_is, text_is};
+use super::{AnyBook, TraceFault, fault_is, text_is};
 use rd_cell::Refusal;
 use rd_trace::load_trace;
 use std::alloc::Global;
@@ -56,13 +56,13 @@ fn a_trace_and_a_bookmark_have_as_many_events_as_a_session(rt: HostRuntime) {
 }
 
 /// The fault of the 65,536th of the live events and the undone ones after them.
-const TOO_LONG: LoadTraceFault = LoadTraceFault::TraceStep {
+const TOO_LONG: TraceFault = TraceFault::TraceStep {
     step: 65_536,
     cause: Refusal::TooLong,
 };
 
 /// Traces that are too long, and their faults.
-const LONGER: &[(&str, LoadTraceFault)] = &[
+const LONGER: &[(&str, TraceFault)] = &[
     // one event more
     (
         "{\"events\":[*[\"deq\",1],[\"go\",1],[\"go\",1],[\"go\",1]],\"marks\":[{\"events\":[],\"name\":\"a\"}],\"ring\":4,\"start\":{\"fresh\":4},\"undone\":[],\"version\":2}\n",
@@ -81,7 +81,7 @@ const LONGER: &[(&str, LoadTraceFault)] = &[
     // one event more of a bookmark
     (
         "{\"events\":[],\"marks\":[{\"events\":[*[\"deq\",1],[\"go\",1],[\"go\",1],[\"go\",1]],\"name\":\"a\"}],\"ring\":4,\"start\":{\"fresh\":4},\"undone\":[],\"version\":2}\n",
-        LoadTraceFault::TraceMark {
+        TraceFault::TraceMark {
             mark: 1,
             step: 65_536,
             cause: Refusal::TooLong,

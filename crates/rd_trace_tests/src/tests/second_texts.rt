@@ -1,7 +1,7 @@
 //! Texts of version 2 that are no trace.
 
 use super::{are_bad, fault_is};
-use rd_trace::LoadTraceFault;
+use rd_trace::TraceFault;
 use std::alloc::Global;
 use std::process::Abort;
 
@@ -25,7 +25,7 @@ fn a_text_that_is_cut_is_no_trace(rt: HostRuntime) {
             &rt,
             rt.alloc(),
             &whole[..end],
-            LoadTraceFault::BadTrace,
+            TraceFault::BadTrace,
             "that is cut",
         );
     }
@@ -127,7 +127,7 @@ const NO_TEXTS: &[&[u8]] = &[
 #[test]
 fn bytes_that_are_no_text_are_no_trace(rt: HostRuntime) {
     for bytes in NO_TEXTS {
-        let bad = LoadTraceFault::BadTrace;
+        let bad = TraceFault::BadTrace;
         fault_is(&rt, rt.alloc(), *bytes, bad, "that is no UTF-8");
     }
 }

@@ -4,7 +4,7 @@ use super::questions::loaded_report;
 use super::{AnyBook, are_bad, fault_is, faults_are, is_written, text_is};
 use rd_cell::Refusal;
 use rd_step::Flaw;
-use rd_trace::{LoadTraceFault, load_trace};
+use rd_trace::{TraceFault, load_trace};
 use std::alloc::Global;
 use std::process::Abort;
 
@@ -68,10 +68,10 @@ fn undone_events_and_bookmarks_are_written(rt: HostRuntime) {
 }
 
 /// Texts of which an event is refused, and their faults.
-const REFUSALS: &[(&str, LoadTraceFault)] = &[
+const REFUSALS: &[(&str, TraceFault)] = &[
     (
         "{\"events\":[],\"marks\":[{\"events\":[[\"go\",1]],\"name\":\"a\"}],\"ring\":2,\"start\":{\"fresh\":1},\"undone\":[],\"version\":2}",
-        LoadTraceFault::TraceMark {
+        TraceFault::TraceMark {
             mark: 1,
             step: 1,
             cause: Refusal::Idle,
@@ -79,7 +79,7 @@ const REFUSALS: &[(&str, LoadTraceFault)] = &[
     ),
     (
         "{\"events\":[],\"marks\":[{\"events\":[],\"name\":\"z\"},{\"events\":[[\"go\",0]],\"name\":\"a\"}],\"ring\":4,\"start\":{\"fresh\":16},\"undone\":[],\"version\":2}",
-        LoadTraceFault::TraceMark {
+        TraceFault::TraceMark {
             mark: 2,
             step: 1,
             cause: Refusal::NoActor,
@@ -87,21 +87,21 @@ const REFUSALS: &[(&str, LoadTraceFault)] = &[
     ),
     (
         "{\"events\":[[\"go\",0]],\"marks\":[],\"ring\":4,\"start\":{\"fresh\":4},\"undone\":[[\"go\",1]],\"version\":2}",
-        LoadTraceFault::TraceStep {
+        TraceFault::TraceStep {
             step: 1,
             cause: Refusal::NoActor,
         },
     ),
     (
         "{\"events\":[],\"marks\":[],\"ring\":8,\"start\":{\"fresh\":1},\"undone\":[[\"adeq\",1],[\"aenq\",1,7]],\"version\":2}",
-        LoadTraceFault::TraceStep {
+        TraceFault::TraceStep {
             step: 2,
             cause: Refusal::NotIdle,
         },
     ),
     (
         "{\"events\":[[\"go\",9]],\"marks\":[{\"events\":[[\"deq\",1]],\"name\":\"a\"},{\"events\":[[\"deq\",1],[\"go\",1],[\"deq\",1]],\"name\":\"b\"}],\"ring\":2,\"start\":{\"fresh\":1},\"undone\":[],\"version\":2}",
-        LoadTraceFault::TraceMark {
+        TraceFault::TraceMark {
             mark: 2,
             step: 3,
             cause: Refusal::NotIdle,
@@ -109,14 +109,14 @@ const REFUSALS: &[(&str, LoadTraceFault)] = &[
     ),
     (
         "{\"events\":[[\"deq\",1],[\"starve\",1,true]],\"marks\":[],\"ring\":2,\"start\":{\"fresh\":1},\"undone\":[[\"go\",9]],\"version\":2}",
-        LoadTraceFault::TraceStep {
+        TraceFault::TraceStep {
             step: 2,
             cause: Refusal::NoChoice,
         },
     ),
     (
         "{\"events\":[[\"deq\",1]],\"marks\":[],\"ring\":2,\"start\":{\"fresh\":1},\"undone\":[[\"go\",1],[\"go\",9]],\"version\":2}",
-        LoadTraceFault::TraceStep {
+        TraceFault::TraceStep {
             step: 3,
             cause: Refusal::NoActor,
         },
@@ -138,7 +138,7 @@ fn trace_fault_is(
     alloc: Global,
     start: &str,
     (marked, live, undone): (&str, &str, &str),
-    fault: LoadTraceFault,
+    fault: TraceFault,
 ) {
     let text = format!(in alloc;
         "{{\"events\":[{live}],\"marks\":[{{\"events\":[{marked}],\"name\":\"a\"}}],\"ring\":2,\"start\":{start},\"undone\":[{undone}],\"version\":2}}"
@@ -153,30 +153,24 @@ const NO_EVENT: &str = "[\"hop\",0]";
 
 /// The start, the events of a bookmark, the live and the undone ones of a trace, and why it is not
 /// loaded.
-const FAULTS: &[(&str, &str, &str, &str, LoadTraceFault)] = &[
-    (FLAWED, NO_EVENT, "", "", LoadTraceFault::BadTrace),
-    (FLAWED, REFUSED, NO_EVENT, "", LoadTraceFault::BadTrace),
-    (FLAWED, REFUSED, REFUSED, NO_EVENT, LoadTraceFault::BadTrace),
+const FAULTS: &[(&str, &str, &str, &str, TraceFault)] = &[
+    (FLAWED, NO_EVENT, "", "", TraceFault::BadTrace),
+    (FLAWED, REFUSED, NO_EVENT, "", TraceFault::BadTrace),
+    (FLAWED, REFUSED, REFUSED, NO_EVENT, TraceFault::BadTrace),
     (
         FLAWED,
         REFUSED,
         REFUSED,
         REFUSED,
-        LoadTraceFault::Flawed(Flaw::Makers),
+        TraceFault::Flawed(Flaw::Makers),
     ),
-    (
-        FLAWED,
-        "",
-        REFUSED,
-        "",
-        LoadTraceFault::Flawed(Flaw::Makers),
-    ),
+    (FLAWED, "", REFUSED, "", TraceFault::Flawed(Flaw::Makers)),
     (
         "{\"fresh\":1}",
         REFUSED,
         REFUSED,
         REFUSED,
-        LoadTraceFault::TraceMark {
+        TraceFault::TraceMark {
             mark: 1,
             step: 1,
             cause: Refusal::NoActor,
@@ -187,7 +181,7 @@ const FAULTS: &[(&str, &str, &str, &str, LoadTraceFault)] = &[
         "[\"deq\",1]",
         "[\"go\",1]",
         REFUSED,
-        LoadTraceFault::TraceStep {
+        TraceFault::TraceStep {
             step: 1,
             cause: Refusal::Idle,
         },
@@ -197,7 +191,7 @@ const FAULTS: &[(&str, &str, &str, &str, LoadTraceFault)] = &[
         "[\"deq\",1]",
         "[\"deq\",1],[\"go\",1]",
         REFUSED,
-        LoadTraceFault::TraceStep {
+        TraceFault::TraceStep {
             step: 3,
             cause: Refusal::NoActor,
         },

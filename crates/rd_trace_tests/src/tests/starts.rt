@@ -5,7 +5,7 @@ use super::{AnyBook, are_bad, fault_is, text_is};
 use rd_journal::Session;
 use rd_marks::Book;
 use rd_step::{Flaw, World};
-use rd_trace::{LoadTraceFault, load_trace};
+use rd_trace::{TraceFault, load_trace};
 use std::alloc::{AllocError, Global};
 use std::process::Abort;
 
@@ -346,7 +346,7 @@ const FLAWS: &[(&str, &str, Flaw)] = &[
 fn a_flaw_is_named(rt: HostRuntime) {
     for (old, new, flaw) in FLAWS {
         let text = trace_with(&rt, rt.alloc(), POISED, *old, *new);
-        let fault = LoadTraceFault::Flawed(*flaw);
+        let fault = TraceFault::Flawed(*flaw);
         fault_is(&rt, rt.alloc(), text.as_bytes(), fault, *new);
     }
 }

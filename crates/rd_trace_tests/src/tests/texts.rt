@@ -2,7 +2,7 @@
 
 use super::{AnyBook, are_bad, fault_is, faults_are, text_is};
 use rd_cell::Refusal;
-use rd_trace::{LoadTraceFault, load_trace};
+use rd_trace::{TraceFault, load_trace};
 
 #[test]
 fn a_text_that_is_cut_is_no_trace(rt: HostRuntime) {
@@ -12,7 +12,7 @@ fn a_text_that_is_cut_is_no_trace(rt: HostRuntime) {
             &rt,
             rt.alloc(),
             &whole[..end],
-            LoadTraceFault::BadTrace,
+            TraceFault::BadTrace,
             "that is cut",
         );
     }
@@ -63,29 +63,29 @@ fn other_numbers_members_and_events_are_no_trace(rt: HostRuntime) {
     let open = "[".repeat(rt.alloc(), 200).expect(&rt, "out of memory");
     are_bad(&rt, rt.alloc(), &[&open]);
     let not_utf8 = b"{\"actors\":4,\"events\":[[\"go\xff\",1]],\"ring\":4,\"version\":1}";
-    let bad = LoadTraceFault::BadTrace;
+    let bad = TraceFault::BadTrace;
     fault_is(&rt, rt.alloc(), not_utf8, bad, "that is no UTF-8");
 }
 
 /// Texts of which an event is refused, and their faults.
-const FAULTS: &[(&str, LoadTraceFault)] = &[
+const FAULTS: &[(&str, TraceFault)] = &[
     (
         "{\"actors\":4,\"events\":[[\"enq\",1,7],[\"go\",1],[\"starve\",1,true],[\"go\",9]],\"ring\":4,\"version\":1}",
-        LoadTraceFault::TraceStep {
+        TraceFault::TraceStep {
             step: 3,
             cause: Refusal::NoChoice,
         },
     ),
     (
         "{\"actors\":4,\"events\":[[\"go\",0]],\"ring\":4,\"version\":1}",
-        LoadTraceFault::TraceStep {
+        TraceFault::TraceStep {
             step: 1,
             cause: Refusal::NoActor,
         },
     ),
     (
         "{\"actors\":1,\"events\":[[\"deq\",1],[\"deq\",2]],\"ring\":2,\"version\":1}",
-        LoadTraceFault::TraceStep {
+        TraceFault::TraceStep {
             step: 2,
             cause: Refusal::NoActor,
         },

@@ -4,7 +4,7 @@ use super::trials::{has_text, on_trial};
 use rd_marks::Book;
 use rd_program::{ProgramFault, resume};
 use rd_script::{ReadSource, WriteSink};
-use rd_trace::{AnyBook, LoadTraceFault, WriteTraceFault, load_trace, write_trace};
+use rd_trace::{AnyBook, TraceFault, load_trace, write_trace};
 use std::alloc::Global;
 use std::process::Abort;
 
@@ -18,19 +18,14 @@ pub(super) const TRACE: &[u8] =
 
 /// Whether a trace was written whole, as this text. If not, memory was refused, and nothing was
 /// written.
-fn is_whole(
-    rt: &impl Abort,
-    answer: Result<(), WriteTraceFault>,
-    page: &Vec<u8>,
-    text: &[u8],
-) -> bool {
+fn is_whole(rt: &impl Abort, answer: Result<(), TraceFault>, page: &Vec<u8>, text: &[u8]) -> bool {
     match answer {
         Ok(()) => {
             assert!(rt; has_text(page, text));
             true
         }
         Err(fault) => {
-            assert!(rt; fault == WriteTraceFault::NoMemory && page.is_empty());
+            assert!(rt; fault == TraceFault::NoMemory && page.is_empty());
             false
         }
     }
@@ -105,7 +100,7 @@ fn loaded(rt: &impl Abort, alloc: Global, trace: &[u8]) -> Option<AnyBook> {
     match load_trace(alloc, trace) {
         Ok(book) => Some(book),
         Err(fault) => {
-            assert!(rt; fault == LoadTraceFault::NoMemory);
+            assert!(rt; fault == TraceFault::NoMemory);
             None
         }
     }
@@ -147,10 +142,6 @@ fn comes_back(rt: &impl Abort, alloc: Global, trace: &[u8], page: &mut Vec<u8>) 
     let script = &mut ReadSource::new(b"".as_slice());
     let sink = &mut WriteSink::new(&mut *page);
     match resume(alloc, trace, script, sink, true) {
-        Err(ProgramFault::Load(LoadTraceFault::NoMemory)) => {
-            assert!(rt; page.is_empty());
-            false
-        }
         Err(ProgramFault::Trace(fault)) => is_whole(rt, Err(fault), page, trace),
         saved => {
             assert!(rt; matches!(saved, Ok(0)));

@@ -1,7 +1,7 @@
 use Rattle.std.proofs.Common.{inl, inr, refl}
 use Rattle.std.proofs.KnownBytes.{Keeps-refl}
 use Rattle.rd_script.specs.Streams.{devices}
-use Rattle.rd_program.specs.declared.faults.ProgramFault.TheVariants.{Load}
+use Rattle.rd_program.specs.declared.faults.ProgramFault.TheVariants.{Trace}
 use Rattle.rd_program.specs.Program.{ResumesTrace}
 use Rattle.rd_script.proofs.ResultLemmas.{passed_up}
 use Rattle.rd_program.proofs.program.resume.Goals as goal
@@ -11,7 +11,7 @@ returns-in_err-book g c =
     let d = devices g.S.Source g.K.Sink c.args.reader.now c.args.reader.now c.args.writer.now c.args.writer.now in
     let fault = c.in_err-book.field-0.0 in
     record {
-      resumes = passed_up (λ r. ResumesTrace c.args.text.now c.args.trace d r) (Load fault) c.from_residual.result c.from_residual.ensures.1
+      resumes = passed_up (λ r. ResumesTrace c.args.text.now c.args.trace d r) (Trace fault) c.from_residual.result c.from_residual.ensures.1
           (inl (fault, refl, ((Keeps-refl _, c.requires.reader_works), (Keeps-refl _, c.requires.writer_works)), c.in_err-book.ensures.loads));
     }
 

@@ -5,7 +5,7 @@ use super::super::trials::on_trial;
 use super::super::{traces, views};
 use rd_marks::Book;
 use rd_script::WriteSink;
-use rd_trace::{WriteTraceFault, write_trace};
+use rd_trace::{TraceFault, write_trace};
 use rd_view::ViewFault;
 use std::alloc::Global;
 use std::process::Abort;
@@ -19,7 +19,7 @@ fn trace_ends(alloc: Global, book: &Book<2>, page: &mut Vec<u8>, calls: usize, e
     let most = 1;
     let writer = LimitedWriter::with_limit(&mut *page, Limit { calls, most, end });
     let fault = write_trace(alloc, &mut WriteSink::new(writer), book).err();
-    fault == Some(WriteTraceFault::Write)
+    fault == Some(TraceFault::Write)
         && page.len() == calls
         && traces::TRACE.starts_with(page.as_slice())
 }
