@@ -1,13 +1,10 @@
 -- The result of loading a text.
-use Rattle.rd_trace.proofs.Prelude.{IsErrAnd, ◌≡◌, ◌≤◌, ◌<◌, ◌+◌, ℕ, List, [], ◌∷◌, length, codes, Some, none-some, Result, Ok, Err, sym, ap, ◌∙◌, subst, arith, IsDistinct, Data, World, Mark, book_state, loaded_state, first_mark_fault, Replays, MOST_MARKS, HaveDifferentNames, TraceFault, BadTrace, number_at, HasActorsInRange, Trace, IsEitherVersion, HasValue, AnyBook, any_state, IsTraceText, IsTraceRing, LoadsValue, LoadsTrace, Book, NoMemory}
+use Rattle.rd_trace.proofs.Prelude.{IsErrAnd, ◌≡◌, ◌≤◌, ◌<◌, ◌+◌, ℕ, List, [], ◌∷◌, length, codes, Some, none-some, Result, Ok, Err, sym, ap, ◌∙◌, subst, arith, IsDistinct, Data, World, Mark, book_state, loaded_state, first_mark_fault, Replays, MOST_MARKS, HaveDifferentNames, TraceFault, BadTrace, number_at, Trace, IsEitherVersion, HasValue, AnyBook, any_state, IsTraceText, IsTraceRing, LoadsValue, LoadsTrace, Book, NoMemory}
 use Rattle.std.specs.Prelude.{IsOkAnd, MatchResult}
 use Rattle.rd_trace.proofs.SpellLemmas.{passed_up}
 use Rattle.serde_json.proofs.OnLiterals.{serde_json_on_literals}
 
 -- What holds of a session that a value spells
-
-pub actors_in_range : {R : ℕ} (d : Data) (t : Trace R) → IsEitherVersion d t → HasActorsInRange t.start
-actors_in_range d t h = grind arith
 
 pub names_differ : {R : ℕ} (d : Data) (t : Trace R) → IsEitherVersion d t → HaveDifferentNames t.marks
 unfolding IsDistinct

@@ -42,16 +42,16 @@ load_cases : (text : List ℕ) (r : Result AnyBook TraceFault) → LoadsTrace te
 load_cases text r h = grind arith
 
 module _ (text : List ℕ) (r q : Result AnyBook TraceFault) (some : r ≡ Err NoMemory → ⊥) (also : q ≡ Err NoMemory → ⊥) where
-  same_answers : LoadCases text r → LoadCases text q → IsSameAnswer r q
-  same_answers (inl memory) k = absurd (some memory)
-  same_answers (inr h) (inl memory) = absurd (also memory)
-  same_answers (inr (inl h)) (inr (inl k)) = subst₂ IsSameAnswer (sym h.0) (sym k.0) refl
-  same_answers (inr (inl h)) (inr (inr (Q, u, is_u, k))) = absurd (h.1 Q u is_u)
-  same_answers (inr (inr (R, t, is_t, h))) (inr (inl k)) = absurd (k.1 R t is_t)
-  same_answers (inr (inr (R, t, is_t, h))) (inr (inr (Q, u, is_u, k))) = same_answer R Q t u (same_trace text R Q t u is_t is_u).1 r q some also h k
+  cases_same_answer : LoadCases text r → LoadCases text q → IsSameAnswer r q
+  cases_same_answer (inl memory) k = absurd (some memory)
+  cases_same_answer (inr h) (inl memory) = absurd (also memory)
+  cases_same_answer (inr (inl h)) (inr (inl k)) = subst₂ IsSameAnswer (sym h.0) (sym k.0) refl
+  cases_same_answer (inr (inl h)) (inr (inr (Q, u, is_u, k))) = absurd (h.1 Q u is_u)
+  cases_same_answer (inr (inr (R, t, is_t, h))) (inr (inl k)) = absurd (k.1 R t is_t)
+  cases_same_answer (inr (inr (R, t, is_t, h))) (inr (inr (Q, u, is_u, k))) = same_answer R Q t u (same_trace text R Q t u is_t is_u).1 r q some also h k
 
 pub one_answer : (text : List ℕ) (r q : Result AnyBook TraceFault) → LoadsTrace text r → LoadsTrace text q → (r ≡ Err NoMemory → ⊥) → (q ≡ Err NoMemory → ⊥) → IsSameAnswer r q
-one_answer text r q h k some also = same_answers text r q some also (load_cases text r h) (load_cases text q k)
+one_answer text r q h k some also = cases_same_answer text r q some also (load_cases text r h) (load_cases text q k)
 
 -- loading a text that is a trace without a fault gives the trace's book, or `NoMemory`
 loads_as : (text : List ℕ) (R : ℕ) (t : Trace R) → IsTraceText text t → trace_fault t ≡ None → (r : Result AnyBook TraceFault) → LoadCases text r → LoadsAgain (loaded_state t) r

@@ -71,8 +71,8 @@ module _ {X : Type 0} (vs ws : List (Vec X Global)) (same : map elements vs ≡ 
   same_at : (m : ℕ) → option_map elements (slice_get vs m) ≡ option_map elements (slice_get ws m)
   same_at m = sym (slice_get-map elements vs m) ∙ ap (λ l. slice_get l m) same ∙ slice_get-map elements ws m
 
-  same_name : (s : SegName) → by_name vs s ≡ by_name ws s
-  same_name s = (same_list _ _ s.n (same_at s.maker)).0
+  same_by_name : (s : SegName) → by_name vs s ≡ by_name ws s
+  same_by_name s = (same_list _ _ s.n (same_at s.maker)).0
 
 -- ---- starts
 
@@ -93,7 +93,7 @@ same_parts : (R : ℕ) (d : Data) (p q : Parts R) → SpellsParts d p → Spells
 same_parts R d p q h k =
     let actors = same_each_at SpellsActor same_actor _ p.actors.items q.actors.items h.actors k.actors in
     let makers = same_seen_at SpellsSegmentList elements (same_segments R) _ p.segments.items q.segments.items h.segments k.segments in
-    let names = same_name p.segments.items q.segments.items makers in
+    let names = same_by_name p.segments.items q.segments.items makers in
     let all = same_all p.segments.items q.segments.items makers in
     let long = same_length p.segments.items q.segments.items makers in
     let roots = (same_list _ _ 0 (same_at p.segments.items q.segments.items makers 0)).1 in

@@ -39,7 +39,7 @@ pub use Rattle.rd_trace.specs.Numbers.{byte_number, items_at, member_count, numb
 pub use Rattle.rd_trace.specs.Saved.{HasValue, IsEitherVersion, IsSameBook, IsTraceText, IsVersion1, IsVersion2, Trace, book_data, book_object, loaded_state, saved_trace, spelled_mark}
 pub use Rattle.rd_trace.specs.Segments.{SpellsSegment, SpellsSegmentList, cell_data, cell_of, cell_of_items, segment_list_data, segment_data}
 pub use Rattle.rd_trace.specs.Spelled.{AreSpelled, Gives, Reads, SpellEach, SpellEachAt, SpellEachOf, elements, items_by, itself}
-pub use Rattle.rd_trace.specs.Starts.{HasActorsInRange, SpellsFreshStart, SpellsParts, SpellsStart, IsStartWrittenAs, IsStartValue, SpellsWorld, fresh_data, parts_data, start_flaw, start_world}
+pub use Rattle.rd_trace.specs.Starts.{SpellsFreshStart, SpellsParts, SpellsStart, IsStartWrittenAs, IsStartValue, SpellsWorld, fresh_data, parts_data, start_flaw, start_world}
 pub use Rattle.rd_trace.specs.Steps.{GoesTo, LoadsValue, MakesWorld, RefusesOne, SetsMarks}
 pub use Rattle.rd_trace.specs.Texts.{AreAppended, IsMarkAppended, IsReadBack, IsSpelledBack, IsStartAppended, joined_text}
 pub use Rattle.rd_trace.specs.Traces.{IsTraceRing, first_refused, session_at}

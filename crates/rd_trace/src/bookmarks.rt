@@ -1,11 +1,9 @@
 //! Bookmarks as JSON: an object with the name and the list of events.
 
 ghost use Rattle.std.specs.Prelude.{◌≡◌, OnOk, IfSome, string_bytes};
-ghost use Rattle.std.specs.List.{list_any};
 ghost use Rattle.serde_json.specs.View.{view, items_view};
 ghost use Rattle.rd_marks.specs.Book.{book_state};
 ghost use Rattle.rd_marks.specs.BookState.{mark_events};
-ghost use Rattle.rd_marks.specs.Names.{mark_name_eq};
 ghost use Rattle.rd_marks.specs.Rules.{KeepsRules};
 ghost use Rattle.rd_marks.specs.declared.names.MarkName.{MarkName};
 ghost use Rattle.rd_trace.specs.Spelled.{Reads};
@@ -55,19 +53,15 @@ pub fn marks_in(alloc: Global, list: &Vec<Value>) -> Result<Vec<SavedMark>, Trac
     let mut marks = Vec::with_capacity(alloc, count)?;
     for value in list {
         let mark = mark_in(alloc, value)?;
-        if is_taken(&marks, mark.name) {
+        if marks
+            .iter()
+            .any(|other: &SavedMark| mark.name == other.name)
+        {
             return Err(TraceFault::BadTrace);
         }
         marks.push_reserved(mark);
     }
     Ok(marks)
-}
-
-/// Whether one of these bookmarks has this name.
-fn is_taken(marks: &[SavedMark], name: MarkName) -> bool
-    ensures { result ≡ list_any (λ mark. mark_name_eq name mark.name) marks.now }
-{
-    marks.iter().any(|mark| name == mark.name)
 }
 
 /// Returns the bookmark that a JSON value spells. Fails with `BadTrace` if it spells none, and with
