@@ -1,5 +1,5 @@
 -- What the code keeps while it compares two runs is right after one more step.
-use Rattle.rd_depend.proofs.Prelude.{common_steps, slice_get_past, and_from, and_parts, map-append, reverse-append, option_to_list, set, is_nothing, slice_get-set_same, slice_get-set_other, Entry, Key, NumberedStep, Reached, is_value_written, key_eq, place_key, value_key, segment_key, key_eq-true, key_eq-sym, is_whole_segment, taken_in, taken_in_under, IsInOrder, IsAfter, left_in, reached_or_nothing, with_first, list_at, items_of, ◌≡◌, ◌↔◌, ℕ, ◌+◌, ◌<◌, ◌≤◌, Bool, true, false, not, ◌&&◌, if◌then◌else◌, cond, IsTrue, List, [], ◌∷◌, ◌++◌, length, map, reverse, Vec, Global, Option, Some, IsSome, MatchOption, refl, sym, ap, subst, ◌∙◌, arith}
+use Rattle.rd_depend.proofs.Prelude.{common_steps, slice_get_past, and_from, and_parts, map-append, reverse-append, option_to_list, set, is_nothing, slice_get-set_same, slice_get-set_other, Entry, Key, NumberedStep, Reached, is_value_written, key_eq, place_key, value_key, segment_key, key_eq-true, key_eq-sym, is_whole_segment, taken_in, taken_in_under, IsInOrder, IsAfter, left_in, reached_or_nothing, with_first, list_at, items_of, ◌≡◌, ◌↔◌, ℕ, ◌<◌, ◌≤◌, Bool, true, false, not, ◌&&◌, if◌then◌else◌, cond, IsTrue, List, [], ◌∷◌, ◌++◌, length, map, reverse, Vec, Global, Option, Some, IsSome, MatchOption, refl, sym, ap, subst, ◌∙◌, arith}
 
 -- How far steps reached, under one key and under all
 

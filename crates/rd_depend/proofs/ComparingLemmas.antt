@@ -1,5 +1,5 @@
 -- A comparison of two runs as it goes on over the steps of the first one.
-use Rattle.rd_depend.proofs.Prelude.{drop_all, drop-cons, Entry, Key, Reached, DecidesEquivalence, Numbered, steps_by_actor, nothing_reached, KeepsOrder, IsOutOfOrder, ◌≡◌, ◌↔◌, ℕ, ◌+◌, ◌<◌, ◌≤◌, Bool, false, IsTrue, List, [], ◌∷◌, length, drop, get_or, refl, sym, ap, subst, arith, length-append}
+use Rattle.rd_depend.proofs.Prelude.{drop_all, drop-cons, Entry, Key, Reached, DecidesEquivalence, Numbered, steps_by_actor, nothing_reached, KeepsOrder, IsOutOfOrder, ◌≡◌, ◌↔◌, ℕ, ◌<◌, ◌≤◌, Bool, false, IsTrue, List, [], ◌∷◌, length, drop, get_or, refl, sym, ap, subst, arith, length-append}
 use Rattle.rd_depend.proofs.KeepingOrder.{kept_taken, taken_kept}
 use Rattle.rd_depend.proofs.RunsAgree.{taken_equivalent, untaken_different}
 
