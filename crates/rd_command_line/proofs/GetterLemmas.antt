@@ -12,7 +12,7 @@ use Rattle.rd_command_line.specs.declared.requests.Options.TheVariants.{Run, Vie
 use Rattle.rd_cell.specs.declared.limits.TheConstants.{MOST_ACTORS}
 use Rattle.rd_script.specs.declared.rings.Ring.{Ring}
 use Rattle.rd_command_line.specs.Options.{ring_text, flag_text}
-use Rattle.rd_command_line.specs.CommandLine.{IsNumeralOf, GivesWorld, GivesFile, GivesRun, GivesView, GivesLoad}
+use Rattle.rd_command_line.specs.CommandLine.{IsNumeralOf, GivesWorld, GivesFileAndTrace, GivesRun, GivesView, GivesLoad}
 
 -- an option is not both none and something
 pub none_some : {X : Type 0} (o : Option X) (x : X) → o ≡ None → o ≡ Some x → ⊥
@@ -69,11 +69,11 @@ first_value_in_rows m id v given = sym (first_value-rows (found_of m) id) ∙ sy
 
 -- with a text for `--trace` that is not a flag's, the rows give no file
 pub no_flag : (m : ArgMatches) (v : Text) → Some v ≡ first_value (found_of m) (codes "trace")
-    → ((choice : Bool) → v ≡ flag_text choice → ⊥) → (file : Text) (trace : Bool) → GivesFile (rows_of (found_of m)) file trace → ⊥
+    → ((choice : Bool) → v ≡ flag_text choice → ⊥) → (file : Text) (trace : Bool) → GivesFileAndTrace (rows_of (found_of m)) file trace → ⊥
 no_flag m v given none file trace tells = none trace (same_value m (codes "trace") v (flag_text trace) given tells.1)
 
 -- rows of `run` that give no file and no flag for the trace give no options
-pub no_run_file : (m : ArgMatches) → ((file : Text) (trace : Bool) → GivesFile (rows_of (found_of m)) file trace → ⊥) → (o : Options) → GivesRun (rows_of (found_of m)) o → ⊥
+pub no_run_file : (m : ArgMatches) → ((file : Text) (trace : Bool) → GivesFileAndTrace (rows_of (found_of m)) file trace → ⊥) → (o : Options) → GivesRun (rows_of (found_of m)) o → ⊥
 no_run_file m none o tells = grind arith
 
 -- rows of `run` that give no world give no options
@@ -100,5 +100,5 @@ no_view_world m none (View files actors ring) tells = none actors ring tells.2
 no_view_world m none _ tells = tells
 
 -- rows of `load` that give no file and no flag for the trace give no options
-pub no_load_file : (m : ArgMatches) → ((file : Text) (trace : Bool) → GivesFile (rows_of (found_of m)) file trace → ⊥) → (o : Options) → GivesLoad (rows_of (found_of m)) o → ⊥
+pub no_load_file : (m : ArgMatches) → ((file : Text) (trace : Bool) → GivesFileAndTrace (rows_of (found_of m)) file trace → ⊥) → (o : Options) → GivesLoad (rows_of (found_of m)) o → ⊥
 no_load_file m none o tells = grind arith

@@ -105,12 +105,12 @@ pub record GivesWorld (rows : List Row) (actors : ℕ) (ring : Ring) : Type 0 wh
 
 -- the values that clap found for `file` and `--trace` are this name, and whether the trace is asked
 -- for
-abbrev pub GivesFile : List Row → Text → Bool → Type 0
-GivesFile rows name trace = (first_of (codes "file") rows ≡ Some name) × (first_of (codes "trace") rows ≡ Some (flag_text trace))
+abbrev pub GivesFileAndTrace : List Row → Text → Bool → Type 0
+GivesFileAndTrace rows name trace = (first_of (codes "file") rows ≡ Some name) × (first_of (codes "trace") rows ≡ Some (flag_text trace))
 
 -- the values that clap found for the arguments of `run` give these options
 abbrev pub GivesRun : List Row → Options → Type 0
-GivesRun rows (Run file actors ring trace) = GivesFile rows file.now trace × GivesWorld rows actors ring
+GivesRun rows (Run file actors ring trace) = GivesFileAndTrace rows file.now trace × GivesWorld rows actors ring
 GivesRun rows _ = ⊥
 
 -- the values that clap found for the arguments of `view` give these options
@@ -121,7 +121,7 @@ GivesView rows _ = ⊥
 
 -- the values that clap found for the arguments of `load` give these options
 abbrev pub GivesLoad : List Row → Options → Type 0
-GivesLoad rows (Load file trace) = GivesFile rows file.now trace
+GivesLoad rows (Load file trace) = GivesFileAndTrace rows file.now trace
 GivesLoad rows _ = ⊥
 
 -- clap found a subcommand, and the values for its arguments give these options

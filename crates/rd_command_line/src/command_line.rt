@@ -10,7 +10,7 @@ ghost use Rattle.clap.specs.Words.{app_of, found_of, kind_of, rows_of, rule_of, 
 ghost use Rattle.clap.specs.declared.builder.command.Command.TheViews.{out-Command};
 ghost use Rattle.clap.specs.declared.error.kind.ErrorKind.TheVariants.{InvalidValue};
 ghost use Rattle.rd_command_line.specs.Options.{IsRefusedOrNoMemory, AreInRange, flag_text, ring_text};
-ghost use Rattle.rd_command_line.specs.CommandLine.{BothAreRingSizes, ValueNamesPair, AreRingSizes, GivesSubcommand, GivesWorld, GivesFile, GivesRun, GivesView, GivesLoad, GivesOptions, GivesFault};
+ghost use Rattle.rd_command_line.specs.CommandLine.{BothAreRingSizes, ValueNamesPair, AreRingSizes, GivesSubcommand, GivesWorld, GivesFileAndTrace, GivesRun, GivesView, GivesLoad, GivesOptions, GivesFault};
 ghost use Rattle.rd_command_line.specs.CommandLine.{file_rule, files_rule, actors_rule, ring_rule, trace_rule, run_app_without_trace, run_app, view_app, load_app, program_app};
 
 use super::requests::{Options, OptionsFault};
@@ -187,9 +187,9 @@ fn load_options<'a>(load: &ArgMatches<'a>) -> Option<Options<'a>>
 /// `load`, or none if a value is missing or not one that the program takes.
 fn file_and_trace<'a>(matches: &ArgMatches<'a>) -> Option<(&'a str, bool)>
     ensures some { IfSome result (λ asked.
-        GivesFile (rows_of (found_of matches.now)) asked.0.now asked.1) }
+        GivesFileAndTrace (rows_of (found_of matches.now)) asked.0.now asked.1) }
     ensures none { IsNone result → (file : Text) (trace : Bool)
-        → GivesFile (rows_of (found_of matches.now)) file trace → ⊥ }
+        → GivesFileAndTrace (rows_of (found_of matches.now)) file trace → ⊥ }
 {
     let file = matches.get_str("file")?;
     let trace = parse_flag(matches.get_str("trace")?)?;

@@ -64,8 +64,8 @@ stands_first w x u es rest left runs goes m on =
     }
 
 -- the entries that are left are the same, however the entry was found
-one_left : (e : Event) (rest l k : List Entry) → MayComeFirst e rest l → MayComeFirst e rest k → l ≡ k
-one_left e rest l k a b = grind (arith, free_of_event-unique)
+left-unique : (e : Event) (rest l k : List Entry) → MayComeFirst e rest l → MayComeFirst e rest k → l ≡ k
+left-unique e rest l k a b = grind (arith, free_of_event-unique)
 
 -- if the first event of one run may come first in another run from the same world, its entry is the
 -- same there, and what is left runs from the world after it
@@ -92,7 +92,7 @@ equivalent_first w x xs ys left first runs m = (
       let c = comes_first w x.event (events xs) ys runs h in
       let there : c.stepped ≡ record { world = first.after; entry = x } = same_Ok _ _ (sym c.goes ∙ first.goes) in
       subst (λ (s : Stepped). IsEquivalent s.world (events xs) (events left)) there
-      (subst (λ (l : List Entry). IsEquivalent c.stepped.world (events xs) (events l)) (one_left x.event ys c.left left c.may m) c.on),
+      (subst (λ (l : List Entry). IsEquivalent c.stepped.world (events xs) (events l)) (left-unique x.event ys c.left left c.may m) c.on),
   λ h. stands_first w x first.after (events xs) ys left runs first.goes m h,
 )
 

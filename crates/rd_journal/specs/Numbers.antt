@@ -6,7 +6,8 @@ use Rattle.std.specs.List.{flat_map, count_by}
 abbrev pub at_numbers : {X : Type 0} → List X → List ℕ → List X
 at_numbers entries numbers = flat_map (λ n. take 1 (drop n entries)) numbers
 
--- the list of just the k-th element, counted from 1
+-- the list of just the k-th element, counted from 1, which k must be at least; empty if there is
+-- none
 abbrev pub only_numbered : {X : Type 0} → List X → ℕ → List X
 only_numbered xs k = take 1 (drop (k - 1) xs)
 

@@ -44,9 +44,10 @@ pub fn text_of_view(
     Ok(text)
 }
 
-/// Appends to the text the heading of a viewer and the answers to its lines, or one line if its
-/// thread was not started. The buffer `line` is overwritten. Fails only if memory is refused; some
-/// lines may then have been appended.
+/// Appends to the text the heading of a viewer, and after it the answers to its lines. If there are
+/// no answers, since its thread was not started, the line `refused 20 NoMemory` comes in their
+/// place. The buffer `line` is overwritten. Fails only if memory is refused; some lines may then
+/// have been appended.
 fn put_viewer(
     text: &mut Vec<u8>,
     line: &mut Text,

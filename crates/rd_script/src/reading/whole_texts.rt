@@ -15,8 +15,7 @@ use std::alloc::{AllocError, Global};
 /// What a line of a script spells: a command, or the line's fault.
 pub type ParsedLine = Result<Command, LineFault>;
 
-/// Returns what each line of a text spells, in order. The last line
-/// needs no line feed.
+/// Returns what each line of a text spells, in order. The last line needs no line feed.
 ///
 /// # Errors
 ///
