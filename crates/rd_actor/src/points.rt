@@ -58,7 +58,7 @@ impl Pc {
         None
     }
 
-    /// Returns the label of the control point, as the table has it.
+    /// Returns the label of the control point, as the table has it, of at most 4 characters.
     pub fn label(self) -> &'static str
         ensures name { result.now ≡ label self }
         ensures len { length result.now ≤ 4 }

@@ -3,6 +3,7 @@
 //! It has one row for each control point. `need` has the column of accesses, `after` those of the
 //! words set and of the next control point. `need_at` and `after_at` list the rows; the methods
 //! below them make the records that rows leave, and the places and operations for which they ask.
+//! All are over rings of `R` cells, which must be 1 to 64.
 
 ghost use Rattle.std.specs.Prelude.{◌≡◌, ◌+◌, ◌%◌, ◌^◌, ◌<◌, ◌≤◌, true, false, nat_le, if◌then◌else◌, Some, None};
 ghost use Rattle.rd_cell.specs.declared.limits.TheConstants.{MOST_CELLS};
@@ -40,9 +41,10 @@ pub fn need<const R: usize>(actor: &Actor, act: Act) -> Result<Access, Refusal>
     }
 }
 
-/// Returns the actor's next record after this act, whose access got this answer, and the call's
-/// reply if the step ended the call. It doesn't ask whether `need` refuses the act. After a `Go`,
-/// an answer for which the row has no case leaves the record as it is.
+/// Returns the actor's next record after this act, whose access got this answer, over rings of `R`
+/// cells, 1 to 64, and the call's reply if the step ended the call. It doesn't ask whether `need`
+/// refuses the act. After a `Go`, an answer for which the row has no case leaves the record as it
+/// is.
 pub fn after<const R: usize>(actor: &Actor, act: Act, answer: Answer) -> (Actor, Option<OpReply>)
     requires { R ≤ MOST_CELLS }
     ensures { result ≡ after R actor.now act answer }
@@ -58,8 +60,9 @@ pub fn after<const R: usize>(actor: &Actor, act: Act, answer: Answer) -> (Actor,
 }
 
 impl Actor {
-    /// Returns the access for which this actor asks by the act `Go` at its control point. Fails
-    /// with `Idle` in no call, and with `NeedsChoice` at E10.
+    /// Returns the access for which this actor asks by the act `Go` at its control point. Numbers
+    /// that don't fit the program's words become others, as `need` says. Fails with `Idle` in no
+    /// call, and with `NeedsChoice` at E10.
     fn need_at<const R: usize>(&self) -> Result<Access, Refusal>
         requires positive { 1 ≤ R }
         requires small { R ≤ MOST_CELLS }
@@ -200,7 +203,7 @@ impl Actor {
     }
 
     /// Returns the record after E1: the enqueue works on this segment, which the queue's tail
-    /// named.
+    /// named, and goes on to read its next.
     fn after_enqueue_finds_tail(&self, name: SegName) -> Actor
         ensures { result ≡ record self.now { crq = name; pc = Pc.E2 } }
     {
@@ -244,7 +247,8 @@ impl Actor {
     }
 
     /// Returns the record after E6: the enqueue tries its cell if the cell is empty and its index
-    /// is at most the position; an unsafe cell only after a look at the head.
+    /// is at most the position; an unsafe cell only after a look at the head. Else it goes on to
+    /// see whether the ring is full.
     fn after_enqueue_reads_index(&self, safe: bool, idx: u64) -> Actor
         ensures { result ≡ after_enqueue_reads_index self.now safe idx }
     {
@@ -262,7 +266,7 @@ impl Actor {
     }
 
     /// Returns the record after E7: the enqueue tries its unsafe cell if this head is at most its
-    /// position.
+    /// position, else it goes on to see whether the ring is full.
     fn after_unsafe_check(&self, head: u64) -> Actor
         ensures { result ≡ record self.now {
           pc = if nat_le head self.now.t then Pc.E8 else Pc.E9;
@@ -272,8 +276,8 @@ impl Actor {
         Actor { pc, ..*self }
     }
 
-    /// Returns the record after E9: the enqueue goes on to close the ring if it is full, else to
-    /// choose whether it starves.
+    /// Returns the record after E9: the enqueue goes on to close the ring if its position is at
+    /// least `R` past this head, so the ring is full; else to choose whether it starves.
     fn after_full_check<const R: usize>(&self, head: u64) -> Actor
         requires { R ≤ MOST_CELLS }
         ensures { result ≡ record self.now {
@@ -302,8 +306,8 @@ impl Actor {
         }
     }
 
-    /// Returns the record after Q1: the dequeue begins its first pass over this segment, which the
-    /// queue's head named.
+    /// Returns the record after Q1: the dequeue begins its first pass, at Q2, over this segment,
+    /// which the queue's head named.
     fn after_dequeue_finds_head(&self, name: SegName) -> Actor
         ensures { result ≡ record self.now { crq = name; pass = 1; pc = Pc.Q2 } }
     {
@@ -329,7 +333,7 @@ impl Actor {
 
     /// Returns the record after Q4. The dequeue goes on to take the value of its position, to mark
     /// the cell unsafe if the value is older, or to move an empty cell on to the next round. It
-    /// passes by a cell whose index is past its position.
+    /// passes by a cell whose index is past its position, and goes on to read the tail.
     fn after_dequeue_reads_index(&self, safe: bool, idx: u64) -> Actor
         ensures { result ≡ after_dequeue_reads_index self.now safe idx }
     {
@@ -379,7 +383,8 @@ impl Actor {
         }
     }
 
-    /// Returns the record after Q9: the dequeue's repair read this tail.
+    /// Returns the record after Q9: the dequeue's repair read this tail, and goes on to read the
+    /// head.
     fn after_repair_reads_tail(&self, closed: bool, count: u64) -> Actor
         ensures { result ≡ record self.now { closed = closed; t = count; pc = Pc.Q10 } }
     {
@@ -429,7 +434,8 @@ impl Actor {
         }
     }
 
-    /// Returns the record after A1: the enqueue on the array drew this position.
+    /// Returns the record after A1: the enqueue on the array drew this position, and goes on to its
+    /// slot.
     fn after_array_tail_add(&self, tail: u64) -> Actor
         ensures { result ≡ record self.now { t = tail; pc = Pc.A2 } }
     {
@@ -499,8 +505,8 @@ impl Actor {
     }
 
     /// Returns the operation of Q5 and Q7: a CAS2 from the cell that was read, with this value or
-    /// none, to an empty cell at the index of the next round. The contract holds if this index is
-    /// below 2^64, as it is in a well-formed world.
+    /// none, to an empty cell at the index of the next round. An index of 2^64 or more, which no
+    /// well-formed world has, becomes 2^64 - 1.
     fn cas2_to_move_on<const R: usize>(&self, val: Option<u64>) -> Operation
         requires { R ≤ MOST_CELLS }
         ensures { self.now.h + R < 2 ^ 64
@@ -562,7 +568,8 @@ fn value_to_put(op: Option<Op>) -> u64
     }
 }
 
-/// Returns the number of this position's cell in a ring of `R` cells, 1 to 64.
+/// Returns the number of this position's cell in a ring of `R` cells, 1 to 64: the position modulo
+/// `R`.
 fn cell_number<const R: usize>(position: u64) -> u8
     requires positive { 1 ≤ R }
     requires small { R ≤ MOST_CELLS }

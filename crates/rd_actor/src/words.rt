@@ -56,14 +56,14 @@ impl Actor {
             && self.pass == 0
     }
 
-    /// Whether the actor is in an enqueue, with pass 0.
+    /// Whether the actor is in an enqueue that is not on the array, with pass 0.
     fn is_in_enqueue(&self) -> bool
         ensures { result ≡ is_in_enqueue self.now }
     {
         is_enqueue(self.op) && self.pass == 0
     }
 
-    /// Whether the actor is in a dequeue, in pass 1 or 2 over its segment.
+    /// Whether the actor is in a dequeue that is not on the array, in pass 1 or 2 over its segment.
     fn is_in_pass(&self) -> bool
         ensures { result ≡ is_in_pass self.now }
     {

@@ -86,7 +86,7 @@ impl Place {
         }
     }
 
-    /// Whether this is one of the array's places.
+    /// Whether this is a counter or a slot of the array, whatever the slot's number.
     pub fn is_of_array(self) -> bool
         ensures { result ≡ is_of_array self }
     {
@@ -116,7 +116,7 @@ impl Place {
         }
     }
 
-    /// Whether this is one of a cell's two halves, or the cell itself.
+    /// Whether this is cell `i` of the segment of this name, or one of that cell's two halves.
     fn is_of_cell(self, name: SegName, i: u8) -> bool
         ensures { result ≡ is_of_cell name i self }
     {

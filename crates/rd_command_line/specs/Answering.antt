@@ -54,8 +54,9 @@ ViewsFiles {F} remaining count before output result =
     ⊎ ((files : List F) × (scripts : List (Vec ℕ Global)) × (length files ≡ count)
     × AreWholeTexts remaining files scripts × ViewsOver before scripts output result)
 
--- what `run` did for a file's name over a book in this state. For the name `-` it played the script
--- on the input; for any other name it played the script in a file, and did not use the input
+-- what `run` did for a file's name over a book in this state, with a trace after the report if
+-- `traced`. For the name `-` it played the script on the input; for any other name it played the
+-- script in a file, if that could be opened, and did not use the input
 abbrev pub PlaysFileOrInput : {F : Type 0} → (F → Option (List ℕ)) → Text → BookState → Bool → Devices → Result ℕ ProgramFault → Type 0
 PlaysFileOrInput remaining name before traced d result =
     ((name ≡ codes "-") × PlaysScript before traced d result)

@@ -136,9 +136,10 @@ fn follow_options<R: Files + Threads + Wait + Sync, I: Source, O: Sink>(
     }
 }
 
-/// Runs the script on the input if the name is `-`, else the script in the file of this name.
-/// Returns the number of its lines. Fails as `play` does, and with `Read` if the file can't be
-/// opened. Neither stream may have failed before.
+/// Runs the script on the input if the name is `-`, else the script in the file of this name,
+/// without using the input. Writes its report to the output and, if `trace` is set, the session's
+/// trace after it, and returns the number of its lines. Fails as `play` does, and with `Read` if
+/// the file can't be opened; neither stream is then used. Neither may have failed before.
 fn play_file_or_input<R: Files, I: Source, O: Sink>(
     rt: &R,
     alloc: Global,
@@ -160,8 +161,10 @@ fn play_file_or_input<R: Files, I: Source, O: Sink>(
     }
 }
 
-/// Runs the script in the file of this name, and returns the number of its lines. Fails as `play`
-/// does, and with `Read` if the file can't be opened. The output must not have failed before.
+/// Runs the script in the file of this name. Writes its report to the output and, if `trace` is
+/// set, the session's trace after it, and returns the number of its lines. Fails as `play` does,
+/// and with `Read` if the file can't be opened; the output is then not used. The output must not
+/// have failed before.
 fn play_file<R: Files, O: Sink>(
     rt: &R,
     alloc: Global,
@@ -178,9 +181,10 @@ fn play_file<R: Files, O: Sink>(
     play(alloc, &mut ReadSource::new(file), output, setup, trace)
 }
 
-/// Runs the scripts in the files of these names, 1 to 64, each by its own viewer, and returns the
-/// number of recorded calls. All files are read before the first command is asked. Fails as
-/// `read_files` or `view` does. The output must not have failed before.
+/// Runs the scripts in the files of these names, each by its own viewer, and returns the number of
+/// recorded calls. All files are read before the first command is asked. Fails as `read_files`
+/// does, and the output is then not used, or as `view` does. There must be 1 to 64 names, and the
+/// output must not have failed before.
 fn view_files<R: Files + Threads + Wait + Sync, O: Sink>(
     rt: &R,
     alloc: Global,
@@ -218,9 +222,11 @@ fn read_files<R: Files>(rt: &R, alloc: Global, names: &[&str]) -> Result<Vec<Vec
     Ok(texts)
 }
 
-/// Loads the trace in the file of this name, and runs the script on the input over its book.
-/// Returns the number of the script's lines. Fails as `read_whole_text` or `resume` does, and with
-/// `Read` if the file can't be opened. Neither stream may have failed before.
+/// Loads the trace in the file of this name, and runs the script on the input over its book. Writes
+/// the script's report to the output and, if `trace` is set, the session's trace after it, and
+/// returns the number of the script's lines. Fails with `Read` if the file can't be opened, or as
+/// `read_whole_text` does, and neither stream is then used; or as `resume` does. Neither may have
+/// failed before.
 fn resume_file<R: Files, I: Source, O: Sink>(
     rt: &R,
     alloc: Global,

@@ -2,7 +2,8 @@
 //!
 //! The contracts describe the command that `clap` is given as a value of `clap`'s specification
 //! (`program_app`). They say which options the words give by what this specification finds for the
-//! command and the words: the rows of matches, or the kinds of fault.
+//! command and the words: the rows of matches, or the kinds of fault. No argument is global: each
+//! belongs to its own subcommand only.
 
 ghost use Rattle.std.specs.Prelude.{◌≡◌, ◌≢◌, ℕ, IfOk, IfErr, IfSome, IsNone, Bool, map, false};
 ghost use Rattle.clap.specs.Walk.{Text};
@@ -92,8 +93,8 @@ fn not_utf8_error(alloc: Global) -> Result<Error, AllocError>
 }
 
 /// Returns the options that the matches of the whole command give, or none if there is no
-/// subcommand, or if a value is missing or not one that the program takes. Fails only if memory is
-/// refused.
+/// subcommand, or if a value is missing or not one that the program takes. There may be more than
+/// 64 files. Fails only if memory is refused.
 fn options_from<'a>(
     alloc: Global,
     matches: &ArgMatches<'a>,

@@ -44,8 +44,9 @@ impl<const R: usize> Desk<R> {
     /// # Errors
     ///
     /// In this order: `TicketsEnded` if this pass saw that all tickets of the lock are drawn;
-    /// `Busy` if the lock isn't free, which never happens at a desk of one viewer; `HistoryFull`
-    /// and `NotRecorded` as for `ask`. The book doesn't do the command then.
+    /// `Busy` if at some moment of the call the lock isn't free, which never happens at a desk of
+    /// one viewer; `HistoryFull` and `NotRecorded` as for `ask`. The book doesn't do the command
+    /// then.
     pub fn try_ask(&self, pass: &mut DeskPass<R>, command: Command) -> Answer
         requires own { IsViewerOf self.now pass.old }
         ensures own { IsViewerOf self.now pass.new }
@@ -60,9 +61,10 @@ impl<const R: usize> Desk<R> {
         }
     }
 
-    /// Lets the book do the command, records the call, puts the book back into the lock, which this
-    /// pass must hold, and returns the book's answer. Fails with `HistoryFull` or `NotRecorded` if
-    /// the call can't be recorded; the book doesn't do the command then, and is put back too.
+    /// Lets the book do the command, records the call, puts the book back into the lock, and
+    /// returns the book's answer. The pass must be one of this desk and hold the lock, and `kept`
+    /// must be what it took from there, unchanged. Fails with `HistoryFull` or `NotRecorded` if the
+    /// call can't be recorded; the book doesn't do the command then, and is put back too.
     fn obey_and_put_back(
         &self,
         pass: &mut DeskPass<R>,

@@ -29,8 +29,8 @@ pub struct Desk<const R: usize> {
 }
 
 impl<const R: usize> Desk<R> {
-    /// Returns a desk over the book for 1 to 64 viewers, with an empty history, and one pass for
-    /// each viewer. The passes are numbered from 1.
+    /// Returns a desk over the book, with an empty history, and one pass for each viewer. The
+    /// passes are numbered from 1. There must be 1 to 64 viewers.
     ///
     /// # Errors
     ///
@@ -59,10 +59,9 @@ impl<const R: usize> Desk<R> {
         }
     }
 
-    /// Compares two passes: the history that one has seen begins with the history that the other
-    /// has seen. Returns the ticket that is served now, and both passes, which have then seen it
-    /// served. Neither had seen a later ticket served. Both must be passes of this desk, and in no
-    /// call.
+    /// Compares two passes: of the histories that they have seen, one begins with the other.
+    /// Returns the ticket that is served now, and both passes, which have then seen it served.
+    /// Neither had seen a later ticket served. Both must be passes of this desk, and in no call.
     pub fn meet(&self, one: DeskPass<R>, other: DeskPass<R>) -> (u64, DeskPass<R>, DeskPass<R>)
         requires own { IsViewerOf self.now one × IsViewerOf self.now other }
         ensures own { IsViewerOf self.now result.1 × IsViewerOf self.now result.2 }

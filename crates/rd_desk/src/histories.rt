@@ -53,6 +53,7 @@ impl History {
 
     /// Makes room for one more call, if there is none: the list grows by as many calls as it has,
     /// and at least by `FIRST_ROOM`. Fails only if memory is refused, and the list stays full then.
+    /// The list must have room for no call, or for 4 times a power of 2, and so it has afterwards.
     pub(crate) fn make_room(&mut self) -> Result<(), AllocError>
         requires grown { IsCapacity (vec_capacity self.old.entries) }
         ensures grown { IsCapacity (vec_capacity self.new.entries) }

@@ -20,8 +20,8 @@ pub(crate) struct Room<G: Gate> {
 }
 
 impl<G: Gate> Room<G> {
-    /// Returns empty lists with just the room that a run of these viewers needs. Fails only if
-    /// memory is refused.
+    /// Returns a list for each viewer's answers and the two other lists, all of them empty, with
+    /// just the room that a run of these viewers needs. Fails only if memory is refused.
     pub(crate) fn for_viewers(
         alloc: Global,
         work: &Vec<(G::Pass, Vec<Command>)>,

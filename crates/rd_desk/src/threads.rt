@@ -72,8 +72,8 @@ fn ask_all<R: Wait, G: Gate>(
 
 /// Starts a thread for each viewer, in order, and returns their handles. For a viewer whose thread
 /// is refused, it returns what the closure gives back: the pass as it was, since it asks nothing.
-/// The gate must take the passes, and the lists must be empty and have room: `started` for each
-/// viewer, and those in `answers` for the answers to its commands.
+/// The gate must take the passes. `answers` must have an empty list for each viewer, with room for
+/// just the answers to its commands, and `started` must be empty and have room for each viewer.
 fn start_all<'s, E: 's, R: Threads + Wait + Sync, G: Gate + Sync>(
     scope: &'s Scope<'s, E>,
     rt: &'s R,
@@ -138,8 +138,7 @@ fn join_all<R: Threads, G: Gate>(
 }
 
 /// Runs all viewers, each in its own thread of one scope, and returns what each gave back. The gate
-/// must take the passes, and the lists in `room` must be empty and have room for all that they will
-/// have.
+/// must take the passes, and `room` must be as `Room::for_viewers` returns it for this work.
 pub(crate) fn run_all<R: Threads + Wait + Sync, G: Gate + Sync>(
     rt: &R,
     gate: &G,

@@ -31,8 +31,8 @@ pub enum Ran<P> {
 }
 
 /// Asks each viewer's commands in order, each viewer in its own thread, and waits for all threads.
-/// Returns each viewer's pass with its answers. If a viewer's thread was refused, it returns the
-/// pass as it was, with `None`. The gate must take the passes.
+/// Returns each viewer's pass with its answers, in the viewers' order. If a viewer's thread was
+/// refused, it returns the pass as it was, with `None`. The gate must take the passes.
 ///
 /// # Errors
 ///
@@ -56,8 +56,9 @@ pub fn ask_viewers<R: Threads + Wait + Sync, G: Gate + Sync>(
     }
 }
 
-/// Asks each viewer's commands as `ask_viewers` does, and returns how the run of each ended. It
-/// drops the pass of a viewer whose thread was refused. The gate must take the passes.
+/// Asks each viewer's commands as `ask_viewers` does, and returns how the run of each ended, in the
+/// viewers' order. It drops the pass of a viewer whose thread was refused. The gate must take the
+/// passes.
 ///
 /// # Errors
 ///

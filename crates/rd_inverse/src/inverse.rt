@@ -8,12 +8,13 @@ ghost use Rattle.rd_step.specs.Laws.{WasStepped, IsTakenOut};
 use rd_step::{Entry, World};
 
 /// Undoes the step of an entry: puts back the old content of its place and the old record of its
-/// actor, and changes nothing else. It can't fail, and takes no memory. If the step only read, the
-/// code leaves its place alone, since the old content is still there.
+/// actor, and changes nothing else. If the step made a segment, this is removed, and its maker has
+/// the room for it again. It can't fail, and takes no memory. If the step only read, the code
+/// leaves its place alone, since the old content is still there.
 ///
-/// The step must belong to a run that reached this world, and no later step that remains of that
-/// run may depend on it (Danos and Krivine 2004). The world left is the end of that run without the
-/// step, for every such run.
+/// The step must belong to a run from a well-formed start that reached this world, and no later
+/// step that remains of that run may depend on it (Danos and Krivine 2004). The world left is the
+/// end of that run without the step, for every such run.
 pub fn unstep<const R: usize>(world: &mut World<R>, entry: &Entry)
     requires { WasStepped (model world.old) entry.now }
     ensures back { model world.new ≡ unstep (model world.old) entry.now }

@@ -113,8 +113,9 @@ mapped_ok f r ok = grind arith
 pub applies : (j : Journal) (e : Event) → IsRun j → length j.live < MOST_STEPS → IsOk (step j.world e) → IsOk (apply (state_of j) e)
 applies j e runs less ok = rw (applied j e (step j.world e) runs less refl) (mapped_ok (λ (stepped : Stepped). with_event (state_of j) e) (step j.world e) ok)
 
-is_ok : (r : Result Stepped Refusal) (s : Stepped) → r ≡ Ok s → IsOk r
-is_ok r s h = grind arith
+-- a result that is `Ok` of some value is `Ok`
+IsOk-from_ok : (r : Result Stepped Refusal) (s : Stepped) → r ≡ Ok s → IsOk r
+IsOk-from_ok r s h = grind arith
 
 -- if the session is out of memory for an event, its state may lack memory for it
 may_lack : {R : ℕ} (s : Session R) (e : Event) → AsksForMemory (journal s) (capacity s) (session_room s) (index s) e → MayLackMemory (state s) e
@@ -122,7 +123,7 @@ may_lack s e out = record {
   not_full = omega (arith, out.not_full, live_len (journal s));
   asked = elim out.asked [
     | inl h ↦ inl (ap events h.0)
-    | inr h ↦ inr (applies (journal s) e (is_session s).runs out.not_full (elim h [ inl made ↦ made.0 | inr lone ↦ is_ok _ lone.after lone.goes ]))
+    | inr h ↦ inr (applies (journal s) e (is_session s).runs out.not_full (elim h [ inl made ↦ made.0 | inr lone ↦ IsOk-from_ok _ lone.after lone.goes ]))
   ];
 }
 

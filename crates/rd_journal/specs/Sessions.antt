@@ -62,8 +62,9 @@ pub record KeepsItsSteps {R : ℕ} (old new : Session R) : Type 0 where
 abbrev pub MayRefuse : {R : ℕ} → Session R → Event → Refusal → Type 0
 MayRefuse s e cause = (apply (state s) e ≡ Err cause) ⊎ ((cause ≡ refusal.NoMemory) × AsksForMemory (journal s) (capacity s) (room s) (index s) e)
 
--- the session lacks room for going to these events: the first `kept` live steps stay, and room is
--- missing for the entries of the other events (`given`)
+-- the session lacks room for going to these events: for some `kept` and `given`, the first `kept`
+-- live steps stay, the entries of the other events are `given`, and room is missing for these, for
+-- their makings or in the index
 pub record LacksRoomFor {R : ℕ} (s : Session R) (es : List Event) : Type 0 where
   pub kept : ℕ
   pub given : List Entry

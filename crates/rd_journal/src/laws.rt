@@ -7,14 +7,14 @@ ghost use Rattle.rd_journal.specs.Journal.{Journal, IsRun};
 ghost use Rattle.rd_journal.specs.Laws.{IsMovedLast, IsClosureLast, IsOneRun};
 ghost use Rattle.rd_journal.specs.State.{State, state_of, undo_at, back, forward, roll};
 
-/// Going back several steps is undoing the last step as many times.
+/// Going back several steps is undoing the last step as many times, if so many are live.
 #[tactic(auto, using(crate::proofs::LawLemmas::back_more))]
 pub fn going_back_is_undoing_again_and_again()
     ensures { (s : State) (n : ℕ) → n < length s.live
         → back s (n + 1) ≡ and_then (back s n) (λ t. back t 1) }
 {}
 
-/// Going forward several steps is redoing one step as many times.
+/// Going forward several steps is redoing one step as many times, if so many are undone.
 #[tactic(auto, using(crate::proofs::LawLemmas::forward_more))]
 pub fn going_forward_is_redoing_again_and_again()
     ensures { (s : State) (n : ℕ) → n < length s.undone

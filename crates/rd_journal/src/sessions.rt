@@ -106,8 +106,8 @@ impl<const R: usize> Session<R> {
         }
     }
 
-    /// Makes an event happen as the last live step, and discards the undone steps. Returns the
-    /// step's number, from 1, and its entry.
+    /// Makes an event happen as the last live step, and discards all steps ahead, undone or not.
+    /// Returns the step's number, from 1, and its entry.
     ///
     /// # Errors
     ///
@@ -115,7 +115,8 @@ impl<const R: usize> Session<R> {
     /// - `TooLong` if `MOST_STEPS` steps are live;
     /// - `NoMemory` if room for one more entry is refused, which is asked for only if no step is
     ///   undone and the live entries fill the room;
-    /// - the refusal of the step itself, which is `NoMemory` for a making whose maker has no room;
+    /// - the refusal of the step itself, which is `NoMemory` for a making whose maker has no room
+    ///   and is refused memory;
     /// - `NoMemory` if the index of dependants has no room for the step and is refused it.
     ///
     /// The steps and the world are then as before.
@@ -283,8 +284,8 @@ impl<const R: usize> Session<R> {
     /// Keeps the first `n` live steps, undoes the others, and makes the steps of the given entries
     /// again, which become the last live ones. At least `n` steps must be live. The entries of the
     /// kept steps followed by the given ones must be those of a run from the start, and at most
-    /// `MOST_STEPS`. Undone steps are discarded. Room for the entries, for the makings among them
-    /// and in the index of dependants is asked for before the first undo.
+    /// `MOST_STEPS`. All steps ahead are discarded, undone or not. Room for the entries, for the
+    /// makings among them and in the index of dependants is asked for before the first undo.
     ///
     /// # Errors
     ///

@@ -49,7 +49,8 @@ pub(crate) fn make_table<T: Recorded>(
 }
 
 /// Joins the seats of the given passes into one, if there are any, and closes the table. Returns
-/// its last words and slots. The passes must be the table's, and neither wait nor hold.
+/// its last words and slots. The table must have at least one word, and its lock at least one seat.
+/// The passes must be the table's, and neither wait nor hold.
 pub(crate) fn close_table<T: Recorded>(
     table: LockTable<T>,
     mut passes: Vec<Pass<T>>,

@@ -46,8 +46,9 @@ impl<T: Recorded> TicketLock<T> {
     ///
     /// # Errors
     ///
-    /// `TicketsEnded` if this pass saw that all tickets are drawn; `Busy` if a ticket is drawn and
-    /// not finished, which never happens in a lock of one pass. The pass holds nothing then.
+    /// `TicketsEnded` if this pass saw that all tickets are drawn; `Busy` if at some moment of the
+    /// call a ticket is drawn and not finished, which never happens in a lock of one pass. The pass
+    /// holds nothing then.
     pub fn try_take(&self, pass: &mut Pass<T>) -> Result<T, TryTakeError>
         requires own { IsPassOf self.now pass.old }
         requires out { IsOut pass.old }
@@ -109,7 +110,7 @@ impl<T: Recorded> TicketLock<T> {
     }
 
     /// Waits until the pass's ticket is served, takes the value and returns it. The pass must be
-    /// this lock's, and wait with this ticket.
+    /// this lock's, and wait with this ticket, which must be below `TICKETS`.
     fn take_when_served<R: Wait>(&self, rt: &R, pass: &mut Pass<T>, ticket: u64) -> T
         requires own { IsPassOf self.now pass.old }
         requires ticket { (ticket < 2 ^ 63) × IsWaiting pass.old ticket }

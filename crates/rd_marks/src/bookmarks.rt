@@ -69,7 +69,7 @@ impl Bookmarks {
     }
 
     /// Returns the number of entries that are kept for all bookmarks together. There is one for
-    /// each different list, except the empty one, that begins some bookmark's entries.
+    /// each different list of events, except the empty one, that begins some bookmark's events.
     #[tactic(auto, using(crate::proofs::Counting::counts, crate::proofs::Putting::count_fits))]
     pub(crate) fn kept_entry_count(&self) -> usize
         ensures counts { CountsBeginnings (marks_of (named_entries_in self.now)) result }

@@ -170,8 +170,8 @@ impl Stretches {
         }
     }
 
-    /// Returns the number of entries with which both nodes begin. The node `other` must be in the
-    /// same stretch as `one` or a later one.
+    /// Returns the number of entries with which both nodes begin. The stretches must have the
+    /// entries of both. The node `other` must be in the same stretch as `one` or a later one.
     fn common_len_in_order(&self, one: Node, other: Node) -> usize
         requires one { IsWithin self.now.list.items one }
         requires other { IsWithin self.now.list.items other }

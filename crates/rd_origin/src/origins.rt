@@ -1,6 +1,6 @@
 //! The origin of a taken value, as plain data.
 
-/// Where a value that was taken came from.
+/// Where a value that was taken came from. The numbers of steps are counted from 1.
 #[derive(Clone, Copy, Debug, PartialEq, Eq)]
 pub struct Origin {
     /// The number of the step that began the enqueue which put the value; none if the call began

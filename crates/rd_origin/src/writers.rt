@@ -9,8 +9,9 @@ ghost use Rattle.rd_origin.specs.Writers.{last_writer_in};
 use rd_cell::{Place, Refusal};
 use rd_journal::Session;
 
-/// Returns the number of the last live step that wrote this place, or one of the places that it
-/// names; none if no live step did. This takes no memory, and asks the session's index once.
+/// Returns the number, from 1, of the last live step that wrote this place, or one of the places
+/// that it names; none if no live step did. This takes no memory, and asks the session's index
+/// once.
 ///
 /// # Errors
 ///

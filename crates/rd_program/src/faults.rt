@@ -46,7 +46,8 @@ impl ProgramFault {
     }
 }
 
-/// Returns the refusal that the program shows for a trace that was not loaded, or not written whole.
+/// Returns the refusal that the program shows for a trace that was not loaded, or not written
+/// whole.
 fn trace_refusal(fault: TraceFault) -> AnyRefusal
     ensures { result ≡ trace_refusal fault }
 {

@@ -3,9 +3,9 @@
 //!
 //! `play` runs a script over a fresh world, and `resume` over the book of a trace; both write the
 //! trace of the session after the report if it is asked for. `view` runs several scripts over one
-//! fresh world, each by its own viewer. `read_whole_text` reads a trace or a script whole. From
-//! the `Result` of these, `show_program_fault` makes the exit status, and writes the line of a fault
-//! to standard error.
+//! fresh world, each by its own viewer. `read_whole_text` reads a trace or a script whole. From the
+//! `Result` of these, `show_program_fault` makes the exit status, and writes the line of a fault to
+//! standard error.
 #![tactic(auto)]
 
 mod endings;

@@ -5,9 +5,9 @@ ghost use Rattle.rd_ring.specs.Prelude.{MOST_CELLS};
 
 use rd_cell::{Cell, SegName};
 
-/// The words of a segment that is to be put together; they need not fit a well-formed world. In
-/// such a world the counters are at most 2^62, the cells' indexes at most 2^62 + `R`, and the next,
-/// if any, names a segment that is there.
+/// The words of a segment of `R` cells, at most 64, that is to be put together; they need not fit a
+/// well-formed world. In such a world the counters are at most 2^62, the cells' indexes at most
+/// 2^62 + `R`, and the next, if any, names a segment that is there.
 #[derive(Clone, Copy, Debug)]
 pub struct SegmentParts<const R: usize> {
     /// The head counter.

@@ -7,8 +7,8 @@ are_words : (words : List (List ℕ)) → list_all is_mark_name words ≡ true �
 are_words words e = list_all-weaker is_mark_name is_word is_word_of_name words e
 
 -- if names follow its keyword, a command has as many arguments as names
-counted : (c : Command) → 0 < names_after (keyword_of c) → length (argument_words (arguments_of c)) ≡ names_after (keyword_of c)
-counted c some = grind arith
+as_many_arguments_as_names : (c : Command) → 0 < names_after (keyword_of c) → length (argument_words (arguments_of c)) ≡ names_after (keyword_of c)
+as_many_arguments_as_names c some = grind arith
 
 -- and all of its arguments are bookmarks' names
 are_names : (c : Command) → IsInRange c → length (argument_words (arguments_of c)) ≡ names_after (keyword_of c) → list_all is_mark_name (argument_words (arguments_of c)) ≡ true
@@ -24,4 +24,4 @@ none_named k words none bad = grind (arith, common_steps, true≢false)
 
 -- the fault of the names is the fault of the command
 pub names_refused : (k : Keyword) (words : List (List ℕ)) (fault : LineFault) → 0 < names_after k → IsFaultOfNames (names_after k) words fault → ReadsCommand k words (Err fault)
-names_refused k words fault some bad = grind (arith, counted, are_words, are_names)
+names_refused k words fault some bad = grind (arith, as_many_arguments_as_names, are_words, are_names)

@@ -30,8 +30,8 @@ pub enum AnyBook {
 }
 
 impl AnyBook {
-    /// Returns a book over the fresh world of this many actors, 1 to 16, and of rings of this size,
-    /// with no step and no bookmark. Fails only if memory was refused.
+    /// Returns a book over the fresh world of this many actors, which must be 1 to 16, and of rings
+    /// of this size, with no step and no bookmark. Fails only if memory was refused.
     pub fn fresh(alloc: Global, ring: Ring, actors: u8) -> Result<AnyBook, AllocError>
         requires some { 1 ≤ actors }
         requires few { actors ≤ MOST_ACTORS }
@@ -49,8 +49,8 @@ impl AnyBook {
     ///
     /// # Errors
     ///
-    /// `Read` if the reader failed, `Write` if the writer failed or took nothing: as the function
-    /// `run` says.
+    /// `Read` if the reader failed, or gave 2^64 - 1 bytes without an end; `Write` if the writer
+    /// failed or took nothing. The function `run` says what was then obeyed and answered.
     pub fn run<S: Source, K: Sink>(
         &mut self,
         reader: &mut S,
@@ -70,8 +70,9 @@ impl AnyBook {
     }
 }
 
-/// Returns a book over the fresh world of this many actors, 1 to 16, and of rings of `R` cells, 1
-/// to 64, with no step and no bookmark. Fails only if memory was refused.
+/// Returns a book over the fresh world of this many actors, which must be 1 to 16, and of rings of
+/// `R` cells, which must be 1 to 64, with no step and no bookmark. Fails only if memory was
+/// refused.
 fn fresh_book<const R: usize>(alloc: Global, actors: u8) -> Result<Book<R>, AllocError>
     requires some { 1 ≤ actors }
     requires few { actors ≤ MOST_ACTORS }

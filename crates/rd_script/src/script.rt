@@ -89,7 +89,7 @@ fn do_line<K: Sink, const R: usize>(
 }
 
 /// Obeys a line, if it spells a command, and replaces the text by the line of its answer. If it
-/// spells none, the answer is the refusal of its fault.
+/// spells none, the answer is the refusal of its fault, and the book stays as it is.
 fn answer_line<const R: usize>(book: &mut Book<R>, line: &Line, text: &mut Text)
     ensures answers { (bytes : List ℕ) → Holds line.now bytes
         → (said : Result SomeCommand LineFault) × (answer : SomeAnswer) × Says bytes said

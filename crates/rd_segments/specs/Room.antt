@@ -22,15 +22,15 @@ room_used made maker m = if made && (m == maker) then 1 else 0
 
 -- the room of maker m that is given back when the places that this place covers are removed: 1 for
 -- the whole of a segment of m, else 0
-abbrev pub room_of_place : Option Place → ℕ → ℕ
-room_of_place (Some (place.Whole s)) m = room_used true s.maker m
-room_of_place _ m = 0
+abbrev pub room_freed : Option Place → ℕ → ℕ
+room_freed (Some (place.Whole s)) m = room_used true s.maker m
+room_freed _ m = 0
 
 -- the room of maker m that is given back when this old content, or none, is put back at a place: 1
 -- if that removes a segment of m, else 0
 abbrev pub room_returned : Option Place → Option Content → ℕ → ℕ
 room_returned p (Some c) m = 0
-room_returned p None m = room_of_place p m
+room_returned p None m = room_freed p m
 
 -- the room of all makers: the number of makers that have a list, and in `at` the number of further
 -- segments for which each maker's list has room

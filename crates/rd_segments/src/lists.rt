@@ -1,4 +1,5 @@
-//! The makers' lists of segments, and the operations on one segment of one list.
+//! The makers' lists of segments, and the operations on one segment of one list. The segments have
+//! `R` cells, which must be 1 to 64.
 
 ghost use Rattle.std.specs.Prelude.{◌≡◌, ◌≢◌, ◌+◌, ◌-◌, ◌<◌, ◌≤◌, ℕ, Some, None, Err, is_some, IsTrue, IfOk, IfErr, OnOk, OnErr, MatchOption, take, true, length, is_ok, vec_len, vec_capacity, if◌then◌else◌};
 ghost use Rattle.rd_ring.specs.Prelude.{MOST_CELLS, SegName, Place, segment_of, can_hold, operand, operate, segment_holding, everywhere, Operates, Makes, Restores, RefusesMaking};
@@ -24,9 +25,9 @@ pub fn find<const R: usize>(makers: &Vec<Vec<Segment<R>>>, name: SegName) -> Opt
 }
 
 /// Does an operation at a place of the segment of this name, and returns what it found, answered
-/// and wrote. The place must name this segment too, and the operation must be one that
-/// `Segment::operate` allows. Fails with `NoSuchPlace` if there is no such segment, and otherwise
-/// as `Segment::operate` does; nothing changes then.
+/// and wrote. The place must belong to this segment and not be its whole, and the operation must be
+/// one that `Segment::operate` allows. Fails with `NoSuchPlace` if there is no such segment, and
+/// otherwise as `Segment::operate` does; nothing changes then.
 pub fn operate_in<const R: usize>(
     makers: &mut Vec<Vec<Segment<R>>>,
     name: SegName,
@@ -75,8 +76,8 @@ pub fn restore_in<const R: usize>(
 ///
 /// # Errors
 ///
-/// `SegmentsEnd` exactly if the maker has made 65,535; else `NoMemory` if memory was refused. No
-/// segment changes then.
+/// `SegmentsEnd` exactly if the maker has made 65,535 or more; else `NoMemory` if memory was
+/// refused, which happens only if the maker's list has no room left. No segment changes then.
 pub fn make_in<const R: usize>(
     makers: &mut Vec<Vec<Segment<R>>>,
     maker: u8,
@@ -99,9 +100,10 @@ pub fn make_in<const R: usize>(
     make_next(&mut makers[usize::from(maker)], maker, value)
 }
 
-/// Makes the next segment at the end of one maker's list, and returns its name. Fails with
-/// `SegmentsEnd` if the list has 65,535 segments, and with `NoMemory` if memory is refused; the
-/// list's segments then stay.
+/// Makes the next segment, which holds this value, at the end of one maker's list, and returns its
+/// name. `maker` must be the list's maker, and only enters the name. Fails with `SegmentsEnd` if
+/// the list has 65,535 segments or more, else with `NoMemory` if it has no room and memory is
+/// refused; the list's segments then stay.
 fn make_next<const R: usize>(
     list: &mut Vec<Segment<R>>,
     maker: u8,
@@ -172,7 +174,8 @@ pub fn make_room_in<const R: usize>(
     reserve(&mut makers[usize::from(maker)], more)
 }
 
-/// Gives one maker's list room for this many more segments. Fails only if memory is refused.
+/// Gives one maker's list room for this many more segments. Fails only if memory is refused for the
+/// growth. The list's segments stay in either case.
 fn reserve<const R: usize>(list: &mut Vec<Segment<R>>, more: usize) -> Result<(), AllocError>
     requires { R ≤ MOST_CELLS }
     ensures ok { OnOk result (more ≤ vec_capacity list.new - vec_len list.new) }

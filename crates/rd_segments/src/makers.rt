@@ -1,4 +1,5 @@
-//! The makers' lists of a fresh space, and the test for them.
+//! The makers' lists of a fresh space, and the test for them. The segments have `R` cells, which
+//! must be at most 64.
 
 ghost use Rattle.std.specs.Prelude.{◌≡◌, ◌≤◌, ◌↔◌, IfOk, IsTrue, [], suc, length};
 ghost use Rattle.std.specs.List.{All};

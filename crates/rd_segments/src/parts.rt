@@ -1,4 +1,5 @@
-//! The makers' lists of a space that is put together from parts, and the parts of such lists.
+//! The makers' lists of a space that is put together from parts, and the parts of such lists. The
+//! segments have `R` cells, which must be at most 64.
 
 ghost use Rattle.std.specs.Prelude.{◌≡◌, ◌≤◌, IsTrue, IfOk, length};
 ghost use Rattle.std.specs.List.{list_all};

@@ -19,8 +19,8 @@ use rd_cell::{Content, Done, Operation, Place, Refusal, SegName};
 use rd_ring::{Segment, SegmentParts};
 use std::alloc::{AllocError, Global};
 
-/// The content of all places: the makers' segments, the names at the queue's two ends, and the
-/// array.
+/// The content of all places: the makers' segments, which have `R` cells, 1 to 64, the names at the
+/// queue's two ends, and the array.
 #[derive(Drop)]
 pub struct Space<const R: usize> {
     makers: Vec<Vec<Segment<R>>>,
@@ -35,7 +35,7 @@ impl<const R: usize> Space<R> {
     ghost use Rattle.rd_segments.specs.Space.{contents, list_count, making_count, room, makers_room, head_name, tail_name, array_words};
 
     /// Returns a fresh space for this many actors: the root is there and fresh, the queue's two
-    /// ends name it, and the array is fresh.
+    /// ends name it, and the array is fresh. Each maker from 0 to this number has a list.
     ///
     /// # Errors
     ///
@@ -203,8 +203,8 @@ impl<const R: usize> Space<R> {
     ///
     /// # Errors
     ///
-    /// `SegmentsEnd` exactly if the maker has made 65,535; else `NoMemory` if memory was refused,
-    /// which happens only if the maker has no room left. The space is then as before.
+    /// `SegmentsEnd` exactly if the maker has made 65,535 or more; else `NoMemory` if memory was
+    /// refused, which happens only if the maker has no room left. The space is then as before.
     pub fn make(&mut self, maker: u8, value: u64) -> Result<SegName, Refusal>
         requires { maker < list_count self.old }
         ensures name { IfOk result (λ name. name

@@ -9,7 +9,7 @@ use Rattle.rd_cell.specs.declared.contents.Content.TheVariants as content
 abbrev pub after_making : ℕ → SegName → ℕ → Contents → Contents
 after_making R s x at = after_write (place.Whole s) (segment_holding R x) at
 
--- the new segment is there, and no other segment is added or removed
+-- the new segment is there
 pub after_making-new : (R : ℕ) (s : SegName) (x : ℕ) (at : Contents) (t : SegName) → name_eq s t ≡ true → is_there (after_making R s x at) t ≡ true
 after_making-new R s x at t e = ap is_some (cond-true (name_eq s t) (Some (content.Number 0)) (at (place.Head t)) e)
 

@@ -5,7 +5,7 @@ use Rattle.rd_ring.specs.Prelude.{Access, Make, Refusal, and_then, result_map}
 use Rattle.rd_actor.specs.Table.{need}
 use Rattle.rd_step.specs.declared.entries.Event.{Event}
 use Rattle.rd_step.specs.World.{World}
-pub use Rattle.rd_segments.specs.Room.{room_used, room_returned, room_of_place, ReturnsMakersRoom}
+pub use Rattle.rd_segments.specs.Room.{room_used, room_returned, room_freed, ReturnsMakersRoom}
 use Rattle.rd_cell.specs.declared.refusal.Refusal.TheVariants as refusal
 
 -- whether the access makes a segment

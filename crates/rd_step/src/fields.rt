@@ -1,4 +1,5 @@
-//! What a step and its undoing do to the two fields of a world, the space and the actors.
+//! What a step and its undoing do to the two fields of a world, the space and the actors. The rings
+//! have `R` cells, which must be at most 64.
 
 ghost use Rattle.std.specs.Prelude.{◌≡◌, ◌≢◌, ◌+◌, ◌<◌, ◌≤◌, ℕ, true, Some, None, Ok, IsSome, IsTrue, IfOk, IfErr, OnErr, length};
 ghost use Rattle.rd_ring.specs.Prelude.{MOST_CELLS, MOST_SEGMENTS, Make, perform, restore, everywhere, HasEffect};
@@ -17,8 +18,8 @@ use rd_segments::Space;
 
 /// Puts back an old record of one actor and, if a place is given, the old content of that place.
 /// The actor and the place must be there, the content must be of the place's kind, and a counter at
-/// most its end. A place without an old content must be the whole of its maker's last segment,
-/// which is removed. Without a place there must be no content.
+/// most its end. A place without an old content must be the whole of an actor's last segment, which
+/// is removed. Without a place there must be no content.
 pub fn revert_fields<const R: usize>(
     space: &mut Space<R>,
     actors: &mut Vec<Actor>,
@@ -42,7 +43,7 @@ pub fn revert_fields<const R: usize>(
 
 /// Puts the old content back at a place, if one is given. The place must be there, the content must
 /// be of its kind, and a counter at most its end. A place without an old content must be the whole
-/// of its maker's last segment, which is removed. Without a place there must be no content, and
+/// of an actor's last segment, which is removed. Without a place there must be no content, and
 /// nothing changes.
 fn put_back<const R: usize>(space: &mut Space<R>, place: Option<Place>, content: Option<Content>)
     requires can { CanPutBack (contents space.old) place content }
@@ -58,8 +59,8 @@ fn put_back<const R: usize>(space: &mut Space<R>, place: Option<Place>, content:
     }
 }
 
-/// Removes the segment whose whole is this place, and so gives its room back. It must be its
-/// maker's last segment.
+/// Removes the segment whose whole is this place, and so gives its room back. The place must be the
+/// whole of an actor's last segment.
 fn unmake_at<const R: usize>(space: &mut Space<R>, place: Place)
     requires can { CanPutBack (contents space.old) (Some place) None }
     requires small { R ≤ MOST_CELLS }
@@ -93,9 +94,9 @@ pub fn set_actor(actors: &mut Vec<Actor>, number: u8, words: Actor)
 }
 
 /// Does an access of this actor, and returns what it found, answered and wrote. The actor must have
-/// a list, of at most 65,535 segments, and an operation must suit its place (`suits`). Fails with
-/// the refusal of the operation or of the making, and with `NoMemory` if a making has no room and
-/// memory is refused; no place changes then.
+/// a list, of at most 65,535 segments, and an operation must be one that `Space::operate` allows at
+/// its place. Fails with the refusal of the operation or of the making, and with `NoMemory` if a
+/// making has no room and memory is refused; no place changes then.
 pub fn perform<const R: usize>(
     space: &mut Space<R>,
     actor: u8,

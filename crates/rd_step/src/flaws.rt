@@ -63,14 +63,14 @@ impl Flaw {
 /// Why parts were not made into a world.
 #[derive(Clone, Copy, Debug, PartialEq, Eq)]
 pub enum Unassembled {
-    /// The parts make no well-formed world.
+    /// The parts have this flaw, and none before it.
     Flaw(Flaw),
     /// Memory was refused.
     NoMemory,
 }
 
 impl<const R: usize> Parts<R> {
-    /// Returns the first flaw of these parts, or none if they make a well-formed world.
+    /// Returns the first flaw of these parts, or none if they meet all eight conditions.
     pub(crate) fn first_flaw(&self) -> Option<Flaw>
         requires { R ≤ MOST_CELLS }
         ensures { result ≡ first_flaw self.now }

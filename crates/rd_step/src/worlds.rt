@@ -108,8 +108,8 @@ impl<const R: usize> World<R> {
     ///
     /// # Errors
     ///
-    /// `Flaw`, with the first condition that the parts fail, exactly if they make no well-formed
-    /// world; else `NoMemory` if memory was refused.
+    /// `Flaw`, with the first of the eight conditions that the parts fail, exactly if they fail
+    /// one; else `NoMemory` if memory was refused.
     pub fn assemble(alloc: Global, parts: Parts<R>) -> Result<World<R>, Unassembled>
         requires positive { 1 ≤ R }
         requires small { R ≤ MOST_CELLS }
@@ -268,8 +268,8 @@ impl<const R: usize> World<R> {
     }
 
     /// Puts back an old record of one actor and, if a place is given, the old content of that
-    /// place. A place without an old content must be the whole of its maker's last segment, which
-    /// is removed. Nothing else changes.
+    /// place. A place without an old content must be the whole of an actor's last segment, which is
+    /// removed. Nothing else changes.
     ///
     /// The actor and a given place must be there. A content must be of the place's kind, and a
     /// counter in it at most its end; without a place there must be none. The world so changed must

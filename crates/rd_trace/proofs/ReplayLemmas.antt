@@ -67,9 +67,9 @@ module _ (old now : BookState) (es : List Event) (i : ℕ) (e : Event) (within :
 
   -- the first refused event of those so far, this one and later ones: this one if its answer is a
   -- refusal, else the first of the later ones
-  from_here : (later : List Event) (answer : Result State Refusal) → apply now.session e ≡ answer → first_refused old.session.start [] ((old.session.live ++ take i es) ++ e ∷ later)
+  first_refused-at_next : (later : List Event) (answer : Result State Refusal) → apply now.session e ≡ answer → first_refused old.session.start [] ((old.session.live ++ take i es) ++ e ∷ later)
       ≡ then_refused (old.session.live ++ take i es) (result_err answer) (first_refused old.session.start ((old.session.live ++ take i es) ++ e ∷ []) later)
-  from_here later answer said = grind (arith, first_refused-append, at_now)
+  first_refused-at_next later answer said = grind (arith, first_refused-append, at_now)
 
   pub one_stepped : (after : BookState) → apply now.session e ≡ Ok after.session → after.marks ≡ now.marks → GoesTo old (old.session.live ++ take (i + 1) es) after (Ok tt)
   one_stepped after h marks =
@@ -77,7 +77,7 @@ module _ (old now : BookState) (es : List Event) (i : ℕ) (e : Event) (within :
       let live = old.session.live ++ take i es in
       let left = applied (session_at w live) after.session e _ _ (sym at_now ∙ h) in
       rw (take_item es i e within is, ← append_assoc old.session.live (take i es) (e ∷ []))
-      ((λ j. record { session = left j; marks = (marks ∙ ap (λ (b : BookState). b.marks) so_far.0) j }), from_here [] (Ok after.session) h)
+      ((λ j. record { session = left j; marks = (marks ∙ ap (λ (b : BookState). b.marks) so_far.0) j }), first_refused-at_next [] (Ok after.session) h)
 
   pub one_refused : (n : ℕ) (cause : Refusal) → n ≡ length now.session.live + 1 → (cause ≡ refusal.NoMemory → ⊥) → (cause ≡ refusal.NoMemory) ⊎ (apply now.session e ≡ Err cause)
       → RefusesOne old.session.start (old.session.live ++ es) (TraceStep n cause)
@@ -87,7 +87,7 @@ module _ (old now : BookState) (es : List Event) (i : ℕ) (e : Event) (within :
       let all : old.session.live ++ es ≡ live ++ e ∷ drop (i + 1) es =
       ap (λ (fs : List Event). old.session.live ++ fs) (split_at es i e within is) ∙ sym (append_assoc old.session.live (take i es) (e ∷ drop (i + 1) es)) in
       let here : length live + 1 ≡ n = sym (number ∙ ap (λ (b : BookState). length b.session.live + 1) so_far.0) in
-      inr (n, cause, ap (first_refused old.session.start []) all ∙ from_here (drop (i + 1) es) (Err cause) h ∙ ap (λ (m : ℕ). Some (m, cause)) here, refl)
+      inr (n, cause, ap (first_refused old.session.start []) all ∙ first_refused-at_next (drop (i + 1) es) (Err cause) h ∙ ap (λ (m : ℕ). Some (m, cause)) here, refl)
 
 -- An event's answer
 

@@ -110,7 +110,8 @@ fn content_json(alloc: Global, slot: ArrSlot) -> Result<Value, AllocError>
 const TOP: &str = "top";
 
 /// Returns the position and the content of the slot that a JSON value spells, where `Top` is
-/// spelled `"top"` and a value as its number; none if it spells none.
+/// spelled `"top"` and a value as its number; none if it spells none. The position may be `SLOTS`
+/// or more.
 #[tactic(auto, using(crate::proofs::ArrayLemmas::spells_no_slot))]
 fn slot_in(value: &Value) -> Option<(usize, ArrSlot)>
     ensures { result ≡ slot_of (view value.now) }

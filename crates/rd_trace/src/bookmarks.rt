@@ -85,7 +85,8 @@ fn mark_in(alloc: Global, value: &Value) -> Result<SavedMark, TraceFault>
 }
 
 /// Appends the texts of a book's bookmarks to the text, in order, with commas between them. Fails
-/// only if memory is refused; the text may then end with some of them.
+/// only if memory is refused; the text may then end with some of them. Whatever the result, the
+/// book keeps the rules of bookmarks, `KeepsRules`.
 pub fn put_marks<const R: usize>(
     alloc: Global,
     text: &mut String,

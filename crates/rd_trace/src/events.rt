@@ -1,5 +1,5 @@
-//! Events as JSON: an array of a word and an actor, and of a number or a choice if the word takes
-//! one.
+//! Events as JSON: an array of a word and an actor, from 0 to 255, and of a number or a choice if
+//! the word takes one. The text that is appended for an event is read back as that event.
 
 ghost use Rattle.std.specs.Prelude.{◌≡◌, ◌++◌, ◌∷◌, [], nat_lt, Some, OnOk, string_bytes, decimal};
 ghost use Rattle.json.specs.Token.{boolean};

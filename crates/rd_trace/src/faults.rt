@@ -7,7 +7,8 @@ use rd_step::Flaw;
 use std::alloc::AllocError;
 
 /// Why a text gives no book, or why a trace isn't written whole. The numbers are those of the
-/// refusals in a report. Loading never answers `Write`; writing answers only `NoMemory` and `Write`.
+/// refusals in a report. Loading never fails with `Write`; writing fails only with `NoMemory` or
+/// `Write`.
 #[derive(Clone, Copy, Debug, PartialEq, Eq)]
 pub enum TraceFault {
     /// 20: memory was refused. Nothing was written.
@@ -17,7 +18,7 @@ pub enum TraceFault {
     /// 26: the text is a trace, but its start is no well-formed world; with the first condition
     /// that fails.
     Flawed(Flaw),
-    /// 27: the text is no trace of version 1 or 2.
+    /// 27: the text is no trace of version 1 or 2 over rings of 2, 4 or 8 cells.
     BadTrace,
     /// 28: the text is a trace, but one of its live events, or of its undone ones after them, is
     /// refused.

@@ -27,11 +27,11 @@ use std::alloc::Global;
 ///
 /// # Errors
 ///
-/// In this order: `BadTrace` if the text is no trace; `Flawed` if its start is no well-formed
-/// world, with the first condition that fails; `TraceMark` if an event of a bookmark is refused,
-/// with the numbers of the first such bookmark and of its first such event, and why; `TraceStep` if
-/// a live event or an undone one is refused, with the number of the first and why. `NoMemory` if
-/// memory was refused, at any point.
+/// In this order: `BadTrace` if the text is no trace, or not one over rings of 2, 4 or 8 cells;
+/// `Flawed` if its start is no well-formed world, with the first condition that fails; `TraceMark`
+/// if an event of a bookmark is refused, with the numbers of the first such bookmark and of its
+/// first such event, and why; `TraceStep` if a live event or an undone one is refused, with the
+/// number of the first and why. `NoMemory` if memory was refused, at any point.
 ///
 /// The undone events are numbered after the live ones. The event after the `MOST_STEPS`-th of a
 /// list is refused with the cause `TooLong`.

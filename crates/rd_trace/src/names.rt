@@ -1,5 +1,5 @@
-//! Names of segments as JSON: `[M,S]`, a maker and a number; `null` where a segment has no next
-//! one.
+//! Names of segments as JSON: `[M,S]`, a maker from 0 to 255 and a number from 0 to 2^32 - 1;
+//! `null` where a segment has no next one. The value as which a name is written spells that name.
 
 ghost use Rattle.std.specs.Prelude.{◌≡◌, Some, IfOk};
 ghost use Rattle.serde_json.specs.View.{view};

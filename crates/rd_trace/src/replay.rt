@@ -40,10 +40,10 @@ pub fn world_of<const R: usize>(alloc: Global, start: Start<R>) -> Result<World<
     }
 }
 
-/// Sets bookmarks in a book that has none, each at its own events, and leaves the last one's events
-/// live. There must be at most 64 bookmarks, with different names. Fails with `TraceMark` at the
-/// first event that is refused, and with `NoMemory` if memory is refused; some bookmarks may then
-/// be set.
+/// Sets bookmarks in a book, each at its own events, and leaves the last one's events live. The
+/// book must have no bookmark, and there must be at most 64 bookmarks to set, with different names.
+/// Fails with `TraceMark` at the first event that is refused, and with `NoMemory` if memory is
+/// refused; some bookmarks may then be set, and other events live.
 pub fn set_marks<const R: usize>(book: &mut Book<R>, marks: &[SavedMark]) -> Result<(), TraceFault>
     requires names { HaveDifferentNames (map saved_mark marks.now) }
     requires few { length marks.now ≤ MOST_MARKS }
@@ -80,9 +80,10 @@ pub fn go_to<const R: usize>(book: &mut Book<R>, events: &[Event]) -> Result<(),
     step_all(book, &events[kept..])
 }
 
-/// Makes events happen after the live ones, in order, in a book with nothing undone. Fails with
-/// `TraceStep` at the first one that is refused, which is numbered after the live events, and with
-/// `NoMemory` if memory is refused.
+/// Makes events happen after the live ones, in order. Nothing must be undone in the book, and its
+/// live events must be able to run from its start, as those of every book are. Fails with
+/// `TraceStep` at the first event that is refused, which is numbered after the live events, and
+/// with `NoMemory` if memory is refused. The events before it are then live.
 pub fn step_all<const R: usize>(book: &mut Book<R>, events: &[Event]) -> Result<(), TraceFault>
     requires through { CanRun (book_state book.old).session.start
         (book_state book.old).session.live }

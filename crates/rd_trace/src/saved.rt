@@ -83,9 +83,10 @@ pub fn session_in<const R: usize>(
     }
 }
 
-/// Returns the session that an object with the version 1, rings of `R` cells and four members
-/// spells: over a fresh world, with nothing undone and no bookmark. Fails with `BadTrace` if it
-/// spells none, and with `NoMemory` if memory is refused.
+/// Returns the session that a JSON value spells as a trace of version 1: over a fresh world, with
+/// nothing undone and no bookmark. The value must be an object of four members, with the version 1
+/// and rings of `R` cells, and `R` must be at most 64. Fails with `BadTrace` if it spells none, and
+/// with `NoMemory` if memory is refused.
 fn version_1_session_in<const R: usize>(
     alloc: Global,
     value: &Value,
@@ -107,8 +108,9 @@ fn version_1_session_in<const R: usize>(
     })
 }
 
-/// Returns the session that an object with the version 2, rings of `R` cells and six members
-/// spells. Fails with `BadTrace` if it spells none, and with `NoMemory` if memory is refused.
+/// Returns the session that a JSON value spells as a trace of version 2. The value must be an
+/// object of six members, with the version 2 and rings of `R` cells, and `R` must be at most 64.
+/// Fails with `BadTrace` if it spells none, and with `NoMemory` if memory is refused.
 fn version_2_session_in<const R: usize>(
     alloc: Global,
     value: &Value,
@@ -134,7 +136,8 @@ fn version_2_session_in<const R: usize>(
 }
 
 /// Returns the text of a book's session and bookmarks as a trace of version 2, with a line feed
-/// after it. Fails only if memory is refused.
+/// after it. With rings of 2, 4 or 8 cells, the text can be loaded as the same book. Fails only if
+/// memory is refused.
 pub fn trace_text<const R: usize>(alloc: Global, book: &Book<R>) -> Result<String, AllocError>
     ensures { IfOk result (λ text. IsUtf8 (string_bytes text)
         → IsTextOf (book_state book.now) (string_bytes text)) }

@@ -37,8 +37,8 @@ impl<const R: usize> Spelled for Vec<SegmentParts<R>> {
 
     ghost fits = { R ≤ MOST_CELLS };
 
-    /// Returns the list of segments that a JSON value spells. Fails with `BadTrace` if it spells
-    /// none, and with `NoMemory` if memory is refused.
+    /// Returns the list of segments that a JSON value spells. `R` must be at most 64. Fails with
+    /// `BadTrace` if it spells none, and with `NoMemory` if memory is refused.
     fn from_value(alloc: Global, value: &Value) -> Result<Vec<SegmentParts<R>>, TraceFault> {
         list_in(alloc, value.as_array())
     }
@@ -58,7 +58,8 @@ impl<const R: usize> Plain for SegmentParts<R> {
 
     ghost fits = { R ≤ MOST_CELLS };
 
-    /// Returns the segment that a JSON value spells; none if it spells none.
+    /// Returns the segment that a JSON value spells; none if it spells none. `R` must be at most
+    /// 64.
     fn in_value(value: &Value) -> Option<SegmentParts<R>> {
         if member_count(value)? != MEMBERS {
             return None;

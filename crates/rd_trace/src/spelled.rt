@@ -48,14 +48,16 @@ impl<T: Plain> Spelled for T {
 
     ghost fits = { T.fits };
 
-    /// Returns the thing that a JSON value spells. Fails only if it spells none, with `BadTrace`.
+    /// Returns the thing that a JSON value spells. `T.fits` must hold. Fails only if the value
+    /// spells none, with `BadTrace`.
     #[tactic(auto, using(crate::proofs::SpellLemmas::read_or_bad))]
     fn from_value(_alloc: Global, value: &Value) -> Result<T, TraceFault> {
         T::in_value(value).ok_or(TraceFault::BadTrace)
     }
 }
 
-/// A kind of thing that is also written as JSON values.
+/// A kind of thing that is also written as JSON values. The value as which a thing is written
+/// spells the thing.
 pub trait Written: Spelled {
     /// The JSON value as which a thing is written.
     ghost datum: { Self → Data };
@@ -66,7 +68,7 @@ pub trait Written: Spelled {
         ensures spelled { OnOk result (Self.spells (datum self.now) self.now) };
 }
 
-/// Returns the things that the JSON values of a list spell, in order.
+/// Returns the things that the JSON values of a list spell, in order. `T.fits` must hold.
 ///
 /// # Errors
 ///

@@ -96,7 +96,7 @@ fn put_report(
 }
 
 /// Makes the line of one answer in the buffer `line`, and appends it to the text. Fails only if
-/// memory is refused.
+/// memory is refused; the text is then as before.
 fn put_answer(text: &mut Vec<u8>, line: &mut Text, answer: &LineAnswer) -> Result<(), AllocError>
     ensures { OnOk result (text.new.items ≡ text.old.items ++ answer_text answer.now) }
 {

@@ -102,7 +102,7 @@ fn run_over_desk<R: Threads + Wait + Sync, const N: usize>(
 }
 
 /// Returns each viewer's pass with the commands of its lines, in order. There must be as many
-/// passes as lists of lines. Fails only if memory is refused.
+/// passes as lists of lines. Fails only if memory is refused; the passes are then lost.
 fn passes_with_commands<const N: usize>(
     alloc: Global,
     passes: Vec<DeskPass<N>>,
@@ -123,7 +123,7 @@ fn passes_with_commands<const N: usize>(
 }
 
 /// Separates the viewers' passes from their answers, and returns both in order. Fails only if
-/// memory is refused.
+/// memory is refused; passes and answers are then lost.
 fn passes_and_answers<const N: usize>(
     alloc: Global,
     dones: Vec<(DeskPass<N>, Option<Vec<Answer>>)>,

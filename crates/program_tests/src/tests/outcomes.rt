@@ -10,8 +10,8 @@ use std::thread::Threads;
 use test_kit::BrokenWriter;
 
 /// Command lines that give no options, with how many names of missing files come after their words,
-/// the status that they end with, and what they write to standard output and to standard error: this
-/// text, or one that begins so if it ends with `..`.
+/// the status that they end with, and what they write to standard output and to standard error:
+/// this text, or one that begins so if it ends with `..`.
 const ENDS: &[(&[&str], usize, u8, &str, &str)] = &[
     // Help goes to standard output.
     (

@@ -186,9 +186,9 @@ impl DependIndex {
         self.pop(entry);
     }
 
-    /// Moves position `k` to `n`; the positions above `k` up to `n` become one less. The index must
-    /// be that of some list of entries, `k` at least 1 and at most `n`, and `n` at most the number
-    /// of positions. It goes over all lists, and takes no memory.
+    /// Moves position `k` to `n`; the positions above `k` up to `n` become one less. Each list
+    /// keeps its room. The index must be that of some list of entries, `k` at least 1 and at most
+    /// `n`, and `n` at most the number of positions. It goes over all lists, and takes no memory.
     pub fn move_to(&mut self, k: u64, n: u64)
         requires index { IsIndex self.old }
         requires some { 1 ≤ k }
@@ -269,7 +269,8 @@ impl DependIndex {
     }
 
     /// Pushes these entries in their order until one is refused memory, and returns the number that
-    /// were pushed. The preconditions are those of `push_all`.
+    /// were pushed. Memory is asked for only if room is missing. The index must be that of some
+    /// list of entries, which has at most `MOST_STEPS` entries together with these.
     fn push_until_refused(&mut self, entries: &[Entry]) -> usize
         requires index { IsIndex self.old }
         requires few { position_count self.old + length entries.now ≤ MOST_STEPS }
@@ -287,7 +288,8 @@ impl DependIndex {
         entries.len()
     }
 
-    /// Removes the last positions, whose entries must be these, in this order.
+    /// Removes the last positions, whose entries must be these, in this order. The room that they
+    /// had is free for the entries again.
     fn pop_all(&mut self, entries: &[Entry])
         requires { EndsWith self.old entries.now }
         ensures index { (es : List SomeEntry) → IsIndexOf self.old (es ++ entries.now)

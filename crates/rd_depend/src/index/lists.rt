@@ -1,4 +1,4 @@
-//! Lists of positions, each known by its number, and changes of one list or of all.
+//! Lists of positions, each known by its number, from 0, and changes of one list or of all.
 
 ghost use Rattle.std.specs.Prelude.{◌≡◌, ◌+◌, ◌-◌, ◌==◌, ◌&&◌, true, ◌<◌, ◌≤◌, ◌++◌, ◌∷◌, [], ℕ, IsOk, OnOk, length, map, nat_lt, take, vec_capacity, cond, if◌then◌else◌};
 ghost use Rattle.std.specs.List.{before_first, position_or_len};
@@ -7,7 +7,8 @@ ghost use Rattle.rd_depend.specs.Tables.{list_at, capacity_at, spare_at, vec_spa
 
 use std::alloc::{AllocError, Global};
 
-/// The least number of positions for which a full list makes room.
+/// The least number of positions for which a full list makes room. Most lists stay short, and
+/// asking for memory takes longer than all else that is done to them.
 const POSITIONS: usize = 8;
 
 /// Returns the positions in the list of this number; none if there is no such list.
@@ -61,7 +62,8 @@ pub(crate) fn reserve_in(lists: &mut Vec<Vec<u32>>, index: usize) -> Result<(), 
 }
 
 /// If `wanted`, makes room for one more position in the list of this number, unless it has room.
-/// There must be such a list, even if not `wanted`. Fails only if memory is refused.
+/// There must be such a list, even if not `wanted`. Fails only if memory is refused; no list has
+/// changed then, and no room is lost.
 pub(crate) fn reserve_if(
     lists: &mut Vec<Vec<u32>>,
     wanted: bool,
@@ -81,7 +83,8 @@ pub(crate) fn reserve_if(
     }
 }
 
-/// Makes room for one more position in a list, unless it has room. Fails only if memory is refused.
+/// Makes room for one more position in a list, unless it has room. Fails only if memory is refused;
+/// no position has changed then, and no room is lost.
 fn reserve(list: &mut Vec<u32>) -> Result<(), AllocError>
     ensures items { list.new.items ≡ list.old.items }
     ensures room { vec_spare list.old ≤ vec_spare list.new }
@@ -94,8 +97,8 @@ fn reserve(list: &mut Vec<u32>) -> Result<(), AllocError>
     reserve_several(list)
 }
 
-/// Makes room for several more positions, since most lists stay short, and asking for memory takes
-/// longer than all else that is done to them. Fails only if memory is refused.
+/// Makes room for at least `POSITIONS` more positions. Fails only if memory is refused. No position
+/// changes, whether it fails or not.
 #[inline(never)]
 fn reserve_several(list: &mut Vec<u32>) -> Result<(), AllocError>
     ensures items { list.new.items ≡ list.old.items }

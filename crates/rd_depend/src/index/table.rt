@@ -120,7 +120,8 @@ impl Table {
     ///
     /// # Errors
     ///
-    /// `AllocError` if memory is refused. No position has changed then.
+    /// `AllocError` if memory is refused, which is asked for only if room is missing. No position
+    /// has changed then, and no room is lost, but the key may have been added.
     #[inline(always)]
     pub(crate) fn reserve(
         &mut self,
@@ -144,7 +145,8 @@ impl Table {
     ///
     /// # Errors
     ///
-    /// `AllocError` if memory is refused. No position has changed then.
+    /// `AllocError` if memory is refused, which is asked for only if room is missing. No position
+    /// has changed then, and no room is lost, but the key may have been added.
     #[inline(always)]
     fn reserve_under(&mut self, alloc: Global, key: Key, wrote: bool) -> Result<usize, AllocError>
         ensures same { KeepsLists self.old self.new }
@@ -159,7 +161,8 @@ impl Table {
     }
 
     /// Returns the index of the key, which is added with empty lists if it isn't in the table. The
-    /// key's hint has this index then. Fails only if memory is refused.
+    /// key's hint has this index then. Fails only if memory for a new key is refused; no position
+    /// has changed then, and no room is lost.
     #[inline(always)]
     fn find_or_add(&mut self, alloc: Global, key: Key) -> Result<usize, AllocError>
         ensures same { KeepsLists self.old self.new }
@@ -178,7 +181,8 @@ impl Table {
     }
 
     /// Returns the index of the key, which is added with empty lists if it isn't in the table. No
-    /// hint is changed. Fails only if memory is refused.
+    /// hint is changed. Fails only if memory for a new key is refused; no position has changed
+    /// then, and no room is lost.
     #[inline(never)]
     fn search_or_add(&mut self, alloc: Global, key: Key) -> Result<usize, AllocError>
         ensures same { KeepsLists self.old self.new }
@@ -199,7 +203,8 @@ impl Table {
     }
 
     /// Puts a position at the end of the list at this index, and of the list of writes there if the
-    /// step wrote. These lists must have room for it. Without an index it does nothing.
+    /// step wrote. A key must have this index, and these lists must have room for the position.
+    /// Without an index it does nothing.
     pub(crate) fn put(&mut self, slot: Option<usize>, position: u32, wrote: bool)
         requires { (k : Option Kept) × IsReadyIfSome self.old k wrote slot }
         ensures { (k : Option Kept) → IsReadyIfSome self.old k wrote slot
@@ -266,7 +271,8 @@ impl Table {
     }
 }
 
-/// Returns the number of the hint that may know the index of this key. Keys can share a hint.
+/// Returns the number of the hint that may know the index of this key, from 0 and below `HINTS`.
+/// Keys can share a hint.
 #[inline(always)]
 fn hint_of(key: Key) -> usize
     ensures { result < HINTS }

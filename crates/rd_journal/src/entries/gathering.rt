@@ -17,11 +17,12 @@ use rd_step::Entry;
 /// entries depend on its entry, directly or through others, behind the rest. Both parts keep their
 /// order. Returns how long the second part is.
 ///
-/// `k` must be at least 1 and at most `live`, and `live` at most `MOST_STEPS` and the length of the
-/// order. `gathered` must be empty, with room for as many numbers as the order has, and is empty
-/// again afterwards. The index must be that of the entries before the `k`-th, with room for the
-/// other live ones; afterwards it is that of the entries before the `k`-th, followed by the second
-/// part.
+/// The order must have each slot's number once, and no other; afterwards this holds again. `k` must
+/// be at least 1 and at most `live`, and `live` at most `MOST_STEPS` and the length of the order.
+/// `gathered` must be empty, with room for as many numbers as the order has, and is empty again
+/// afterwards. The index must be that of the entries before the `k`-th, with room for the other
+/// live ones; afterwards it is that of the entries before the `k`-th, followed by the second part,
+/// and keeps its room for all others.
 pub(crate) fn gather(
     slots: &[Entry],
     order: &mut Vec<u32>,

@@ -9,8 +9,9 @@ use rd_step::Entry;
 use std::alloc::AllocError;
 
 /// Puts an entry at index `position` of the order: into the slot whose number is there, or at the
-/// end of the order into a new slot. The index must be below `MOST_STEPS`, at most the order's
-/// length, and below the capacity of both lists.
+/// end of the order into a new slot. All other entries stay. The order must have each slot's number
+/// once, and no other; afterwards this holds again. The index must be below `MOST_STEPS`, at most
+/// the order's length, and below the capacity of both lists.
 pub(crate) fn put_at(slots: &mut Vec<Entry>, order: &mut Vec<u32>, position: usize, entry: &Entry)
     requires ordered { IsOrder (length slots.old.items) order.old.items }
     requires within { position ≤ length order.old.items }
@@ -35,8 +36,8 @@ pub(crate) fn put_at(slots: &mut Vec<Entry>, order: &mut Vec<u32>, position: usi
     }
 }
 
-/// Makes room for this many elements in all. Fails only if memory is refused, which is asked for
-/// only if room is missing.
+/// Makes room for this many elements in all. The elements stay as they are, also on failure. Fails
+/// only if memory is refused, which is asked for only if room is missing.
 pub(crate) fn make_room_in<T>(items: &mut Vec<T>, needed: usize) -> Result<(), AllocError>
     ensures items { items.new.items ≡ items.old.items }
     ensures ok { OnOk result (needed ≤ vec_capacity items.new) }

@@ -63,8 +63,9 @@ impl<const R: usize> Session<R> {
         Ok(*self.entries.live_at(k as usize - 1))
     }
 
-    /// Returns the number of the last live step that wrote this place, or one of the places that it
-    /// names; `None` if no live step did. It asks the index of dependants, and takes no memory.
+    /// Returns the number, from 1, of the last live step that wrote this place, or one of the
+    /// places that it names; `None` if no live step did. It asks the index of dependants, and takes
+    /// no memory.
     pub fn last_writer(&self, place: Place) -> Option<u64>
         ensures { result ≡ last_position (writes_to place) (journal self.now).live }
     {

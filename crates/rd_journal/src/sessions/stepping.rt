@@ -27,8 +27,8 @@ pub(super) fn undo_after<const R: usize>(world: &mut World<R>, steps: &EntryList
     }
 }
 
-/// Makes the steps of a run from this world again, one after another. There must be room for their
-/// makings; room for further ones stays.
+/// Makes the steps again, one after another. They must be those of a run from this world, and there
+/// must be room for their makings; room for further ones stays.
 pub(super) fn step_all_again<const R: usize>(world: &mut World<R>, steps: &EntryList)
     requires runs { IsRunFrom (model world.old) steps.now }
     requires room { HasRoom steps.now (room world.old) }

@@ -51,9 +51,9 @@ impl<const R: usize> Session<R> {
     }
 
     /// Replaces all entries after the first `n` live ones by the given ones in the index, undoes
-    /// the live steps after the first `n`, and makes the given steps again. These then replace all
-    /// others. The preconditions are those of `switch`, and `make_room_to_switch` must have made
-    /// room for the entries and their makings.
+    /// the live steps after the first `n`, and makes the given steps again. These are then the last
+    /// live ones, and no step is ahead. The preconditions are those of `switch`, and
+    /// `make_room_to_switch` must have made room for the entries and their makings.
     ///
     /// # Errors
     ///

@@ -15,7 +15,8 @@ use super::super::stretches::{Grown, Node, Shift, Stretches};
 use indexmap::IndexMap;
 
 /// Adds a bookmark of this name, which none may have, at the end of the list, in room that was made
-/// before. The nodes of the others are renumbered as the stretches were.
+/// before. The nodes of the others are renumbered as the stretches were; such a node must have a
+/// stretch number below 2^64 - 1 if it has entries.
 pub(super) fn add_bookmark(names: &mut IndexMap<MarkName, Node>, name: MarkName, grown: Grown)
     requires new { lookup (mark_name_eq name) names.old.entries ≡ None }
     requires room { 0 < spare names.old }
@@ -31,7 +32,8 @@ pub(super) fn add_bookmark(names: &mut IndexMap<MarkName, Node>, name: MarkName,
 }
 
 /// Returns where `here` is after the first `len` live entries were added: at the node of these, or,
-/// if `here` has more entries, at its old node, renumbered as the stretches were.
+/// if `here` has more entries, at its old node, renumbered as the stretches were. If `here` has
+/// entries, its stretch number must be below 2^64 - 1.
 pub(super) fn here_after_growth(here: Node, len: usize, grown: Grown) -> Node
     requires { CanShiftUp here }
     ensures near { here.number ≤ len → result ≡ grown.node }
@@ -46,7 +48,7 @@ pub(super) fn here_after_growth(here: Node, len: usize, grown: Grown) -> Node
 
 /// Removes the entries that no bookmark needs, and stretches without entries of their own, from the
 /// last stretch down. The bookmarks keep their entries, and `here` keeps a beginning of the entries
-/// that it had.
+/// that it had. The stretches must have the entries of all bookmarks and of `here`.
 pub(super) fn prune(
     stretches: &mut Stretches,
     names: &mut IndexMap<MarkName, Node>,
@@ -67,8 +69,9 @@ pub(super) fn prune(
 
 /// Removes the entries of stretch `i` that neither a bookmark nor the next stretch needs, and the
 /// stretch itself if none of its own is left. The bookmarks keep their entries, and `here` keeps a
-/// beginning of the entries that it had. There must be a stretch `i`, and all entries of the
-/// stretches after it must be needed.
+/// beginning of the entries that it had. The stretches must have the entries of all bookmarks and
+/// of `here`. There must be a stretch `i`, and all entries of the stretches after it must be
+/// needed.
 fn trim(stretches: &mut Stretches, names: &mut IndexMap<MarkName, Node>, here: &mut Node, i: usize)
     requires there { i < length stretches.old.list.items }
     requires within { All (λ m. IsWithin stretches.old.list.items m.1) names.old.entries }
@@ -103,7 +106,8 @@ fn greatest_len_in_stretch(names: &IndexMap<MarkName, Node>, i: usize) -> usize
 }
 
 /// Replaces the node of each bookmark by the one that has its entries after the stretches were
-/// renumbered. A node with entries must have a stretch number below 2^64 - 1.
+/// renumbered. A node with entries must have a stretch number below 2^64 - 1. If a stretch was
+/// removed, no node may have one of its own entries.
 fn shift_nodes(names: &mut IndexMap<MarkName, Node>, shift: Shift)
     requires { All (λ m. CanShiftUp m.1) names.old.entries }
     ensures room { spare names.new ≡ spare names.old }

@@ -61,8 +61,8 @@ impl<const R: usize> Book<R> {
         self.answer_to_move(done)
     }
 
-    /// Makes the first `n` undone steps again. Returns how many steps are live and how many are
-    /// undone afterwards.
+    /// Makes the `n` steps again that were undone last. Returns how many steps are live and how
+    /// many are undone afterwards.
     ///
     /// # Errors
     ///

@@ -87,10 +87,10 @@ impl Stretches {
     ghost use Rattle.rd_marks.specs.Changes.{IsGrown, IsShrunk, KeepsEntries};
 
     /// Inserts the live entries that come after those of node `at`: at the end of its stretch if
-    /// `at` has all entries of the stretch's list, otherwise in a new stretch. The events of `at`
-    /// must begin the live ones, and no list may begin with one live event more. Returns the node
-    /// of the entries of `at` with the inserted ones after them, and how the stretches were
-    /// renumbered.
+    /// `at` has all entries of the stretch's list, otherwise in a new stretch. At most `MOST_STEPS`
+    /// entries may be live. The stretches must have the entries of `at`, whose events must begin
+    /// the live ones, and no list may begin with one live event more. Returns the node of the
+    /// entries of `at` with the inserted ones after them, and how the stretches were renumbered.
     ///
     /// # Errors
     ///
@@ -203,7 +203,8 @@ impl Stretches {
 
     /// Returns the number with which a stretch that shares the entries of node `at` can be
     /// inserted. It is the number of the first later stretch that shares at most as many entries as
-    /// `at` has. If there is none, it is the count of all stretches.
+    /// `at` has. If there is none, it is the count of all stretches. The stretches must have the
+    /// entries of `at`.
     fn insertion_index(&self, at: Node) -> usize
         requires { IsWithin self.now.list.items at }
         ensures there { result ≤ length self.now.list.items }

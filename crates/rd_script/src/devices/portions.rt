@@ -59,7 +59,7 @@ impl Portion {
     }
 
     /// Replaces the portion's bytes by the next ones of the reader, none only at the reader's end.
-    /// Fails with `Read` if the reader fails; the portion then has no byte.
+    /// Fails with `Read` if the reader fails; it has then given none, and the portion has no byte.
     pub fn fill<R: Read>(&mut self, reader: &mut R) -> Result<(), ScriptFault>
         ensures ok { OnOk result (Consumes (R.remaining reader.old) (R.remaining reader.new)
             (pending_bytes self.new)) }

@@ -30,8 +30,8 @@ pub trait Sink {
         ensures fails { OnErr result (has_failed self.new ≡ true) };
 }
 
-/// Writes the whole of a text to a sink that has not failed, in as few calls as the sink needs.
-/// Fails with `Write` if the sink fails; it has then taken a beginning of the text.
+/// Writes the whole of a text to a sink, in as few calls as the sink needs. Fails with `Write` if
+/// the sink fails; it has then taken a beginning of the text. The sink must not have failed before.
 pub fn write_all<K: Sink>(writer: &mut K, text: &[u8]) -> Result<(), ScriptFault>
     requires { K.has_failed writer.old ≡ false }
     ensures ok { OnOk result (Appends (K.contents writer.old) (K.contents writer.new) text.now) }
@@ -87,10 +87,10 @@ impl<W: Write> Sink for WriteSink<W> {
     }
 }
 
-/// Offers the writer some bytes, at least one, and returns how many of the first ones it took.
-/// Fails if the writer fails or takes none; it has then taken nothing. A write that a signal
-/// interrupts is made again, and is no fault; after 2^64 - 1 interruptions the call fails, though
-/// the writer did not.
+/// Offers the writer a slice, which must not be empty, and returns how many of its first bytes the
+/// writer took: at least one. Fails if the writer fails or takes none; it has then taken nothing. A
+/// write that a signal interrupts is made again, and is no fault; after 2^64 - 1 interruptions the
+/// call fails, though the writer did not.
 fn write_some<W: Write>(writer: &mut W, given: &[u8]) -> io::Result<usize>
     requires some { 0 < length given.now }
     ensures count { IfOk result (λ n. (0 < n) × (n ≤ length given.now)) }

@@ -38,8 +38,8 @@ pub fn only_u64(words: &[&[u8]]) -> Option<u64>
     u64_in(number)
 }
 
-/// Returns the actor, from 0 to 255, and the value that two words spell. `None` if there aren't
-/// exactly two words, or if they don't spell these.
+/// Returns the actor, from 0 to 255, and the value, from 0 to 2^64 - 1, that two words spell.
+/// `None` if there aren't exactly two words, or if they don't spell these.
 pub fn actor_and_value(words: &[&[u8]]) -> Option<(u8, u64)>
     ensures some { IfSome result (λ r. map (λ word. word.now) words.now
         ≡ decimal r.0 ∷ decimal r.1 ∷ []) }

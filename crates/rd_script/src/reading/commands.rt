@@ -16,7 +16,7 @@ use rd_marks::Command;
 /// The greatest number of bytes in a line, without its line feed.
 pub const MOST_LINE_BYTES: usize = 256;
 
-/// Returns the command that a line spells.
+/// Returns the command that a line, without its line feed, spells.
 ///
 /// # Errors
 ///

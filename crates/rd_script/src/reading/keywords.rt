@@ -124,7 +124,7 @@ impl Keyword {
         }
     }
 
-    /// Returns the word that spells the keyword.
+    /// Returns the word that spells the keyword, of at most 7 bytes.
     pub fn text(self) -> &'static [u8]
         ensures text { result.now ≡ keyword_text self }
         ensures len { length result.now ≤ 7 }

@@ -49,7 +49,8 @@ impl Line {
     ///
     /// # Errors
     ///
-    /// `Read` if the source failed, or gave 2^64 - 1 bytes without a line feed or the end.
+    /// `Read` if the source failed, or gave 2^64 - 1 bytes without a line feed or the end; the line
+    /// is then only what the source gave of it.
     pub fn read_next<S: Source>(&mut self, reader: &mut S) -> Result<Reading, ScriptFault>
         requires { S.has_failed reader.old ≡ false }
         ensures reads { ReadsNext (S.bytes reader.old) (S.bytes reader.new)

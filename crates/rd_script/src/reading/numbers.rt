@@ -70,8 +70,8 @@ pub fn u8_in(word: &[u8]) -> Option<u8>
     }
 }
 
-/// Returns the segment's name that a word spells: its maker, a full stop and its number. `None` if
-/// the word spells none.
+/// Returns the segment's name that a word spells: its maker, from 0 to 255, a full stop, and its
+/// number, from 0 to 2^32 - 1. `None` if the word spells none.
 #[tactic(auto, using(crate::proofs::NumeralLemmas::name_from_parts, crate::proofs::NumeralLemmas::no_name_from_parts, crate::proofs::NumeralLemmas::no_name_of_many))]
 pub fn segment_name_in(word: &[u8]) -> Option<SegName>
     ensures spelled { IfSome result (λ s. word.now ≡ segment_name_words s) }
@@ -82,8 +82,8 @@ pub fn segment_name_in(word: &[u8]) -> Option<SegName>
     segment_name_from(parts.as_slice())
 }
 
-/// Returns the segment's name whose maker and number two parts spell. `None` if there aren't
-/// exactly two parts, or if they spell no such numbers.
+/// Returns the segment's name whose maker, from 0 to 255, and number, from 0 to 2^32 - 1, two parts
+/// spell. `None` if there aren't exactly two parts, or if they spell no such numbers.
 fn segment_name_from(parts: &[&[u8]]) -> Option<SegName>
     ensures spelled { IfSome result (λ s. map (λ part. part.now) parts.now
         ≡ decimal s.maker ∷ decimal s.n ∷ []) }

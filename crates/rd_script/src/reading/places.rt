@@ -1,5 +1,5 @@
 //! The kinds of places: the first word of a place is its kind, and the words after it name the
-//! place.
+//! place. An index in it is from 0 to 255. A world needn't have the place.
 
 ghost use Rattle.std.specs.Prelude.{◌≡◌, ◌≢◌, ◌<◌, [], map, IfSome, IfNone};
 ghost use Rattle.rd_script.specs.declared.reading.places.PlaceKind.{PlaceKind as Kind};

@@ -18,7 +18,7 @@ pub const MOST_PARTS: usize = 4;
 pub type TextParts<'a> = ArrayVec<&'a [u8], MOST_PARTS>;
 
 /// Returns the parts of a text between the bytes that separate them, or `None` if there are more
-/// than four.
+/// than four. An empty text is one empty part.
 pub fn parts_of(text: &[u8], separator: u8) -> Option<TextParts<'_>>
     ensures some { IfSome result (λ parts. map (λ part. part.now) parts.items
         ≡ slice_split (λ byte. byte == separator) text.now) }

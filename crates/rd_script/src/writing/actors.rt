@@ -1,4 +1,4 @@
-//! The words of an actor in a reply.
+//! The words of an actor in a reply. Each part after the call begins with a space.
 
 ghost use Rattle.rd_script.specs.Puts.{PutsUpTo};
 ghost use Rattle.rd_script.specs.Actors.{op_words, point_and_call_words, segment_words, counter_words, cell_read_and_pass_words, actor_words};

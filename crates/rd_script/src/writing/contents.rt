@@ -80,7 +80,8 @@ pub fn put_index(text: &mut Text, safe: bool, idx: u64)
     put_spaced_number(text, idx);
 }
 
-/// Appends to the text the content of a slot of the array: `empty`, `top`, or its value.
+/// Appends to the text the content of a slot of the array: `empty`, `top`, or `value` and its
+/// value.
 fn put_slot(text: &mut Text, slot: ArrSlot)
     ensures { PutsUpTo 26 text.old.items text.new.items (slot_words slot) }
 {

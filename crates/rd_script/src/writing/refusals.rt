@@ -56,8 +56,8 @@ fn put_trace_mark(text: &mut Text, mark: u64, step: u64, cause: Refusal)
     put_refusal(text, cause);
 }
 
-/// Appends to the text the tickets of a busy lock: the one to be drawn next, and the one that is
-/// served.
+/// Appends to the text the tickets of a busy lock, each after a space and its word: the one to be
+/// drawn next (`next`), and the one that is served (`served`).
 fn put_busy(text: &mut Text, next: u64, served: u64)
     ensures { PutsUpTo 54 text.old.items text.new.items (busy_words next served) }
 {
